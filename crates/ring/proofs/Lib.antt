@@ -1,0 +1,17 @@
+pub mod Lists
+pub mod Side
+pub mod Uncross
+pub mod Peaks
+pub mod Cuts
+pub mod LargestCut
+pub mod Papers
+pub mod Least
+pub mod Sending
+pub mod Parallel
+pub mod Splits
+pub mod Move
+pub mod Untangle
+pub mod Directions
+pub mod OurPlan
+pub mod NoLower
+pub mod CasesHold

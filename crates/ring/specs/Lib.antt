@@ -1,0 +1,14 @@
+pub mod Lists
+pub mod Row
+pub mod Cut
+pub mod Routing
+pub mod Crossing
+pub mod RuleA
+pub mod RuleB
+pub mod RuleC
+pub mod RuleD
+pub mod Sheet
+pub mod True
+pub mod Division
+pub mod Paper
+pub mod Cases

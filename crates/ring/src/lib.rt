@@ -1,0 +1,1 @@
+// The mathematics of the ring: definitions in specs/, theorems in proofs/. No code.
