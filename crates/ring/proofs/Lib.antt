@@ -4,6 +4,7 @@ pub mod Uncross
 pub mod Peaks
 pub mod Cuts
 pub mod LargestCut
+pub mod Across
 pub mod Papers
 pub mod Least
 pub mod Sending

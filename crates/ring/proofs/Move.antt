@@ -1,12 +1,12 @@
 -- One move of rule C raises no link, keeps both rows' nodes and sums, splits no row, and leaves no clash: by how the two rows stand.
 use Prim.Native.Nat.{ℕ, _+_, _-_, _≤_, _<_, min}
-use mathlib.Core.Bool.{Bool, true, false, cond, false≢true, and-false, _&&_}
-use mathlib.Core.Path.{_≡_, refl, sym, _∙_, ap, ap₂, subst}
+use mathlib.Core.Bool.{Bool, true, false, cond, false≢true}
+use mathlib.Core.Path.{_≡_, refl}
 use native.Mathlib.Omega.{arith}
 use native.Mathlib.Nat.{le-refl}
-use Rattle.ring.specs.Row.{Row, inFront}
-use Rattle.ring.specs.Routing.{Sent, Split, isSplit, sentOver}
-use Rattle.ring.specs.Crossing.{parallel, disjoint, holds, Disjoint, Inside}
+use Rattle.ring.specs.Row.{inFront}
+use Rattle.ring.specs.Routing.{Sent, Split, sentOver}
+use Rattle.ring.specs.Crossing.{parallel, Disjoint, Holds}
 use Rattle.ring.specs.RuleC.{Two, both, toFront, toBack, clash, inward, move}
 use Rattle.ring.proofs.Parallel.{Stand, apart, outer, inner, first, second, stand}
 use Rattle.ring.proofs.Splits.{Splitting, split, whole, splitting}
@@ -30,8 +30,8 @@ pub record Keeps (new old : Sent) : Type 0 where
 pub data Moved (a b : Sent) : Two → Type 0 where
   left-alone : Quiet a b → Moved a b (both a b)
   fronts-apart : Split a → Split b → Disjoint (a .row) (b .row) → Moved a b (both (toFront a (min (a .back) (b .back))) (toFront b (min (a .back) (b .back))))
-  first-outer : Split a → Split b → Inside (a .row) (b .row) → Moved a b (both (toBack a (inward a b)) (toFront b (inward a b)))
-  second-outer : Split a → Split b → Inside (b .row) (a .row) → Moved a b (both (toFront a (inward b a)) (toBack b (inward b a)))
+  first-outer : Split a → Split b → Holds (a .row) (b .row) → Moved a b (both (toBack a (inward a b)) (toFront b (inward a b)))
+  second-outer : Split a → Split b → Holds (b .row) (a .row) → Moved a b (both (toFront a (inward b a)) (toBack b (inward b a)))
 
 pub moved : (a b : Sent) → InOrder a → InOrder b → Moved a b (move a b)
 unfolding move
@@ -62,7 +62,7 @@ apart-loads a b t d l m k = go (inFront (a .row) k) (inFront (b .row) k) (d k)
     go false false n = omega arith
 
 -- one inside the other: t to the outer's back and the inner's front. Between the two fronts the load falls by 2t, elsewhere they cancel
-nested-loads : (a b : Sent) (t : ℕ) → Inside (a .row) (b .row) → t ≤ a .front → t ≤ b .back → (k : ℕ) →
+nested-loads : (a b : Sent) (t : ℕ) → Holds (a .row) (b .row) → t ≤ a .front → t ≤ b .back → (k : ℕ) →
     sentOver (toBack a t) k + sentOver (toFront b t) k ≤ sentOver a k + sentOver b k
 unfolding toFront toBack sentOver
 nested-loads a b t d l m k = go (inFront (a .row) k) (inFront (b .row) k) (d k)

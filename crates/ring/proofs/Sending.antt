@@ -1,11 +1,11 @@
 -- Rule B from any rooms in which every pair of links has enough and all have one parity: no difference in it is cut off at 0, s is even, and
 -- no link carries more than its room. A pair of back links keeps enough by uncrossing it with the front's tightest pair (document 003,
 -- Proposition 4.2, with 01's sign).
-use Prim.Native.Nat.{ℕ, _+_, _*_, _-_, _/_, _%_, _≤_, _<_, min}
-use mathlib.Core.Bool.{Bool, true, false, cond, xor, true≢false}
+use Prim.Native.Nat.{ℕ, _+_, _*_, _-_, _/_, _%_, _≤_, _<_}
+use mathlib.Core.Bool.{Bool, true, false, cond}
 use mathlib.Core.List.{List, [], _∷_}
 use mathlib.Core.Logic.{_⊎_, inl, inr}
-use mathlib.Core.Path.{_≡_, refl, sym, _∙_, ap}
+use mathlib.Core.Path.{_≡_, refl, _∙_, ap}
 use native.Mathlib.Omega.{arith}
 use native.Mathlib.Nat.{le-refl}
 use native.Mathlib.Decide.{decLe}
@@ -13,7 +13,7 @@ use Rattle.ring.specs.Lists.{Each, none, more}
 use Rattle.ring.specs.Row.{Row, OnRing, inFront}
 use Rattle.ring.specs.Cut.{part, across}
 use Rattle.ring.specs.Routing.{Sent, sentOver, splitLoad}
-use Rattle.ring.specs.RuleB.{Room, slack, least, leastSlack, sendBy, send, roomAfter, sendAll}
+use Rattle.ring.specs.RuleB.{Room, slack, least, leastSlack, send, roomAfter, sendAll}
 use Rattle.ring.specs.Division.{Divides}
 use Rattle.ring.proofs.Side.{Side, before, within, after, side, Outside, ahead, behind, outside, in-front}
 use Rattle.ring.proofs.Uncross.{uncross}
@@ -41,24 +41,24 @@ back-front : (r : Row) (g h : ℕ) → inFront r g ≡ false → inFront r h ≡
 unfolding part
 back-front r g h e f = rw (e, f)
 
-pub over-front : (s : Sent) (k : ℕ) → inFront (s .row) k ≡ true → sentOver s k ≡ s .front
+over-front : (s : Sent) (k : ℕ) → inFront (s .row) k ≡ true → sentOver s k ≡ s .front
 unfolding sentOver
 over-front s k e = rw e
 
-pub over-back : (s : Sent) (k : ℕ) → inFront (s .row) k ≡ false → sentOver s k ≡ s .back
+over-back : (s : Sent) (k : ℕ) → inFront (s .row) k ≡ false → sentOver s k ≡ s .back
 unfolding sentOver
 over-back s k e = rw e
 
 -- ---- s, the least slack of a front
 
--- a pair of the front whose slack is s
-record Tightest (room : Room) (number : ℕ → ℕ → ℕ) (r : Row) : Type 0 where
+-- two links of the front, the first not behind the second, that have P
+record InFront (r : Row) (P : ℕ → ℕ → Type 0) : Type 0 where
   x : ℕ
   y : ℕ
   low : r .i ≤ x
   order : x ≤ y
   high : y < r .j
-  is : leastSlack room number r ≡ slack room number x y
+  is : P x y
 
 module _ (room : Room) (number : ℕ → ℕ → ℕ) (r : Row) (order : r .i < r .j) where
   s-below : (g h : ℕ) → r .i ≤ g → g ≤ h → h < r .j → leastSlack room number r ≤ slack room number g h
@@ -68,7 +68,8 @@ module _ (room : Room) (number : ℕ → ℕ → ℕ) (r : Row) (order : r .i < 
       let inner = least-below (λ g. slack room number g h) (r .i) (h - r .i) g a (omega arith) in
       omega arith
 
-  tightest : Tightest room number r
+  -- a pair whose slack is s
+  tightest : InFront r (λ x y. leastSlack room number r ≡ slack room number x y)
   unfolding leastSlack
   tightest =
       let outer = attained (λ h. least (λ g. slack room number g h) (r .i) (h - r .i)) (r .i) (r .j - r .i - 1) in
@@ -121,15 +122,11 @@ module _ (n : ℕ) (room : Room) (r : Row) (rest : List Row) (on : OnRing n r) (
   unfolding send slack
   pair-in-front g h a l b = omega (arith, s-below room (across (r ∷ rest)) r (on .order) g h a l b, uncut g h a l b, own g h a l b)
 
-  -- the pair of the front that has no room left, where not all goes front
-  record Full : Type 0 where
-    x : ℕ
-    y : ℕ
-    low : r .i ≤ x
-    order : x ≤ y
-    high : y < r .j
-    used : 2 * sending .front + 2 * across rest x y ≡ room x + room y
+  -- a pair of the front that has no room left
+  abbrev Full : Type 0
+  Full = InFront r (λ x y. 2 * sending .front + 2 * across rest x y ≡ room x + room y)
 
+  -- either all goes front, or there is such a pair
   all-or-full : (sending .back ≡ 0) ⊎ Full
   unfolding send slack
   all-or-full =
@@ -143,7 +140,7 @@ module _ (n : ℕ) (room : Room) (r : Row) (rest : List Row) (on : OnRing n r) (
               low = t .low;
               order = t .order;
               high = t .high;
-              used = omega (arith, t .is, even, uncut (t .x) (t .y) (t .low) (t .order) (t .high), own (t .x) (t .y) (t .low) (t .order) (t .high));
+              is = omega (arith, t .is, even, uncut (t .x) (t .y) (t .low) (t .order) (t .high), own (t .x) (t .y) (t .low) (t .order) (t .high));
             })
       ]
 
@@ -172,7 +169,7 @@ module _ (n : ℕ) (room : Room) (r : Row) (rest : List Row) (on : OnRing n r) (
           omega (
             arith,
             sum,
-            t .used,
+            t .is,
             uncross rest g h (t .x) (t .y) order (omega (arith, t .low)) (t .order) .beside,
             to-front g (t .x) low (omega (arith, t .low)) e (t .low) (omega (arith, t .order, t .high)),
             to-front h (t .y) (omega arith) (omega (arith, t .low, t .order)) f (omega (arith, t .low, t .order)) (t .high),
@@ -181,7 +178,7 @@ module _ (n : ℕ) (room : Room) (r : Row) (rest : List Row) (on : OnRing n r) (
           omega (
             arith,
             sum,
-            t .used,
+            t .is,
             uncross rest g (t .x) (t .y) h (omega (arith, t .low)) (t .order) (omega (arith, t .high)) .around,
             to-front g (t .y) low (omega (arith, t .low, t .order)) e (omega (arith, t .low, t .order)) (t .high),
             from-front (t .x) h (t .low) (omega (arith, t .order, t .high)) (omega (arith, t .order, t .high)) high f,
@@ -191,7 +188,7 @@ module _ (n : ℕ) (room : Room) (r : Row) (rest : List Row) (on : OnRing n r) (
           omega (
             arith,
             sum,
-            t .used,
+            t .is,
             uncross rest (t .x) (t .y) g h (t .order) (omega (arith, t .high)) order .beside,
             from-front (t .x) g (t .low) (omega (arith, t .order, t .high)) (omega (arith, t .order, t .high)) (omega arith) e,
             from-front (t .y) h (omega (arith, t .low, t .order)) (t .high) (omega (arith, t .high)) high f,

@@ -2,9 +2,8 @@
 use Prim.Native.Nat.{ℕ, _+_, _*_, min}
 use mathlib.Core.Bool.{Bool, true, false}
 use mathlib.Core.List.{List, [], _∷_, _++_, map}
-use mathlib.Core.Path.{_≡_}
 use lib.Dec.{leb, eqb}
-use Rattle.ring.specs.Row.{row}
+use Rattle.ring.specs.Row.{Row, row}
 use Rattle.ring.specs.Cut.{across}
 use Rattle.ring.specs.Routing.{Sent, sent, Way, F, B, Routed, routed, unsplitLoad, peak}
 use Rattle.ring.specs.RuleB.{ruleB}
@@ -17,6 +16,9 @@ pub data Halves : Type 0 where
 
 -- what is stated of a sheet
 pub data Claim : Type 0 where
+  -- the demands, and the numbers of the links
+  rows-are : List Row → Claim
+  links-are : List ℕ → Claim
   -- the cut g, h and its across number
   cut-is : ℕ → ℕ → ℕ → Claim
   -- the demand that lies across the cut
@@ -37,10 +39,12 @@ pub data Claim : Type 0 where
   -- the least unsplit peak over all choices of ways for the demands
   best-peak-is : ℕ → Claim
 
+-- a sheet, and what 01 states of it
 pub record Case : Type 0 where
   pub sheet : Sheet
   pub claims : List Claim
 
+-- the fronts and backs of a split routing
 abbrev halves : List Sent → List Halves
 halves ss = map (λ (s : Sent). s .front & s .back) ss
 
@@ -53,6 +57,8 @@ bestPeak n rs (s ∷ ss) = min (bestPeak n (routed s F ∷ rs) ss) (bestPeak n (
 -- what the definitions say to the question that a claim answers
 unfoldable pub truth : Sheet → Claim → Claim
 unfolding across ruleB bestPeak peak
+truth x (rows-are rs) = rows-are (demands (sents (x .rows)))
+truth x (links-are ks) = links-are (map (λ (l : Link). l .link) (x .links))
 truth x (cut-is g h m) = cut-is (x .cut .g) (x .cut .h) (x .cut .number)
 truth x (across-is m) = across-is (across (demands (sents (x .rows))) (x .cut .g) (x .cut .h))
 truth x (sent-by-B hs) = sent-by-B (halves (ruleB (x .n) (demands (sents (x .rows)))))
@@ -68,6 +74,7 @@ truth x (bound-is u s d b) =
     bound-is (2 * unsplitPeak x) (splitPeak x) (3 * largestSplitOf x) (leb (2 * unsplitPeak x) (splitPeak x + 3 * largestSplitOf x))
 truth x (best-peak-is p) = best-peak-is (bestPeak (x .n) [] (sents (x .rows)))
 
+-- the list
 unfoldable pub cases : List Case
 unfolding plan sheetOf
 cases =
@@ -75,7 +82,8 @@ cases =
     record {
       sheet = plan 4 (row 1 3 1 ∷ row 2 4 1 ∷ []);
       claims =
-          cut-is 1 3 2 ∷ sent-is (1 & 1 ∷ 1 & 1 ∷ []) ∷ ways-are (F ∷ B ∷ []) ∷ split-loads-are (2 ∷ 2 ∷ 2 ∷ 2 ∷ []) ∷
+          rows-are (row 1 3 1 ∷ row 2 4 1 ∷ []) ∷ sent-is (1 & 1 ∷ 1 & 1 ∷ []) ∷ ways-are (F ∷ B ∷ []) ∷ cut-is 1 3 2 ∷
+          links-are (1 ∷ 2 ∷ 3 ∷ 4 ∷ []) ∷ split-loads-are (2 ∷ 2 ∷ 2 ∷ 2 ∷ []) ∷
           unsplit-loads-are (2 ∷ 1 ∷ 0 ∷ 1 ∷ []) ∷ unsplit-peak-is 2 ∷ size-is 3 ∷ bound-is 4 2 3 true ∷ [];
     } ∷
     -- n = 2, no rows
@@ -116,22 +124,28 @@ cases =
     -- n = 4, 1-2 of 1 sent 0/2, B, with cut 1, 2 across 1 and true figures: 13
     record {
       sheet = sheetOf 4 (record { g = 1; h = 2; number = 1 }) (routed (sent 1 2 1 0 2) B ∷ []);
-      claims = across-is 1 ∷ split-peak-is 2 ∷ tight-is false ∷ bound-is 2 2 0 true ∷ [];
+      claims =
+          rows-are (row 1 2 1 ∷ []) ∷ sent-is (0 & 2 ∷ []) ∷ ways-are (B ∷ []) ∷ cut-is 1 2 1 ∷ across-is 1 ∷ links-are (1 ∷ 2 ∷ 3 ∷ 4 ∷ []) ∷
+          split-loads-are (0 ∷ 2 ∷ 2 ∷ 2 ∷ []) ∷ unsplit-loads-are (0 ∷ 1 ∷ 1 ∷ 1 ∷ []) ∷ unsplit-peak-is 1 ∷ size-is 3 ∷ split-peak-is 2 ∷
+          tight-is false ∷ bound-is 2 2 0 true ∷ [];
     } ∷
     -- n = 8, rows k to k+4 for k = 1..4 of 1, each 1/1, all F, cut 4, 8 across 4, true figures: unsplit peak 4, 8 > 4 + 3, so 14
     record {
       sheet =
           sheetOf 8 (record { g = 4; h = 8; number = 4 })
           (routed (sent 1 5 1 1 1) F ∷ routed (sent 2 6 1 1 1) F ∷ routed (sent 3 7 1 1 1) F ∷ routed (sent 4 8 1 1 1) F ∷ []);
-      claims = across-is 4 ∷ unsplit-peak-is 4 ∷ tight-is true ∷ bound-is 8 4 3 false ∷ [];
+      claims =
+          rows-are (row 1 5 1 ∷ row 2 6 1 ∷ row 3 7 1 ∷ row 4 8 1 ∷ []) ∷ sent-is (1 & 1 ∷ 1 & 1 ∷ 1 & 1 ∷ 1 & 1 ∷ []) ∷ ways-are (F ∷ F ∷ F ∷ F ∷ []) ∷
+          cut-is 4 8 4 ∷ across-is 4 ∷ split-peak-is 4 ∷ unsplit-peak-is 4 ∷ tight-is true ∷ bound-is 8 4 3 false ∷ [];
     } ∷
     []
 
--- all claims of the list as they are stated, and as the definitions have them
+-- all claims of the list as they are stated
 unfoldable pub stated : List Case → List Claim
 stated [] = []
 stated (c ∷ cs) = c .claims ++ stated cs
 
+-- and as the definitions have them
 unfoldable pub computed : List Case → List Claim
 unfolding truth
 computed [] = []

@@ -42,7 +42,7 @@ numbersFrom k (suc m) = k ∷ numbersFrom (suc k) m
 abbrev pub linkOf : List Routed → ℕ → Link
 linkOf rs k = record { link = k; split = splitLoad (sents rs) k; unsplit = unsplitLoad rs k }
 
--- the sheet of routed rows and a cut, with the figures that are true of them
+-- the sheet of routed rows and a cut as it is said, with the loads, the peak and the size that are true of the rows
 unfoldable pub sheetOf : ℕ → Cut → List Routed → Sheet
 unfolding numbersFrom splitLoad unsplitLoad peak smallestIn
 sheetOf n c rs =
@@ -56,9 +56,11 @@ plan n rs = sheetOf n (ruleA n rs) (ruleD (ruleC (ruleB n rs)))
 
 -- ---- what a sheet's rows make of it, whatever its own figures say
 
+-- the largest split load, in halves
 abbrev pub splitPeak : Sheet → ℕ
 splitPeak x = peak (splitLoad (sents (x .rows))) (x .n)
 
+-- the largest unsplit load, in units
 abbrev pub unsplitPeak : Sheet → ℕ
 unsplitPeak x = peak (unsplitLoad (x .rows)) (x .n)
 
