@@ -1,0 +1,96 @@
+ghost use Prim.Native.Nat.{_≤_, _<_};
+// Runs stored cases: each is a header of 12 bytes (a letter for the call, the text's length and the buffer's in five digits each, LF) and
+// the text. Each is answered by a line: the reply's numbers, and a sum over every byte of the buffer, which is filled with a pattern before the call.
+use libc::STDIN_FILENO;
+use libc::STDOUT_FILENO;
+
+const ROOM: usize = 40000;
+
+const PATTERN: u8 = 85;
+
+fn digit(b: u8) -> usize {
+    if b < b'0' {
+        return 0;
+    }
+    if b'9' < b {
+        return 0;
+    }
+    let d = b - b'0';
+    d as usize
+}
+
+// Five digits; at most ROOM.
+fn number(a: u8, b: u8, c: u8, d: u8, e: u8) -> usize
+    ensures { λ r. ⌜ r ≤ 40000 ⌝ }
+{
+    let n = digit(a) % 10 * 10000
+        + digit(b) % 10 * 1000
+        + digit(c) % 10 * 100
+        + digit(d) % 10 * 10
+        + digit(e) % 10;
+    if n <= ROOM { n } else { ROOM }
+}
+
+fn sum_of(s: &[u8]) -> u64 {
+    let mut sum: u64 = 0;
+    for k in 0..s.len() {
+        sum = (sum * 31 + wide(s[k])) % 1000003;
+    }
+    sum
+}
+
+fn wide(b: u8) -> u64
+    ensures { λ r. ⌜ r < 256 ⌝ }
+{
+    b as u64
+}
+
+fn show(n: u64, end: &[u8]) {
+    io::print_decimal(STDOUT_FILENO, n);
+    io::write_all(STDOUT_FILENO, end);
+}
+
+fn show_word(n: u32) {
+    show(n as u64, b" ");
+}
+
+// One case, in fresh memory; false at the end of the input.
+fn one_case() -> bool {
+    let mut text = [0u8; ROOM];
+    let mut buffer = [PATTERN; ROOM];
+    answer(&mut text, &mut buffer)
+}
+
+fn answer(text: &mut [u8], buffer: &mut [u8]) -> bool {
+    let mut h = [0u8; 12];
+    if io::read_full(STDIN_FILENO, &mut h) < 12 {
+        return false;
+    }
+    let size = number(h[1], h[2], h[3], h[4], h[5]);
+    let room = number(h[6], h[7], h[8], h[9], h[10]);
+    if text.len() < size {
+        return false;
+    }
+    if buffer.len() < room {
+        return false;
+    }
+    if io::read_full(STDIN_FILENO, &mut text[0..size]) < size {
+        return false;
+    }
+    let reply = ringkit::ringkit_rewrite_table(&text[0..size], &mut buffer[0..room]);
+    show_word(reply.reason);
+    show_word(reply.line);
+    show(reply.length as u64, b" ");
+    show(sum_of(buffer), b"\n");
+    true
+}
+
+fn main() {
+    let mut left: usize = 100000;
+    while 0 < left {
+        if !one_case() {
+            return;
+        }
+        left -= 1;
+    }
+}

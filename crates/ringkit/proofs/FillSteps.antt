@@ -1,0 +1,39 @@
+-- A call that fills a buffer, over any outcome: a refusal, a buffer that is too short, and a text that was written each meet its contract.
+use Prim.Native.Nat.{ℕ, _+_, _≤_, _<_}
+use mathlib.Core.List.{List, _++_}
+use mathlib.Core.Path.{_≡_, ap, _∙_}
+use native.Mathlib.Omega.{arith}
+use lib.ListN.{length, drop}
+use lib.Seq.{sets-eq}
+use borrow.Author.Tests.{lt-ltb, le-ltb}
+use Rattle.text.specs.Written.{Written}
+use Rattle.table.specs.Reasons.{numberOf}
+use Rattle.table.specs.declared.reason.Reason.{Reason}
+use Rattle.table.specs.declared.reason.Reason.the-variants.{NoRoom}
+use Rattle.ringkit.specs.Outcome.{Outcome, write, refuse, within, replyOf, bufferAfter, Fills}
+use Rattle.ringkit.specs.declared.Reply.{Reply}
+
+pub refusal-is : (reason : Reason) (line number : ℕ) → number ≡ numberOf reason → record { reason = number; line = line; length = 0 } ≡ replyOf (refuse reason line)
+unfolding replyOf
+refusal-is reason line number e = rw e
+
+module _ (outcome : Outcome) (old : List ℕ) where
+  pub refuses : (reason : Reason) (line : ℕ) (r : Reply) → outcome ≡ refuse reason line → r ≡ replyOf (refuse reason line) → Fills outcome old old r
+  unfolding within bufferAfter
+  refuses reason line r o e = record { reply = rw o e; buffer = rw o }
+
+  module _ (t : List ℕ) (o : outcome ≡ write t) (size : ℕ) (is : size ≡ length t) where
+    pub too-short : (r : Reply) → length old < size → r ≡ replyOf (refuse NoRoom 0) → Fills outcome old old r
+    unfolding within bufferAfter
+    too-short r l e = let k : length old < length t = omega arith in record { reply = rw (o, lt-ltb (length old) (length t) k) e; buffer = rw (o, lt-ltb (length old) (length t) k) }
+
+    pub fills : (new : List ℕ) (n : ℕ) → size ≤ length old → Written old 0 t new n → Fills outcome old new (record { reason = 0; line = 0; length = n })
+    unfolding within replyOf bufferAfter
+    fills new n l w =
+        let k : length t ≤ length old = omega arith in
+        let z : n ≡ length t = omega (arith, w .place) in
+        let e : 0 + length t ≡ length t = omega arith in
+        record {
+          reply = rw (o, le-ltb (length old) (length t) k, z);
+          buffer = rw (o, le-ltb (length old) (length t) k) (w .buffer ∙ sets-eq t old 0 (omega arith) ∙ ap (λ m. t ++ drop m old) e);
+        }

@@ -1,0 +1,14 @@
+-- Any two replies to a public call agree, and so do the two buffers: over any outcome, and so of each call.
+use Prim.Native.Nat.{ℕ}
+use mathlib.Core.List.{List}
+use mathlib.Core.Path.{_≡_}
+use Rattle.text.proofs.Unique.{same-result}
+use Rattle.ringkit.specs.Outcome.{Outcome, Fills}
+use Rattle.ringkit.specs.Rewritten.{tableAfresh}
+use Rattle.ringkit.specs.declared.Reply.{Reply}
+
+fills-unique : (outcome : Outcome) (old new buf : List ℕ) (r q : Reply) → Fills outcome old new r → Fills outcome old buf q → (r ≡ q) × (new ≡ buf)
+fills-unique outcome old new buf r q a b = (same-result (a .reply) (b .reply), same-result (a .buffer) (b .buffer))
+
+pub rewrite-table-unique : (t old new buf : List ℕ) (r q : Reply) → Fills (tableAfresh t) old new r → Fills (tableAfresh t) old buf q → (r ≡ q) × (new ≡ buf)
+rewrite-table-unique t = fills-unique (tableAfresh t)

@@ -1,0 +1,51 @@
+-- What callers need of a text that the desk accepts: its table is in range, so its rows are a table's rows; and reading and writing are each
+-- other's inverse, from `table-text` both ways.
+use Prim.Native.Nat.{ℕ, _≤_}
+use mathlib.Core.List.{List}
+use mathlib.Core.Path.{_≡_, refl, ap, _∙_, sym}
+use lib.ListN.{length}
+use Rattle.ring.specs.Lists.{Each}
+use Rattle.ring.specs.Row.{Row, TableRows}
+use Rattle.table.specs.Limits.{Limits, desk}
+use Rattle.table.specs.Table.{accepted, tableOf, writeTable, InRange}
+use Rattle.table.proofs.Few.{few}
+use Rattle.table.proofs.TableText.{Spelled, desk-spelled, table-text}
+
+module _ (limits : Limits) (spelled : Spelled limits) where
+  pub accepted-in-range : (t : List ℕ) (n : ℕ) (rs : List Row) → tableOf limits t ≡ accepted n rs → InRange limits n rs
+  accepted-in-range t n rs e = table-text limits spelled t n rs .0 e .1
+
+  -- writing what was read gives the same bytes
+  pub write-read : (t : List ℕ) (n : ℕ) (rs : List Row) → tableOf limits t ≡ accepted n rs → writeTable n rs ≡ t
+  write-read t n rs e = sym (table-text limits spelled t n rs .0 e .0)
+
+  -- reading what was written gives the same values
+  pub read-written : (n : ℕ) (rs : List Row) → InRange limits n rs → tableOf limits (writeTable n rs) ≡ accepted n rs
+  read-written n rs range = table-text limits spelled (writeTable n rs) n rs .1 (refl, range)
+
+  -- two tables written the same are the same table
+  pub same-table : (n m : ℕ) (rs ss : List Row) → InRange limits n rs → InRange limits m ss → writeTable n rs ≡ writeTable m ss → (n ≡ m) × (rs ≡ ss)
+  same-table n m rs ss r s e =
+      let f : accepted n rs ≡ accepted m ss = sym (read-written n rs r) ∙ ap (tableOf limits) e ∙ read-written m ss s in
+      (cc, cc)
+
+-- ---- a table of the desk
+
+module _ (t : List ℕ) (n : ℕ) (rs : List Row) (e : tableOf desk t ≡ accepted n rs) where
+  pub desk-in-range : InRange desk n rs
+  desk-in-range = accepted-in-range desk desk-spelled t n rs e
+
+  pub desk-fewest : 2 ≤ n
+  desk-fewest = desk-in-range .few
+
+  pub desk-nodes : n ≤ 32
+  desk-nodes = desk-in-range .many
+
+  pub desk-rows : TableRows n rs
+  desk-rows = desk-in-range .rows
+
+  pub desk-amounts : Each (λ r. r .d ≤ 9999) rs
+  desk-amounts = desk-in-range .amounts
+
+  pub desk-count : length rs ≤ 496
+  desk-count = few n rs desk-in-range

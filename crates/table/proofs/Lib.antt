@@ -1,0 +1,26 @@
+-- The laws for callers, how they are shown, and what the proofs of the functions cite.
+
+-- the laws
+pub mod TableText
+pub mod ReasonsGiven
+pub mod Few
+pub mod Accepted
+pub mod Unique
+-- how they are shown
+pub mod Judged
+pub mod Against
+pub mod Rank
+pub mod FineRows
+pub mod LineRead
+pub mod LinesOf
+pub mod LineNumbers
+pub mod ReasonNumbers
+pub mod Said
+pub mod FirstOnLine
+-- for the functions
+pub mod JudgeSteps
+pub mod LineSteps
+pub mod Columns
+pub mod ReadSteps
+pub mod WriteSteps
+pub mod Told

@@ -1,0 +1,64 @@
+-- An R or a D line is read to numbers exactly where it is their line and they can be spelled: the laws of lines, as one view for each.
+use Prim.Native.Nat.{ℕ, _<_}
+use mathlib.Core.List.{List, [], _∷_}
+use mathlib.Core.Path.{_≡_, refl}
+use native.Mathlib.Omega.{arith}
+use Rattle.text.specs.Number.{limit}
+use Rattle.text.specs.Mark.{marks}
+use Rattle.text.specs.Field.{top}
+use Rattle.text.specs.WriteLine.{InRange}
+use Rattle.text.specs.ReadLine.{readLine}
+use Rattle.text.specs.Shapes.{ringShape, rowShape, ringLine, rowLine}
+use Rattle.text.specs.Answers.{oneIn, threeIn}
+use Rattle.text.specs.declared.OneNumber.{OneNumber}
+use Rattle.text.specs.declared.OneNumber.the-variants.{Is as IsOne, Bad as NotOne}
+use Rattle.text.specs.declared.ThreeNumbers.{ThreeNumbers}
+use Rattle.text.specs.declared.ThreeNumbers.the-variants.{Are as AreThree, Bad as NotThree}
+use Rattle.text.proofs.Apart.{clash}
+use Rattle.text.proofs.AnswerLaws.{ring-good, row-good}
+
+-- ---- R n
+
+pub ring-in-range : (n : ℕ) → n < limit → InRange ringShape (0 ∷ n ∷ [])
+unfolding InRange top marks
+ring-in-range n h = (omega arith, (h, tt))
+
+pub ring-line-read : (n : ℕ) → n < limit → oneIn (readLine ringShape (ringLine n)) ≡ IsOne n
+ring-line-read n h = ring-good (ringLine n) n .1 (refl, ring-in-range n h)
+
+pub data RingRead (l : List ℕ) : OneNumber → Type 0 where
+  is-ring : {n : ℕ} → l ≡ ringLine n → n < limit → RingRead l (IsOne n)
+  no-ring : {p : ℕ} → ((n : ℕ) → l ≡ ringLine n → n < limit → ⊥) → RingRead l (NotOne p)
+
+pub ring-read : (l : List ℕ) → RingRead l (oneIn (readLine ringShape l))
+unfolding InRange top marks
+ring-read l = go (oneIn (readLine ringShape l)) refl
+  where
+    go : (x : OneNumber) → oneIn (readLine ringShape l) ≡ x → RingRead l x
+    go (IsOne n) e = let w = ring-good l n .0 e in is-ring (w .0) (w .1 .1 .0)
+    go (NotOne p) e = no-ring (λ n w h. clash (cc (ring-good l n .1 (w, ring-in-range n h))))
+
+-- ---- D i j d
+
+-- each of its numbers has at most 7 digits
+abbrev pub RowSpelled : ℕ → ℕ → ℕ → Type 0
+RowSpelled i j d = (i < limit) × ((j < limit) × (d < limit))
+
+pub row-in-range : (i j d : ℕ) → RowSpelled i j d → InRange rowShape (0 ∷ i ∷ j ∷ d ∷ [])
+unfolding InRange top marks
+row-in-range i j d h = (omega arith, (h .0, (h .1 .0, (h .1 .1, tt))))
+
+pub row-line-read : (i j d : ℕ) → RowSpelled i j d → threeIn (readLine rowShape (rowLine i j d)) ≡ AreThree i j d
+row-line-read i j d h = row-good (rowLine i j d) i j d .1 (refl, row-in-range i j d h)
+
+pub data RowRead (l : List ℕ) : ThreeNumbers → Type 0 where
+  is-row : {i j d : ℕ} → l ≡ rowLine i j d → RowSpelled i j d → RowRead l (AreThree i j d)
+  no-row : {p : ℕ} → ((i j d : ℕ) → l ≡ rowLine i j d → RowSpelled i j d → ⊥) → RowRead l (NotThree p)
+
+pub row-read : (l : List ℕ) → RowRead l (threeIn (readLine rowShape l))
+unfolding InRange top marks
+row-read l = go (threeIn (readLine rowShape l)) refl
+  where
+    go : (x : ThreeNumbers) → threeIn (readLine rowShape l) ≡ x → RowRead l x
+    go (AreThree i j d) e = let w = row-good l i j d .0 e in is-row (w .0) (w .1 .1 .0, (w .1 .1 .1 .0, w .1 .1 .1 .1 .0))
+    go (NotThree p) e = no-row (λ i j d w h. clash (cc (row-good l i j d .1 (w, row-in-range i j d h))))

@@ -1,0 +1,164 @@
+-- Reading a table line by line: the rows read so far stand in the columns, and reading the rest behind them is reading the whole. One law for each
+-- way on and each way out.
+use Prim.Native.Nat.{ℕ, _+_, _-_, _≤_, _<_}
+use mathlib.Core.List.{List, [], _∷_, _++_}
+use mathlib.Core.Path.{_≡_, refl, ap, _∙_, sym}
+use native.Mathlib.Omega.{arith}
+use lib.ListN.{length, set, take, drop, drop-of-length-le, length-append}
+use borrow.Author.Tests.{lt-ltb, le-ltb}
+use Rattle.ring.specs.Row.{Row, row, OnRing, PairBefore}
+use Rattle.text.specs.ReadLine.{readLine}
+use Rattle.text.specs.Answers.{oneIn, threeIn}
+use Rattle.text.specs.Shapes.{ringShape, rowShape}
+use Rattle.text.specs.declared.OneNumber.{OneNumber}
+use Rattle.text.specs.declared.OneNumber.the-variants.{Is as IsOne, Bad as NotOne}
+use Rattle.text.specs.declared.ThreeNumbers.{ThreeNumbers}
+use Rattle.text.specs.declared.ThreeNumbers.the-variants.{Are as AreThree, Bad as NotThree}
+use Rattle.table.specs.Limits.{desk}
+use Rattle.table.specs.Lines.{lines}
+use Rattle.table.specs.LineEnds.{LineEnds}
+use Rattle.table.specs.Judge.{judgeRing, judgeRow}
+use Rattle.table.specs.Table.{Result, refused, rowsOf, tableOf}
+use Rattle.table.specs.Arrays.{zeros, column, tableIn}
+use Rattle.table.specs.declared.reason.Reason.{Reason}
+use Rattle.table.specs.declared.reason.Reason.the-variants.{TooLong, Misshapen}
+use Rattle.table.specs.declared.judge.Verdict.{Verdict}
+use Rattle.table.specs.declared.judge.Verdict.the-variants.{Fine, Fault}
+use Rattle.table.specs.declared.read.Table.{Table}
+use Rattle.table.specs.declared.read.Answer.the-variants.{Is}
+use Rattle.table.proofs.Judged.{RingJudged, right-size, ring-judged, RowJudged, row-fine, row-judged}
+use Rattle.table.proofs.LineSteps.{line-at}
+use Rattle.table.proofs.Rank.{rank, rank-up, rank-most}
+use Rattle.table.proofs.Columns.{column-more}
+
+-- what holds of a row that nothing is found against
+record FineRow (n a b i j d : ℕ) : Type 0 where
+  on : OnRing n (row i j d)
+  rises : PairBefore a b i j
+
+fine-row : (n a b i j d : ℕ) (v : Verdict) → v ≡ judgeRow desk n a b i j d → v ≡ Fine → FineRow n a b i j d
+fine-row n a b i j d v e f = let q = sym e ∙ f in go (rw q at (row-judged desk n a b i j d))
+  where
+    go : RowJudged desk n a b i j d Fine → FineRow n a b i j d
+    go (row-fine on rises most) = record { on = on; rises = rises }
+
+-- the rows of the lines from the place `from` on
+abbrev whole : List ℕ → ℕ → ℕ → Result
+whole s n from = rowsOf desk n 2 0 0 [] (lines (drop from s))
+
+-- `count` rows are read, of which the last is a, b; the line `line` begins at the place `at`
+pub record Reading (s : List ℕ) (n from line a b count at : ℕ) (first second amount : List ℕ) : Type 0 where
+  pub rows : List Row
+  pub rest : whole s n from ≡ rowsOf desk n line a b rows (lines (drop at s))
+  pub many : count ≡ length rows
+  pub firsts : first ≡ column (λ r. r .i) rows
+  pub seconds : second ≡ column (λ r. r .j) rows
+  pub amounts : amount ≡ column (λ r. r .d) rows
+  pub lined : line ≡ count + 2
+  pub ranked : count ≤ rank a b
+  pub most : count ≤ desk .rows
+  pub low : b ≤ desk .nodes
+  pub within : at ≤ length s
+
+pub reading-starts : (s : List ℕ) (n from : ℕ) → from ≤ length s → Reading s n from 2 0 0 0 from zeros zeros zeros
+unfolding column
+reading-starts s n from w =
+    record {
+      rows = [];
+      rest = refl;
+      many = refl;
+      firsts = refl;
+      seconds = refl;
+      amounts = refl;
+      lined = refl;
+      ranked = omega arith;
+      most = omega arith;
+      low = omega arith;
+      within = w;
+    }
+
+module _ (s : List ℕ) (n from line a b count at : ℕ) (first second amount : List ℕ) (reading : Reading s n from line a b count at first second amount) where
+  -- no line is left
+  pub all-read : length s ≤ at → record { answer = Is n count; first = first; second = second; amount = amount } ≡ tableIn (whole s n from)
+  unfolding rowsOf lines tableIn
+  all-read k = rw (reading .rest, drop-of-length-le s k, reading .many, reading .firsts, reading .seconds, reading .amounts)
+
+  module _ (end : ℕ) (there : at < length s) (ends : LineEnds s at end) (x : ThreeNumbers) (ex : x ≡ threeIn (readLine rowShape (take (end - at) (drop at s)))) where
+    -- the next line is no row
+    pub no-row : (p : ℕ) (t : Table) → x ≡ NotThree p → t ≡ tableIn (refused Misshapen line) → t ≡ tableIn (whole s n from)
+    unfolding rowsOf
+    no-row p t q e = e ∙ ap tableIn (rw (reading .rest, line-at s at end there ends, ← ex, q))
+
+    module _ (i j d : ℕ) (is : x ≡ AreThree i j d) (v : Verdict) (ev : v ≡ judgeRow desk n a b i j d) where
+      -- something is found against it
+      pub row-fault : (reason : Reason) (t : Table) → v ≡ Fault reason → t ≡ tableIn (refused reason line) → t ≡ tableIn (whole s n from)
+      unfolding rowsOf
+      row-fault reason t q e = e ∙ ap tableIn (rw (reading .rest, line-at s at end there ends, ← ex, is, ← ev, q))
+
+      module _ (fine : v ≡ Fine) (few : n ≤ desk .nodes) where
+        up : count + 1 ≤ rank i j
+        up =
+            let r = fine-row n a b i j d v ev fine in
+            omega (arith, reading .ranked, rank-up a b i j (reading .low) (r .rises) (r .on .low) (r .on .order))
+
+        -- there is room for it
+        pub room : count < desk .rows
+        room =
+            let r = fine-row n a b i j d v ev fine in
+            omega (arith, up, rank-most i j (r .on .low) (r .on .order) (omega (arith, r .on .high)))
+
+        pub reads-row : Reading s n from (line + 1) i j (count + 1) end (set first count i) (set second count j) (set amount count d)
+        unfolding rowsOf
+        reads-row =
+            let r = fine-row n a b i j d v ev fine in
+            record {
+              rows = reading .rows ++ row i j d ∷ [];
+              rest = reading .rest ∙ rw (line-at s at end there ends, ← ex, is, ← ev, fine);
+              many = omega (arith, reading .many, length-append (reading .rows) (row i j d ∷ []));
+              firsts = rw (reading .firsts) (column-more (λ r. r .i) (reading .rows) (row i j d) count (reading .many));
+              seconds = rw (reading .seconds) (column-more (λ r. r .j) (reading .rows) (row i j d) count (reading .many));
+              amounts = rw (reading .amounts) (column-more (λ r. r .d) (reading .rows) (row i j d) count (reading .many));
+              lined = omega (arith, reading .lined);
+              ranked = up;
+              most = omega (arith, room);
+              low = omega (arith, r .on .high);
+              within = ends .within;
+            }
+
+-- ---- the whole table
+
+nothing : (s : List ℕ) → length s ≤ 0 → refused Misshapen 1 ≡ tableOf desk s
+unfolding tableOf lines
+nothing [] h = refl
+nothing (b ∷ s) h = absurd (omega arith)
+
+module _ (s : List ℕ) (t : Table) where
+  pub too-long : desk .bytes < length s → t ≡ tableIn (refused TooLong 0) → t ≡ tableIn (tableOf desk s)
+  unfolding tableOf
+  too-long h e = e ∙ ap tableIn (rw (lt-ltb _ _ h))
+
+  pub no-line : length s ≤ 0 → t ≡ tableIn (refused Misshapen 1) → t ≡ tableIn (tableOf desk s)
+  no-line h e = e ∙ ap tableIn (nothing s h)
+
+  module _ (short : length s ≤ desk .bytes) (there : 0 < length s) (end : ℕ) (ends : LineEnds s 0 end) (x : OneNumber) (ex : x ≡ oneIn (readLine ringShape (take (end - 0) (drop 0 s)))) where
+    first-line : lines s ≡ take (end - 0) (drop 0 s) ∷ lines (drop end s)
+    first-line = line-at s 0 end there ends
+
+    pub no-ring : (p : ℕ) → x ≡ NotOne p → t ≡ tableIn (refused Misshapen 1) → t ≡ tableIn (tableOf desk s)
+    unfolding tableOf
+    no-ring p q e = e ∙ ap tableIn (rw (le-ltb (desk .bytes) (length s) short, first-line, ← ex, q))
+
+    module _ (n : ℕ) (is : x ≡ IsOne n) (v : Verdict) (ev : v ≡ judgeRing desk n) where
+      pub ring-fault : (reason : Reason) → v ≡ Fault reason → t ≡ tableIn (refused reason 1) → t ≡ tableIn (tableOf desk s)
+      unfolding tableOf
+      ring-fault reason q e = e ∙ ap tableIn (rw (le-ltb (desk .bytes) (length s) short, first-line, ← ex, is, ← ev, q))
+
+      pub then-rows : v ≡ Fine → t ≡ tableIn (whole s n end) → t ≡ tableIn (tableOf desk s)
+      unfolding tableOf
+      then-rows q e = e ∙ ap tableIn (rw (le-ltb (desk .bytes) (length s) short, first-line, ← ex, is, ← ev, q))
+
+pub ring-fits : (n : ℕ) (v : Verdict) → v ≡ judgeRing desk n → v ≡ Fine → n ≤ desk .nodes
+ring-fits n v e f = let q = sym e ∙ f in go (rw q at (ring-judged desk n))
+  where
+    go : RingJudged desk n Fine → n ≤ desk .nodes
+    go (right-size l m) = m

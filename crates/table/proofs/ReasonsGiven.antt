@@ -1,0 +1,168 @@
+-- A reason is given exactly when it holds and nothing before it in the order does, and a table is accepted exactly when none holds: shown by
+-- going through the lines as the reader does, with nothing said of the lines passed.
+use Prim.Native.Nat.{ℕ, _+_, _≤_, _<_}
+use mathlib.Core.List.{List, [], _∷_, _++_}
+use mathlib.Core.Logic.{inl, inr, _↔_}
+use mathlib.Core.Path.{_≡_, refl, sym, subst}
+use native.Mathlib.Omega.{arith}
+use native.Mathlib.Decide.{decLt}
+use lib.ListN.{length}
+use borrow.Author.Tests.{ltb-true, ltb-false}
+use Rattle.ring.specs.Row.{Row, row}
+use Rattle.ring.proofs.Side.{cond-elim}
+use Rattle.text.specs.declared.OneNumber.{OneNumber}
+use Rattle.text.specs.declared.ThreeNumbers.{ThreeNumbers}
+use Rattle.table.specs.Limits.{Limits}
+use Rattle.table.specs.Lines.{lines}
+use Rattle.table.specs.Judge.{judgeRing, judgeRow}
+use Rattle.table.specs.Reasons.{numberOf}
+use Rattle.table.specs.Table.{Result, accepted, refused, ringOr, rowOr, unless, rowsOf, tableLines, tableOf}
+use Rattle.table.specs.Says.{RingIs, RowIs, Says, Earlier, Given, Accepted}
+use Rattle.table.specs.declared.reason.Reason.{Reason}
+use Rattle.table.specs.declared.reason.Reason.the-variants.{TooLong}
+use Rattle.table.specs.declared.judge.Verdict.{Verdict}
+use Rattle.table.specs.declared.judge.Verdict.the-variants.{Fine, Fault}
+use Rattle.table.proofs.Judged.{ring-judged, row-judged}
+use Rattle.table.proofs.LineRead.{RingRead, is-ring, no-ring, ring-read, RowRead, is-row, no-row, row-read}
+use Rattle.table.proofs.LineNumbers.{line-one, LinesFrom, from-first, from-next, line-here, no-line-left}
+use Rattle.table.proofs.ReasonNumbers.{same-reason}
+use Rattle.table.proofs.Said.{said, Stands, on-none, on-first, on-later, stands}
+use Rattle.table.proofs.FirstOnLine.{FirstOnLine, no-ring-first, no-row-first, ring-judged-first, RowBefore, no-row-before, row-before, row-judged-first}
+
+-- ---- line by line
+
+-- nothing is said of the lines before this one
+record Clean (limits : Limits) (t : List ℕ) (line : ℕ) : Type 0 where
+  pub none : (s : Reason) (other : ℕ) → other < line → Says limits t s other → ⊥
+
+-- a result that is right by what the reasons say
+data Right (limits : Limits) (t : List ℕ) : Result → Type 0 where
+  none-holds : {n : ℕ} {rs : List Row} → Accepted limits t → Right limits t (accepted n rs)
+  first-holds : {r : Reason} {line : ℕ} → Given limits t r line → Right limits t (refused r line)
+
+module _ {limits : Limits} {t : List ℕ} where
+  given-here : {line : ℕ} {r : Reason} → Clean limits t line → FirstOnLine limits t line (Fault r) → Given limits t r line
+  given-here {line} {r} clean f = record { holds = f .holds; first = go }
+    where
+      go : (s : Reason) (other : ℕ) → Earlier s other r line → Says limits t s other → ⊥
+      go s other (inl l) h = clean .none s other l h
+      go s other (inr l) h = omega (arith, l .1, f .least s (subst (Says limits t s) (l .0) h))
+
+  clean-next : {line : ℕ} → Clean limits t line → FirstOnLine limits t line Fine → Clean limits t (line + 1)
+  clean-next {line} clean f = record { none = go }
+    where
+      go : (s : Reason) (other : ℕ) → other < line + 1 → Says limits t s other → ⊥
+      go s other l h =
+          elim (decLt other line) [
+            | yes m ↦ clean .none s other m h
+            | no m ↦ let e : other ≡ line = omega arith in f .least s (subst (Says limits t s) e h)
+          ]
+
+  unless-right : {line : ℕ} {x : Result} (v : Verdict) → Clean limits t line → FirstOnLine limits t line v
+      → (Clean limits t (line + 1) → Right limits t x) → Right limits t (unless v line x)
+  unfolding unless
+  unless-right Fine clean f next = next (clean-next clean f)
+  unless-right (Fault r) clean f next = first-holds (given-here clean f)
+
+  -- reason 1 is tried first
+  clean-start : length t ≤ limits .bytes → Clean limits t 1
+  clean-start short = record { none = λ s other l h. go l (stands (said s h)) }
+    where
+      go : {other : ℕ} {s : Reason} → other < 1 → Stands limits t other s → ⊥
+      go l (on-none e long one) = omega arith
+      go l (on-first e two) = omega arith
+      go l (on-later later is two) = omega arith
+
+  clean-end : {line : ℕ} → 2 ≤ line → LinesFrom (lines t) line [] → Clean limits t line → Accepted limits t
+  clean-end {line} later from clean s other h = go (stands (said s h))
+    where
+      go : {s : Reason} → Stands limits t other s → ⊥
+      go (on-none e long one) = clean .none s other (omega arith) h
+      go (on-first e two) = clean .none s other (omega arith) h
+      go (on-later m is two) = clean .none s other (no-line-left from is) h
+
+  rows-right : {n : ℕ} → RingIs t n → (ls : List (List ℕ)) (line a b : ℕ) (rs : List Row) → LinesFrom (lines t) line ls → 2 ≤ line → Clean limits t line
+      → RowBefore t line a b → Right limits t (rowsOf limits n line a b rs ls)
+  unfolding rowsOf rowOr
+  rows-right ring [] line a b rs from later clean before = none-holds (clean-end later from clean)
+  rows-right {n} ring (l ∷ ls) line a b rs from later clean before =
+      go (row-read l) (λ i j d. rows-right ring ls (line + 1) i j (rs ++ row i j d ∷ []) (from-next from) (omega arith))
+    where
+      next : ℕ → ℕ → ℕ → Result
+      next i j d = rowsOf limits n (line + 1) i j (rs ++ row i j d ∷ []) ls
+
+      go : {x : ThreeNumbers} → RowRead l x → ((i j d : ℕ) → Clean limits t (line + 1) → RowBefore t (line + 1) i j → Right limits t (next i j d))
+          → Right limits t (rowOr x line λ i j d. unless (judgeRow limits n a b i j d) line (next i j d))
+      go (is-row {i} {j} {d} e w) rest =
+          let now : RowIs t line i j d = record { later = later; text = rw e at (line-here from); spelled = w } in
+          unless-right _ clean (row-judged-first ring now before (row-judged limits n a b i j d)) (λ c. rest i j d c (row-before now))
+      go (no-row none) rest =
+          first-holds (given-here clean (no-row-first later (line-here from) (λ i j d r. none i j d (line-one (line-here from) (r .text) refl) (r .spelled))))
+
+  lines-right : length t ≤ limits .bytes → (ls : List (List ℕ)) → LinesFrom (lines t) 1 ls → Right limits t (tableLines limits ls)
+  unfolding tableLines ringOr
+  lines-right short [] from = first-holds (given-here (clean-start short) (no-ring-first (λ n r. omega (arith, no-line-left from (r .text)))))
+  lines-right short (l ∷ ls) from = go (ring-read l)
+    where
+      go : {x : OneNumber} → RingRead l x → Right limits t (ringOr x 1 λ n. unless (judgeRing limits n) 1 (rowsOf limits n 2 0 0 [] ls))
+      go (is-ring {n} e w) =
+          let ring : RingIs t n = record { text = rw e at (line-here from); spelled = w } in
+          unless-right _ (clean-start short) (ring-judged-first ring (ring-judged limits n))
+          (λ c. rows-right ring ls 2 0 0 [] (from-next from) (omega arith) c no-row-before)
+      go (no-ring none) =
+          first-holds (given-here (clean-start short) (no-ring-first (λ n r. none n (line-one (line-here from) (r .text) refl) (r .spelled))))
+
+too-long-given : {limits : Limits} {t : List ℕ} → limits .bytes < length t → Given limits t TooLong 0
+unfolding Says
+too-long-given {limits} {t} long = record { holds = (refl, long); first = λ s other e h. go e (stands (said s h)) }
+  where
+    go : {s : Reason} {other : ℕ} → Earlier s other TooLong 0 → Stands limits t other s → ⊥
+    go (inl l) w = omega arith
+    go (inr l) (on-none e long one) = omega (arith, l .1)
+    go (inr l) (on-first e two) = omega (arith, l .1)
+    go (inr l) (on-later m is two) = omega (arith, l .1)
+
+right : (limits : Limits) (t : List ℕ) → Right limits t (tableOf limits t)
+unfolding tableOf
+right limits t =
+    cond-elim (Right limits t) _ _ _
+    (λ e. first-holds (too-long-given (ltb-true (limits .bytes) (length t) e)))
+    (λ e. lines-right (ltb-false (limits .bytes) (length t) e) (lines t) from-first)
+
+-- ---- the laws
+
+-- a text has one first reason
+one-given : {limits : Limits} {t : List ℕ} {r s : Reason} {line other : ℕ} → Given limits t r line → Given limits t s other → (r ≡ s) × (line ≡ other)
+one-given {r} {s} {line} {other} f g =
+    let a : line < other → ⊥ = λ l. g .first r line (inl l) (f .holds) in
+    let b : other < line → ⊥ = λ l. f .first s other (inl l) (g .holds) in
+    let e : line ≡ other = omega arith in
+    let c : numberOf r < numberOf s → ⊥ = λ l. g .first r line (inr (e, l)) (f .holds) in
+    let d : numberOf s < numberOf r → ⊥ = λ l. f .first s other (inr (sym e, l)) (g .holds) in
+    (same-reason r s (omega arith), e)
+
+pub given : (limits : Limits) (t : List ℕ) (r : Reason) (line : ℕ) → (tableOf limits t ≡ refused r line) ↔ Given limits t r line
+given limits t r line = (λ e. there (subst (Right limits t) e (right limits t)), λ g. back g (right limits t))
+  where
+    there : Right limits t (refused r line) → Given limits t r line
+    there (first-holds g) = g
+
+    back : Given limits t r line → {x : Result} → Right limits t x → x ≡ refused r line
+    back g (none-holds none) = absurd (none r line (g .holds))
+    back g (first-holds f) = let o = one-given f g in rw (o .0, o .1)
+
+-- the text is read to a table
+pub record Reads (limits : Limits) (t : List ℕ) : Type 0 where
+  pub n : ℕ
+  pub rs : List Row
+  pub is : tableOf limits t ≡ accepted n rs
+
+pub accepted-is : (limits : Limits) (t : List ℕ) → Reads limits t ↔ Accepted limits t
+accepted-is limits t = (λ h. there (subst (Right limits t) (h .is) (right limits t)), λ none. back none (tableOf limits t) refl)
+  where
+    there : {n : ℕ} {rs : List Row} → Right limits t (accepted n rs) → Accepted limits t
+    there (none-holds none) = none
+
+    back : Accepted limits t → (x : Result) → tableOf limits t ≡ x → Reads limits t
+    back none (accepted n rs) e = record { n = n; rs = rs; is = e }
+    back none (refused r line) e = absurd (none r line (given limits t r line .0 e .holds))

@@ -1,0 +1,51 @@
+-- What a caller of `read_table` learns from its answer: where it is a table, its rows are those of the arrays and have room there; where it is a
+-- refusal, the text's own. By the two cases of the result.
+use Prim.Native.Nat.{ℕ, _≤_}
+use mathlib.Core.List.{List}
+use mathlib.Core.Path.{_≡_, refl, ap, _∙_, sym}
+use native.Mathlib.Omega.{arith}
+use lib.ListN.{length}
+use Rattle.text.proofs.Apart.{clash}
+use Rattle.table.specs.Limits.{desk}
+use Rattle.table.specs.Table.{Result, accepted, refused, tableOf}
+use Rattle.table.specs.Arrays.{column, tableIn, rowsIn}
+use Rattle.table.specs.declared.reason.Reason.{Reason}
+use Rattle.table.specs.declared.read.Table.{Table}
+use Rattle.table.specs.declared.read.Answer.the-variants.{Is, Refused}
+use Rattle.table.proofs.TableText.{desk-spelled, table-text}
+use Rattle.table.proofs.Few.{few}
+use Rattle.table.proofs.Columns.{rows-back}
+
+pub record Told (s : List ℕ) (n count : ℕ) (first second amount : List ℕ) : Type 0 where
+  pub is : tableOf desk s ≡ accepted n (rowsIn count first second amount)
+  pub room : count ≤ desk .rows
+
+module _ (s : List ℕ) (t : Table) where
+  a-table : (r : Result) → tableOf desk s ≡ r → t ≡ tableIn r → (n count : ℕ) → t .answer ≡ Is n count → Told s n count (t .first) (t .second) (t .amount)
+  unfolding tableIn
+  a-table (accepted m rs) q e n count a =
+      let p : Is n count ≡ Is m (length rs) = sym a ∙ ap (λ (x : Table). x .answer) e in
+      let kn : n ≡ m = cc in
+      let kc : count ≡ length rs = cc in
+      let h : length rs ≤ desk .rows = few m rs (table-text desk desk-spelled s m rs .0 q .1) in
+      let ef : t .first ≡ column (λ r. r .i) rs = ap (λ (x : Table). x .first) e in
+      let es : t .second ≡ column (λ r. r .j) rs = ap (λ (x : Table). x .second) e in
+      let ea : t .amount ≡ column (λ r. r .d) rs = ap (λ (x : Table). x .amount) e in
+      record { is = q ∙ sym (rw (kn, kc, ef, es, ea, rows-back rs h)); room = omega arith }
+  a-table (refused reason line) q e n count a = clash (let p : Is n count ≡ Refused reason line = sym a ∙ ap (λ (x : Table). x .answer) e in cc)
+
+  a-refusal : (r : Result) → tableOf desk s ≡ r → t ≡ tableIn r → (reason : Reason) (line : ℕ) → t .answer ≡ Refused reason line → tableOf desk s ≡ refused reason line
+  unfolding tableIn
+  a-refusal (accepted m rs) q e reason line a = clash (let p : Refused reason line ≡ Is m (length rs) = sym a ∙ ap (λ (x : Table). x .answer) e in cc)
+  a-refusal (refused why at) q e reason line a =
+      let p : Refused reason line ≡ Refused why at = sym a ∙ ap (λ (x : Table). x .answer) e in
+      let kw : why ≡ reason = cc in
+      let kl : at ≡ line = cc in
+      q ∙ rw (kw, kl)
+
+  module _ (e : t ≡ tableIn (tableOf desk s)) where
+    pub told-table : (n count : ℕ) → t .answer ≡ Is n count → Told s n count (t .first) (t .second) (t .amount)
+    told-table = a-table (tableOf desk s) refl e
+
+    pub told-refusal : (reason : Reason) (line : ℕ) → t .answer ≡ Refused reason line → tableOf desk s ≡ refused reason line
+    told-refusal = a-refusal (tableOf desk s) refl e

@@ -1,0 +1,27 @@
+-- Any two results that meet a public contract agree, and so do the two buffers: each contract is an equation with one definition.
+use Prim.Native.Nat.{ℕ}
+use mathlib.Core.List.{List}
+use mathlib.Core.Path.{_≡_}
+use lib.ListN.{length}
+use Rattle.text.specs.Written.{Written}
+use Rattle.text.proofs.Unique.{same-result, same-written}
+use Rattle.table.specs.Limits.{desk}
+use Rattle.table.specs.Reasons.{numberOf}
+use Rattle.table.specs.Table.{tableOf, writeTable}
+use Rattle.table.specs.Arrays.{tableIn, rowsIn}
+use Rattle.table.specs.declared.reason.Reason.{Reason}
+use Rattle.table.specs.declared.read.Table.{Table}
+
+pub number-unique : (reason : Reason) (r q : ℕ) → r ≡ numberOf reason → q ≡ numberOf reason → r ≡ q
+number-unique reason r q = same-result
+
+pub read-table-unique : (s : List ℕ) (r q : Table) → r ≡ tableIn (tableOf desk s) → q ≡ tableIn (tableOf desk s) → r ≡ q
+read-table-unique s r q = same-result
+
+module _ (n count : ℕ) (first second amount : List ℕ) where
+  pub table-length-unique : (r q : ℕ) → r ≡ length (writeTable n (rowsIn count first second amount)) → q ≡ length (writeTable n (rowsIn count first second amount)) → r ≡ q
+  table-length-unique r q = same-result
+
+  pub write-table-unique : (old new buf : List ℕ) (r q : ℕ) → Written old 0 (writeTable n (rowsIn count first second amount)) new r →
+      Written old 0 (writeTable n (rowsIn count first second amount)) buf q → (r ≡ q) × (new ≡ buf)
+  write-table-unique old new buf r q = same-written

@@ -1,0 +1,126 @@
+-- The rows of a table: the rows read so far stand in the columns, and reading the rest behind them is reading the whole (`Reading`).
+use Prim.Native.Nat.{_-_}
+use lib.ListN.{length}
+use Rattle.table.proofs.ReadSteps.{Reading, reading-starts, no-row, row-fault, room, reads-row, all-read}
+use borrow.Author.Needs.{needs}
+use Rattle.table.proofs.read.read_rows.Statement.{statement}
+use Rattle.table.proofs.read.read_rows.Tie as tie
+
+abbrev Inv-loop : tie.InvT-loop
+Inv-loop s from n first₀ second₀ amount₀ count₀ line₀ at₀ a₀ b₀ first second amount count line at a b =
+    Reading s n from line a b count at first second amount
+
+abbrev μ-loop : tie.MeasureT-loop
+μ-loop s from n first₀ second₀ amount₀ count₀ line₀ at₀ a₀ b₀ first second amount count line at a b =
+    length s - at
+
+loop-holds : tie.Need-loop-holds Inv-loop μ-loop
+loop-holds c = reading-starts _ _ _ (search needs)
+
+line-end-requires : tie.Need-line-end-requires Inv-loop μ-loop
+line-end-requires c κs = search needs
+
+sub-read-row : tie.Need-sub-read-row Inv-loop μ-loop
+sub-read-row c = search needs
+
+part-read-row-start : tie.Need-part-read-row-start Inv-loop μ-loop
+part-read-row-start c = search needs
+
+part-read-row-end : tie.Need-part-read-row-end Inv-loop μ-loop
+part-read-row-end c = search needs
+
+read-row-requires : tie.Need-read-row-requires Inv-loop μ-loop
+read-row-requires c κs = search needs
+
+enum-told : tie.Need-enum-told Inv-loop μ-loop
+enum-told c = search needs
+
+refusal-requires : tie.Need-refusal-requires Inv-loop μ-loop
+refusal-requires c κs = search needs
+
+returns : tie.Need-returns Inv-loop μ-loop
+returns c = search no-row
+
+enum-known-row : tie.Need-enum-known-row Inv-loop μ-loop
+enum-known-row c = search needs
+
+judge-row-requires : tie.Need-judge-row-requires Inv-loop μ-loop
+judge-row-requires c κs = search needs
+
+enum-known-verdict : tie.Need-enum-known-verdict Inv-loop μ-loop
+enum-known-verdict c = search needs
+
+refusal-requires-2 : tie.Need-refusal-requires-2 Inv-loop μ-loop
+refusal-requires-2 c κs = search needs
+
+returns-2 : tie.Need-returns-2 Inv-loop μ-loop
+returns-2 c = search row-fault
+
+enum-told-2 : tie.Need-enum-told-2 Inv-loop μ-loop
+enum-told-2 c = search needs
+
+mul-first : tie.Need-mul-first Inv-loop μ-loop
+mul-first c = search needs
+
+array-write-first : tie.Need-array-write-first Inv-loop μ-loop
+array-write-first c = search room
+
+mul-second : tie.Need-mul-second Inv-loop μ-loop
+mul-second c = search needs
+
+array-write-second : tie.Need-array-write-second Inv-loop μ-loop
+array-write-second c = search room
+
+mul-amount : tie.Need-mul-amount Inv-loop μ-loop
+mul-amount c = search needs
+
+array-write-amount : tie.Need-array-write-amount Inv-loop μ-loop
+array-write-amount c = search room
+
+add-count : tie.Need-add-count Inv-loop μ-loop
+add-count c = search needs
+
+add-line : tie.Need-add-line Inv-loop μ-loop
+add-line c = search needs
+
+loop-less : tie.Need-loop-less Inv-loop μ-loop
+loop-less c = search needs
+
+loop-again : tie.Need-loop-again Inv-loop μ-loop
+loop-again c = search reads-row
+
+returns-3 : tie.Need-returns-3 Inv-loop μ-loop
+returns-3 c = search all-read
+
+pub read-rows-spec : {M : Type 1} → statement M
+read-rows-spec =
+    tie.close
+    (tie.spec
+    Inv-loop
+    μ-loop
+    loop-holds
+    line-end-requires
+    sub-read-row
+    part-read-row-start
+    part-read-row-end
+    read-row-requires
+    enum-told
+    refusal-requires
+    returns
+    enum-known-row
+    judge-row-requires
+    enum-known-verdict
+    refusal-requires-2
+    returns-2
+    enum-told-2
+    mul-first
+    array-write-first
+    mul-second
+    array-write-second
+    mul-amount
+    array-write-amount
+    add-count
+    add-line
+    loop-less
+    loop-again
+    returns-3)

@@ -1,0 +1,8 @@
+pub mod Reasons
+pub mod Limits
+pub mod Lines
+pub mod LineEnds
+pub mod Judge
+pub mod Table
+pub mod Arrays
+pub mod Says

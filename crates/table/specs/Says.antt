@@ -1,0 +1,133 @@
+-- What each reason says of a table's text, by its lines and the writer alone; which reason is given; and what an accepted table is.
+use Prim.Native.Nat.{ℕ, _+_, _≤_, _<_}
+use mathlib.Core.List.{List, _∷_}
+use mathlib.Core.Logic.{_⊎_}
+use mathlib.Core.Path.{_≡_}
+use lib.ListN.{length}
+use Rattle.text.specs.Number.{limit}
+use Rattle.text.specs.Shapes.{ringLine, rowLine}
+use Rattle.table.specs.Limits.{Limits}
+use Rattle.table.specs.Lines.{lines}
+use Rattle.table.specs.Reasons.{numberOf}
+use Rattle.table.specs.declared.reason.Reason.{Reason}
+use Rattle.table.specs.declared.reason.Reason.the-variants.{TooLong, Misshapen, RingSize, NoSuchNode, NotBelow, NotAbove, TooMuch, WrongSum, WrongWay, WrongCut, WrongLink, WrongLast, NotTight, OverBound, NoRoom}
+
+-- ---- lines
+
+-- the line with this number, counted from 1, is l
+pub data LineIs : List (List ℕ) → ℕ → List ℕ → Type 0 where
+  at-first : {l : List ℕ} {ls : List (List ℕ)} → LineIs (l ∷ ls) 1 l
+  behind : {l m : List ℕ} {ls : List (List ℕ)} {line : ℕ} → LineIs ls line l → LineIs (m ∷ ls) (line + 1) l
+
+-- the first line is R n
+pub record RingIs (t : List ℕ) (n : ℕ) : Type 0 where
+  pub text : LineIs (lines t) 1 (ringLine n)
+  pub spelled : n < limit
+
+-- a later line is D i j d
+pub record RowIs (t : List ℕ) (line i j d : ℕ) : Type 0 where
+  pub later : 2 ≤ line
+  pub text : LineIs (lines t) line (rowLine i j d)
+  pub spelled : (i < limit) × ((j < limit) × (d < limit))
+
+-- ---- the reasons
+
+-- a node outside 1..n
+abbrev pub NoNode : ℕ → ℕ → Type 0
+NoNode n i = (i < 1) ⊎ (n < i)
+
+-- the row i, j is not above the row a, b, by first node, then second
+abbrev pub NotAfter : ℕ → ℕ → ℕ → ℕ → Type 0
+NotAfter a b i j = (i < a) ⊎ ((i ≡ a) × (j ≤ b))
+
+-- 2: the first line is missing, or is no R line; a later line is no D line
+pub record NoRingLine (t : List ℕ) (line : ℕ) : Type 0 where
+  pub at : line ≡ 1
+  pub none : (n : ℕ) → RingIs t n → ⊥
+
+pub record NoRowLine (t : List ℕ) (line : ℕ) : Type 0 where
+  pub later : 2 ≤ line
+  pub l : List ℕ
+  pub is : LineIs (lines t) line l
+  pub none : (i j d : ℕ) → RowIs t line i j d → ⊥
+
+-- 3: n outside 2..32
+pub record WrongRing (limits : Limits) (t : List ℕ) (line : ℕ) : Type 0 where
+  pub at : line ≡ 1
+  pub n : ℕ
+  pub ring : RingIs t n
+  pub wrong : (n < limits .fewest) ⊎ (limits .nodes < n)
+
+-- 4: a node outside 1..n
+pub record WrongNode (t : List ℕ) (line : ℕ) : Type 0 where
+  pub n : ℕ
+  pub ring : RingIs t n
+  pub i : ℕ
+  pub j : ℕ
+  pub d : ℕ
+  pub row : RowIs t line i j d
+  pub wrong : NoNode n i ⊎ NoNode n j
+
+-- 5: first node not below second
+pub record WrongPair (t : List ℕ) (line : ℕ) : Type 0 where
+  pub i : ℕ
+  pub j : ℕ
+  pub d : ℕ
+  pub row : RowIs t line i j d
+  pub wrong : j ≤ i
+
+-- 6: row's nodes not above the row before
+pub record WrongOrder (t : List ℕ) (line : ℕ) : Type 0 where
+  pub before : ℕ
+  pub next : line ≡ before + 1
+  pub a : ℕ
+  pub b : ℕ
+  pub c : ℕ
+  pub above : RowIs t before a b c
+  pub i : ℕ
+  pub j : ℕ
+  pub d : ℕ
+  pub row : RowIs t line i j d
+  pub wrong : NotAfter a b i j
+
+-- 7: amount over 9,999
+pub record WrongAmount (limits : Limits) (t : List ℕ) (line : ℕ) : Type 0 where
+  pub i : ℕ
+  pub j : ℕ
+  pub d : ℕ
+  pub row : RowIs t line i j d
+  pub wrong : limits .amount < d
+
+-- what a reason says, with its line
+unfoldable pub Says : Limits → List ℕ → Reason → ℕ → Type 0
+Says limits t TooLong line = (line ≡ 0) × (limits .bytes < length t)
+Says limits t Misshapen line = NoRingLine t line ⊎ NoRowLine t line
+Says limits t RingSize line = WrongRing limits t line
+Says limits t NoSuchNode line = WrongNode t line
+Says limits t NotBelow line = WrongPair t line
+Says limits t NotAbove line = WrongOrder t line
+Says limits t TooMuch line = WrongAmount limits t line
+-- the others judge no table
+Says limits t WrongSum line = ⊥
+Says limits t WrongWay line = ⊥
+Says limits t WrongCut line = ⊥
+Says limits t WrongLink line = ⊥
+Says limits t WrongLast line = ⊥
+Says limits t NotTight line = ⊥
+Says limits t OverBound line = ⊥
+Says limits t NoRoom line = ⊥
+
+-- ---- which is given
+
+-- reason 1, with line 0, is tried first; then lines in order, and in a line the rising reason number
+abbrev pub Earlier : Reason → ℕ → Reason → ℕ → Type 0
+Earlier r line s other = (line < other) ⊎ ((line ≡ other) × (numberOf r < numberOf s))
+
+-- each reason is given exactly when it holds and nothing before it in the order does
+pub record Given (limits : Limits) (t : List ℕ) (r : Reason) (line : ℕ) : Type 0 where
+  pub holds : Says limits t r line
+  pub first : (s : Reason) (other : ℕ) → Earlier s other r line → Says limits t s other → ⊥
+
+-- a table is accepted when no reason that judges its own length or lines holds of it
+abbrev pub Accepted : Limits → List ℕ → Type 0
+Accepted limits t = (r : Reason) (line : ℕ) → Says limits t r line → ⊥

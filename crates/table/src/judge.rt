@@ -1,0 +1,65 @@
+// What is found against a ring's size and against a row.
+use crate::AMOUNT;
+use crate::FEWEST;
+use crate::NODES;
+use crate::reason::Reason;
+ghost use mathlib.Core.Path.{_≡_};
+ghost use mathlib.Core.Bool.{_||_};
+ghost use Rattle.table.specs.Limits.{desk};
+ghost use Rattle.table.specs.Judge.{judgeRing, outside, notAbove, judgeRow};
+
+pub enum Verdict {
+    Fine,
+    Fault(Reason),
+}
+
+pub(crate) fn judge_ring(n: u32) -> Verdict
+    ensures { λ r. ⌜ r ≡ judgeRing desk n ⌝ }
+{
+    if n < FEWEST {
+        return Verdict::Fault(Reason::RingSize);
+    }
+    if NODES < n {
+        return Verdict::Fault(Reason::RingSize);
+    }
+    Verdict::Fine
+}
+
+// Whether a ring of n nodes lacks the node i.
+fn no_node(n: u32, i: u32) -> bool
+    ensures { λ r. ⌜ r ≡ outside n i ⌝ }
+{
+    i < 1 || n < i
+}
+
+// Whether the row i, j is not above the row a, b.
+fn not_above(a: u32, b: u32, i: u32, j: u32) -> bool
+    ensures { λ r. ⌜ r ≡ notAbove a b i j ⌝ }
+{
+    i < a || (i == a && j <= b)
+}
+
+// The row i, j of d, behind the row a, b (0, 0 where there is none), on a ring of n nodes.
+pub(crate) fn judge_row(n: u32, a: u32, b: u32, i: u32, j: u32, d: u32) -> Verdict
+    ensures { λ r. ⌜ r ≡ judgeRow desk n a b i j d ⌝ }
+{
+    let no_first = no_node(n, i);
+    if no_first {
+        return Verdict::Fault(Reason::NoSuchNode);
+    }
+    let no_second = no_node(n, j);
+    if no_second {
+        return Verdict::Fault(Reason::NoSuchNode);
+    }
+    if j <= i {
+        return Verdict::Fault(Reason::NotBelow);
+    }
+    let fallen = not_above(a, b, i, j);
+    if fallen {
+        return Verdict::Fault(Reason::NotAbove);
+    }
+    if AMOUNT < d {
+        return Verdict::Fault(Reason::TooMuch);
+    }
+    Verdict::Fine
+}

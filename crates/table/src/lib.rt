@@ -1,0 +1,25 @@
+// A table: text to rows, and rows to text.
+mod reason; // why a text is refused
+mod judge; // what is found against a ring's size and a row
+mod lines; // where a line ends
+mod read; // a text to rows in arrays
+mod write; // rows in arrays to a text
+
+pub use judge::Verdict;
+pub use read::Answer;
+pub use read::Table;
+pub use read::read_table;
+pub use reason::Reason;
+pub use write::table_length;
+pub use write::write_table;
+
+// The numbers of 01.
+pub const BYTES: usize = 32768;
+
+pub const FEWEST: u32 = 2;
+
+pub const NODES: u32 = 32;
+
+pub const AMOUNT: u32 = 9999;
+
+pub const ROWS: usize = 496;

@@ -1,0 +1,21 @@
+// Where a line ends.
+ghost use mathlib.Core.Path.{_≡_};
+ghost use Prim.Native.Nat.{_+_, _<_, _≤_};
+ghost use lib.ListN.{length, drop};
+ghost use Rattle.table.specs.Lines.{lineLength};
+ghost use Rattle.table.specs.LineEnds.{LineEnds};
+
+// The place behind the line that begins at `at`.
+pub(crate) fn line_end(s: &[u8], at: usize) -> usize
+    requires { ⌜ at < length (now s) ⌝ }
+    ensures { λ r. ⌜ LineEnds (now (s .entry)) at r ⌝ }
+{
+    let mut p = at;
+    while p < s.len() {
+        if s[p] == b'\n' {
+            return p + 1;
+        }
+        p += 1;
+    }
+    p
+}

@@ -1,0 +1,113 @@
+// A text to rows in arrays.
+use crate::BYTES;
+use crate::NODES;
+use crate::ROWS;
+use crate::judge::Verdict;
+use crate::judge::judge_ring;
+use crate::judge::judge_row;
+use crate::lines::line_end;
+use crate::reason::Reason;
+use text::OneNumber;
+use text::ThreeNumbers;
+ghost use mathlib.Core.Path.{_≡_};
+ghost use mathlib.Core.List.{[]};
+ghost use Prim.Native.Nat.{_≤_};
+ghost use lib.ListN.{length, drop};
+ghost use Rattle.table.specs.Limits.{desk};
+ghost use Rattle.table.specs.Lines.{lines};
+ghost use Rattle.table.specs.Table.{refused, rowsOf, tableOf};
+ghost use Rattle.table.specs.Arrays.{tableIn};
+
+// How many nodes the ring has and how many rows there are; or the reason and the line.
+pub enum Answer {
+    Is(u32, usize),
+    Refused(Reason, u32),
+}
+
+// The rows stand in the arrays from place 0 on.
+pub struct Table {
+    pub answer: Answer,
+    pub first: [u32; ROWS],
+    pub second: [u32; ROWS],
+    pub amount: [u32; ROWS],
+}
+
+fn refusal(reason: Reason, line: u32) -> Table
+    ensures { λ r. ⌜ r ≡ tableIn (refused reason line) ⌝ }
+{
+    Table {
+        answer: Answer::Refused(reason, line),
+        first: [0u32; ROWS],
+        second: [0u32; ROWS],
+        amount: [0u32; ROWS],
+    }
+}
+
+// The rows of a ring of n nodes, from the place `from` on.
+fn read_rows(s: &[u8], from: usize, n: u32) -> Table
+    requires { ⌜ (from ≤ length (now s)) × (n ≤ desk .nodes) ⌝ }
+    ensures { λ r. ⌜ r ≡ tableIn (rowsOf desk n 2 0 0 [] (lines (drop from (now (s .entry))))) ⌝ }
+{
+    let mut first = [0u32; ROWS];
+    let mut second = [0u32; ROWS];
+    let mut amount = [0u32; ROWS];
+    let mut count: usize = 0;
+    let mut line: u32 = 2;
+    let mut at = from;
+    let mut a: u32 = 0;
+    let mut b: u32 = 0;
+    while at < s.len() {
+        let end = line_end(s, at);
+        let row = text::read_row(&s[at..end]);
+        match row {
+            ThreeNumbers::Bad(_) => {
+                return refusal(Reason::Misshapen, line);
+            }
+            ThreeNumbers::Are(i, j, d) => {
+                let verdict = judge_row(n, a, b, i, j, d);
+                match verdict {
+                    Verdict::Fault(reason) => {
+                        return refusal(reason, line);
+                    }
+                    Verdict::Fine => {
+                        first[count] = i;
+                        second[count] = j;
+                        amount[count] = d;
+                        count += 1;
+                        a = i;
+                        b = j;
+                        line += 1;
+                        at = end;
+                    }
+                }
+            }
+        }
+    }
+    Table {
+        answer: Answer::Is(n, count),
+        first,
+        second,
+        amount,
+    }
+}
+
+pub fn read_table(s: &[u8]) -> Table
+    ensures { λ r. ⌜ r ≡ tableIn (tableOf desk (now (s .entry))) ⌝ }
+{
+    if BYTES < s.len() {
+        return refusal(Reason::TooLong, 0);
+    }
+    if s.len() <= 0 {
+        return refusal(Reason::Misshapen, 1);
+    }
+    let end = line_end(s, 0);
+    let ring = text::read_ring(&s[0..end]);
+    let OneNumber::Is(n) = ring else {
+        return refusal(Reason::Misshapen, 1);
+    };
+    let verdict = judge_ring(n);
+    if let Verdict::Fault(reason) = verdict {
+        return refusal(reason, 1);
+    }
+    read_rows(s, end, n)
+}

@@ -1,0 +1,46 @@
+// The reasons of 01's table, in its order. Tables use the first seven and, where a buffer is lent, the last.
+ghost use mathlib.Core.Path.{_≡_};
+ghost use Rattle.table.specs.Reasons.{numberOf};
+
+pub enum Reason {
+    TooLong,
+    Misshapen,
+    RingSize,
+    NoSuchNode,
+    NotBelow,
+    NotAbove,
+    TooMuch,
+    WrongSum,
+    WrongWay,
+    WrongCut,
+    WrongLink,
+    WrongLast,
+    NotTight,
+    OverBound,
+    NoRoom,
+}
+
+impl Reason {
+    // 01's number.
+    pub fn number(self) -> u32
+        ensures { λ r. ⌜ r ≡ numberOf self ⌝ }
+    {
+        match self {
+            Reason::TooLong => 1,
+            Reason::Misshapen => 2,
+            Reason::RingSize => 3,
+            Reason::NoSuchNode => 4,
+            Reason::NotBelow => 5,
+            Reason::NotAbove => 6,
+            Reason::TooMuch => 7,
+            Reason::WrongSum => 8,
+            Reason::WrongWay => 9,
+            Reason::WrongCut => 10,
+            Reason::WrongLink => 11,
+            Reason::WrongLast => 12,
+            Reason::NotTight => 13,
+            Reason::OverBound => 14,
+            Reason::NoRoom => 15,
+        }
+    }
+}

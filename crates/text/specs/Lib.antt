@@ -1,0 +1,13 @@
+-- What a line of a table or a sheet is, as text and as values. `WriteLine` and `FirstFault` are what to believe: `proofs/LineLaws.antt` fixes the reader by them.
+pub mod Bytes
+pub mod Number
+pub mod ReadNumber
+pub mod Mark
+pub mod Field
+pub mod WriteLine
+pub mod ReadLine
+pub mod FirstFault
+pub mod Answers
+pub mod Shapes
+pub mod Filled
+pub mod Written
