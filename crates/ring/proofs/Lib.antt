@@ -16,3 +16,5 @@ pub mod Directions
 pub mod OurPlan
 pub mod NoLower
 pub mod CasesHold
+pub mod Listed
+pub mod Laid

@@ -1,4 +1,5 @@
 pub mod Lists
+pub mod Limits
 pub mod Row
 pub mod Cut
 pub mod Routing
@@ -11,4 +12,5 @@ pub mod Sheet
 pub mod True
 pub mod Division
 pub mod Paper
+pub mod Columns
 pub mod Cases

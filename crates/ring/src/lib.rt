@@ -1,1 +1,17 @@
-// The mathematics of the ring: definitions in specs/, theorems in proofs/. No code.
+// The mathematics of the ring: definitions in specs/, theorems in proofs/. Its only code is the numbers of 01, each named once.
+
+// A text has at most so many bytes.
+pub const BYTES: usize = 32768;
+
+// A ring has at least and at most so many nodes, and as many links.
+pub const FEWEST: u32 = 2;
+
+pub const NODES: u32 = 32;
+
+pub const LINKS: usize = 32;
+
+// A row's amount is at most this.
+pub const AMOUNT: u32 = 9999;
+
+// Working arrays have room for so many rows.
+pub const ROWS: usize = 496;

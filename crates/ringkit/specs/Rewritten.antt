@@ -1,7 +1,7 @@
 -- Reading a table and writing its values afresh: the router's refusals for that text (then 15).
 use Prim.Native.Nat.{ℕ}
 use mathlib.Core.List.{List}
-use Rattle.table.specs.Limits.{desk}
+use Rattle.ring.specs.Limits.{desk}
 use Rattle.table.specs.Table.{Result, accepted, refused, tableOf, writeTable}
 use Rattle.ringkit.specs.Outcome.{Outcome, write, refuse}
 

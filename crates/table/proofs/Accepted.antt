@@ -6,7 +6,7 @@ use mathlib.Core.Path.{_≡_, refl, ap, _∙_, sym}
 use lib.ListN.{length}
 use Rattle.ring.specs.Lists.{Each}
 use Rattle.ring.specs.Row.{Row, TableRows}
-use Rattle.table.specs.Limits.{Limits, desk}
+use Rattle.ring.specs.Limits.{Limits, desk}
 use Rattle.table.specs.Table.{accepted, tableOf, writeTable, InRange}
 use Rattle.table.proofs.Few.{few}
 use Rattle.table.proofs.TableText.{Spelled, desk-spelled, table-text}

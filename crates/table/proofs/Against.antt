@@ -4,7 +4,7 @@ use mathlib.Core.Logic.{_⊎_, inl, inr, ⊎-elim}
 use mathlib.Core.Path.{_≡_, refl}
 use native.Mathlib.Omega.{arith}
 use Rattle.ring.specs.Row.{row, OnRing, PairBefore}
-use Rattle.table.specs.Limits.{Limits}
+use Rattle.ring.specs.Limits.{Limits}
 use Rattle.table.specs.Reasons.{numberOf}
 use Rattle.table.specs.Says.{NoNode, NotAfter}
 use Rattle.table.specs.Judge.{judgeRing, judgeRow}

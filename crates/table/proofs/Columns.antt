@@ -1,51 +1,54 @@
--- Rows go into zero-filled columns one behind the other, and come back: by place, over what of a row the column holds.
+-- Members go into zero-filled columns one behind the other, and come back: by place, over what of a member the column holds.
 use Prim.Native.Nat.{ℕ, zero, suc, _+_, _≤_, _<_}
 use mathlib.Core.List.{List, [], _∷_, _++_, map}
 use mathlib.Core.Path.{_≡_, refl, ap, _∙_, sym}
 use native.Mathlib.Omega.{arith}
-use lib.ListN.{length, getD, set, take, drop, length-map, length-replicate}
-use lib.Seq.{sets, sets-eq, length-sets, take-suc, take-length}
+use lib.ListN.{length, getD, set, drop, replicate, length-map, length-replicate}
+use lib.Seq.{sets, sets-eq, length-sets}
 use Rattle.ring.specs.Row.{Row, row}
+use Rattle.ring.specs.Columns.{listed, column, rowsIn}
+use Rattle.ring.proofs.Listed.{listed-shift, listed-same}
 use Rattle.text.proofs.Writing.{sets-append}
-use Rattle.table.specs.Limits.{desk}
-use Rattle.table.specs.Arrays.{zeros, column, rowsIn}
 
-pub column-length : (f : Row → ℕ) (rs : List Row) → length (column f rs) ≡ desk .rows
-unfolding column
-column-length f rs = length-sets zeros 0 (map f rs) ∙ length-replicate {A = ℕ} (desk .rows) 0
+module _ {A : Type 0} (f : A → ℕ) (size : ℕ) where
+  pub column-length : (l : List A) → length (column f size l) ≡ size
+  unfolding column
+  column-length l = length-sets (replicate {A = ℕ} size 0) 0 (map f l) ∙ length-replicate {A = ℕ} size 0
 
-map-more : (f : Row → ℕ) (rs : List Row) (r : Row) → map f (rs ++ r ∷ []) ≡ map f rs ++ f r ∷ []
-map-more f [] r = refl
-map-more f (x ∷ rs) r = ap (λ (l : List ℕ). f x ∷ l) (map-more f rs r)
+  map-more : (l : List A) (x : A) → map f (l ++ x ∷ []) ≡ map f l ++ f x ∷ []
+  map-more [] x = refl
+  map-more (y ∷ l) x = ap (λ (m : List ℕ). f y ∷ m) (map-more l x)
 
--- one row more
-pub column-more : (f : Row → ℕ) (rs : List Row) (r : Row) (count : ℕ) → count ≡ length rs → set (column f rs) count (f r) ≡ column f (rs ++ r ∷ [])
-unfolding column
-column-more f rs r count e =
-    let k : count ≡ 0 + length (map f rs) = omega (arith, length-map rs f) in
-    rw k (sets-append (map f rs) (f r ∷ []) zeros 0) ∙ ap (sets zeros 0) (sym (map-more f rs r))
+  -- one member more
+  pub column-more : (l : List A) (x : A) (count : ℕ) → count ≡ length l → set (column f size l) count (f x) ≡ column f size (l ++ x ∷ [])
+  unfolding column
+  column-more l x count e =
+      let k : count ≡ 0 + length (map f l) = omega (arith, length-map l f) in
+      rw k (sets-append (map f l) (f x ∷ []) (replicate {A = ℕ} size 0) 0) ∙ ap (sets (replicate {A = ℕ} size 0) 0) (sym (map-more l x))
 
--- ---- and back
+  -- ---- and back
 
-column-front : (f : Row → ℕ) (rs : List Row) → length rs ≤ desk .rows → column f rs ≡ map f rs ++ drop (0 + length (map f rs)) zeros
-unfolding column
-column-front f rs h = sets-eq (map f rs) zeros 0 (omega (arith, length-map rs f, length-replicate {A = ℕ} (desk .rows) 0))
+  at-place : (l : List A) (rest : List ℕ) (none : A) (k : ℕ) → k < length l → getD (map f l ++ rest) k 0 ≡ f (getD l k none)
+  at-place [] rest none k h = absurd (omega arith)
+  at-place (x ∷ l) rest none zero h = refl
+  at-place (x ∷ l) rest none (suc k) h = at-place l rest none k (omega arith)
 
-at-place : (f : Row → ℕ) (rs : List Row) (x : List ℕ) (k : ℕ) → k < length rs → getD (map f rs ++ x) k 0 ≡ f (getD rs k (row 0 0 0))
-at-place f [] x k h = absurd (omega arith)
-at-place f (r ∷ rs) x zero h = refl
-at-place f (r ∷ rs) x (suc k) h = at-place f rs x k (omega arith)
+  pub column-at : (l : List A) (none : A) (k : ℕ) → length l ≤ size → k < length l → getD (column f size l) k 0 ≡ f (getD l k none)
+  unfolding column
+  column-at l none k few h =
+      ap (λ m. getD m k 0) (sets-eq (map f l) (replicate {A = ℕ} size 0) 0 (omega (arith, length-map l f, length-replicate {A = ℕ} size 0))) ∙ at-place l _ none k h
 
-rows-front : (rs : List Row) (x y z : List ℕ) (k : ℕ) → k ≤ length rs →
-    rowsIn k (map (λ r. r .i) rs ++ x) (map (λ r. r .j) rs ++ y) (map (λ r. r .d) rs ++ z) ≡ take k rs
-unfolding rowsIn
-rows-front rs x y z zero h = refl
-rows-front rs x y z (suc k) h =
-    rw (rows-front rs x y z k (omega arith), at-place (λ r. r .i) rs x k (omega arith), at-place (λ r. r .j) rs y k (omega arith), at-place (λ r. r .d) rs z k (omega arith))
-    (sym (take-suc rs k (row 0 0 0) (omega arith)))
+pub listed-members : {A : Type 0} (none : A) (l : List A) → listed (λ k. getD l k none) 0 (length l) ≡ l
+unfolding listed
+listed-members none [] = refl
+listed-members none (x ∷ l) = ap (λ m. x ∷ m) (listed-shift (λ k. getD (x ∷ l) k none) 0 (length l) ∙ listed-members none l)
 
-pub rows-back : (rs : List Row) → length rs ≤ desk .rows →
-    rowsIn (length rs) (column (λ r. r .i) rs) (column (λ r. r .j) rs) (column (λ r. r .d) rs) ≡ rs
-rows-back rs h =
-    rw (column-front (λ r. r .i) rs h, column-front (λ r. r .j) rs h, column-front (λ r. r .d) rs h)
-    (rows-front rs _ _ _ (length rs) (omega arith) ∙ take-length rs)
+pub rows-back : (size : ℕ) (rs : List Row) → length rs ≤ size →
+    rowsIn (length rs) (column (λ r. r .i) size rs) (column (λ r. r .j) size rs) (column (λ r. r .d) size rs) ≡ rs
+rows-back size rs few =
+    listed-same _ (λ k. getD rs k (row 0 0 0)) 0 (length rs) same ∙ listed-members (row 0 0 0) rs
+  where
+    same : (k : ℕ) → 0 ≤ k → k < 0 + length rs →
+        row (getD (column (λ r. r .i) size rs) k 0) (getD (column (λ r. r .j) size rs) k 0) (getD (column (λ r. r .d) size rs) k 0) ≡ getD rs k (row 0 0 0)
+    same k l h =
+        rw (column-at (λ r. r .i) size rs (row 0 0 0) k few (omega arith), column-at (λ r. r .j) size rs (row 0 0 0) k few (omega arith), column-at (λ r. r .d) size rs (row 0 0 0) k few (omega arith))

@@ -4,7 +4,7 @@ use mathlib.Core.List.{List}
 use native.Mathlib.Omega.{arith}
 use lib.ListN.{length}
 use Rattle.ring.specs.Row.{Row}
-use Rattle.table.specs.Limits.{desk}
+use Rattle.ring.specs.Limits.{desk}
 use Rattle.table.specs.Table.{InRange}
 use Rattle.table.proofs.Rank.{rank, rank-none, rank-up, rank-most}
 use Rattle.table.proofs.FineRows.{FineRows, no-row, fine-row, fine-rows}

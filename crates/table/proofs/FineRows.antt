@@ -5,7 +5,7 @@ use mathlib.Core.List.{List, [], _∷_}
 use mathlib.Core.Logic.{inl}
 use Rattle.ring.specs.Lists.{Each, none, more, Steps, no-member, one-member, step}
 use Rattle.ring.specs.Row.{Row, OnRing, PairBefore, NodesRise, TableRows}
-use Rattle.table.specs.Limits.{Limits}
+use Rattle.ring.specs.Limits.{Limits}
 
 -- behind a row a, b each row is fine
 pub data FineRows (limits : Limits) (n : ℕ) : ℕ → ℕ → List Row → Type 0 where

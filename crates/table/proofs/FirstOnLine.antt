@@ -5,7 +5,7 @@ use mathlib.Core.List.{List}
 use mathlib.Core.Logic.{inl, inr, ⊎-elim}
 use mathlib.Core.Path.{_≡_, refl}
 use native.Mathlib.Omega.{arith}
-use Rattle.table.specs.Limits.{Limits}
+use Rattle.ring.specs.Limits.{Limits}
 use Rattle.table.specs.Lines.{lines}
 use Rattle.table.specs.Reasons.{numberOf}
 use Rattle.table.specs.Says.{LineIs, RingIs, RowIs, NotAfter, WrongRing, WrongOrder, Says}

@@ -3,7 +3,7 @@ use Prim.Native.Nat.{ℕ, _≤_, _<_}
 use mathlib.Core.Bool.{Bool, true, false}
 use mathlib.Core.Path.{_≡_, sym, _∙_}
 use borrow.Author.Tests.{le-leb, lt-leb, lt-ltb, le-ltb}
-use Rattle.table.specs.Limits.{desk}
+use Rattle.ring.specs.Limits.{desk}
 use Rattle.table.specs.Judge.{outside, notAbove, judgeRow}
 use Rattle.table.specs.declared.reason.Reason.the-variants.{NoSuchNode, NotBelow, NotAbove, TooMuch}
 use Rattle.table.specs.declared.judge.Verdict.the-variants.{Fine, Fault}

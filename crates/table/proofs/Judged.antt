@@ -8,7 +8,7 @@ use native.Mathlib.Decide.{decLt, decLe, ℕ-discrete}
 use lib.Dec.{leb}
 use borrow.Author.Tests.{lt-ltb, le-ltb, le-leb, lt-leb, eq-eqb, ne-eqb}
 use Rattle.ring.specs.Row.{row, OnRing, PairBefore}
-use Rattle.table.specs.Limits.{Limits}
+use Rattle.ring.specs.Limits.{Limits}
 use Rattle.table.specs.Says.{NoNode, NotAfter}
 use Rattle.table.specs.Judge.{judgeRing, outside, notAbove, judgeRow}
 use Rattle.table.specs.declared.reason.Reason.the-variants.{RingSize, NoSuchNode, NotBelow, NotAbove, TooMuch}

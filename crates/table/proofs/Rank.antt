@@ -5,7 +5,7 @@ use mathlib.Core.Logic.{⊎-elim}
 use mathlib.Core.Path.{_≡_, refl, ap}
 use native.Mathlib.Omega.{arith}
 use Rattle.ring.specs.Row.{PairBefore}
-use Rattle.table.specs.Limits.{desk}
+use Rattle.ring.specs.Limits.{desk}
 
 -- how many pairs have their first node among 1 to a: as many begin with a node as nodes come after it
 upTo : ℕ → ℕ

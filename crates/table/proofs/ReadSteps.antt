@@ -4,7 +4,7 @@ use Prim.Native.Nat.{ℕ, _+_, _-_, _≤_, _<_}
 use mathlib.Core.List.{List, [], _∷_, _++_}
 use mathlib.Core.Path.{_≡_, refl, ap, _∙_, sym}
 use native.Mathlib.Omega.{arith}
-use lib.ListN.{length, set, take, drop, drop-of-length-le, length-append}
+use lib.ListN.{length, replicate, set, take, drop, drop-of-length-le, length-append}
 use borrow.Author.Tests.{lt-ltb, le-ltb}
 use Rattle.ring.specs.Row.{Row, row, OnRing, PairBefore}
 use Rattle.text.specs.ReadLine.{readLine}
@@ -14,12 +14,13 @@ use Rattle.text.specs.declared.OneNumber.{OneNumber}
 use Rattle.text.specs.declared.OneNumber.the-variants.{Is as IsOne, Bad as NotOne}
 use Rattle.text.specs.declared.ThreeNumbers.{ThreeNumbers}
 use Rattle.text.specs.declared.ThreeNumbers.the-variants.{Are as AreThree, Bad as NotThree}
-use Rattle.table.specs.Limits.{desk}
+use Rattle.ring.specs.Limits.{desk}
 use Rattle.table.specs.Lines.{lines}
 use Rattle.table.specs.LineEnds.{LineEnds}
 use Rattle.table.specs.Judge.{judgeRing, judgeRow}
 use Rattle.table.specs.Table.{Result, refused, rowsOf, tableOf}
-use Rattle.table.specs.Arrays.{zeros, column, tableIn}
+use Rattle.ring.specs.Columns.{column}
+use Rattle.table.specs.Arrays.{tableIn}
 use Rattle.table.specs.declared.reason.Reason.{Reason}
 use Rattle.table.specs.declared.reason.Reason.the-variants.{TooLong, Misshapen}
 use Rattle.table.specs.declared.judge.Verdict.{Verdict}
@@ -51,16 +52,20 @@ pub record Reading (s : List ℕ) (n from line a b count at : ℕ) (first second
   pub rows : List Row
   pub rest : whole s n from ≡ rowsOf desk n line a b rows (lines (drop at s))
   pub many : count ≡ length rows
-  pub firsts : first ≡ column (λ r. r .i) rows
-  pub seconds : second ≡ column (λ r. r .j) rows
-  pub amounts : amount ≡ column (λ r. r .d) rows
+  pub firsts : first ≡ column (λ (r : Row). r .i) (desk .rows) rows
+  pub seconds : second ≡ column (λ (r : Row). r .j) (desk .rows) rows
+  pub amounts : amount ≡ column (λ (r : Row). r .d) (desk .rows) rows
   pub lined : line ≡ count + 2
   pub ranked : count ≤ rank a b
   pub most : count ≤ desk .rows
   pub low : b ≤ desk .nodes
   pub within : at ≤ length s
 
-pub reading-starts : (s : List ℕ) (n from : ℕ) → from ≤ length s → Reading s n from 2 0 0 0 from zeros zeros zeros
+-- arrays that hold no row are zero
+abbrev none-yet : List ℕ
+none-yet = replicate {A = ℕ} (desk .rows) 0
+
+pub reading-starts : (s : List ℕ) (n from : ℕ) → from ≤ length s → Reading s n from 2 0 0 0 from none-yet none-yet none-yet
 unfolding column
 reading-starts s n from w =
     record {
@@ -115,9 +120,9 @@ module _ (s : List ℕ) (n from line a b count at : ℕ) (first second amount : 
               rows = reading .rows ++ row i j d ∷ [];
               rest = reading .rest ∙ rw (line-at s at end there ends, ← ex, is, ← ev, fine);
               many = omega (arith, reading .many, length-append (reading .rows) (row i j d ∷ []));
-              firsts = rw (reading .firsts) (column-more (λ r. r .i) (reading .rows) (row i j d) count (reading .many));
-              seconds = rw (reading .seconds) (column-more (λ r. r .j) (reading .rows) (row i j d) count (reading .many));
-              amounts = rw (reading .amounts) (column-more (λ r. r .d) (reading .rows) (row i j d) count (reading .many));
+              firsts = rw (reading .firsts) (column-more (λ (r : Row). r .i) (desk .rows) (reading .rows) (row i j d) count (reading .many));
+              seconds = rw (reading .seconds) (column-more (λ (r : Row). r .j) (desk .rows) (reading .rows) (row i j d) count (reading .many));
+              amounts = rw (reading .amounts) (column-more (λ (r : Row). r .d) (desk .rows) (reading .rows) (row i j d) count (reading .many));
               lined = omega (arith, reading .lined);
               ranked = up;
               most = omega (arith, room);

@@ -12,7 +12,7 @@ use Rattle.ring.specs.Row.{Row, row}
 use Rattle.ring.proofs.Side.{cond-elim}
 use Rattle.text.specs.declared.OneNumber.{OneNumber}
 use Rattle.text.specs.declared.ThreeNumbers.{ThreeNumbers}
-use Rattle.table.specs.Limits.{Limits}
+use Rattle.ring.specs.Limits.{Limits}
 use Rattle.table.specs.Lines.{lines}
 use Rattle.table.specs.Judge.{judgeRing, judgeRow}
 use Rattle.table.specs.Reasons.{numberOf}

@@ -5,7 +5,7 @@ use mathlib.Core.Logic.{inl, inr}
 use mathlib.Core.Path.{_≡_}
 use native.Mathlib.Omega.{arith}
 use lib.ListN.{length}
-use Rattle.table.specs.Limits.{Limits}
+use Rattle.ring.specs.Limits.{Limits}
 use Rattle.table.specs.Lines.{lines}
 use Rattle.table.specs.Reasons.{numberOf}
 use Rattle.table.specs.Says.{LineIs, NoRingLine, NoRowLine, WrongRing, WrongNode, WrongPair, WrongOrder, WrongAmount, Says}

@@ -13,7 +13,7 @@ use Rattle.text.specs.Number.{limit}
 use Rattle.text.specs.Shapes.{ringLine, rowLine}
 use Rattle.text.specs.declared.OneNumber.{OneNumber}
 use Rattle.text.specs.declared.ThreeNumbers.{ThreeNumbers}
-use Rattle.table.specs.Limits.{Limits, desk}
+use Rattle.ring.specs.Limits.{Limits, desk}
 use Rattle.table.specs.Lines.{lines}
 use Rattle.table.specs.Judge.{judgeRing, judgeRow}
 use Rattle.table.specs.Table.{Result, accepted, refused, ringOr, rowOr, unless, rowsOf, tableLines, tableOf, writeRows, writeTable, InRange}

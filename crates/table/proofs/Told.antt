@@ -6,9 +6,11 @@ use mathlib.Core.Path.{_≡_, refl, ap, _∙_, sym}
 use native.Mathlib.Omega.{arith}
 use lib.ListN.{length}
 use Rattle.text.proofs.Apart.{clash}
-use Rattle.table.specs.Limits.{desk}
+use Rattle.ring.specs.Limits.{desk}
 use Rattle.table.specs.Table.{Result, accepted, refused, tableOf}
-use Rattle.table.specs.Arrays.{column, tableIn, rowsIn}
+use Rattle.ring.specs.Row.{Row}
+use Rattle.ring.specs.Columns.{column, rowsIn}
+use Rattle.table.specs.Arrays.{tableIn}
 use Rattle.table.specs.declared.reason.Reason.{Reason}
 use Rattle.table.specs.declared.read.Table.{Table}
 use Rattle.table.specs.declared.read.Answer.the-variants.{Is, Refused}
@@ -28,10 +30,10 @@ module _ (s : List ℕ) (t : Table) where
       let kn : n ≡ m = cc in
       let kc : count ≡ length rs = cc in
       let h : length rs ≤ desk .rows = few m rs (table-text desk desk-spelled s m rs .0 q .1) in
-      let ef : t .first ≡ column (λ r. r .i) rs = ap (λ (x : Table). x .first) e in
-      let es : t .second ≡ column (λ r. r .j) rs = ap (λ (x : Table). x .second) e in
-      let ea : t .amount ≡ column (λ r. r .d) rs = ap (λ (x : Table). x .amount) e in
-      record { is = q ∙ sym (rw (kn, kc, ef, es, ea, rows-back rs h)); room = omega arith }
+      let ef : t .first ≡ column (λ (r : Row). r .i) (desk .rows) rs = ap (λ (x : Table). x .first) e in
+      let es : t .second ≡ column (λ (r : Row). r .j) (desk .rows) rs = ap (λ (x : Table). x .second) e in
+      let ea : t .amount ≡ column (λ (r : Row). r .d) (desk .rows) rs = ap (λ (x : Table). x .amount) e in
+      record { is = q ∙ sym (rw (kn, kc, ef, es, ea, rows-back (desk .rows) rs h)); room = omega arith }
   a-table (refused reason line) q e n count a = clash (let p : Is n count ≡ Refused reason line = sym a ∙ ap (λ (x : Table). x .answer) e in cc)
 
   a-refusal : (r : Result) → tableOf desk s ≡ r → t ≡ tableIn r → (reason : Reason) (line : ℕ) → t .answer ≡ Refused reason line → tableOf desk s ≡ refused reason line

@@ -5,10 +5,11 @@ use mathlib.Core.Path.{_≡_}
 use lib.ListN.{length}
 use Rattle.text.specs.Written.{Written}
 use Rattle.text.proofs.Unique.{same-result, same-written}
-use Rattle.table.specs.Limits.{desk}
+use Rattle.ring.specs.Limits.{desk}
 use Rattle.table.specs.Reasons.{numberOf}
 use Rattle.table.specs.Table.{tableOf, writeTable}
-use Rattle.table.specs.Arrays.{tableIn, rowsIn}
+use Rattle.ring.specs.Columns.{rowsIn}
+use Rattle.table.specs.Arrays.{tableIn}
 use Rattle.table.specs.declared.reason.Reason.{Reason}
 use Rattle.table.specs.declared.read.Table.{Table}
 

@@ -13,9 +13,10 @@ use Rattle.text.specs.Shapes.{ringShape, rowShape, ringLine, rowLine}
 use Rattle.text.specs.Written.{Written}
 use Rattle.text.proofs.Lengths.{line-short}
 use Rattle.text.proofs.Writing.{written-behind, written-length}
-use Rattle.table.specs.Limits.{desk}
+use Rattle.ring.specs.Limits.{desk}
 use Rattle.table.specs.Table.{writeRows, writeTable}
-use Rattle.table.specs.Arrays.{rowsIn}
+use Rattle.ring.specs.Columns.{listed, rowsIn, rowAt}
+use Rattle.ring.proofs.Listed.{listed-snoc}
 
 rows-more : (rs : List Row) (r : Row) → writeRows (rs ++ r ∷ []) ≡ writeRows rs ++ rowLine (r .i) (r .j) (r .d)
 unfolding writeRows
@@ -31,8 +32,9 @@ module _ (first second amount : List ℕ) where
   line k = rowLine (getD first k 0) (getD second k 0) (getD amount k 0)
 
   text-more : (k : ℕ) → text (k + 1) ≡ text k ++ line k
-  unfolding rowsIn
-  text-more k = rw (add-one k) (rows-more (rowsIn k first second amount) (row (getD first k 0) (getD second k 0) (getD amount k 0)))
+  text-more k =
+      let e : 0 + k ≡ k = omega arith in
+      ap writeRows (listed-snoc (rowAt first second amount) 0 k ∙ ap (λ m. rowsIn k first second amount ++ rowAt first second amount m ∷ []) e) ∙ rows-more (rowsIn k first second amount) (rowAt first second amount k)
 
   more-long : (k : ℕ) → length (text (k + 1)) ≡ length (text k) + length (line k)
   more-long k = ap length (text-more k) ∙ length-append (text k) (line k)
@@ -55,7 +57,7 @@ module _ (first second amount : List ℕ) where
     pub small : size ≤ 22 + 44 * k
 
   pub counting-starts : (n count size : ℕ) → size ≡ length (ringLine n) → Counting n count 0 size
-  unfolding rowsIn writeRows
+  unfolding listed writeRows
   counting-starts n count size e = record { is = omega arith; within = omega arith; small = omega (arith, line-short ringShape (0 ∷ n ∷ [])) }
 
   module _ (n count k size r : ℕ) (counting : Counting n count k size) (l : k < count) (e : r ≡ length (line k)) where
@@ -82,7 +84,7 @@ module _ (first second amount : List ℕ) where
     pub room : at + length (text count) ≤ length old
 
   pub writing-starts : (count at : ℕ) (old : List ℕ) → at + length (text count) ≤ length old → Writing count at old old 0 at
-  unfolding rowsIn writeRows
+  unfolding listed writeRows
   writing-starts count at old room = record { written = record { place = omega arith; buffer = refl }; within = omega arith; room = room }
 
   module _ (count at : ℕ) (old buf : List ℕ) (k p : ℕ) (writing : Writing count at old buf k p) where

@@ -1,30 +1,27 @@
 -- A table's rows in arrays with room for 496, zero behind the rows and zero after a refusal.
-use Prim.Native.Nat.{ℕ, zero, suc}
-use mathlib.Core.List.{List, [], _∷_, _++_, map}
-use lib.ListN.{length, getD, replicate}
-use lib.Seq.{sets}
-use Rattle.ring.specs.Row.{Row, row}
-use Rattle.table.specs.Limits.{desk}
+use Prim.Native.Nat.{ℕ}
+use mathlib.Core.List.{List, []}
+use lib.ListN.{length}
+use Rattle.ring.specs.Limits.{desk}
+use Rattle.ring.specs.Row.{Row}
+use Rattle.ring.specs.Columns.{column}
 use Rattle.table.specs.Table.{Result, accepted, refused}
 use Rattle.table.specs.declared.read.Table.{Table}
+use Rattle.table.specs.declared.read.Answer.{Answer}
 use Rattle.table.specs.declared.read.Answer.the-variants.{Is, Refused}
 
--- all zero at the start
-abbrev pub zeros : List ℕ
-zeros = replicate (desk .rows) 0
+-- an answer beside the columns of rows
+abbrev pub beside : Answer → List Row → Table
+beside answer rs =
+    record {
+      answer = answer;
+      first = column (λ (r : Row). r .i) (desk .rows) rs;
+      second = column (λ (r : Row). r .j) (desk .rows) rs;
+      amount = column (λ (r : Row). r .d) (desk .rows) rs;
+    }
 
--- one number of each row, from place 0 on
-unfoldable pub column : (Row → ℕ) → List Row → List ℕ
-column f rs = sets zeros 0 (map f rs)
-
--- the answer beside its arrays; a refusal returns only reason and line
+-- the answer beside its rows; a refusal returns only reason and line
 unfoldable pub tableIn : Result → Table
 unfolding column
-tableIn (accepted n rs) =
-    record { answer = Is n (length rs); first = column (λ r. r .i) rs; second = column (λ r. r .j) rs; amount = column (λ r. r .d) rs }
-tableIn (refused reason line) = record { answer = Refused reason line; first = zeros; second = zeros; amount = zeros }
-
--- the first `count` rows of arrays
-unfoldable pub rowsIn : ℕ → List ℕ → List ℕ → List ℕ → List Row
-rowsIn zero first second amount = []
-rowsIn (suc k) first second amount = rowsIn k first second amount ++ row (getD first k 0) (getD second k 0) (getD amount k 0) ∷ []
+tableIn (accepted n rs) = beside (Is n (length rs)) rs
+tableIn (refused reason line) = beside (Refused reason line) []

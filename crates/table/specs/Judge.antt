@@ -2,7 +2,7 @@
 use Prim.Native.Nat.{ℕ}
 use mathlib.Core.Bool.{Bool, cond, _&&_, _||_}
 use lib.Dec.{ltb, leb, eqb}
-use Rattle.table.specs.Limits.{Limits}
+use Rattle.ring.specs.Limits.{Limits}
 use Rattle.table.specs.declared.reason.Reason.the-variants.{RingSize, NoSuchNode, NotBelow, NotAbove, TooMuch}
 use Rattle.table.specs.declared.judge.Verdict.{Verdict}
 use Rattle.table.specs.declared.judge.Verdict.the-variants.{Fine, Fault}

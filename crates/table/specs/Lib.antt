@@ -1,5 +1,4 @@
 pub mod Reasons
-pub mod Limits
 pub mod Lines
 pub mod LineEnds
 pub mod Judge

@@ -13,7 +13,7 @@ use Rattle.text.specs.declared.OneNumber.{OneNumber}
 use Rattle.text.specs.declared.OneNumber.the-variants.{Is as IsOne, Bad as NotOne}
 use Rattle.text.specs.declared.ThreeNumbers.{ThreeNumbers}
 use Rattle.text.specs.declared.ThreeNumbers.the-variants.{Are as AreThree, Bad as NotThree}
-use Rattle.table.specs.Limits.{Limits}
+use Rattle.ring.specs.Limits.{Limits}
 use Rattle.table.specs.Lines.{lines}
 use Rattle.table.specs.Judge.{judgeRing, judgeRow}
 use Rattle.table.specs.declared.reason.Reason.{Reason}

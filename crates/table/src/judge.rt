@@ -1,11 +1,11 @@
 // What is found against a ring's size and against a row.
-use crate::AMOUNT;
-use crate::FEWEST;
-use crate::NODES;
 use crate::reason::Reason;
+use ring::AMOUNT;
+use ring::FEWEST;
+use ring::NODES;
 ghost use mathlib.Core.Path.{_≡_};
 ghost use mathlib.Core.Bool.{_||_};
-ghost use Rattle.table.specs.Limits.{desk};
+ghost use Rattle.ring.specs.Limits.{desk};
 ghost use Rattle.table.specs.Judge.{judgeRing, outside, notAbove, judgeRow};
 
 pub enum Verdict {

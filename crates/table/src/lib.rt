@@ -12,14 +12,3 @@ pub use read::read_table;
 pub use reason::Reason;
 pub use write::table_length;
 pub use write::write_table;
-
-// The numbers of 01.
-pub const BYTES: usize = 32768;
-
-pub const FEWEST: u32 = 2;
-
-pub const NODES: u32 = 32;
-
-pub const AMOUNT: u32 = 9999;
-
-pub const ROWS: usize = 496;

@@ -1,19 +1,19 @@
 // A text to rows in arrays.
-use crate::BYTES;
-use crate::NODES;
-use crate::ROWS;
 use crate::judge::Verdict;
 use crate::judge::judge_ring;
 use crate::judge::judge_row;
 use crate::lines::line_end;
 use crate::reason::Reason;
+use ring::BYTES;
+use ring::NODES;
+use ring::ROWS;
 use text::OneNumber;
 use text::ThreeNumbers;
 ghost use mathlib.Core.Path.{_≡_};
 ghost use mathlib.Core.List.{[]};
 ghost use Prim.Native.Nat.{_≤_};
 ghost use lib.ListN.{length, drop};
-ghost use Rattle.table.specs.Limits.{desk};
+ghost use Rattle.ring.specs.Limits.{desk};
 ghost use Rattle.table.specs.Lines.{lines};
 ghost use Rattle.table.specs.Table.{refused, rowsOf, tableOf};
 ghost use Rattle.table.specs.Arrays.{tableIn};

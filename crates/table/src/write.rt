@@ -1,12 +1,12 @@
 // Rows in arrays to a text.
-use crate::ROWS;
+use ring::ROWS;
 ghost use mathlib.Core.Path.{_≡_};
 ghost use Prim.Native.Nat.{_+_, _≤_};
 ghost use lib.ListN.{length};
 ghost use Rattle.text.specs.Written.{Written};
-ghost use Rattle.table.specs.Limits.{desk};
+ghost use Rattle.ring.specs.Limits.{desk};
 ghost use Rattle.table.specs.Table.{writeRows, writeTable};
-ghost use Rattle.table.specs.Arrays.{rowsIn};
+ghost use Rattle.ring.specs.Columns.{rowsIn};
 
 // How many bytes a table has.
 pub fn table_length<'a>(
