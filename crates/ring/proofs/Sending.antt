@@ -41,11 +41,11 @@ back-front : (r : Row) (g h : ℕ) → inFront r g ≡ false → inFront r h ≡
 unfolding part
 back-front r g h e f = rw (e, f)
 
-over-front : (s : Sent) (k : ℕ) → inFront (s .row) k ≡ true → sentOver s k ≡ s .front
+pub over-front : (s : Sent) (k : ℕ) → inFront (s .row) k ≡ true → sentOver s k ≡ s .front
 unfolding sentOver
 over-front s k e = rw e
 
-over-back : (s : Sent) (k : ℕ) → inFront (s .row) k ≡ false → sentOver s k ≡ s .back
+pub over-back : (s : Sent) (k : ℕ) → inFront (s .row) k ≡ false → sentOver s k ≡ s .back
 unfolding sentOver
 over-back s k e = rw e
 

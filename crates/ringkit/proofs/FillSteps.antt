@@ -1,7 +1,7 @@
 -- A call that fills a buffer, over any outcome: a refusal, a buffer that is too short, and a text that was written each meet its contract.
 use Prim.Native.Nat.{ℕ, _+_, _≤_, _<_}
 use mathlib.Core.List.{List, _++_}
-use mathlib.Core.Path.{_≡_, ap, _∙_}
+use mathlib.Core.Path.{_≡_, refl, ap, _∙_}
 use native.Mathlib.Omega.{arith}
 use lib.ListN.{length, drop}
 use lib.Seq.{sets-eq}
@@ -37,3 +37,14 @@ module _ (outcome : Outcome) (old : List ℕ) where
           reply = rw (o, le-ltb (length old) (length t) k, z);
           buffer = rw (o, le-ltb (length old) (length t) k) (w .buffer ∙ sets-eq t old 0 (omega arith) ∙ ap (λ m. t ++ drop m old) e);
         }
+
+-- a text of `size` bytes, where the call goes by the size
+module _ (old t : List ℕ) (size : ℕ) (is : size ≡ length t) where
+  pub text-too-short : (r : Reply) → length old < size → r ≡ replyOf (refuse NoRoom 0) → Fills (write t) old old r
+  text-too-short = too-short (write t) old t refl size is
+
+  pub text-has-room : size ≤ length old → length t ≤ length old
+  text-has-room l = omega arith
+
+  pub text-fills : (new : List ℕ) (n : ℕ) → size ≤ length old → Written old 0 t new n → Fills (write t) old new (record { reason = 0; line = 0; length = n })
+  text-fills = fills (write t) old t refl size is

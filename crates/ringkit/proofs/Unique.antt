@@ -5,6 +5,7 @@ use mathlib.Core.Path.{_≡_}
 use Rattle.text.proofs.Unique.{same-result}
 use Rattle.ringkit.specs.Outcome.{Outcome, Fills}
 use Rattle.ringkit.specs.Rewritten.{tableAfresh}
+use Rattle.ringkit.specs.Routes.{tableRouted}
 use Rattle.ringkit.specs.declared.Reply.{Reply}
 
 fills-unique : (outcome : Outcome) (old new buf : List ℕ) (r q : Reply) → Fills outcome old new r → Fills outcome old buf q → (r ≡ q) × (new ≡ buf)
@@ -12,3 +13,6 @@ fills-unique outcome old new buf r q a b = (same-result (a .reply) (b .reply), s
 
 pub rewrite-table-unique : (t old new buf : List ℕ) (r q : Reply) → Fills (tableAfresh t) old new r → Fills (tableAfresh t) old buf q → (r ≡ q) × (new ≡ buf)
 rewrite-table-unique t = fills-unique (tableAfresh t)
+
+pub route-unique : (t old new buf : List ℕ) (r q : Reply) → Fills (tableRouted t) old new r → Fills (tableRouted t) old buf q → (r ≡ q) × (new ≡ buf)
+route-unique t = fills-unique (tableRouted t)

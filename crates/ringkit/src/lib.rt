@@ -1,9 +1,17 @@
 // The public calls, as C sees them: byte slices and numbers in, a reply by value out. No call has a `requires`.
+use ring::LINKS;
+use ring::ROWS;
+use sheet::Figures;
 use table::Answer;
 use table::Reason;
 ghost use mathlib.Core.Path.{_≡_};
-ghost use Rattle.ringkit.specs.Outcome.{replyOf, refuse, Fills};
+ghost use Prim.Native.Nat.{_≤_};
+ghost use Rattle.ring.specs.Limits.{desk};
+ghost use Rattle.sheet.specs.WriteSheet.{writeSheet};
+ghost use Rattle.sheet.specs.Arrays.{sheetIn};
+ghost use Rattle.ringkit.specs.Outcome.{replyOf, refuse, write, Fills};
 ghost use Rattle.ringkit.specs.Rewritten.{tableAfresh};
+ghost use Rattle.ringkit.specs.Routes.{tableRouted};
 
 // reason 0 is success. On a refusal every field but reason and line is 0.
 #[repr(C)]
@@ -43,6 +51,94 @@ pub extern "C" fn ringkit_rewrite_table(table: &[u8], buffer: &mut [u8]) -> Repl
                 line: 0,
                 length,
             }
+        }
+    }
+}
+
+// Writes a sheet, or refuses where the buffer is too short.
+fn put_sheet<'a>(
+    buffer: &mut [u8],
+    x: Figures,
+    count: usize,
+    first: &'a [u32; ROWS],
+    second: &'a [u32; ROWS],
+    amount: &'a [u32; ROWS],
+    front: &'a [u32; ROWS],
+    back: &'a [u32; ROWS],
+    way: &'a [u32; ROWS],
+    split: &'a [u32; LINKS],
+    unsplit: &'a [u32; LINKS],
+) -> Reply
+    requires { ⌜ (count ≤ desk .rows) × (x .n ≤ desk .nodes) ⌝ }
+    ensures { λ r. ⌜ Fills (write (writeSheet (sheetIn x count (now (first .entry)) (now (second .entry)) (now (amount .entry)) (now (front .entry)) (now (back .entry)) (now (way .entry)) (now (split .entry)) (now (unsplit .entry))))) (now (buffer .entry)) (now (buffer .exit)) r ⌝ }
+{
+    let size = sheet::sheet_length(
+        x,
+        count,
+        first,
+        second,
+        amount,
+        front,
+        back,
+        way,
+        split,
+        unsplit,
+    );
+    if buffer.len() < size {
+        return refusal(Reason::NoRoom, 0);
+    }
+    let length = sheet::write_sheet(
+        buffer,
+        x,
+        count,
+        first,
+        second,
+        amount,
+        front,
+        back,
+        way,
+        split,
+        unsplit,
+    );
+    Reply {
+        reason: 0,
+        line: 0,
+        length,
+    }
+}
+
+// Routes a table by rules A to D and writes its sheet.
+#[no_mangle]
+pub extern "C" fn ringkit_route(table: &[u8], buffer: &mut [u8]) -> Reply
+    ensures { λ r. ⌜ Fills (tableRouted (now (table .entry))) (now (buffer .entry)) (now (buffer .exit)) r ⌝ }
+{
+    let t = table::read_table(table);
+    let answer = t.answer;
+    match answer {
+        Answer::Refused(reason, line) => refusal(reason, line),
+        Answer::Is(n, count) => {
+            let p = router::route(n, count, &t.first, &t.second, &t.amount);
+            let x = Figures {
+                n,
+                g: p.g,
+                h: p.h,
+                across: p.across,
+                peak: p.peak,
+                size: p.size,
+            };
+            put_sheet(
+                buffer,
+                x,
+                count,
+                &t.first,
+                &t.second,
+                &t.amount,
+                &p.front,
+                &p.back,
+                &p.way,
+                &p.split,
+                &p.unsplit,
+            )
         }
     }
 }

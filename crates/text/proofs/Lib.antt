@@ -21,3 +21,4 @@ pub mod MarkSteps
 pub mod Filling
 pub mod Lengths
 pub mod Writing
+pub mod Pieces

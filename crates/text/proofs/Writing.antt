@@ -34,6 +34,13 @@ written-behind old mid new p q at r e w x = record {
 pub written-length : (old new p : List ℕ) (at r : ℕ) → Written old at p new r → length new ≡ length old
 written-length old new p at r w = ap length (w .buffer) ∙ length-sets old at p
 
+-- where two texts have room, the first has, and behind it the second
+pub room-first : (old p q : List ℕ) (at : ℕ) → at + length (p ++ q) ≤ length old → at + length p ≤ length old
+room-first old p q at room = omega (arith, room, length-append p q)
+
+pub room-behind : (old mid p q : List ℕ) (at r : ℕ) → at + length (p ++ q) ≤ length old → Written old at p mid r → r + length q ≤ length mid
+room-behind old mid p q at r room w = omega (arith, room, w .place, length-append p q, written-length old mid p at r w)
+
 module _ (old : List ℕ) (at : ℕ) where
   pub one-byte : (b : ℕ) → Written old at (b ∷ []) (set old at b) (at + 1)
   one-byte b = record { place = refl; buffer = refl }

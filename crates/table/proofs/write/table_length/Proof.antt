@@ -1,12 +1,13 @@
 -- The length of a table: the lines of the rows before place k are counted (`Counting`).
 use Prim.Native.Nat.{_-_}
-use Rattle.table.proofs.WriteSteps.{Counting, counting-starts, count-fits, counts-row, counted}
+use Rattle.text.proofs.Pieces.{Measuring, measuring-starts, measure-fits, measures-line, measured}
+use Rattle.table.proofs.WriteSteps.{rowLineAt, rowsText, row-pieces, ring-short, table-measured}
 use borrow.Author.Needs.{needs}
 use Rattle.table.proofs.write.table_length.Statement.{statement}
 use Rattle.table.proofs.write.table_length.Tie as tie
 
 abbrev Inv-loop : tie.InvT-loop
-Inv-loop n count first second amount size₀ k₀ size k = Counting first second amount n count k size
+Inv-loop n count first second amount size₀ k₀ size k = Measuring (rowLineAt first second amount) (rowsText first second amount) size₀ count k size
 
 abbrev μ-loop : tie.MeasureT-loop
 μ-loop n count first second amount size₀ k₀ size k = count - k
@@ -15,7 +16,7 @@ ring-length-requires : tie.Need-ring-length-requires Inv-loop μ-loop
 ring-length-requires c κs = search needs
 
 loop-holds : tie.Need-loop-holds Inv-loop μ-loop
-loop-holds c = search counting-starts
+loop-holds c = let rows = c .before .args in measuring-starts _ _ (row-pieces (rows .first .now) (rows .second .now) (rows .amount .now)) _ _
 
 mul-row-length : tie.Need-mul-row-length Inv-loop μ-loop
 mul-row-length c = search needs
@@ -39,7 +40,9 @@ row-length-requires : tie.Need-row-length-requires Inv-loop μ-loop
 row-length-requires c κs = search needs
 
 add-size : tie.Need-add-size Inv-loop μ-loop
-add-size c = search (count-fits, needs)
+add-size c =
+    measure-fits _ _ _ _ _ _ (c .before .before .before .before .before .loop .inv) _ (search needs) (c .row-length .ensures)
+    (ring-short _ _ (c .before .before .before .before .before .before .ring-length .ensures)) (search needs)
 
 add-k : tie.Need-add-k Inv-loop μ-loop
 add-k c = search needs
@@ -48,10 +51,10 @@ loop-less : tie.Need-loop-less Inv-loop μ-loop
 loop-less c = search needs
 
 loop-again : tie.Need-loop-again Inv-loop μ-loop
-loop-again c = search counts-row
+loop-again c = search measures-line
 
 returns : tie.Need-returns Inv-loop μ-loop
-returns c = search counted
+returns c = table-measured _ _ _ _ (c .before .before .ring-length .ensures) (measured _ _ _ _ _ _ (c .before .loop .inv) (search needs))
 
 pub table-length-spec : {M : Type 1} → statement M
 table-length-spec =

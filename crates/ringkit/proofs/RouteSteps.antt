@@ -1,0 +1,98 @@
+-- Routing a table: what reading said meets what the router asks, the router's columns are the plan's sheet, and so each way out is the outcome's.
+use Prim.Native.Nat.{ℕ, zero, suc, _+_, _≤_, _<_}
+use mathlib.Core.List.{List}
+use mathlib.Core.Path.{_≡_, refl, ap, _∙_, sym}
+use native.Mathlib.Decide.{ℕ-discrete}
+use native.Mathlib.Omega.{arith}
+use lib.ListN.{length, getD, length-map}
+use Rattle.ring.specs.Limits.{desk}
+use Rattle.ring.specs.Lists.{Each, none, more}
+use Rattle.ring.specs.Row.{Row, OnRing, TableRows}
+use Rattle.ring.specs.Routing.{Sent, Routed}
+use Rattle.ring.specs.Sheet.{Sheet, Link, plan, sents, demands, numbersFrom}
+use Rattle.ring.specs.True.{TrueSheet}
+use Rattle.ring.specs.Columns.{listed, rowAt, rowsIn}
+use Rattle.ring.proofs.Listed.{listed-length}
+use Rattle.ring.proofs.OurPlan.{plan-true, plan-demands}
+use Rattle.table.specs.Table.{accepted, tableOf, InRange}
+use Rattle.table.specs.Arrays.{tableIn}
+use Rattle.table.specs.declared.reason.Reason.{Reason}
+use Rattle.table.specs.declared.read.Table.{Table}
+use Rattle.table.specs.declared.read.Answer.the-variants.{Is, Refused}
+use Rattle.table.proofs.TableText.{desk-spelled, table-text}
+use Rattle.table.proofs.Told.{Told, told-table, told-refusal}
+use Rattle.router.specs.Rows as router
+use Rattle.router.specs.Planned.{planIn}
+use Rattle.router.specs.declared.Plan.{Plan}
+use Rattle.sheet.specs.WriteSheet.{writeSheet}
+use Rattle.sheet.specs.Arrays.{sheetIn}
+use Rattle.sheet.specs.declared.Figures.{Figures}
+use Rattle.sheet.proofs.Back.{sheet-back}
+use Rattle.ringkit.specs.Outcome.{write, refuse, replyOf, Fills}
+use Rattle.ringkit.specs.Routes.{planned, tableRouted}
+use Rattle.ringkit.specs.declared.Reply.{Reply}
+use Rattle.ringkit.proofs.FillSteps.{refuses}
+
+-- what holds of each member holds at each place
+each-at : {A : Type 0} (P : A → Type 0) (f : ℕ → A) (m n : ℕ) → Each P (listed f m n) → (k : ℕ) → m ≤ k → k < m + n → P (f k)
+unfolding listed
+each-at P f m zero e k a b = absurd (omega arith)
+each-at P f m (suc n) (more p es) k a b = elim (ℕ-discrete k m) [ yes q ↦ rw q p | no q ↦ each-at P f (suc m) n es k (omega arith) (omega arith) ]
+
+module _ (s old : List ℕ) (t : Table) (e : t ≡ tableIn (tableOf desk s)) where
+  pub route-refused : (reason : Reason) (line : ℕ) (r : Reply) → t .answer ≡ Refused reason line → r ≡ replyOf (refuse reason line) → Fills (tableRouted s) old old r
+  unfolding tableRouted planned
+  route-refused reason line r a = refuses (tableRouted s) old reason line r (rw (told-refusal s t e reason line a))
+
+  module _ (n count : ℕ) (a : t .answer ≡ Is n count) where
+    abbrev rows : List Row
+    rows = rowsIn count (t .first) (t .second) (t .amount)
+
+    told : Told s n count (t .first) (t .second) (t .amount)
+    told = told-table s t e n count a
+
+    range : InRange desk n rows
+    range = table-text desk desk-spelled s n rows .0 (told .is) .1
+
+    -- the table is one that the router takes
+    pub router-takes : router.Table n count (t .first) (t .second) (t .amount)
+    router-takes =
+        record {
+          two = range .few;
+          links = range .many;
+          few = told .room;
+          nodes = λ k l. each-at (OnRing n) (rowAt (t .first) (t .second) (t .amount)) 0 count (range .rows .nodes) k (omega arith) (omega arith);
+          small = λ k l. each-at (λ r. r .d ≤ desk .amount) (rowAt (t .first) (t .second) (t .amount)) 0 count (range .amounts) k (omega arith) (omega arith);
+        }
+
+    pub rows-have-room : count ≤ desk .rows
+    rows-have-room = told .room
+
+    pub links-have-room : n ≤ desk .nodes
+    links-have-room = range .many
+
+    -- the plan is of the table's rows, and its links run from 1 to n
+    same : demands (sents (plan n rows .rows)) ≡ rows
+    same = plan-demands n rows (range .few) (range .rows)
+
+    many : length (plan n rows .rows) ≡ count
+    many =
+        sym (length-map (plan n rows .rows) (λ (r : Routed). r .sent)) ∙ sym (length-map (sents (plan n rows .rows)) (λ (x : Sent). x .row)) ∙ ap length same
+        ∙ listed-length (rowAt (t .first) (t .second) (t .amount)) 0 count
+
+    module _ (p : Plan) (ep : p ≡ planIn (plan n rows)) where
+      -- the sheet that the router's columns hold
+      abbrev pub sheet : Sheet
+      sheet =
+          sheetIn (record { n = n; g = p .g; h = p .h; across = p .across; peak = p .peak; size = p .size }) count (t .first) (t .second) (t .amount) (p .front) (p .back) (p .way) (p .split) (p .unsplit)
+
+      is-plan : sheet ≡ plan n rows
+      unfolding planIn plan
+      is-plan = rw ep (sheet-back (plan n rows) count (t .first) (t .second) (t .amount) many (told .room) (range .many) same (plan-true n rows (range .few) (range .rows) .links))
+
+      is-text : tableRouted s ≡ write (writeSheet sheet)
+      unfolding tableRouted planned
+      is-text = rw (told .is) (ap (λ x. write (writeSheet x)) (sym is-plan))
+
+      pub route-fills : (new : List ℕ) (r : Reply) → Fills (write (writeSheet sheet)) old new r → Fills (tableRouted s) old new r
+      route-fills new r f = let e = is-text in rw e f

@@ -1,0 +1,13 @@
+pub mod Totals
+pub mod SpanSteps
+pub mod SquareSteps
+pub mod CutSteps
+pub mod Rooms
+pub mod SendSteps
+pub mod MoveCases
+pub mod PassSteps
+pub mod WaySteps
+pub mod LoadSteps
+pub mod Zeros
+pub mod FourRules
+pub mod Unique

@@ -1,0 +1,5 @@
+pub mod Limits
+pub mod Rows
+pub mod Arrays
+pub mod Answers
+pub mod Planned

@@ -1,0 +1,4 @@
+pub mod LineAt
+pub mod SheetSteps
+pub mod Back
+pub mod Unique

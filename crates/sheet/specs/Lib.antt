@@ -1,0 +1,2 @@
+pub mod WriteSheet
+pub mod Arrays

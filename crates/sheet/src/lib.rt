@@ -1,0 +1,15 @@
+// A sheet: values in arrays to text.
+mod write;
+
+pub use write::sheet_length;
+pub use write::write_sheet;
+
+// The figures of a sheet that are not of a row or of a link: R n, C g h across, Z peak size.
+pub struct Figures {
+    pub n: u32,
+    pub g: u32,
+    pub h: u32,
+    pub across: u32,
+    pub peak: u32,
+    pub size: u32,
+}
