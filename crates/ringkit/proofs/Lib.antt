@@ -1,3 +1,4 @@
 pub mod FillSteps
 pub mod RewriteSteps
 pub mod Unique
+pub mod CallSays
