@@ -1,5 +1,5 @@
--- What a call that rewrites a table does, in 01's words: an accepted table is written as the same bytes where the buffer has room, and else
--- refused with 15; any other text is refused with its first reason and line. Shown from the contract and the laws of reading a table.
+-- A call that rewrites a table does what 01 says (an accepted table is written as the same bytes where the buffer has room and else refused
+-- with 15, any other text is refused with its first reason and line): by the cases of what reading gives, and the laws of reading a table.
 use Prim.Native.Nat.{ℕ, _≤_, _<_}
 use mathlib.Core.List.{List, _++_}
 use mathlib.Core.Logic.{_↔_}
@@ -89,10 +89,10 @@ pub every-call : (t old new : List ℕ) (r : Reply) → Fills (tableAfresh t) ol
 unfolding tableAfresh
 every-call t old new r f = call-of (tableOf desk t) refl f
 
--- ---- its four laws
+-- ---- so each reason number says one thing of the text
 
 module _ (t old new : List ℕ) (r : Reply) (call : Fills (tableAfresh t) old new r) where
-  -- the reply is 0 exactly when the table is accepted and the buffer has room
+  -- 0 exactly when the table is accepted and the buffer has room
   pub succeeds : (r .reason ≡ 0) ↔ (Accepted desk t × (length t ≤ length old))
   succeeds = (λ e. there e (every-call t old new r call), λ h. back (h .0) (h .1) (every-call t old new r call))
     where
