@@ -32,35 +32,32 @@ def lines_of(text):
     return out
 
 
-def read_table(text):
-    """(n, rows), or (reason, line)."""
-    if len(text) > LONGEST:
-        return None, (1, 0)
+def holding(lines, at):
+    """The reasons that hold of a line, each judged by its own words alone."""
+    ring = fields(lines[0], b"R", 1) if lines else None
+    if at == 1:
+        tests = {2: ring is None, 3: ring and not 2 <= ring[0] <= 32}
+    else:
+        row = fields(lines[at - 1], b"D", 3)
+        before = fields(lines[at - 2], b"D", 3) if at > 2 else None
+        tests = {
+            2: row is None,
+            4: row and ring and not all(1 <= node <= ring[0] for node in row[:2]),
+            5: row and row[0] >= row[1],
+            6: row and before and row[:2] <= before[:2],
+            7: row and row[2] > 9999,
+        }
+    return {reason for reason, holds in tests.items() if holds}
+
+
+def first_reason(text):
+    """The reason that is given, and its line: the least line and in it the least reason; 1 stands on line 0. None where no reason holds."""
     lines = lines_of(text)
-    if not lines:
-        return None, (2, 1)
-    ring = fields(lines[0], b"R", 1)
-    if ring is None:
-        return None, (2, 1)
-    n = ring[0]
-    if not 2 <= n <= 32:
-        return None, (3, 1)
-    rows = []
-    for at, line in enumerate(lines[1:], 2):
-        row = fields(line, b"D", 3)
-        if row is None:
-            return None, (2, at)
-        i, j, d = row
-        if not (1 <= i <= n and 1 <= j <= n):
-            return None, (4, at)
-        if i >= j:
-            return None, (5, at)
-        if rows and (i, j) <= rows[-1][:2]:
-            return None, (6, at)
-        if d > 9999:
-            return None, (7, at)
-        rows.append((i, j, d))
-    return (n, rows), None
+    held = {(0, 1)} if len(text) > LONGEST else set()
+    for at in range(1, max(1, len(lines)) + 1):
+        held |= {(at, reason) for reason in holding(lines, at)}
+    line, reason = min(held, default=(None, None))
+    return reason and (reason, line)
 
 
 def write_table(n, rows):
@@ -75,17 +72,13 @@ def sum_of(buffer):
 
 
 def answer(text, room):
-    table, refusal = read_table(text)
-    reply, out = (0, 0, 0), b""
-    if refusal:
-        reply = refusal + (0,)
-    else:
-        out = write_table(*table)
+    reply, out = first_reason(text), b""
+    if not reply:
+        ring, *rows = lines_of(text)
+        out = write_table(*fields(ring, b"R", 1), [tuple(fields(row, b"D", 3)) for row in rows])
         if room < len(out):
-            reply, out = (15, 0, 0), b""
-        else:
-            reply = (0, 0, len(out))
-    return reply + (sum_of(out + bytes([PATTERN]) * (ROOM - len(out))),)
+            reply, out = (15, 0), b""
+    return (reply or (0, 0)) + (len(out), sum_of(out + bytes([PATTERN]) * (ROOM - len(out))))
 
 
 def t(*lines, end="\n"):
@@ -104,7 +97,7 @@ def refusals():
     bad = {
         "shape": ["", " ", "D", "D|", "D|1", "D|1|2", "D|1|2|", "D|1|2|3|", "D|1|2|3|4", "d|1|2|3", "D 1 2 3", "D|1|2|3 ", "D|1|2|3\r", "D||1|2", "D|1||2", "D|01|2|3", "D|1|02|3",
                   "D|1|2|00", "D|1|2|+3", "D|1|2|-3", "D|1|2|3x", "D|1|2|12345678", "D|1|2|00000001", "R|9", "C|1|2|3", "L|1|2|3", "Z|1|2", "D|1|2|3\0", "\0", "DD|1|2|3"],
-        "values": ["D|0|2|3", "D|1|10|3", "D|5|2|10000", "D|10|11|3", "D|0|0|0", "D|9|9|1", "D|4|3|1", "D|1|2|10000", "D|1|2|9999999", "D|9999999|1|1", "D|8|8|10000", "D|1|1|1"],
+        "values": ["D|0|2|3", "D|1|0|1", "D|9|0|1", "D|1|10|3", "D|5|2|10000", "D|10|11|3", "D|0|0|0", "D|9|9|1", "D|4|3|1", "D|1|2|10000", "D|1|2|9999999", "D|9999999|1|1", "D|8|8|10000", "D|1|1|1"],
     }
     for kind in bad.values():
         for b in kind:
@@ -123,6 +116,27 @@ def refusals():
     yield t(*good, end="\r\n")
 
 
+def single_faults():
+    """Rows with one fault alone, on the first, a middle and the last line of a longer table whose rows rise."""
+    n = 12
+    good = [(k, k + 2, 100 * k) for k in range(1, n - 1)]
+    for k in (1, 5, len(good)):
+        faults = {
+            4: [(k, n + 1, 1), (k, 9999999, 1)],
+            5: [(k, k, 1), (k + 1, k, 1)],
+            6: [(k - 1, k + 1, 1), (k - 1, k, 1), (k - 2, n, 1)],
+            7: [(k, k + 2, 10000), (k, k + 2, 9999999)],
+        }
+        if k == 1:
+            faults[4] += [(0, 2, 1)]
+            faults[6] = []
+        for reason, rows in faults.items():
+            for row in rows:
+                text = write_table(n, good[:k - 1] + [row] + good[k:])
+                assert holding(lines_of(text), k + 1) == {reason}, text
+                yield text
+
+
 def rings():
     """The first line, and the numbers of 01 on both sides."""
     for r in ["", "R", "R|", "R|0", "R|1", "R|2", "R|32", "R|33", "R|9999999", "R|10000000", "R|02", "R|2|4", "r|2", "R 2", "R|2 ", " R|2", "X|2", "D|1|2|3", "R|-2", "R||2", "\tR|2"]:
@@ -138,6 +152,11 @@ def rings():
         yield t("R|%d" % n, "D|1|2|10000")
         yield t("R|%d" % n, "D|1|%d|1" % n)
         yield t("R|%d" % n, "D|%d|%d|1" % (n - 1, n))
+        yield t("R|%d" % n, "D|1|0|1")
+        yield t("R|%d" % n, "D|%d|0|1" % n)
+        yield t("R|%d" % n, "D|0|%d|1" % n)
+        yield t("R|%d" % n, "D|1|%d|1" % (n + 1))
+        yield t("R|%d" % n, "D|%d|%d|1" % (n, n + 1))
 
 
 def full(n, amount):
@@ -188,7 +207,7 @@ def damaged(rng, text):
 
 
 def all_cases():
-    for text in list(refusals()) + list(rings()):
+    for text in [*refusals(), *single_faults(), *rings()]:
         yield text, 200
     for text in longest():
         yield text, ROOM
@@ -209,9 +228,9 @@ def all_cases():
 
 def main():
     given, due = [], []
-    for text, room in all_cases():
-        given.append(b"T%05d%05d\n" % (len(text), min(room, ROOM)) + text)
-        due.append("%d %d %d %d\n" % answer(text, min(room, ROOM)))
+    for text, room in dict.fromkeys((text, min(room, ROOM)) for text, room in all_cases()):
+        given.append(b"T%05d%05d\n" % (len(text), room) + text)
+        due.append("%d %d %d %d\n" % answer(text, room))
     open("crates/cases/stdin", "wb").write(b"".join(given))
     open("crates/cases/stdout", "w").write("".join(due))
     seen = {line.split()[0] for line in due}

@@ -1,8 +1,9 @@
-ghost use Prim.Native.Nat.{_≤_, _<_};
-// Runs stored cases: each is a header of 12 bytes (a letter for the call, the text's length and the buffer's in five digits each, LF) and
+// Runs stored cases: each is a header of 12 bytes (the letter of the call, the text's length and the buffer's in five digits each, LF) and
 // the text. Each is answered by a line: the reply's numbers, and a sum over every byte of the buffer, which is filled with a pattern before the call.
+// The letter T is `ringkit_rewrite_table`; any other ends the run.
 use libc::STDIN_FILENO;
 use libc::STDOUT_FILENO;
+ghost use Prim.Native.Nat.{_≤_, _<_};
 
 const ROOM: usize = 40000;
 
@@ -54,7 +55,7 @@ fn show_word(n: u32) {
     show(n as u64, b" ");
 }
 
-// One case, in fresh memory; false at the end of the input.
+// One case, in fresh memory; false at the end of the input and at an unknown letter.
 fn one_case() -> bool {
     let mut text = [0u8; ROOM];
     let mut buffer = [PATTERN; ROOM];
@@ -64,6 +65,9 @@ fn one_case() -> bool {
 fn answer(text: &mut [u8], buffer: &mut [u8]) -> bool {
     let mut h = [0u8; 12];
     if io::read_full(STDIN_FILENO, &mut h) < 12 {
+        return false;
+    }
+    if h[0] != b'T' {
         return false;
     }
     let size = number(h[1], h[2], h[3], h[4], h[5]);

@@ -2,3 +2,4 @@ pub mod FillSteps
 pub mod RewriteSteps
 pub mod RouteSteps
 pub mod Unique
+pub mod CallSays

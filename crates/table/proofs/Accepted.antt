@@ -1,11 +1,10 @@
--- What callers need of a text that the desk accepts: its table is in range, so its rows are a table's rows; and reading and writing are each
--- other's inverse, from `table-text` both ways.
+-- What callers need of a text that the desk accepts: its table is in range, so that the arrays have room for its rows; and reading and writing
+-- are each other's inverse, from `table-text` both ways.
 use Prim.Native.Nat.{ℕ, _≤_}
 use mathlib.Core.List.{List}
 use mathlib.Core.Path.{_≡_, refl, ap, _∙_, sym}
 use lib.ListN.{length}
-use Rattle.ring.specs.Lists.{Each}
-use Rattle.ring.specs.Row.{Row, TableRows}
+use Rattle.ring.specs.Row.{Row}
 use Rattle.ring.specs.Limits.{Limits, desk}
 use Rattle.table.specs.Table.{accepted, tableOf, writeTable, InRange}
 use Rattle.table.proofs.Few.{few}
@@ -35,17 +34,6 @@ module _ (t : List ℕ) (n : ℕ) (rs : List Row) (e : tableOf desk t ≡ accept
   pub desk-in-range : InRange desk n rs
   desk-in-range = accepted-in-range desk desk-spelled t n rs e
 
-  pub desk-fewest : 2 ≤ n
-  desk-fewest = desk-in-range .few
-
-  pub desk-nodes : n ≤ 32
-  desk-nodes = desk-in-range .many
-
-  pub desk-rows : TableRows n rs
-  desk-rows = desk-in-range .rows
-
-  pub desk-amounts : Each (λ r. r .d ≤ 9999) rs
-  desk-amounts = desk-in-range .amounts
-
-  pub desk-count : length rs ≤ 496
+  -- the working arrays have room for it
+  pub desk-count : length rs ≤ desk .rows
   desk-count = few n rs desk-in-range

@@ -3,7 +3,7 @@ use Prim.Native.Nat.{ℕ, zero, suc, _+_, _≤_, _<_}
 use mathlib.Core.List.{List, [], _∷_, _++_, map}
 use mathlib.Core.Path.{_≡_, refl, ap, _∙_, sym}
 use native.Mathlib.Omega.{arith}
-use lib.ListN.{length, getD, set, drop, replicate, length-map, length-replicate}
+use lib.ListN.{length, getD, set, replicate, length-map, length-replicate}
 use lib.Seq.{sets, sets-eq, length-sets}
 use Rattle.ring.specs.Row.{Row, row}
 use Rattle.ring.specs.Columns.{listed, column, rowsIn}

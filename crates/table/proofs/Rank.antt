@@ -41,4 +41,4 @@ rank-up (suc a) b (suc i) j most before low order =
 pub rank-most : (i j : ℕ) → 1 ≤ i → i < j → j ≤ desk .nodes → rank i j ≤ desk .rows
 unfolding rank upTo
 rank-most zero j low order most = absurd (omega arith)
-rank-most (suc i) j low order most = omega (arith, upTo-rises (suc i) 31 (omega arith))
+rank-most (suc i) j low order most = omega (arith, upTo-rises (suc i) (desk .nodes) (omega arith))

@@ -1,7 +1,9 @@
--- Reasons with the same number are the same: each stands in a list under its number.
-use Prim.Native.Nat.{ℕ}
+-- Reasons with the same number are the same, and none has the number 0: each stands in a list under its number.
+use Prim.Native.Nat.{ℕ, _≤_}
 use mathlib.Core.List.{[], _∷_}
 use mathlib.Core.Path.{_≡_, refl, ap, _∙_, sym}
+use native.Mathlib.Omega.{arith}
+use native.Mathlib.Decide.{decLt}
 use lib.ListN.{getD}
 use Rattle.table.specs.Reasons.{numberOf}
 use Rattle.table.specs.declared.reason.Reason.{Reason}
@@ -35,3 +37,14 @@ at-its-number NoRoom = refl
 
 pub same-reason : (r s : Reason) → numberOf r ≡ numberOf s → r ≡ s
 same-reason r s e = sym (at-its-number r) ∙ ap reasonAt e ∙ at-its-number s
+
+-- 0 is success; at that place of the list stands 15
+pub no-reason-0 : (r : Reason) → 1 ≤ numberOf r
+no-reason-0 r =
+    elim (decLt 0 (numberOf r)) [
+      | yes h ↦ omega arith
+      | no h ↦
+          let e : numberOf r ≡ 0 = omega arith in
+          let k : NoRoom ≡ r = sym (ap reasonAt e) ∙ at-its-number r in
+          absurd (omega (arith, ap numberOf k))
+    ]

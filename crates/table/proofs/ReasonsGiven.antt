@@ -132,7 +132,7 @@ right limits t =
 -- ---- the laws
 
 -- a text has one first reason
-one-given : {limits : Limits} {t : List ℕ} {r s : Reason} {line other : ℕ} → Given limits t r line → Given limits t s other → (r ≡ s) × (line ≡ other)
+pub one-given : {limits : Limits} {t : List ℕ} {r s : Reason} {line other : ℕ} → Given limits t r line → Given limits t s other → (r ≡ s) × (line ≡ other)
 one-given {r} {s} {line} {other} f g =
     let a : line < other → ⊥ = λ l. g .first r line (inl l) (f .holds) in
     let b : other < line → ⊥ = λ l. f .first s other (inl l) (g .holds) in

@@ -1,4 +1,4 @@
--- What is said of a text, as one view: its seven reasons by cases, and on which line each can stand.
+-- What is said of a text, as one view: its seven reasons by cases, their numbers, and on which line each can stand.
 use Prim.Native.Nat.{ℕ, _≤_, _<_}
 use mathlib.Core.List.{List}
 use mathlib.Core.Logic.{inl, inr}
@@ -57,3 +57,14 @@ stands (wrong-node h) = on-later (h .row .later) (h .row .text) (omega arith)
 stands (wrong-pair h) = on-later (h .row .later) (h .row .text) (omega arith)
 stands (wrong-order h) = on-later (h .row .later) (h .row .text) (omega arith)
 stands (wrong-amount h) = on-later (h .row .later) (h .row .text) (omega arith)
+
+-- what judges a table is one of the reasons 1 to 7
+pub up-to-7 : {limits : Limits} {t : List ℕ} {line : ℕ} {r : Reason} → Said limits t line r → numberOf r ≤ numberOf TooMuch
+up-to-7 (too-long z h) = omega arith
+up-to-7 (no-ring-line h) = omega arith
+up-to-7 (no-row-line h) = omega arith
+up-to-7 (wrong-ring h) = omega arith
+up-to-7 (wrong-node h) = omega arith
+up-to-7 (wrong-pair h) = omega arith
+up-to-7 (wrong-order h) = omega arith
+up-to-7 (wrong-amount h) = omega arith

@@ -1,5 +1,4 @@
 -- A table's rows in arrays with room for 496, zero behind the rows and zero after a refusal.
-use Prim.Native.Nat.{ℕ}
 use mathlib.Core.List.{List, []}
 use lib.ListN.{length}
 use Rattle.ring.specs.Limits.{desk}

@@ -4,7 +4,6 @@ use ring::AMOUNT;
 use ring::FEWEST;
 use ring::NODES;
 ghost use mathlib.Core.Path.{_≡_};
-ghost use mathlib.Core.Bool.{_||_};
 ghost use Rattle.ring.specs.Limits.{desk};
 ghost use Rattle.table.specs.Judge.{judgeRing, outside, notAbove, judgeRow};
 

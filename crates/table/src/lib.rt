@@ -5,7 +5,6 @@ mod lines; // where a line ends
 mod read; // a text to rows in arrays
 mod write; // rows in arrays to a text
 
-pub use judge::Verdict;
 pub use read::Answer;
 pub use read::Table;
 pub use read::read_table;

@@ -1,8 +1,6 @@
 // Where a line ends.
-ghost use mathlib.Core.Path.{_≡_};
-ghost use Prim.Native.Nat.{_+_, _<_, _≤_};
-ghost use lib.ListN.{length, drop};
-ghost use Rattle.table.specs.Lines.{lineLength};
+ghost use Prim.Native.Nat.{_<_};
+ghost use lib.ListN.{length};
 ghost use Rattle.table.specs.LineEnds.{LineEnds};
 
 // The place behind the line that begins at `at`.

@@ -5,7 +5,6 @@ use crate::judge::judge_row;
 use crate::lines::line_end;
 use crate::reason::Reason;
 use ring::BYTES;
-use ring::NODES;
 use ring::ROWS;
 use text::OneNumber;
 use text::ThreeNumbers;

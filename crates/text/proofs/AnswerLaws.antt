@@ -22,8 +22,8 @@ use Rattle.text.proofs.Apart.{clash}
 use Rattle.text.proofs.LineLaws.{line-good, line-bad}
 
 -- the text s is read to the answer x exactly when it is the line of the values vs, and they are in range
-abbrev pub Says : {A : Type 0} → (Reading → A) → List ℕ → List ℕ → A → List ℕ → Type 0
-Says answer shape s x vs = (answer (readLine shape s) ≡ x) ↔ ((s ≡ writeLine shape vs) × InRange shape vs)
+abbrev pub AnswerIs : {A : Type 0} → (Reading → A) → List ℕ → List ℕ → A → List ℕ → Type 0
+AnswerIs answer shape s x vs = (answer (readLine shape s) ≡ x) ↔ ((s ≡ writeLine shape vs) × InRange shape vs)
 
 -- the text s is read to the answer x exactly when p is the place of its first faulty byte
 abbrev pub Refuses : {A : Type 0} → (Reading → A) → List ℕ → List ℕ → A → ℕ → Type 0
@@ -34,7 +34,7 @@ Refuses answer shape s x p = (answer (readLine shape s) ≡ x) ↔ FirstFault sh
 module _ {A : Type 0} (answer : Reading → A) (shape s : List ℕ) (x : A) where
   -- one that only the values vs give
   answer-good : (vs : List ℕ) → answer (good vs) ≡ x → ((us : List ℕ) → InRange shape us → answer (good us) ≡ x → us ≡ vs)
-      → ((p : ℕ) → answer (bad p) ≡ x → ⊥) → Says answer shape s x vs
+      → ((p : ℕ) → answer (bad p) ≡ x → ⊥) → AnswerIs answer shape s x vs
   answer-good vs is only no-fault = (λ e. there (readLine shape s) refl e, λ h. ap answer (line-good shape s vs .1 h) ∙ is)
     where
       there : (y : Reading) → readLine shape s ≡ y → answer (readLine shape s) ≡ x → (s ≡ writeLine shape vs) × InRange shape vs
@@ -75,21 +75,21 @@ behind-letter f fs (v ∷ vs) e r =
     rw z (ap (λ (l : List ℕ). 0 ∷ l) (values-listed fs vs (r .1)))
 
 module _ (letter : ℕ) (is-letter : top letter ≡ 1) (s : List ℕ) where
-  pub one-good : (a : ℕ) → Says oneIn (letter ∷ number ∷ []) s (IsOne a) (0 ∷ a ∷ [])
+  pub one-good : (a : ℕ) → AnswerIs oneIn (letter ∷ number ∷ []) s (IsOne a) (0 ∷ a ∷ [])
   unfolding oneIn
   one-good a =
       answer-good oneIn _ _ _ _ refl
       (λ us r e. let l = behind-letter letter _ us is-letter r in cc)
       (λ p e. clash (cc))
 
-  pub two-good : (a b : ℕ) → Says twoIn (letter ∷ number ∷ number ∷ []) s (AreTwo a b) (0 ∷ a ∷ b ∷ [])
+  pub two-good : (a b : ℕ) → AnswerIs twoIn (letter ∷ number ∷ number ∷ []) s (AreTwo a b) (0 ∷ a ∷ b ∷ [])
   unfolding twoIn
   two-good a b =
       answer-good twoIn _ _ _ _ refl
       (λ us r e. let l = behind-letter letter _ us is-letter r in cc)
       (λ p e. clash (cc))
 
-  pub three-good : (a b c : ℕ) → Says threeIn (letter ∷ number ∷ number ∷ number ∷ []) s (AreThree a b c) (0 ∷ a ∷ b ∷ c ∷ [])
+  pub three-good : (a b c : ℕ) → AnswerIs threeIn (letter ∷ number ∷ number ∷ number ∷ []) s (AreThree a b c) (0 ∷ a ∷ b ∷ c ∷ [])
   unfolding threeIn
   three-good a b c =
       answer-good threeIn _ _ _ _ refl
@@ -97,7 +97,7 @@ module _ (letter : ℕ) (is-letter : top letter ≡ 1) (s : List ℕ) where
       (λ p e. clash (cc))
 
   pub sent-good : (i j amount front back w : ℕ)
-      → Says sentIn (letter ∷ number ∷ number ∷ number ∷ number ∷ number ∷ way ∷ []) s (IsSent i j amount front back w) (0 ∷ i ∷ j ∷ amount ∷ front ∷ back ∷ w ∷ [])
+      → AnswerIs sentIn (letter ∷ number ∷ number ∷ number ∷ number ∷ number ∷ way ∷ []) s (IsSent i j amount front back w) (0 ∷ i ∷ j ∷ amount ∷ front ∷ back ∷ w ∷ [])
   unfolding sentIn
   sent-good i j amount front back w =
       answer-good sentIn _ _ _ _ refl
@@ -107,27 +107,27 @@ module _ (letter : ℕ) (is-letter : top letter ≡ 1) (s : List ℕ) where
 -- ---- the six lines
 
 module _ (s : List ℕ) where
-  pub ring-good : (n : ℕ) → Says oneIn ringShape s (IsOne n) (0 ∷ n ∷ [])
+  pub ring-good : (n : ℕ) → AnswerIs oneIn ringShape s (IsOne n) (0 ∷ n ∷ [])
   unfolding top marks
   ring-good = one-good letterR refl s
 
-  pub row-good : (i j amount : ℕ) → Says threeIn rowShape s (AreThree i j amount) (0 ∷ i ∷ j ∷ amount ∷ [])
+  pub row-good : (i j amount : ℕ) → AnswerIs threeIn rowShape s (AreThree i j amount) (0 ∷ i ∷ j ∷ amount ∷ [])
   unfolding top marks
   row-good = three-good letterD refl s
 
-  pub sent-row-good : (i j amount front back w : ℕ) → Says sentIn sentShape s (IsSent i j amount front back w) (0 ∷ i ∷ j ∷ amount ∷ front ∷ back ∷ w ∷ [])
+  pub sent-row-good : (i j amount front back w : ℕ) → AnswerIs sentIn sentShape s (IsSent i j amount front back w) (0 ∷ i ∷ j ∷ amount ∷ front ∷ back ∷ w ∷ [])
   unfolding top marks
   sent-row-good = sent-good letterD refl s
 
-  pub cut-good : (g h across : ℕ) → Says threeIn cutShape s (AreThree g h across) (0 ∷ g ∷ h ∷ across ∷ [])
+  pub cut-good : (g h across : ℕ) → AnswerIs threeIn cutShape s (AreThree g h across) (0 ∷ g ∷ h ∷ across ∷ [])
   unfolding top marks
   cut-good = three-good letterC refl s
 
-  pub link-good : (link split unsplit : ℕ) → Says threeIn linkShape s (AreThree link split unsplit) (0 ∷ link ∷ split ∷ unsplit ∷ [])
+  pub link-good : (link split unsplit : ℕ) → AnswerIs threeIn linkShape s (AreThree link split unsplit) (0 ∷ link ∷ split ∷ unsplit ∷ [])
   unfolding top marks
   link-good = three-good letterL refl s
 
-  pub last-good : (peak size : ℕ) → Says twoIn lastShape s (AreTwo peak size) (0 ∷ peak ∷ size ∷ [])
+  pub last-good : (peak size : ℕ) → AnswerIs twoIn lastShape s (AreTwo peak size) (0 ∷ peak ∷ size ∷ [])
   unfolding top marks
   last-good = two-good letterZ refl s
 
