@@ -1,20 +1,19 @@
 -- Routing a table: what reading said meets what the router asks, the router's columns are the plan's sheet, and so each way out is the outcome's.
 use Prim.Native.Nat.{ℕ, zero, suc, _+_, _≤_, _<_}
 use mathlib.Core.List.{List}
-use mathlib.Core.Path.{_≡_, refl, ap, _∙_, sym}
+use mathlib.Core.Path.{_≡_, ap, _∙_, sym}
 use native.Mathlib.Decide.{ℕ-discrete}
 use native.Mathlib.Omega.{arith}
-use lib.ListN.{length, getD, length-map}
+use lib.ListN.{length, length-map}
 use Rattle.ring.specs.Limits.{desk}
-use Rattle.ring.specs.Lists.{Each, none, more}
-use Rattle.ring.specs.Row.{Row, OnRing, TableRows}
+use Rattle.ring.specs.Lists.{Each, more}
+use Rattle.ring.specs.Row.{Row, OnRing}
 use Rattle.ring.specs.Routing.{Sent, Routed}
-use Rattle.ring.specs.Sheet.{Sheet, Link, plan, sents, demands, numbersFrom}
-use Rattle.ring.specs.True.{TrueSheet}
+use Rattle.ring.specs.Sheet.{Sheet, plan, sents, demands}
 use Rattle.ring.specs.Columns.{listed, rowAt, rowsIn}
 use Rattle.ring.proofs.Listed.{listed-length}
 use Rattle.ring.proofs.OurPlan.{plan-true, plan-demands}
-use Rattle.table.specs.Table.{accepted, tableOf, InRange}
+use Rattle.table.specs.Table.{tableOf, InRange}
 use Rattle.table.specs.Arrays.{tableIn}
 use Rattle.table.specs.declared.reason.Reason.{Reason}
 use Rattle.table.specs.declared.read.Table.{Table}
@@ -26,7 +25,6 @@ use Rattle.router.specs.Planned.{planIn}
 use Rattle.router.specs.declared.Plan.{Plan}
 use Rattle.sheet.specs.WriteSheet.{writeSheet}
 use Rattle.sheet.specs.Arrays.{sheetIn}
-use Rattle.sheet.specs.declared.Figures.{Figures}
 use Rattle.sheet.proofs.Back.{sheet-back}
 use Rattle.ringkit.specs.Outcome.{write, refuse, replyOf, Fills}
 use Rattle.ringkit.specs.Routes.{planned, tableRouted}

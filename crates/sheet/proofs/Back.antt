@@ -1,17 +1,15 @@
 -- A sheet's values go into columns and come back: place by place, rows with their demands from the table's own columns, links by their numbers.
 use Prim.Native.Nat.{ℕ, zero, suc, _+_, _≤_, _<_}
-use mathlib.Core.Bool.{cond}
 use mathlib.Core.List.{List, [], _∷_, map}
 use mathlib.Core.Path.{_≡_, refl, ap, _∙_, sym}
 use native.Mathlib.Omega.{arith}
-use lib.Dec.{eqb}
 use lib.ListN.{length, getD, length-map}
 use Rattle.ring.specs.Limits.{desk}
 use Rattle.ring.specs.Row.{Row, row}
 use Rattle.ring.specs.Routing.{Sent, sent, Routed, routed, Way, F, B}
 use Rattle.ring.specs.Sheet.{Link, Sheet, sents, demands, numbersFrom}
 use Rattle.ring.specs.Columns.{listed, column, rowAt, rowsIn, routedAt, routedIn, wayNumber, wayOf}
-use Rattle.ring.proofs.Listed.{listed-same, listed-length}
+use Rattle.ring.proofs.Listed.{listed-same}
 use Rattle.table.proofs.Columns.{column-at, listed-members}
 use Rattle.sheet.specs.WriteSheet.{figuresOf}
 use Rattle.sheet.specs.Arrays.{linkAt, linksIn, sheetIn}

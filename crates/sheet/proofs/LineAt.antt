@@ -1,15 +1,15 @@
 -- The D lines and the L lines of a sheet in arrays, one behind the other: the pieces that measuring and writing go through.
-use Prim.Native.Nat.{ℕ, _+_, _≤_}
+use Prim.Native.Nat.{ℕ, _+_}
 use mathlib.Core.Bool.{Bool, true, false, cond}
 use mathlib.Core.List.{List, [], _∷_, _++_, append-assoc, append-nil}
 use mathlib.Core.Path.{_≡_, refl, ap, _∙_, sym}
 use native.Mathlib.Omega.{arith}
 use lib.Dec.{eqb}
-use lib.ListN.{length, getD}
+use lib.ListN.{getD}
 use Rattle.ring.specs.Routing.{F, B}
 use Rattle.ring.specs.Columns.{listed, routedAt, routedIn, wayNumber, wayOf}
 use Rattle.ring.proofs.Listed.{listed-snoc}
-use Rattle.text.specs.Bytes.{way, letterF, letterB}
+use Rattle.text.specs.Bytes.{way}
 use Rattle.text.specs.Mark.{markByte}
 use Rattle.text.specs.Field.{spell}
 use Rattle.text.specs.WriteLine.{writeLine}

@@ -1,5 +1,5 @@
 -- A sheet's text is its R line, its D lines and its end (C line, L lines, Z line): their lengths add up, and each goes behind the one before.
-use Prim.Native.Nat.{ℕ, _+_, _*_, _≤_}
+use Prim.Native.Nat.{ℕ, _+_, _≤_}
 use mathlib.Core.List.{List, [], _∷_, _++_}
 use mathlib.Core.Path.{_≡_}
 use native.Mathlib.Omega.{arith}

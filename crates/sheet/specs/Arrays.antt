@@ -1,8 +1,7 @@
 -- A sheet's values in arrays.
-use Prim.Native.Nat.{ℕ, _+_, _≤_}
+use Prim.Native.Nat.{ℕ, _+_}
 use mathlib.Core.List.{List}
 use lib.ListN.{getD}
-use Rattle.ring.specs.Limits.{desk}
 use Rattle.ring.specs.Columns.{listed, routedIn}
 use Rattle.ring.specs.Sheet.{Link, Sheet}
 use Rattle.sheet.specs.declared.Figures.{Figures}

@@ -1,7 +1,6 @@
 -- A sheet as text: R n; D lines; the C line; L lines; Z unsplit-peak size (01, "Table and sheet text").
 use Prim.Native.Nat.{ℕ}
 use mathlib.Core.List.{List, [], _∷_, _++_}
-use Rattle.ring.specs.Cut.{Cut}
 use Rattle.ring.specs.Columns.{wayNumber}
 use Rattle.ring.specs.Routing.{Routed}
 use Rattle.ring.specs.Sheet.{Link, Sheet}

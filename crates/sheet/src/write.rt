@@ -3,13 +3,11 @@ use crate::Figures;
 use ring::LINKS;
 use ring::ROWS;
 ghost use mathlib.Core.Path.{_≡_};
-ghost use mathlib.Core.List.{_++_};
 ghost use Prim.Native.Nat.{_+_, _≤_};
 ghost use lib.ListN.{length};
 ghost use Rattle.ring.specs.Limits.{desk};
 ghost use Rattle.ring.specs.Columns.{routedIn};
 ghost use Rattle.text.specs.Written.{Written};
-ghost use Rattle.text.specs.Shapes.{ringLine};
 ghost use Rattle.sheet.specs.WriteSheet.{routedLine, loadLine, linesOf, endText, writeSheet};
 ghost use Rattle.sheet.specs.Arrays.{linksIn, sheetIn};
 

@@ -1,6 +1,5 @@
 -- A sheet is written where it has room, else refused (`FillSteps`).
 use Rattle.ringkit.proofs.FillSteps.{text-too-short, text-has-room, text-fills}
-use native.Mathlib.Omega.{arith}
 use borrow.Author.Needs.{needs}
 use Rattle.ringkit.proofs.put_sheet.Statement.{statement}
 use Rattle.ringkit.proofs.put_sheet.Tie as tie

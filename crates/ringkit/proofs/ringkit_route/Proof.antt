@@ -1,6 +1,5 @@
 -- Routing a table: what reading answers is what the router takes, and its columns are the plan's sheet (`RouteSteps`).
 use Rattle.ringkit.proofs.RouteSteps.{route-refused, router-takes, rows-have-room, links-have-room, route-fills}
-use native.Mathlib.Omega.{arith}
 use borrow.Author.Needs.{needs}
 use Rattle.ringkit.proofs.ringkit_route.Statement.{statement}
 use Rattle.ringkit.proofs.ringkit_route.Tie as tie

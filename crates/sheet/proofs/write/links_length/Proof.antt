@@ -3,7 +3,6 @@ use Prim.Native.Nat.{_-_}
 use Rattle.text.proofs.Pieces.{Measuring, measuring-starts, measure-fits, measures-line, measured-all}
 use Rattle.sheet.proofs.LineAt.{loadLineAt, loadText, load-pieces}
 use borrow.Author.Needs.{needs}
-use native.Mathlib.Omega.{arith}
 use Rattle.sheet.proofs.write.links_length.Statement.{statement}
 use Rattle.sheet.proofs.write.links_length.Tie as tie
 

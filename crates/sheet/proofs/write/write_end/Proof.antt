@@ -1,6 +1,5 @@
 -- The end of a sheet: its three parts, one behind the other (`SheetSteps`).
 use Rattle.sheet.proofs.SheetSteps.{cut-has-room, links-have-room, last-has-room, end-written}
-use native.Mathlib.Omega.{arith}
 use borrow.Author.Needs.{needs}
 use Rattle.sheet.proofs.write.write_end.Statement.{statement}
 use Rattle.sheet.proofs.write.write_end.Tie as tie

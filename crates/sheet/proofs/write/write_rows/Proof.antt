@@ -3,7 +3,6 @@ use Prim.Native.Nat.{_-_}
 use Rattle.text.proofs.Pieces.{WritingLines, writing-lines-start, line-has-room, writes-line, lines-written, lines-keep-length}
 use Rattle.sheet.proofs.LineAt.{sentLineAt, sentText, sent-pieces}
 use borrow.Author.Needs.{needs}
-use native.Mathlib.Omega.{arith}
 use Rattle.sheet.proofs.write.write_rows.Statement.{statement}
 use Rattle.sheet.proofs.write.write_rows.Tie as tie
 

@@ -1,6 +1,5 @@
 -- A sheet: its three parts, one behind the other (`SheetSteps`).
 use Rattle.sheet.proofs.SheetSteps.{ring-has-room, rows-have-room, end-has-room, sheet-written}
-use native.Mathlib.Omega.{arith}
 use borrow.Author.Needs.{needs}
 use Rattle.sheet.proofs.write.write_sheet.Statement.{statement}
 use Rattle.sheet.proofs.write.write_sheet.Tie as tie

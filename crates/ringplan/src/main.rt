@@ -1,0 +1,41 @@
+// Reads a table on standard input and writes its sheet, or the line E, reason, line (parted by tabs) where it is refused.
+use libc::STDIN_FILENO;
+use libc::STDOUT_FILENO;
+
+// One byte more than a table can have, so that a longer text is seen to be longer.
+const MOST: usize = 32769;
+
+// Every sheet is shorter than this.
+const ROOM: usize = 32768;
+
+fn show(n: u32, end: &[u8]) {
+    io::print_decimal(STDOUT_FILENO, n as u64);
+    io::write_all(STDOUT_FILENO, end);
+}
+
+fn refuse(reason: u32, line: u32) {
+    io::write_all(STDOUT_FILENO, b"E\t");
+    show(reason, b"\t");
+    show(line, b"\n");
+}
+
+fn plan(text: &[u8], sheet: &mut [u8]) {
+    let reply = ringkit::ringkit_route(text, sheet);
+    if reply.reason != 0 {
+        refuse(reply.reason, reply.line);
+        return;
+    }
+    let length = reply.length;
+    if length <= sheet.len() {
+        io::write_all(STDOUT_FILENO, &sheet[0..length]);
+    }
+}
+
+fn main() {
+    let mut table = [0u8; MOST];
+    let size = io::read_full(STDIN_FILENO, &mut table);
+    let mut sheet = [0u8; ROOM];
+    if size <= MOST {
+        plan(&table[0..size], &mut sheet);
+    }
+}

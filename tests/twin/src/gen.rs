@@ -1,0 +1,260 @@
+//! Random tables and damaged texts.
+
+use crate::rng::Rng;
+use crate::table::{Row, Table};
+
+/// How the amounts of a table are drawn.
+#[derive(Clone, Copy)]
+pub enum Amounts {
+    Always(i64),
+    UpTo(i64),
+    /// 0, 1 and 9,999 only.
+    Ends,
+    /// Each row by a way of its own.
+    Mixed,
+}
+
+const AMOUNTS: [Amounts; 13] = [
+    Amounts::Always(0),
+    Amounts::Always(1),
+    Amounts::Always(9_999),
+    Amounts::UpTo(1),
+    Amounts::UpTo(2),
+    Amounts::UpTo(9),
+    Amounts::UpTo(40),
+    Amounts::UpTo(800),
+    Amounts::UpTo(9_999),
+    Amounts::UpTo(9_999),
+    Amounts::Ends,
+    Amounts::Mixed,
+    Amounts::Mixed,
+];
+
+pub fn any_amounts(rng: &mut Rng) -> Amounts {
+    rng.pick(&AMOUNTS)
+}
+
+fn amount(rng: &mut Rng, amounts: Amounts) -> i64 {
+    match amounts {
+        Amounts::Always(d) => d,
+        Amounts::UpTo(top) => rng.between(0, top),
+        Amounts::Ends => rng.pick(&[0, 1, 9_999]),
+        Amounts::Mixed => {
+            let top = rng.pick(&[0, 1, 3, 20, 300, 9_999]);
+            rng.between(0, top)
+        }
+    }
+}
+
+/// All pairs of nodes, in table order.
+pub fn pairs(n: i64) -> Vec<(i64, i64)> {
+    let mut pairs = Vec::new();
+    for i in 1..=n {
+        for j in i + 1..=n {
+            pairs.push((i, j));
+        }
+    }
+    pairs
+}
+
+/// The table of those pairs that are kept, with amounts drawn.
+fn keep(rng: &mut Rng, n: i64, amounts: Amounts, kept: impl Fn(i64, i64) -> bool) -> Table {
+    let mut rows = Vec::new();
+    for (i, j) in pairs(n) {
+        if kept(i, j) {
+            let d = amount(rng, amounts);
+            rows.push(Row { i, j, d });
+        }
+    }
+    Table { n, rows }
+}
+
+/// Every pair of nodes is a row.
+pub fn full(rng: &mut Rng, n: i64, amounts: Amounts) -> Table {
+    keep(rng, n, amounts, |_, _| true)
+}
+
+/// Each pair is a row `part` times out of `whole`.
+pub fn dense(rng: &mut Rng, n: i64, part: usize, whole: usize) -> Table {
+    let amounts = any_amounts(rng);
+    let mut table = full(rng, n, amounts);
+    table.rows.retain(|_| rng.chance(part, whole));
+    table
+}
+
+/// About `count` rows, whatever the ring.
+pub fn sparse(rng: &mut Rng, n: i64, count: usize) -> Table {
+    let whole = pairs(n).len();
+    dense(rng, n, count.min(whole), whole)
+}
+
+/// Any density at all.
+pub fn any(rng: &mut Rng, n: i64) -> Table {
+    let part = rng.pick(&[1, 5, 20, 50, 90, 100]);
+    dense(rng, n, part, 100)
+}
+
+/// Tables of one shape: rows that all cross, lie side by side, lie in one
+/// another, meet in one node, or join neighbours.
+pub fn shaped(rng: &mut Rng, n: i64) -> Table {
+    let amounts = any_amounts(rng);
+    let half = n / 2;
+    let hub = rng.between(1, n);
+    match rng.below(8) {
+        0 => keep(rng, n, amounts, |i, j| j - i == half),
+        1 => keep(rng, n, amounts, |i, j| j - i == half || j - i == half + 1),
+        2 => keep(rng, n, amounts, |i, j| i <= half && half < j),
+        3 => keep(rng, n, amounts, |i, j| i + j == n + 1 || i + j == n),
+        4 => keep(rng, n, amounts, |i, j| i == hub || j == hub),
+        5 => keep(rng, n, amounts, |i, j| j - i == 1 || j - i == n - 1),
+        6 => keep(rng, n, amounts, |i, j| j - i <= 2),
+        _ => keep(rng, n, amounts, |i, j| j - i >= half),
+    }
+}
+
+/// A byte that a table could hold, or any byte.
+fn byte(rng: &mut Rng) -> u8 {
+    if rng.chance(1, 4) {
+        return rng.below(256) as u8;
+    }
+    rng.pick(b"RDLZ\t\t\n\n\r 0123456789")
+}
+
+/// One byte changed, dropped or inserted, or the text cut short.
+pub fn damage_bytes(rng: &mut Rng, text: &mut Vec<u8>) {
+    let at = rng.below(text.len() + 1);
+    match rng.below(8) {
+        0..=2 if at < text.len() => text[at] = byte(rng),
+        3 | 4 if at < text.len() => {
+            text.remove(at);
+        }
+        5 => text.truncate(at),
+        6 => {
+            text.pop();
+        }
+        _ => {
+            let new = byte(rng);
+            text.insert(at, new);
+        }
+    }
+}
+
+fn lines_of(text: &[u8]) -> Vec<Vec<u8>> {
+    let lines = text.split_inclusive(|byte| *byte == b'\n');
+    lines.map(|line| line.to_vec()).collect()
+}
+
+/// Lines swapped, doubled, dropped, moved or cut short.
+pub fn damage_lines(rng: &mut Rng, text: &mut Vec<u8>) {
+    let mut lines = lines_of(text);
+    if lines.is_empty() {
+        return;
+    }
+    let (one, two) = (rng.below(lines.len()), rng.below(lines.len()));
+    match rng.below(7) {
+        0 => lines.swap(one, two),
+        1 if one + 1 < lines.len() => lines.swap(one, one + 1),
+        2 => lines.insert(one, lines[one].clone()),
+        3 => lines.insert(two, lines[one].clone()),
+        4 => {
+            lines.remove(one);
+        }
+        5 => {
+            let keep = rng.below(lines[one].len());
+            lines[one].truncate(keep);
+        }
+        _ => {
+            let moved = lines.remove(one);
+            lines.push(moved);
+        }
+    }
+    *text = lines.concat();
+}
+
+/// Numbers at the boundaries of what 01 allows, good and bad spellings.
+pub const BOUNDARY: [&str; 10] = [
+    "0", "1", "2", "32", "33", "9999", "10000", "9999999", "10000000", "00",
+];
+
+const ODD: [&str; 12] = [
+    "", "01", "-1", "+1", "1 ", " 1", "1.", "0x1", "31", "17", "9998", "99999999",
+];
+
+/// One field of one line replaced by a boundary number, or fields doubled,
+/// dropped or swapped.
+pub fn damage_fields(rng: &mut Rng, text: &mut Vec<u8>) {
+    let mut lines = lines_of(text);
+    if lines.is_empty() {
+        return;
+    }
+    let first = rng.chance(1, 12);
+    let at = if first { 0 } else { rng.below(lines.len()) };
+    let ended = lines[at].ends_with(b"\n");
+    let body = lines[at].strip_suffix(b"\n").unwrap_or(&lines[at]);
+    let split = body.split(|byte| *byte == b'\t');
+    let mut fields: Vec<Vec<u8>> = split.map(|field| field.to_vec()).collect();
+    let field = rng.below(fields.len());
+    match rng.below(16) {
+        0 => fields.insert(field, fields[field].clone()),
+        1 => {
+            fields.remove(field);
+        }
+        2 | 3 if fields.len() > 2 => fields.swap(1, 2),
+        4 => fields[field] = rng.pick(&ODD).as_bytes().to_vec(),
+        _ => {
+            let number = fields.len() > 1 && field == 0;
+            let field = if number { 1 } else { field };
+            fields[field] = rng.pick(&BOUNDARY).as_bytes().to_vec();
+        }
+    }
+    lines[at] = fields.join(&b'\t');
+    if ended {
+        lines[at].push(b'\n');
+    }
+    *text = lines.concat();
+}
+
+/// One row's numbers all replaced, so that several reasons hold of one line.
+pub fn damage_row(rng: &mut Rng, text: &mut Vec<u8>) {
+    let mut lines = lines_of(text);
+    if lines.is_empty() {
+        return;
+    }
+    let at = rng.below(lines.len());
+    let i = rng.pick(&[0, 1, 1, 2, 3, 8, 16, 31, 32, 33, 9_999_999]);
+    let j = rng.pick(&[0, 1, 2, 3, 4, 9, 17, 31, 32, 33, 9_999_999]);
+    let d = rng.pick(&[0, 1, 9_999, 10_000, 10_000, 9_999_999]);
+    lines[at] = format!("D\t{i}\t{j}\t{d}\n").into_bytes();
+    *text = lines.concat();
+}
+
+/// The text made `length` bytes long, by bytes put in or taken away.
+pub fn pad(rng: &mut Rng, text: &mut Vec<u8>, length: usize) {
+    let filler: &[u8] = rng.pick(&[
+        b"\n".as_slice(),
+        b"0",
+        b"9",
+        b" ",
+        b"\t",
+        b"D\t1\t2\t1\n",
+        b"D\t31\t32\t9999\n",
+        b"R\t2\n",
+        b"\0",
+    ]);
+    let missing = length.saturating_sub(text.len());
+    let padding: Vec<u8> = filler.iter().copied().cycle().take(missing).collect();
+    let at = rng.pick(&[text.len(), text.len(), text.len().saturating_sub(1), 2, 0]);
+    let at = at.min(text.len());
+    text.splice(at..at, padding);
+    text.truncate(length);
+    if rng.chance(1, 2) {
+        text.pop();
+        text.push(b'\n');
+    }
+}
+
+/// A text of a few random bytes that a table could hold.
+pub fn noise(rng: &mut Rng) -> Vec<u8> {
+    let length = rng.below(40);
+    (0..length).map(|_| byte(rng)).collect()
+}

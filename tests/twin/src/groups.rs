@@ -1,0 +1,384 @@
+//! The groups of cases: whole lists first, then random tables and texts.
+
+use crate::compare::{Case, Lend};
+use crate::gen::{self, Amounts};
+use crate::rng::Rng;
+use crate::sheet::table_text;
+use crate::table::{Row, Table};
+use crate::twin::Call;
+
+/// A group of cases. A group with share 0 is a list: it runs until `make`
+/// gives None. Any other runs until it has its share, out of 1,000, of the
+/// number of random comparisons.
+pub struct Group {
+    pub name: &'static str,
+    pub share: u64,
+    pub make: fn(&mut Rng, u64) -> Option<Case>,
+}
+
+const fn group(name: &'static str, share: u64, make: fn(&mut Rng, u64) -> Option<Case>) -> Group {
+    Group { name, share, make }
+}
+
+pub const GROUPS: [Group; 19] = [
+    group("numbers to try of 01", 0, numbers_to_try),
+    group("all small tables", 0, all_small),
+    group("every byte of the square", 0, every_byte),
+    group("boundary numbers in two fields", 0, two_fields),
+    group("every buffer length", 0, every_length),
+    group("random tables, 2 to 15 offices", 120, small),
+    group("random tables, 16 to 32 offices", 34, large),
+    group("thin tables, 16 to 32 offices", 250, thin),
+    group("shaped tables", 150, shaped),
+    group("full tables, 20 offices", 24, full_20),
+    group("full tables, 32 offices", 6, full_32),
+    group("full tables of 0, 1, 9999", 6, full_ends),
+    group("damaged bytes", 90, damaged_bytes),
+    group("damaged lines", 90, damaged_lines),
+    group("damaged fields", 100, damaged_fields),
+    group("damaged rows", 30, damaged_rows),
+    group("damaged several times", 60, damaged_often),
+    group("padded texts", 26, padded),
+    group("noise", 14, noise),
+];
+
+const LENDS: [Lend; 6] = [
+    Lend::Exactly(0),
+    Lend::Need(-1),
+    Lend::Need(0),
+    Lend::Need(1),
+    Lend::Need(17),
+    Lend::Need(5_000),
+];
+
+const ENOUGH: [Lend; 4] = [
+    Lend::Need(0),
+    Lend::Need(1),
+    Lend::Need(17),
+    Lend::Need(5_000),
+];
+
+const SHORT: [Lend; 4] = [
+    Lend::Exactly(0),
+    Lend::Exactly(1),
+    Lend::Need(-1),
+    Lend::Need(-17),
+];
+
+/// Both calls, every length around the need.
+fn all_trials() -> Vec<(Call, Lend)> {
+    let route = LENDS.map(|lend| (Call::Route, lend));
+    let rewrite = LENDS.map(|lend| (Call::Rewrite, lend));
+    [route, rewrite].concat()
+}
+
+/// One route with room enough and, one time out of two, one without; a rewrite
+/// of either kind.
+fn some_trials(rng: &mut Rng) -> Vec<(Call, Lend)> {
+    let mut trials = vec![(Call::Route, rng.pick(&ENOUGH))];
+    if rng.chance(1, 2) {
+        trials.push((Call::Route, rng.pick(&SHORT)));
+    }
+    trials.push((Call::Rewrite, rng.pick(&ENOUGH)));
+    trials.push((Call::Rewrite, rng.pick(&SHORT)));
+    trials
+}
+
+/// One route and one rewrite, mostly with room enough.
+fn two_trials(rng: &mut Rng) -> Vec<(Call, Lend)> {
+    let calls = [Call::Route, Call::Rewrite];
+    let lends = calls.map(|call| {
+        let short = rng.chance(1, 6);
+        let lends = if short { &SHORT } else { &ENOUGH };
+        (call, rng.pick(lends))
+    });
+    lends.to_vec()
+}
+
+fn of_table(table: &Table, trials: Vec<(Call, Lend)>) -> Option<Case> {
+    Some(Case {
+        offices: table.n,
+        text: table_text(table),
+        trials,
+    })
+}
+
+fn of_text(text: &str, trials: Vec<(Call, Lend)>) -> Option<Case> {
+    Some(Case {
+        offices: 4,
+        text: text.replace('|', "\t").into_bytes(),
+        trials,
+    })
+}
+
+/// Tables of 01's numbers to try, tabs shown as |.
+pub const NUMBERS: [&str; 30] = [
+    "R|4\nD|1|3|1\nD|2|4|1\n",
+    "R|2\n",
+    "R|2\nD|1|2|5\n",
+    "R|4\nD|1|2|1\n",
+    "R|5\nD|1|2|2\nD|1|4|5\nD|2|3|9\nD|2|4|11\nD|3|4|4\nD|3|5|3\n",
+    "R|8\nD|1|4|1\nD|2|3|1\nD|5|8|2\nD|6|7|2\n",
+    "R|2\nD|1|2|768\n",
+    "R|2\nD|1|2|769\n",
+    "R|8\nD|1|5|1\nD|2|6|1\nD|3|7|1\nD|4|8|1\n",
+    "R|4\nD|1|2|0\n",
+    "R|1\n",
+    "R|33\n",
+    "R|32\n",
+    "R|2\nD|1|2|9999\n",
+    "R|2\nD|1|2|10000\n",
+    "R|4\nD|5|2|10000\n",
+    "",
+    "\n",
+    "R|4",
+    "R|4\n\n",
+    "R|4\nD|1|2|1",
+    "R|4\r\n",
+    "R|0\n",
+    "R|04\n",
+    "R|4|\n",
+    "R|4\nR|4\n",
+    "D|1|2|1\n",
+    "R|4\nD|1|2|1\nD|1|2|1\n",
+    "R|4\nD|2|2|1\n",
+    "R|4\nD|1|3|1\nD|1|2|10000\n",
+];
+
+fn numbers_to_try(_: &mut Rng, case: u64) -> Option<Case> {
+    let text = NUMBERS.get(case as usize)?;
+    of_text(text, all_trials())
+}
+
+/// All tables of 2, 3 and 4 offices whose pairs are left out or have 0, 1 or
+/// 2, then all of 5 offices whose pairs are left out or have 1.
+fn all_small(_: &mut Rng, case: u64) -> Option<Case> {
+    let mut code = case;
+    for (n, choices) in [(2, 4_u64), (3, 4), (4, 4), (5, 2)] {
+        let pairs = gen::pairs(n);
+        let tables = choices.pow(pairs.len() as u32);
+        if code >= tables {
+            code -= tables;
+            continue;
+        }
+        let mut rows = Vec::new();
+        for (i, j) in pairs {
+            let choice = (code % choices) as i64;
+            code /= choices;
+            if choice > 0 {
+                let d = if choices == 2 { 1 } else { choice - 1 };
+                rows.push(Row { i, j, d });
+            }
+        }
+        let mut trials = vec![(Call::Route, Lend::Need(0))];
+        if case % 8 == 0 {
+            trials.push((Call::Rewrite, Lend::Need(0)));
+        }
+        return of_table(&Table { n, rows }, trials);
+    }
+    None
+}
+
+/// The square with each byte given each value, then with bytes put in before
+/// it, then with it dropped or the text cut short there.
+fn every_byte(_: &mut Rng, case: u64) -> Option<Case> {
+    let new = *b"RDZ\t\n\r 0123456789\0\xff.-+";
+    let mut text = NUMBERS[0].replace('|', "\t").into_bytes();
+    let each = 256 + new.len() + 2;
+    let (at, what) = (case as usize / each, case as usize % each);
+    if at >= text.len() {
+        return None;
+    }
+    match what {
+        0..=255 => text[at] = what as u8,
+        256 => text.truncate(at),
+        257 => {
+            text.remove(at);
+        }
+        _ => text.insert(at, new[what - 258]),
+    }
+    let call = one_call(case);
+    Some(Case {
+        offices: 4,
+        text,
+        trials: vec![(call, Lend::Need(3))],
+    })
+}
+
+/// A rewrite one time out of eight, else a route.
+fn one_call(case: u64) -> Call {
+    if case % 8 == 7 {
+        return Call::Rewrite;
+    }
+    Call::Route
+}
+
+/// Each two of the square's seven numbers replaced by boundary numbers.
+fn two_fields(_: &mut Rng, case: u64) -> Option<Case> {
+    let places = gen::pairs(7);
+    let numbers = gen::BOUNDARY.len();
+    let (place, choice) = (
+        case as usize / numbers.pow(2),
+        case as usize % numbers.pow(2),
+    );
+    let (one, two) = *places.get(place)?;
+    let mut fields = ["4", "1", "3", "1", "2", "4", "1"];
+    fields[one as usize - 1] = gen::BOUNDARY[choice / numbers];
+    fields[two as usize - 1] = gen::BOUNDARY[choice % numbers];
+    let [n, a, b, c, d, e, f] = fields;
+    let text = format!("R|{n}\nD|{a}|{b}|{c}\nD|{d}|{e}|{f}\n");
+    of_text(&text, vec![(one_call(case), Lend::Need(1))])
+}
+
+/// Every length from 0 to the need and 17 more, both calls.
+fn every_length(rng: &mut Rng, case: u64) -> Option<Case> {
+    let mut trials = Vec::new();
+    for call in [Call::Route, Call::Rewrite] {
+        for length in 0..=160 {
+            trials.push((call, Lend::Exactly(length)));
+        }
+        for more in -20..=17 {
+            trials.push((call, Lend::Need(more)));
+        }
+    }
+    match case {
+        0..=5 => of_text(NUMBERS[case as usize], trials),
+        6 => of_text("R|4\nD|1|3|1\nD|2|2|1\n", trials),
+        7 => of_table(&gen::sparse(rng, 16, 9), trials),
+        8 => of_table(&gen::sparse(rng, 32, 20), trials),
+        9 => of_table(&gen::full(rng, 9, Amounts::Mixed), trials),
+        _ => None,
+    }
+}
+
+fn small(rng: &mut Rng, _: u64) -> Option<Case> {
+    let n = rng.between(2, 15);
+    of_table(&gen::any(rng, n), all_trials())
+}
+
+fn large(rng: &mut Rng, _: u64) -> Option<Case> {
+    let n = rng.between(16, 32);
+    let trials = some_trials(rng);
+    of_table(&gen::any(rng, n), trials)
+}
+
+fn thin(rng: &mut Rng, _: u64) -> Option<Case> {
+    let n = rng.between(16, 32);
+    let count = rng.between(0, 40) as usize;
+    let trials = some_trials(rng);
+    of_table(&gen::sparse(rng, n, count), trials)
+}
+
+fn shaped(rng: &mut Rng, _: u64) -> Option<Case> {
+    let n = if rng.chance(1, 3) {
+        rng.between(2, 15)
+    } else {
+        rng.between(16, 32)
+    };
+    let mut table = gen::shaped(rng, n);
+    if rng.chance(1, 2) {
+        table.rows.retain(|_| rng.chance(1, 2));
+    }
+    let trials = some_trials(rng);
+    of_table(&table, trials)
+}
+
+fn full_20(rng: &mut Rng, _: u64) -> Option<Case> {
+    let amounts = gen::any_amounts(rng);
+    let trials = some_trials(rng);
+    of_table(&gen::full(rng, 20, amounts), trials)
+}
+
+fn full_32(rng: &mut Rng, _: u64) -> Option<Case> {
+    let amounts = gen::any_amounts(rng);
+    let trials = some_trials(rng);
+    of_table(&gen::full(rng, 32, amounts), trials)
+}
+
+fn full_ends(rng: &mut Rng, _: u64) -> Option<Case> {
+    let n = rng.pick(&[20, 32]);
+    let trials = some_trials(rng);
+    of_table(&gen::full(rng, n, Amounts::Ends), trials)
+}
+
+/// A table to be damaged, five times out of six of 16 offices and more.
+fn whole(rng: &mut Rng) -> Table {
+    let n = if rng.chance(1, 6) {
+        rng.between(2, 15)
+    } else {
+        rng.between(16, 32)
+    };
+    match rng.below(40) {
+        0 => gen::full(rng, n, Amounts::UpTo(9_999)),
+        1 => gen::any(rng, n),
+        _ => {
+            let count = rng.between(0, 30) as usize;
+            gen::sparse(rng, n, count)
+        }
+    }
+}
+
+/// A damaged text: the damage is done `times` times.
+fn damaged(rng: &mut Rng, times: u64, damage: fn(&mut Rng, &mut Vec<u8>)) -> Option<Case> {
+    let table = whole(rng);
+    let mut text = table_text(&table);
+    for _ in 0..times {
+        damage(rng, &mut text);
+    }
+    Some(Case {
+        offices: table.n,
+        text,
+        trials: two_trials(rng),
+    })
+}
+
+fn damaged_bytes(rng: &mut Rng, _: u64) -> Option<Case> {
+    damaged(rng, 1, gen::damage_bytes)
+}
+
+fn damaged_lines(rng: &mut Rng, _: u64) -> Option<Case> {
+    damaged(rng, 1, gen::damage_lines)
+}
+
+fn damaged_fields(rng: &mut Rng, _: u64) -> Option<Case> {
+    damaged(rng, 1, gen::damage_fields)
+}
+
+fn damaged_rows(rng: &mut Rng, _: u64) -> Option<Case> {
+    damaged(rng, 1, gen::damage_row)
+}
+
+fn damaged_often(rng: &mut Rng, _: u64) -> Option<Case> {
+    let times = rng.between(2, 4) as u64;
+    damaged(rng, times, |rng, text| {
+        let damages = [
+            gen::damage_bytes,
+            gen::damage_lines,
+            gen::damage_fields,
+            gen::damage_row,
+        ];
+        rng.pick(&damages)(rng, text);
+    })
+}
+
+/// Texts of 32,768 bytes, one more, and lengths about as large.
+fn padded(rng: &mut Rng, _: u64) -> Option<Case> {
+    let mut case = damaged(rng, 0, gen::damage_bytes)?;
+    if rng.chance(1, 2) {
+        gen::damage_fields(rng, &mut case.text);
+    }
+    let lengths = [
+        32_767, 32_768, 32_768, 32_768, 32_769, 32_769, 32_770, 65_536, 65_600, 98_304,
+    ];
+    let length = rng.pick(&lengths);
+    gen::pad(rng, &mut case.text, length);
+    Some(case)
+}
+
+fn noise(rng: &mut Rng, _: u64) -> Option<Case> {
+    Some(Case {
+        offices: 2,
+        text: gen::noise(rng),
+        trials: two_trials(rng),
+    })
+}

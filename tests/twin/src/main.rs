@@ -1,0 +1,324 @@
+//! The twin: ring routing written once more from 01's sentences alone, and
+//! compared with the library call by call and byte by byte.
+//!
+//! `twin [SEED [COUNT]]` compares: the lists in full and COUNT random
+//! comparisons. The exit status is 0 only when nothing failed.
+//!
+//! Two modes show that the comparison itself is good. `twin --mutants [SEED
+//! [COUNT]]` lists which faults it catches, and where. `twin --mutant K [SEED
+//! [COUNT]]` puts the K-th fault in the library's place, from 1. Built with
+//! `--cfg mock` and no library, the twin stands in for the library.
+
+mod compare;
+mod gen;
+mod groups;
+mod kit;
+mod mutant;
+mod rng;
+mod rules;
+mod selfcheck;
+mod sheet;
+mod table;
+mod twin;
+
+use compare::{compare, describe, shrink, Case};
+use groups::{Group, GROUPS};
+use kit::Kit;
+use mutant::{Mutant, FAULTS, SAME};
+use rng::Rng;
+use std::process::ExitCode;
+use std::time::Instant;
+use twin::Call;
+
+const SEED: u64 = 20_010_496;
+const COUNT: u64 = 40_000;
+const MUTANT_COUNT: u64 = 12_000;
+/// The run goes on up to so many mismatches, one in a group at most.
+const MISMATCHES: usize = 5;
+/// The reasons that must have been seen among the random cases.
+const REASONS: [usize; 9] = [0, 1, 2, 3, 4, 5, 6, 7, 15];
+/// The size classes of accepted tables, by offices.
+const CLASSES: [(i64, i64); 7] = [
+    (2, 3),
+    (4, 7),
+    (8, 15),
+    (16, 19),
+    (20, 20),
+    (21, 31),
+    (32, 32),
+];
+
+/// What has been counted.
+#[derive(Default)]
+struct Tally {
+    comparisons: u64,
+    /// Comparisons with a table of 16 offices and more.
+    large: u64,
+    reasons: [u64; 16],
+    random_reasons: [u64; 16],
+    classes: [u64; CLASSES.len()],
+    /// Accepted tables that hold every pair of 20, and of 32 offices.
+    full: [u64; 2],
+}
+
+impl Tally {
+    fn count_table(&mut self, case: &Case) {
+        let Ok(table) = table::read(&case.text) else {
+            return;
+        };
+        for (at, (low, high)) in CLASSES.iter().enumerate() {
+            self.classes[at] += u64::from(*low <= table.n && table.n <= *high);
+        }
+        self.full[0] += u64::from(table.n == 20 && table.rows.len() == 190);
+        self.full[1] += u64::from(table.n == 32 && table.rows.len() == 496);
+    }
+
+    fn count_reply(&mut self, case: &Case, reason: u32, random: bool) {
+        self.comparisons += 1;
+        self.large += u64::from(case.offices >= 16);
+        self.reasons[reason as usize] += 1;
+        self.random_reasons[reason as usize] += u64::from(random);
+    }
+}
+
+/// What the groups are run with.
+struct Run<'a> {
+    kit: Kit,
+    seed: u64,
+    count: u64,
+    tally: &'a mut Tally,
+}
+
+/// How a group ended: a mismatch ends it.
+struct Ended {
+    comparisons: u64,
+    /// Case number and words of the mismatch.
+    mismatch: Option<(u64, String)>,
+}
+
+impl Run<'_> {
+    fn group(&mut self, at: usize, group: &Group, describing: bool) -> Ended {
+        let list = group.share == 0;
+        let quota = if list {
+            u64::MAX
+        } else {
+            self.count * group.share / 1_000
+        };
+        let mut ended = Ended {
+            comparisons: 0,
+            mismatch: None,
+        };
+        for number in 0.. {
+            if ended.comparisons >= quota || ended.mismatch.is_some() {
+                break;
+            }
+            let mut rng = Rng::for_case(self.seed, at as u64, number);
+            let Some(case) = (group.make)(&mut rng, number) else {
+                break;
+            };
+            self.tally.count_table(&case);
+            ended.comparisons += case.trials.len() as u64;
+            let words = self.case(&case, number, !list, describing);
+            ended.mismatch = words.map(|words| (number, words));
+        }
+        ended
+    }
+
+    /// All calls of a case up to the first mismatch, in words.
+    fn case(&mut self, case: &Case, number: u64, random: bool, describing: bool) -> Option<String> {
+        let mut routed = None;
+        let mut rewritten = None;
+        for (at, trial) in case.trials.iter().enumerate() {
+            let known = match trial.0 {
+                Call::Route => &mut routed,
+                Call::Rewrite => &mut rewritten,
+            };
+            let answer = known.get_or_insert_with(|| twin::answer(trial.0, &case.text));
+            let salt = number.wrapping_mul(1_000) + at as u64;
+            match compare(self.kit, *trial, &case.text, answer, salt) {
+                Ok(reply) => self.tally.count_reply(case, reply.reason, random),
+                Err(_) if !describing => return Some(String::new()),
+                Err(mismatch) => {
+                    let (text, mismatch) = shrink(self.kit, &case.text, mismatch);
+                    return Some(describe(&text, &mismatch));
+                }
+            }
+        }
+        None
+    }
+}
+
+/// The twin's own checks: how many passed, how many failed.
+fn self_checks(seed: u64) -> (u64, u64) {
+    let outcomes = [
+        ("self-check: the square", selfcheck::square()),
+        ("self-check: document 002", selfcheck::document_002()),
+        ("self-check: figure 4.1", selfcheck::figure_4_1()),
+        ("self-check: small rings", selfcheck::small_rings()),
+        ("self-check: refusals", selfcheck::refusals()),
+        ("self-check: theorems", selfcheck::random_theorems(seed)),
+    ];
+    let mut failed = 0;
+    for (name, outcome) in &outcomes {
+        match outcome {
+            Ok(()) => println!("passed: {name}"),
+            Err(words) => {
+                println!("FAILED: {name}: {words}");
+                failed += 1;
+            }
+        }
+    }
+    (outcomes.len() as u64 - failed, failed)
+}
+
+/// All groups against the library: how many passed, how many failed.
+fn all_groups(kit: Kit, seed: u64, count: u64, tally: &mut Tally) -> (u64, u64) {
+    let (mut passed, mut failed) = (0, 0);
+    let mut mismatches = 0;
+    for (at, group) in GROUPS.iter().enumerate() {
+        if mismatches == MISMATCHES {
+            println!("FAILED: {}: not run", group.name);
+            failed += 1;
+            continue;
+        }
+        let start = Instant::now();
+        let mut run = Run {
+            kit,
+            seed,
+            count,
+            tally,
+        };
+        let ended = run.group(at, group, true);
+        let name = group.name;
+        if let Some((number, words)) = &ended.mismatch {
+            print!("MISMATCH: seed {seed}, {name}, case {number}\n{words}");
+        }
+        let good = ended.mismatch.is_none();
+        mismatches += usize::from(!good);
+        let word = if good { "passed" } else { "FAILED" };
+        let (calls, time) = (ended.comparisons, start.elapsed().as_secs_f64());
+        println!("{word}: {name}: {calls} comparisons, {time:.1} s");
+        passed += u64::from(good);
+        failed += u64::from(!good);
+    }
+    (passed, failed)
+}
+
+/// Prints the counts. True when every reason was seen among the random cases.
+fn print_counts(tally: &Tally) -> bool {
+    let (all, large) = (tally.comparisons, tally.large);
+    println!("comparisons: {all}, of these {large} on 16 offices and more");
+    for reason in REASONS {
+        let (seen, random) = (tally.reasons[reason], tally.random_reasons[reason]);
+        println!("reason {reason}: {seen}, of these {random} in random cases");
+    }
+    for ((low, high), tables) in CLASSES.iter().zip(tally.classes) {
+        println!("accepted tables of {low} to {high} offices: {tables}");
+    }
+    let [of_20, of_32] = tally.full;
+    println!("full tables of 20 offices: {of_20}, of 32 offices: {of_32}");
+    let seen = |reason: &usize| tally.random_reasons[*reason] > 0;
+    let all_seen = REASONS.iter().all(seen);
+    let word = if all_seen { "passed" } else { "FAILED" };
+    println!("{word}: every reason of 0 to 7 and 15 seen in random cases");
+    all_seen
+}
+
+/// The groups that catch a mutant: in how many places.
+fn places(mutant: &'static Mutant, seed: u64, count: u64) -> usize {
+    let mut places = 0;
+    for (at, group) in GROUPS.iter().enumerate() {
+        let mut run = Run {
+            kit: Kit::Mutant(mutant),
+            seed,
+            count,
+            tally: &mut Tally::default(),
+        };
+        let ended = run.group(at, group, false);
+        if let Some((number, _)) = ended.mismatch {
+            println!("    caught by {}, case {number}", group.name);
+            places += 1;
+        }
+    }
+    places
+}
+
+/// Which faults are caught, and where. True when all are, and when what comes
+/// to the same never differs.
+fn mutants(seed: u64, count: u64) -> bool {
+    let (mut caught, mut equal) = (0, 0);
+    for (at, mutant) in FAULTS.iter().enumerate() {
+        println!("{}. {}", at + 1, mutant.name);
+        let places = places(mutant, seed, count);
+        let word = if places > 0 { "caught" } else { "MISSED" };
+        println!("    {word}: {places} of {} groups", GROUPS.len());
+        caught += usize::from(places > 0);
+    }
+    for mutant in &SAME {
+        println!("comes to the same: {}", mutant.name);
+        let places = places(mutant, seed, count);
+        let word = if places == 0 {
+            "never differs"
+        } else {
+            "DIFFERS"
+        };
+        println!("    {word}");
+        equal += usize::from(places == 0);
+    }
+    let (faults, same) = (FAULTS.len(), SAME.len());
+    println!("{caught} of {faults} faults caught, {equal} of {same} come to the same");
+    caught == faults && equal == same
+}
+
+/// What the arguments ask for.
+struct Asked {
+    mutants: bool,
+    kit: Kit,
+    seed: u64,
+    count: Option<u64>,
+}
+
+fn asked() -> Option<Asked> {
+    let words: Vec<String> = std::env::args().skip(1).collect();
+    let mode = words.first().map_or("", |word| word.as_str());
+    let taken = match mode {
+        "--mutants" => 1,
+        "--mutant" => 2,
+        _ => 0,
+    };
+    let numbers = words.get(taken..)?.iter().map(|word| word.parse().ok());
+    let numbers: Vec<u64> = numbers.collect::<Option<_>>()?;
+    let mut kit = Kit::Library;
+    if mode == "--mutant" {
+        let place: usize = words[1].parse().ok()?;
+        kit = Kit::Mutant(FAULTS.get(place.checked_sub(1)?)?);
+    }
+    (numbers.len() <= 2).then_some(Asked {
+        mutants: mode == "--mutants",
+        kit,
+        seed: numbers.first().copied().unwrap_or(SEED),
+        count: numbers.get(1).copied(),
+    })
+}
+
+fn main() -> ExitCode {
+    let Some(asked) = asked() else {
+        eprintln!("usage: twin [--mutants | --mutant K] [SEED [COUNT]]");
+        return ExitCode::from(2);
+    };
+    let seed = asked.seed;
+    if asked.mutants {
+        let good = mutants(seed, asked.count.unwrap_or(MUTANT_COUNT));
+        return ExitCode::from(u8::from(!good));
+    }
+    let count = asked.count.unwrap_or(COUNT);
+    println!("seed {seed}, {count} random comparisons and the lists");
+    let mut tally = Tally::default();
+    let (own_passed, own_failed) = self_checks(seed);
+    let (passed, failed) = all_groups(asked.kit, seed, count, &mut tally);
+    let seen = print_counts(&tally);
+    let passed = own_passed + passed + u64::from(seen);
+    let failed = own_failed + failed + u64::from(!seen);
+    println!("{passed} passed, {failed} failed");
+    ExitCode::from(u8::from(failed > 0))
+}

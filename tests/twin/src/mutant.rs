@@ -1,0 +1,699 @@
+//! Faulty stand-ins for the library, to show that the comparison catches them.
+//! Each is the twin with one fault.
+
+use crate::rules::{self, Cut, Plan, Sent, Way};
+use crate::sheet;
+use crate::table::{self, Refusal, Row, Table};
+use crate::twin::{self, Answer, Call, Reply};
+use std::ops::Range;
+
+pub struct Mutant {
+    pub name: &'static str,
+    how: How,
+}
+
+/// Where the fault lies.
+enum How {
+    Plan(fn(&Table) -> Plan),
+    Read(fn(&[u8]) -> Result<Table, Refusal>),
+    Write(fn(&Answer, &mut [u8], Range<usize>) -> Reply),
+    Rewrite(fn(Table) -> Table),
+}
+
+impl Mutant {
+    pub fn call(&self, call: Call, text: &[u8], area: &mut [u8], lent: Range<usize>) -> Reply {
+        let read = match self.how {
+            How::Read(read) => read(text),
+            _ => table::read(text),
+        };
+        let answer = read.map(|table| match (call, &self.how) {
+            (Call::Route, How::Plan(plan)) => sheet::sheet_text(&table, &plan(&table)),
+            (Call::Route, _) => sheet::sheet_text(&table, &rules::plan(&table)),
+            (Call::Rewrite, How::Rewrite(change)) => sheet::table_text(&change(table)),
+            (Call::Rewrite, _) => sheet::table_text(&table),
+        });
+        match self.how {
+            How::Write(write) => write(&answer, area, lent),
+            _ => twin::reply(&answer, &mut area[lent]),
+        }
+    }
+}
+
+const fn plan(name: &'static str, plan: fn(&Table) -> Plan) -> Mutant {
+    let how = How::Plan(plan);
+    Mutant { name, how }
+}
+
+const fn read(name: &'static str, read: fn(&[u8]) -> Result<Table, Refusal>) -> Mutant {
+    let how = How::Read(read);
+    Mutant { name, how }
+}
+
+const fn write(name: &'static str, write: fn(&Answer, &mut [u8], Range<usize>) -> Reply) -> Mutant {
+    let how = How::Write(write);
+    Mutant { name, how }
+}
+
+const fn rewrite(name: &'static str, change: fn(Table) -> Table) -> Mutant {
+    let how = How::Rewrite(change);
+    Mutant { name, how }
+}
+
+/// Faults that change some sheet or reply: each must be caught.
+pub static FAULTS: [Mutant; 49] = [
+    write("one byte after the text changed", after_text),
+    write("one byte after the buffer changed", after_buffer),
+    write("one byte before the buffer changed", before_buffer),
+    write("a refusal touches the buffer", refusal_touches),
+    write("15 writes what fits", short_writes),
+    write("15 at exactly the need", short_at_need),
+    write("15 before the table reasons", short_first),
+    write("length of a refusal is the need", refusal_length),
+    write("length one more", length_more),
+    write("line off by one", line_off),
+    plan("A: tie to the later pair", a_later),
+    plan("A: link n left out", a_without_last),
+    plan("B: g < h only", b_below),
+    plan("B: g = h only", b_equal),
+    plan("B: across number of all rows", b_all),
+    plan("B: across number once, not twice", b_once),
+    plan("B: whole units only", b_units),
+    plan("B: M made even", b_even),
+    plan("B: back takes no room", b_back),
+    plan("C: skipped", c_skipped),
+    plan("C: fronts inside skipped", c_inside),
+    plan("C: split as at the start", c_at_start),
+    plan("C: from the last pair to the first", c_backwards),
+    plan("C: a shared node crosses", c_shared),
+    plan("C: outer and inner changed over", c_changed_over),
+    plan("D: over all rows", d_all),
+    plan("D: over rows split before rule C", d_before),
+    plan("D: S clamped at 0", d_clamped),
+    plan("D: S never falls", d_rising),
+    plan("D: S + back < D", d_strict),
+    plan("D: twice D", d_twice),
+    plan("D: amount 0 goes B", d_zero),
+    plan("Z: size above the peak", z_above),
+    plan("Z: 768 for every larger peak", z_largest),
+    read("reading: leading zeros", zeros),
+    read("reading: 8 digits", digits),
+    read("reading: final LF not asked for", final_lf),
+    read("reading: CR LF taken for LF", cr_lf),
+    read("reading: 32,768 bytes refused", limit_low),
+    read("reading: 32,769 bytes read", limit_high),
+    read("reading: 32 offices refused", ring_32),
+    read("reading: 33 offices taken for 32", ring_33),
+    read("reading: 5 before 4", five_first),
+    read("reading: 7 before 6", seven_first),
+    read("reading: a doubled row taken", doubled),
+    read("reading: amount 9,999 refused", amount_low),
+    read("reading: amount 10,000 taken", amount_high),
+    read("reading: 2 in any line first", shape_first),
+    rewrite("rewriting: rows of amount 0 left out", without_zeros),
+];
+
+/// Other readings that come to the same on every table, so none may differ.
+///
+/// - Ties: where (g,h) and (g',h') with g < g' < h' < h both have the largest
+///   across number, (g,h') has it too, so the smallest g goes with the
+///   smallest h.
+/// - Disjoint fronts: a row that rule B splits leaves a pair of links of its
+///   front with no slack. A later row with both links in its back is then sent
+///   wholly to the front, so no two split rows have disjoint fronts. One with
+///   both links in its front is sent wholly to the back, so of two split rows
+///   one inside the other the outer is the first.
+/// - Order: two orders of rule C's pairs that agree on all pairs with a row in
+///   common move the same amounts.
+pub static SAME: [Mutant; 5] = [
+    plan("A: tie to the smallest h, then g", a_by_h),
+    plan("C: disjoint fronts skipped", c_disjoint),
+    plan("C: fronts that touch taken for crossing", c_touching),
+    plan("C: the first taken for the outer", c_first_outer),
+    plan("C: by second, then first", c_by_second),
+];
+
+// Faults of replying.
+
+fn after_text(answer: &Answer, area: &mut [u8], lent: Range<usize>) -> Reply {
+    let reply = twin::reply(answer, &mut area[lent.clone()]);
+    if reply.reason == 0 && reply.length < lent.len() {
+        area[lent.start + reply.length] ^= 1;
+    }
+    reply
+}
+
+fn after_buffer(answer: &Answer, area: &mut [u8], lent: Range<usize>) -> Reply {
+    area[lent.end] ^= 1;
+    twin::reply(answer, &mut area[lent])
+}
+
+fn before_buffer(answer: &Answer, area: &mut [u8], lent: Range<usize>) -> Reply {
+    area[lent.start - 1] ^= 1;
+    twin::reply(answer, &mut area[lent])
+}
+
+fn refusal_touches(answer: &Answer, area: &mut [u8], lent: Range<usize>) -> Reply {
+    let reply = twin::reply(answer, &mut area[lent.clone()]);
+    if answer.is_err() && !lent.is_empty() {
+        area[lent.start] ^= 1;
+    }
+    reply
+}
+
+fn short_writes(answer: &Answer, area: &mut [u8], lent: Range<usize>) -> Reply {
+    let reply = twin::reply(answer, &mut area[lent.clone()]);
+    if let (Ok(text), 15) = (answer, reply.reason) {
+        let length = lent.len();
+        area[lent].copy_from_slice(&text[..length]);
+    }
+    reply
+}
+
+fn short_at_need(answer: &Answer, area: &mut [u8], lent: Range<usize>) -> Reply {
+    let need = answer.as_ref().map_or(0, |text| text.len());
+    let shorter = lent.len() == need;
+    let end = lent.end - usize::from(shorter && need > 0);
+    twin::reply(answer, &mut area[lent.start..end])
+}
+
+fn short_first(answer: &Answer, area: &mut [u8], lent: Range<usize>) -> Reply {
+    if lent.is_empty() {
+        let (reason, line, length) = (15, 0, 0);
+        return Reply {
+            reason,
+            line,
+            length,
+        };
+    }
+    twin::reply(answer, &mut area[lent])
+}
+
+fn refusal_length(answer: &Answer, area: &mut [u8], lent: Range<usize>) -> Reply {
+    let mut reply = twin::reply(answer, &mut area[lent]);
+    reply.length = answer.as_ref().map_or(0, |text| text.len());
+    reply
+}
+
+fn length_more(answer: &Answer, area: &mut [u8], lent: Range<usize>) -> Reply {
+    let mut reply = twin::reply(answer, &mut area[lent]);
+    reply.length += usize::from(reply.reason == 0);
+    reply
+}
+
+fn line_off(answer: &Answer, area: &mut [u8], lent: Range<usize>) -> Reply {
+    let mut reply = twin::reply(answer, &mut area[lent]);
+    reply.line += u32::from(reply.line > 0);
+    reply
+}
+
+// Faults of rule A.
+
+fn from_cut(table: &Table, cut: Cut) -> Plan {
+    let mut sent = rules::rule_b(table, cut.across);
+    rules::rule_c(&table.rows, &mut sent);
+    let ways = rules::rule_d(&table.rows, &sent);
+    rules::figures(table, cut, sent, ways)
+}
+
+/// All cuts, by g and then by h.
+fn cuts(table: &Table) -> Vec<Cut> {
+    let mut cuts = Vec::new();
+    for g in 1..=table.n {
+        for h in g + 1..=table.n {
+            let across = rules::across(&table.rows, g, h);
+            cuts.push(Cut { g, h, across });
+        }
+    }
+    cuts
+}
+
+fn a_later(table: &Table) -> Plan {
+    let cuts = cuts(table).into_iter();
+    let cut = cuts.max_by_key(|cut| cut.across);
+    from_cut(table, cut.expect("a cut"))
+}
+
+fn a_by_h(table: &Table) -> Plan {
+    let cuts = cuts(table).into_iter();
+    let cut = cuts.max_by_key(|cut| (cut.across, -cut.h, -cut.g));
+    from_cut(table, cut.expect("a cut"))
+}
+
+fn a_without_last(table: &Table) -> Plan {
+    let cuts = cuts(table).into_iter();
+    let inner = cuts.filter(|cut| cut.h < table.n);
+    let cut = inner.max_by_key(|cut| (cut.across, -cut.g, -cut.h));
+    from_cut(table, cut.unwrap_or(rules::rule_a(table)))
+}
+
+// Faults of rule B.
+
+/// Rule B with another way to s, another room, another front, another cost of
+/// the back.
+struct Sending {
+    pairs: fn(i64, i64) -> bool,
+    all: bool,
+    times: i64,
+    room: fn(i64) -> i64,
+    front: fn(i64) -> i64,
+    back_costs: bool,
+}
+
+const SENDING: Sending = Sending {
+    pairs: |_, _| true,
+    all: false,
+    times: 2,
+    room: |m| m,
+    front: |front| front,
+    back_costs: true,
+};
+
+impl Sending {
+    fn least(&self, rows: &[Row], at: usize, room: &[i64]) -> Option<i64> {
+        let row = rows[at];
+        let unsent = if self.all { rows } else { &rows[at + 1..] };
+        let mut values = Vec::new();
+        for g in row.i..row.j {
+            for h in (g..row.j).filter(|h| (self.pairs)(g, *h)) {
+                let there = rules::across(unsent, g, h);
+                values.push(room[g as usize] + room[h as usize] - self.times * there);
+            }
+        }
+        values.into_iter().min()
+    }
+
+    fn plan(&self, table: &Table) -> Plan {
+        let cut = rules::rule_a(table);
+        let mut room = vec![(self.room)(cut.across); table.n as usize + 1];
+        let mut sent = Vec::new();
+        for (at, row) in table.rows.iter().enumerate() {
+            let half = self.least(&table.rows, at, &room).map(|s| s / 2);
+            let front = half.map_or(2 * row.d, |half| half.min(2 * row.d));
+            let front = (self.front)(front);
+            let back = 2 * row.d - front;
+            for link in 1..=table.n {
+                let over_back = if self.back_costs { back } else { 0 };
+                let in_front = rules::front_holds(row, link);
+                room[link as usize] -= if in_front { front } else { over_back };
+            }
+            sent.push(Sent { front, back });
+        }
+        rules::rule_c(&table.rows, &mut sent);
+        let ways = rules::rule_d(&table.rows, &sent);
+        rules::figures(table, cut, sent, ways)
+    }
+}
+
+fn b_below(table: &Table) -> Plan {
+    let pairs = |g, h| g < h;
+    Sending { pairs, ..SENDING }.plan(table)
+}
+
+fn b_equal(table: &Table) -> Plan {
+    let pairs = |g, h| g == h;
+    Sending { pairs, ..SENDING }.plan(table)
+}
+
+fn b_all(table: &Table) -> Plan {
+    let all = true;
+    Sending { all, ..SENDING }.plan(table)
+}
+
+fn b_once(table: &Table) -> Plan {
+    let times = 1;
+    Sending { times, ..SENDING }.plan(table)
+}
+
+fn b_units(table: &Table) -> Plan {
+    let front = |front| front - front % 2;
+    Sending { front, ..SENDING }.plan(table)
+}
+
+fn b_even(table: &Table) -> Plan {
+    let room = |m| m + m % 2;
+    Sending { room, ..SENDING }.plan(table)
+}
+
+fn b_back(table: &Table) -> Plan {
+    let back_costs = false;
+    let sending = Sending {
+        back_costs,
+        ..SENDING
+    };
+    sending.plan(table)
+}
+
+// Faults of rule C.
+
+/// The plan with another rule C.
+fn with_c(table: &Table, rule_c: impl Fn(&[Row], &mut [Sent])) -> Plan {
+    let cut = rules::rule_a(table);
+    let mut sent = rules::rule_b(table, cut.across);
+    rule_c(&table.rows, &mut sent);
+    let ways = rules::rule_d(&table.rows, &sent);
+    rules::figures(table, cut, sent, ways)
+}
+
+/// Rule C over those of its pairs that are kept.
+fn c_kept(rows: &[Row], sent: &mut [Sent], kept: impl Fn(&Row, &Row) -> bool) {
+    for first in 0..rows.len() {
+        for second in first + 1..rows.len() {
+            let (one, two) = (rows[first], rows[second]);
+            let both = rules::is_split(&sent[first]) && rules::is_split(&sent[second]);
+            if both && !rules::cross(&one, &two) && kept(&one, &two) {
+                rules::move_pair(rows, sent, first, second);
+            }
+        }
+    }
+}
+
+fn c_skipped(table: &Table) -> Plan {
+    with_c(table, |_, _| ())
+}
+
+fn c_disjoint(table: &Table) -> Plan {
+    with_c(table, |rows, sent| {
+        c_kept(rows, sent, |one, two| !rules::fronts_disjoint(one, two))
+    })
+}
+
+fn c_inside(table: &Table) -> Plan {
+    with_c(table, |rows, sent| {
+        c_kept(rows, sent, rules::fronts_disjoint)
+    })
+}
+
+fn c_by_second(table: &Table) -> Plan {
+    with_c(table, |rows, sent| {
+        for second in 0..rows.len() {
+            for first in 0..second {
+                let both = rules::is_split(&sent[first]) && rules::is_split(&sent[second]);
+                if both && !rules::cross(&rows[first], &rows[second]) {
+                    rules::move_pair(rows, sent, first, second);
+                }
+            }
+        }
+    })
+}
+
+fn c_backwards(table: &Table) -> Plan {
+    with_c(table, |rows, sent| {
+        for first in (0..rows.len()).rev() {
+            for second in (first + 1..rows.len()).rev() {
+                let both = rules::is_split(&sent[first]) && rules::is_split(&sent[second]);
+                if both && !rules::cross(&rows[first], &rows[second]) {
+                    rules::move_pair(rows, sent, first, second);
+                }
+            }
+        }
+    })
+}
+
+/// Rule C with outer and inner told by their places alone.
+fn c_by_place(rows: &[Row], sent: &mut [Sent], first_is_outer: bool) {
+    for first in 0..rows.len() {
+        for second in first + 1..rows.len() {
+            let both = rules::is_split(&sent[first]) && rules::is_split(&sent[second]);
+            if both && !rules::cross(&rows[first], &rows[second]) {
+                let (outer, inner) = if first_is_outer {
+                    (first, second)
+                } else {
+                    (second, first)
+                };
+                let t = sent[outer].front.min(sent[inner].back);
+                sent[outer].front -= t;
+                sent[outer].back += t;
+                sent[inner].back -= t;
+                sent[inner].front += t;
+            }
+        }
+    }
+}
+
+fn c_changed_over(table: &Table) -> Plan {
+    with_c(table, |rows, sent| c_by_place(rows, sent, false))
+}
+
+fn c_first_outer(table: &Table) -> Plan {
+    with_c(table, |rows, sent| c_by_place(rows, sent, true))
+}
+
+fn c_at_start(table: &Table) -> Plan {
+    with_c(table, |rows, sent| {
+        let split: Vec<bool> = sent.iter().map(rules::is_split).collect();
+        for first in 0..rows.len() {
+            for second in first + 1..rows.len() {
+                let both = split[first] && split[second];
+                if both && !rules::cross(&rows[first], &rows[second]) {
+                    rules::move_pair(rows, sent, first, second);
+                }
+            }
+        }
+    })
+}
+
+fn c_shared(table: &Table) -> Plan {
+    with_c(table, |rows, sent| {
+        c_kept(rows, sent, |one, two| {
+            one.i != two.i && one.j != two.j && one.j != two.i
+        })
+    })
+}
+
+fn c_touching(table: &Table) -> Plan {
+    with_c(table, |rows, sent| {
+        c_kept(rows, sent, |one, two| one.j != two.i)
+    })
+}
+
+// Faults of rule D and of the size.
+
+/// The plan with other directions.
+fn with_d(table: &Table, rule_d: impl Fn(&[Row], &[Sent]) -> Vec<Way>) -> Plan {
+    let cut = rules::rule_a(table);
+    let mut sent = rules::rule_b(table, cut.across);
+    rules::rule_c(&table.rows, &mut sent);
+    let ways = rule_d(&table.rows, &sent);
+    rules::figures(table, cut, sent, ways)
+}
+
+/// Rule D with another D, and S changed after each step.
+fn d_with(sent: &[Sent], largest: i64, after: fn(i64, i64) -> i64) -> Vec<Way> {
+    let mut s = 0;
+    let mut ways = Vec::new();
+    for row in sent {
+        let before = s;
+        let way = if row.back == 0 {
+            Way::F
+        } else if row.front == 0 {
+            Way::B
+        } else if s + row.back <= largest {
+            s += row.back;
+            Way::F
+        } else {
+            s -= row.front;
+            Way::B
+        };
+        s = after(before, s);
+        ways.push(way);
+    }
+    ways
+}
+
+fn d_all(table: &Table) -> Plan {
+    with_d(table, |rows, sent| {
+        let largest = rows.iter().map(|row| row.d).max().unwrap_or(0);
+        d_with(sent, largest, |_, s| s)
+    })
+}
+
+fn d_before(table: &Table) -> Plan {
+    let before = rules::rule_b(table, rules::rule_a(table).across);
+    let largest = rules::largest_split(&table.rows, &before);
+    with_d(table, |_, sent| d_with(sent, largest, |_, s| s))
+}
+
+fn d_clamped(table: &Table) -> Plan {
+    with_d(table, |rows, sent| {
+        d_with(sent, rules::largest_split(rows, sent), |_, s| s.max(0))
+    })
+}
+
+fn d_rising(table: &Table) -> Plan {
+    with_d(table, |rows, sent| {
+        d_with(sent, rules::largest_split(rows, sent), |old, s| s.max(old))
+    })
+}
+
+fn d_strict(table: &Table) -> Plan {
+    with_d(table, |rows, sent| {
+        d_with(sent, rules::largest_split(rows, sent) - 1, |_, s| s)
+    })
+}
+
+fn d_twice(table: &Table) -> Plan {
+    with_d(table, |rows, sent| {
+        d_with(sent, 2 * rules::largest_split(rows, sent), |_, s| s)
+    })
+}
+
+fn d_zero(table: &Table) -> Plan {
+    with_d(table, |rows, sent| {
+        let mut ways = rules::rule_d(rows, sent);
+        for (at, row) in rows.iter().enumerate() {
+            if row.d == 0 {
+                ways[at] = Way::B;
+            }
+        }
+        ways
+    })
+}
+
+fn z_above(table: &Table) -> Plan {
+    let mut plan = rules::plan(table);
+    plan.size = rules::size(plan.peak + 1);
+    plan
+}
+
+fn z_largest(table: &Table) -> Plan {
+    let mut plan = rules::plan(table);
+    plan.size = rules::size(plan.peak.min(768));
+    plan
+}
+
+// Faults of reading.
+
+/// The text with each field changed, then read.
+fn read_fields(text: &[u8], change: fn(&str) -> String) -> Result<Table, Refusal> {
+    let Ok(text) = std::str::from_utf8(text) else {
+        return table::read(text);
+    };
+    let line = |line: &str| line.split('\t').map(change).collect::<Vec<_>>().join("\t");
+    let lines: Vec<String> = text.split('\n').map(line).collect();
+    table::read(lines.join("\n").as_bytes())
+}
+
+fn zeros(text: &[u8]) -> Result<Table, Refusal> {
+    read_fields(text, |field| {
+        let rest = field.trim_start_matches('0');
+        let number = rest.starts_with(|first: char| first.is_ascii_digit());
+        let some = if field.starts_with('0') { "0" } else { "" };
+        if number { rest } else { some }.to_string() + if number { "" } else { rest }
+    })
+}
+
+fn digits(text: &[u8]) -> Result<Table, Refusal> {
+    read_fields(text, |field| field.replace("10000000", "9999999"))
+}
+
+fn final_lf(text: &[u8]) -> Result<Table, Refusal> {
+    let end: &[u8] = if text.ends_with(b"\n") || text.is_empty() {
+        b""
+    } else {
+        b"\n"
+    };
+    table::read(&[text, end].concat())
+}
+
+fn cr_lf(text: &[u8]) -> Result<Table, Refusal> {
+    let mut kept = text.to_vec();
+    while let Some(at) = kept.windows(2).position(|two| two == b"\r\n") {
+        kept.remove(at);
+    }
+    table::read(&kept)
+}
+
+fn limit_low(text: &[u8]) -> Result<Table, Refusal> {
+    let longer = vec![b'\n'; usize::from(text.len() == 32_768)];
+    table::read(&[text, &longer].concat())
+}
+
+fn limit_high(text: &[u8]) -> Result<Table, Refusal> {
+    let end = text.len() - usize::from(text.len() == 32_769);
+    table::read(&text[..end])
+}
+
+fn ring_32(text: &[u8]) -> Result<Table, Refusal> {
+    match table::read(text) {
+        Ok(table) if table.n == 32 => Err(Refusal { reason: 3, line: 1 }),
+        other => other,
+    }
+}
+
+fn ring_33(text: &[u8]) -> Result<Table, Refusal> {
+    match text.strip_prefix(b"R\t33\n") {
+        Some(rest) => table::read(&[b"R\t32\n", rest].concat()),
+        None => table::read(text),
+    }
+}
+
+/// The line of a refusal, read alone on a ring of 32 with all rows before it
+/// forgotten.
+fn refused_alone(text: &[u8], refusal: Refusal) -> Option<Vec<i64>> {
+    let line = text
+        .split(|byte| *byte == b'\n')
+        .nth(refusal.line as usize - 1)?;
+    let fields = std::str::from_utf8(line).ok()?.split('\t').skip(1);
+    fields.map(|field| field.parse().ok()).collect()
+}
+
+fn five_first(text: &[u8]) -> Result<Table, Refusal> {
+    table::read(text).map_err(|refusal| {
+        let numbers = (refusal.reason == 4).then(|| refused_alone(text, refusal));
+        let five = numbers.flatten().is_some_and(|row| row[0] >= row[1]);
+        let reason = if five { 5 } else { refusal.reason };
+        Refusal { reason, ..refusal }
+    })
+}
+
+fn seven_first(text: &[u8]) -> Result<Table, Refusal> {
+    table::read(text).map_err(|refusal| {
+        let numbers = (refusal.reason == 6).then(|| refused_alone(text, refusal));
+        let seven = numbers.flatten().is_some_and(|row| row[2] > 9_999);
+        let reason = if seven { 7 } else { refusal.reason };
+        Refusal { reason, ..refusal }
+    })
+}
+
+fn doubled(text: &[u8]) -> Result<Table, Refusal> {
+    let mut lines: Vec<&[u8]> = text.split_inclusive(|byte| *byte == b'\n').collect();
+    lines.dedup();
+    table::read(&lines.concat())
+}
+
+fn amount_low(text: &[u8]) -> Result<Table, Refusal> {
+    let table = table::read(text)?;
+    match table.rows.iter().position(|row| row.d == 9_999) {
+        Some(at) => Err(Refusal {
+            reason: 7,
+            line: at as u32 + 2,
+        }),
+        None => Ok(table),
+    }
+}
+
+fn amount_high(text: &[u8]) -> Result<Table, Refusal> {
+    read_fields(text, |field| {
+        let new = if field == "10000" { "9999" } else { field };
+        new.to_string()
+    })
+}
+
+fn shape_first(text: &[u8]) -> Result<Table, Refusal> {
+    let lines = text.split_inclusive(|byte| *byte == b'\n');
+    for (at, line) in lines.enumerate().skip(1) {
+        let alone = table::read(&[b"R\t32\n", line].concat());
+        if text.len() <= 32_768 && alone.is_err_and(|refusal| refusal.reason == 2) {
+            return Err(Refusal {
+                reason: 2,
+                line: at as u32 + 1,
+            });
+        }
+    }
+    table::read(text)
+}
+
+fn without_zeros(mut table: Table) -> Table {
+    table.rows.retain(|row| row.d > 0);
+    table
+}

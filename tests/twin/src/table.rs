@@ -1,0 +1,135 @@
+//! A table and its reading: 01, "Table and sheet text" and "Reasons and their
+//! order", reasons 1 to 7.
+
+/// A demand has nodes i < j and an amount d.
+#[derive(Clone, Copy, PartialEq, Eq, Debug)]
+pub struct Row {
+    pub i: i64,
+    pub j: i64,
+    pub d: i64,
+}
+
+/// Nodes 1..n and the rows in table order.
+#[derive(Clone, PartialEq, Eq, Debug)]
+pub struct Table {
+    pub n: i64,
+    pub rows: Vec<Row>,
+}
+
+/// A refusal returns only reason and line.
+#[derive(Clone, Copy, PartialEq, Eq, Debug)]
+pub struct Refusal {
+    pub reason: u32,
+    pub line: u32,
+}
+
+fn refuse<T>(reason: u32, line: u32) -> Result<T, Refusal> {
+    Err(Refusal { reason, line })
+}
+
+/// Reason 1 is tried first. Then lines in order.
+pub fn read(text: &[u8]) -> Result<Table, Refusal> {
+    if text.len() > 32_768 {
+        return refuse(1, 0);
+    }
+    let lines = lines(text);
+    // A missing line is the one after the last.
+    let Some(first) = lines.first() else {
+        return refuse(2, 1);
+    };
+    let mut table = Table {
+        n: read_ring(first)?,
+        rows: Vec::new(),
+    };
+    for (at, line) in lines.iter().enumerate().skip(1) {
+        let row = read_row(line, at as u32 + 1, &table)?;
+        table.rows.push(row);
+    }
+    Ok(table)
+}
+
+/// One line of a text, without its LF, and whether it ended with one.
+struct Line<'a> {
+    bytes: &'a [u8],
+    ended: bool,
+}
+
+/// Lines end with LF, the last one too. What stands after the last LF is a
+/// line only if it has a byte.
+fn lines(text: &[u8]) -> Vec<Line<'_>> {
+    let pieces: Vec<&[u8]> = text.split(|byte| *byte == b'\n').collect();
+    let last = pieces.len() - 1;
+    let mut lines = Vec::new();
+    for (at, bytes) in pieces.into_iter().enumerate() {
+        if at < last || !bytes.is_empty() {
+            let ended = at < last;
+            lines.push(Line { bytes, ended });
+        }
+    }
+    lines
+}
+
+/// The numbers of a line of the right shape: the letter, then `count` numbers,
+/// fields parted by one tab, LF at the end. None is reason 2.
+fn numbers(line: &Line, letter: &[u8], count: usize) -> Option<Vec<i64>> {
+    let fields: Vec<&[u8]> = line.bytes.split(|byte| *byte == b'\t').collect();
+    if !line.ended || fields.len() != count + 1 || fields[0] != letter {
+        return None;
+    }
+    fields[1..].iter().map(|field| number(field)).collect()
+}
+
+/// Numbers are 1 to 7 digits with no leading zero but 0 itself.
+fn number(field: &[u8]) -> Option<i64> {
+    let digits = field.iter().all(|byte| byte.is_ascii_digit());
+    if field.is_empty() || field.len() > 7 || !digits {
+        return None;
+    }
+    if field[0] == b'0' && field.len() > 1 {
+        return None;
+    }
+    let mut value = 0;
+    for digit in field {
+        value = 10 * value + i64::from(digit - b'0');
+    }
+    Some(value)
+}
+
+/// `R n`: in the line the rising reason number, 2 then 3.
+fn read_ring(line: &Line) -> Result<i64, Refusal> {
+    let Some(numbers) = numbers(line, b"R", 1) else {
+        return refuse(2, 1);
+    };
+    let n = numbers[0];
+    if !(2..=32).contains(&n) {
+        return refuse(3, 1);
+    }
+    Ok(n)
+}
+
+/// `D i j amount`: in the line the rising reason number, 2, 4, 5, 6, 7.
+fn read_row(line: &Line, at: u32, above: &Table) -> Result<Row, Refusal> {
+    let Some(numbers) = numbers(line, b"D", 3) else {
+        return refuse(2, at);
+    };
+    let (i, j, d) = (numbers[0], numbers[1], numbers[2]);
+    // 4: a node outside 1..n.
+    if i < 1 || i > above.n || j < 1 || j > above.n {
+        return refuse(4, at);
+    }
+    // 5: first node not below second.
+    if i >= j {
+        return refuse(5, at);
+    }
+    // 6: row's nodes not above the row before, by first node, then second.
+    if let Some(before) = above.rows.last() {
+        if i < before.i || (i == before.i && j <= before.j) {
+            return refuse(6, at);
+        }
+    }
+    // 7: amount over 9,999.
+    if d > 9_999 {
+        return refuse(7, at);
+    }
+    Ok(Row { i, j, d })
+}
