@@ -5,7 +5,7 @@ use libc::STDOUT_FILENO;
 // One byte more than a table can have, so that a longer text is seen to be longer.
 const MOST: usize = 32769;
 
-// Every sheet is shorter than this.
+// Room for the sheet; where that is not enough the call says so with reason 15.
 const ROOM: usize = 32768;
 
 fn show(n: u32, end: &[u8]) {
