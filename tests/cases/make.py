@@ -3,7 +3,10 @@
 
 The answers come from the reading of 01 below and from nothing else: no source of the project is used. Run it by hand after adding a case
 and look at the difference; the tests only compare what the program writes with what is stored."""
+import functools
 import random
+
+import rules
 
 LONGEST, ROOM, PATTERN = 32768, 40000, 85
 
@@ -71,11 +74,20 @@ def sum_of(buffer):
     return s
 
 
-def answer(text, room):
+# the text that a call writes, by the call's letter
+WRITES = {"T": write_table, "R": rules.sheet}
+
+
+@functools.cache
+def written(letter, text):
+    ring, *rows = lines_of(text)
+    return WRITES[letter](*fields(ring, b"R", 1), [tuple(fields(row, b"D", 3)) for row in rows])
+
+
+def answer(letter, text, room):
     reply, out = first_reason(text), b""
     if not reply:
-        ring, *rows = lines_of(text)
-        out = write_table(*fields(ring, b"R", 1), [tuple(fields(row, b"D", 3)) for row in rows])
+        out = written(letter, text)
         if room < len(out):
             reply, out = (15, 0), b""
     return (reply or (0, 0)) + (len(out), sum_of(out + bytes([PATTERN]) * (ROOM - len(out))))
@@ -226,11 +238,51 @@ def all_cases():
         yield text, rng.choice([0, max(0, len(text) - 1), len(text), len(text) + 1, ROOM])
 
 
+def to_route():
+    """Tables to route: 01's "Numbers to try" with the figures it states, refusals, and full rings of 20 and 32 offices, with buffers of every kind."""
+    stated = [
+        (t("R|4", "D|1|3|1", "D|2|4|1"), t("C|1|3|2", "L|1|2|2", "L|2|2|1", "L|3|2|0", "L|4|2|1", "Z|2|3")),
+        (t("R|2"), t("C|1|2|0", "L|1|0|0", "L|2|0|0", "Z|0|3")),
+        (t("R|2", "D|1|2|5"), t("D|1|2|5|5|5|F", "C|1|2|5", "L|1|5|5", "L|2|5|0", "Z|5|12")),
+        (t("R|4", "D|1|2|1"), t("D|1|2|1|1|1|F", "C|1|2|1", "L|1|1|1", "L|2|1|0", "L|3|1|0", "L|4|1|0", "Z|1|3")),
+        (t("R|5", "D|1|2|2", "D|1|4|5", "D|2|3|9", "D|2|4|11", "D|3|4|4", "D|3|5|3"), t("C|2|4|28", "L|1|16|13", "L|2|28|9", "L|3|24|7", "L|4|28|19", "L|5|22|16", "Z|19|48")),
+        (t("R|8", "D|1|4|1", "D|2|3|1", "D|5|8|2", "D|6|7|2"), t("D|6|7|2|2|2|F", "C|2|6|6")),
+        (t("R|2", "D|1|2|768"), t("Z|768|768")),
+        (t("R|2", "D|1|2|769"), t("Z|769|0")),
+    ]
+    for text, part in stated:
+        assert part in written("R", text), text
+        for room in around(text):
+            yield text, room
+    for text in ("R|1", "R|33", "R|32", "R|4\nD|5|2|10000", "R|4\nD|1|2|9999", "R|4\nD|1|2|10000", "R|4\nD|1|2|0", "R|4\nD|1|2|1\nD|1|2|1", "R|4\nD|2|1|1"):
+        yield t(text), 200
+    yield b"", 200
+    yield b"\n" * 32769, ROOM
+    rng = random.Random(496)
+    for n in (20, 32):
+        for amounts in (range(10000), (0, 1, 9999), (9999,)):
+            text = full(n, lambda k: rng.choice(amounts))
+            for room in around(text):
+                yield text, room
+    for k in range(60):
+        n = rng.choice([2, 3, 4, 6, 9, 16, 20])
+        rows = [p + (rng.choice([0, 1, 2, rng.randrange(10000), 9999]),) for p in pairs(n) if rng.random() < rng.choice([0.1, 0.5])]
+        text = write_table(n, rows)
+        yield text, rng.choice([ROOM, *around(text)])
+
+
+def around(text):
+    """Lengths of buffers around what the table's sheet needs."""
+    need = len(written("R", text))
+    return [0, need - 1, need, need + 1]
+
+
 def main():
     given, due = [], []
-    for text, room in dict.fromkeys((text, min(room, ROOM)) for text, room in all_cases()):
-        given.append(b"T%05d%05d\n" % (len(text), room) + text)
-        due.append("%d %d %d %d\n" % answer(text, room))
+    calls = [("T", text, min(room, ROOM)) for text, room in all_cases()] + [("R", *case) for case in to_route()]
+    for letter, text, room in dict.fromkeys(calls):
+        given.append(b"%c%05d%05d\n" % (ord(letter), len(text), room) + text)
+        due.append("%d %d %d %d\n" % answer(letter, text, room))
     open("crates/cases/stdin", "wb").write(b"".join(given))
     open("crates/cases/stdout", "w").write("".join(due))
     seen = {line.split()[0] for line in due}

@@ -1,8 +1,9 @@
 // Runs stored cases: each is a header of 12 bytes (the letter of the call, the text's length and the buffer's in five digits each, LF) and
 // the text. Each is answered by a line: the reply's numbers, and a sum over every byte of the buffer, which is filled with a pattern before the call.
-// The letter T is `ringkit_rewrite_table`; any other ends the run.
+// The letter T is `ringkit_rewrite_table`, R is `ringkit_route`; any other ends the run.
 use libc::STDIN_FILENO;
 use libc::STDOUT_FILENO;
+use ringkit::Reply;
 ghost use Prim.Native.Nat.{_≤_, _<_};
 
 const ROOM: usize = 40000;
@@ -55,6 +56,20 @@ fn show_word(n: u32) {
     show(n as u64, b" ");
 }
 
+fn known(letter: u8) -> bool {
+    if letter == b'T' {
+        return true;
+    }
+    letter == b'R'
+}
+
+fn call(letter: u8, text: &[u8], buffer: &mut [u8]) -> Reply {
+    if letter == b'R' {
+        return ringkit::ringkit_route(text, buffer);
+    }
+    ringkit::ringkit_rewrite_table(text, buffer)
+}
+
 // One case, in fresh memory; false at the end of the input and at an unknown letter.
 fn one_case() -> bool {
     let mut text = [0u8; ROOM];
@@ -67,7 +82,8 @@ fn answer(text: &mut [u8], buffer: &mut [u8]) -> bool {
     if io::read_full(STDIN_FILENO, &mut h) < 12 {
         return false;
     }
-    if h[0] != b'T' {
+    let letter = h[0];
+    if !known(letter) {
         return false;
     }
     let size = number(h[1], h[2], h[3], h[4], h[5]);
@@ -81,7 +97,7 @@ fn answer(text: &mut [u8], buffer: &mut [u8]) -> bool {
     if io::read_full(STDIN_FILENO, &mut text[0..size]) < size {
         return false;
     }
-    let reply = ringkit::ringkit_rewrite_table(&text[0..size], &mut buffer[0..room]);
+    let reply = call(letter, &text[0..size], &mut buffer[0..room]);
     show_word(reply.reason);
     show_word(reply.line);
     show(reply.length as u64, b" ");
