@@ -57,7 +57,7 @@ pub extern "C" fn ringkit_rewrite_table(table: &[u8], buffer: &mut [u8]) -> Repl
 
 // Writes a sheet, or refuses where the buffer is too short.
 fn put_sheet<'a>(
-    buffer: &mut [u8],
+    buf: &mut [u8],
     x: Figures,
     count: usize,
     first: &'a [u32; ROWS],
@@ -70,9 +70,9 @@ fn put_sheet<'a>(
     unsplit: &'a [u32; LINKS],
 ) -> Reply
     requires { ⌜ (count ≤ desk .rows) × (x .n ≤ desk .nodes) ⌝ }
-    ensures { λ r. ⌜ Fills (write (writeSheet (sheetIn x count (now (first .entry)) (now (second .entry)) (now (amount .entry)) (now (front .entry)) (now (back .entry)) (now (way .entry)) (now (split .entry)) (now (unsplit .entry))))) (now (buffer .entry)) (now (buffer .exit)) r ⌝ }
+    ensures { λ r. ⌜ Fills (write (writeSheet (sheetIn x count (now (first .entry)) (now (second .entry)) (now (amount .entry)) (now (front .entry)) (now (back .entry)) (now (way .entry)) (now (split .entry)) (now (unsplit .entry))))) (now (buf .entry)) (now (buf .exit)) r ⌝ }
 {
-    let size = sheet::sheet_length(
+    let need = sheet::sheet_length(
         x,
         count,
         first,
@@ -84,11 +84,11 @@ fn put_sheet<'a>(
         split,
         unsplit,
     );
-    if buffer.len() < size {
+    if buf.len() < need {
         return refusal(Reason::NoRoom, 0);
     }
     let length = sheet::write_sheet(
-        buffer,
+        buf,
         x,
         count,
         first,
