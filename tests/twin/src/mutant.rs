@@ -482,20 +482,9 @@ fn d_with(sent: &[Sent], largest: i64, after: fn(i64, i64) -> i64) -> Vec<Way> {
     let mut s = 0;
     let mut ways = Vec::new();
     for row in sent {
-        let before = s;
-        let way = if row.back == 0 {
-            Way::F
-        } else if row.front == 0 {
-            Way::B
-        } else if s + row.back <= largest {
-            s += row.back;
-            Way::F
-        } else {
-            s -= row.front;
-            Way::B
-        };
-        s = after(before, s);
+        let (way, now) = rules::turn(row, s, largest);
         ways.push(way);
+        s = after(s, now);
     }
     ways
 }

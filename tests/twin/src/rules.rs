@@ -179,6 +179,19 @@ pub fn largest_split(rows: &[Row], sent: &[Sent]) -> i64 {
     largest
 }
 
+/// One row's turn in rule D: its way, and S after it.
+pub fn turn(row: &Sent, s: i64, largest: i64) -> (Way, i64) {
+    if row.back == 0 {
+        (Way::F, s)
+    } else if row.front == 0 {
+        (Way::B, s)
+    } else if s + row.back <= largest {
+        (Way::F, s + row.back)
+    } else {
+        (Way::B, s - row.front)
+    }
+}
+
 /// Rule D. Table order is by rising first node, so split rows are taken as
 /// they come.
 pub fn rule_d(rows: &[Row], sent: &[Sent]) -> Vec<Way> {
@@ -186,18 +199,9 @@ pub fn rule_d(rows: &[Row], sent: &[Sent]) -> Vec<Way> {
     let mut s = 0;
     let mut ways = Vec::new();
     for row in sent {
-        let way = if row.back == 0 {
-            Way::F
-        } else if row.front == 0 {
-            Way::B
-        } else if s + row.back <= largest {
-            s += row.back;
-            Way::F
-        } else {
-            s -= row.front;
-            Way::B
-        };
+        let (way, after) = turn(row, s, largest);
         ways.push(way);
+        s = after;
     }
     ways
 }
