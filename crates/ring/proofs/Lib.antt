@@ -18,3 +18,5 @@ pub mod NoLower
 pub mod CasesHold
 pub mod Listed
 pub mod Laid
+pub mod Totals
+pub mod Figures

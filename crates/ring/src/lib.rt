@@ -8,7 +8,7 @@ pub const FEWEST: u32 = 2;
 
 pub const NODES: u32 = 32;
 
-pub const LINKS: usize = 32;
+pub const LINKS: usize = NODES as usize;
 
 // A row's amount is at most this.
 pub const AMOUNT: u32 = 9999;

@@ -2,4 +2,5 @@ pub mod FillSteps
 pub mod RewriteSteps
 pub mod RouteSteps
 pub mod Unique
-pub mod CallSays
+pub mod Calls
+pub mod TableCalls

@@ -15,13 +15,13 @@ use Rattle.table.specs.declared.read.Table.{Table}
 use Rattle.table.specs.declared.read.Answer.the-variants.{Is, Refused}
 use Rattle.table.proofs.Told.{told-table, told-refusal}
 use Rattle.ringkit.specs.Outcome.{write, refuse, replyOf, Fills}
-use Rattle.ringkit.specs.Rewritten.{afresh, tableAfresh}
+use Rattle.ringkit.specs.TableCalls.{ofTable, tableAfresh}
 use Rattle.ringkit.specs.declared.Reply.{Reply}
 use Rattle.ringkit.proofs.FillSteps.{refuses, too-short, fills}
 
 module _ (s old : List ℕ) (t : Table) (e : t ≡ tableIn (tableOf desk s)) where
   pub table-refused : (reason : Reason) (line : ℕ) (r : Reply) → t .answer ≡ Refused reason line → r ≡ replyOf (refuse reason line) → Fills (tableAfresh s) old old r
-  unfolding tableAfresh afresh
+  unfolding tableAfresh ofTable
   table-refused reason line r a = refuses (tableAfresh s) old reason line r (rw (told-refusal s t e reason line a))
 
   module _ (n count : ℕ) (a : t .answer ≡ Is n count) where
@@ -29,7 +29,7 @@ module _ (s old : List ℕ) (t : Table) (e : t ≡ tableIn (tableOf desk s)) whe
     text = writeTable n (rowsIn count (t .first) (t .second) (t .amount))
 
     is-text : tableAfresh s ≡ write text
-    unfolding tableAfresh afresh text
+    unfolding tableAfresh ofTable text
     is-text = rw (told-table s t e n count a .is)
 
     pub rows-have-room : count ≤ desk .rows

@@ -27,7 +27,7 @@ use Rattle.sheet.specs.WriteSheet.{writeSheet}
 use Rattle.sheet.specs.Arrays.{sheetIn}
 use Rattle.sheet.proofs.Back.{sheet-back}
 use Rattle.ringkit.specs.Outcome.{write, refuse, replyOf, Fills}
-use Rattle.ringkit.specs.Routes.{planned, tableRouted}
+use Rattle.ringkit.specs.TableCalls.{ofTable, tableRouted}
 use Rattle.ringkit.specs.declared.Reply.{Reply}
 use Rattle.ringkit.proofs.FillSteps.{refuses}
 
@@ -39,7 +39,7 @@ each-at P f m (suc n) (more p es) k a b = elim (ℕ-discrete k m) [ yes q ↦ rw
 
 module _ (s old : List ℕ) (t : Table) (e : t ≡ tableIn (tableOf desk s)) where
   pub route-refused : (reason : Reason) (line : ℕ) (r : Reply) → t .answer ≡ Refused reason line → r ≡ replyOf (refuse reason line) → Fills (tableRouted s) old old r
-  unfolding tableRouted planned
+  unfolding tableRouted ofTable
   route-refused reason line r a = refuses (tableRouted s) old reason line r (rw (told-refusal s t e reason line a))
 
   module _ (n count : ℕ) (a : t .answer ≡ Is n count) where
@@ -89,7 +89,7 @@ module _ (s old : List ℕ) (t : Table) (e : t ≡ tableIn (tableOf desk s)) whe
       is-plan = rw ep (sheet-back (plan n rows) count (t .first) (t .second) (t .amount) many (told .room) (range .many) same (plan-true n rows (range .few) (range .rows) .links))
 
       is-text : tableRouted s ≡ write (writeSheet sheet)
-      unfolding tableRouted planned
+      unfolding tableRouted ofTable
       is-text = rw (told .is) (ap (λ x. write (writeSheet x)) (sym is-plan))
 
       pub route-fills : (new : List ℕ) (r : Reply) → Fills (write (writeSheet sheet)) old new r → Fills (tableRouted s) old new r

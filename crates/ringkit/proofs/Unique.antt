@@ -2,10 +2,11 @@
 use Prim.Native.Nat.{ℕ}
 use mathlib.Core.List.{List}
 use mathlib.Core.Path.{_≡_}
+use Rattle.ring.specs.Limits.{desk}
 use Rattle.text.proofs.Unique.{same-result}
+use Rattle.sheet.specs.Range.{longest}
 use Rattle.ringkit.specs.Outcome.{Outcome, Fills}
-use Rattle.ringkit.specs.Rewritten.{tableAfresh}
-use Rattle.ringkit.specs.Routes.{tableRouted}
+use Rattle.ringkit.specs.TableCalls.{tableAfresh, tableRouted}
 use Rattle.ringkit.specs.declared.Reply.{Reply}
 
 fills-unique : (outcome : Outcome) (old new buf : List ℕ) (r q : Reply) → Fills outcome old new r → Fills outcome old buf q → (r ≡ q) × (new ≡ buf)
@@ -16,3 +17,6 @@ rewrite-table-unique t = fills-unique (tableAfresh t)
 
 pub route-unique : (t old new buf : List ℕ) (r q : Reply) → Fills (tableRouted t) old new r → Fills (tableRouted t) old buf q → (r ≡ q) × (new ≡ buf)
 route-unique t = fills-unique (tableRouted t)
+
+pub sheet-bytes-unique : (r q : ℕ) → r ≡ longest desk → q ≡ longest desk → r ≡ q
+sheet-bytes-unique r q = same-result

@@ -9,9 +9,20 @@ ghost use Prim.Native.Nat.{_≤_};
 ghost use Rattle.ring.specs.Limits.{desk};
 ghost use Rattle.sheet.specs.WriteSheet.{writeSheet};
 ghost use Rattle.sheet.specs.Arrays.{sheetIn};
+ghost use Rattle.sheet.specs.Range.{longest};
 ghost use Rattle.ringkit.specs.Outcome.{replyOf, refuse, write, Fills};
-ghost use Rattle.ringkit.specs.Rewritten.{tableAfresh};
-ghost use Rattle.ringkit.specs.Routes.{tableRouted};
+ghost use Rattle.ringkit.specs.TableCalls.{tableAfresh, tableRouted};
+
+// A buffer of so many bytes has room for every sheet that routing writes: R has 2 fields, D 7, C 4, L 4, Z 3, and a field takes at most 7 digits and
+// the byte behind them.
+pub const SHEET_BYTES: usize = 8 * (2 + 7 * ROWS + 4 + 4 * LINKS + 3);
+
+// That constant, as a promise.
+pub fn sheet_bytes() -> usize
+    ensures { λ r. ⌜ r ≡ longest desk ⌝ }
+{
+    SHEET_BYTES
+}
 
 // reason 0 is success. On a refusal every field but reason and line is 0.
 #[repr(C)]

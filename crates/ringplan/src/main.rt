@@ -1,12 +1,11 @@
 // Reads a table on standard input and writes its sheet, or the line E, reason, line (parted by tabs) where it is refused.
 use libc::STDIN_FILENO;
 use libc::STDOUT_FILENO;
+use ring::BYTES;
+use ringkit::SHEET_BYTES;
 
 // One byte more than a table can have, so that a longer text is seen to be longer.
-const MOST: usize = 32769;
-
-// Room for the sheet; where that is not enough the call says so with reason 15.
-const ROOM: usize = 32768;
+const MOST: usize = BYTES + 1;
 
 fn show(n: u32, end: &[u8]) {
     io::print_decimal(STDOUT_FILENO, n as u64);
@@ -34,7 +33,7 @@ fn plan(text: &[u8], sheet: &mut [u8]) {
 fn main() {
     let mut table = [0u8; MOST];
     let size = io::read_full(STDIN_FILENO, &mut table);
-    let mut sheet = [0u8; ROOM];
+    let mut sheet = [0u8; SHEET_BYTES];
     if size <= MOST {
         plan(&table[0..size], &mut sheet);
     }

@@ -1,4 +1,3 @@
-pub mod Totals
 pub mod SpanSteps
 pub mod SquareSteps
 pub mod CutSteps

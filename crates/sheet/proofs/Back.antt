@@ -60,7 +60,7 @@ module _ (rs : List Routed) (first second amount : List ℕ) (few : length rs �
 no-link : Link
 no-link = record { link = 0; split = 0; unsplit = 0 }
 
-numbers-length : (k m : ℕ) → length (numbersFrom k m) ≡ m
+pub numbers-length : (k m : ℕ) → length (numbersFrom k m) ≡ m
 unfolding numbersFrom
 numbers-length k zero = refl
 numbers-length k (suc m) = ap suc (numbers-length (suc k) m)

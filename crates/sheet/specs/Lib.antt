@@ -1,2 +1,3 @@
 pub mod WriteSheet
 pub mod Arrays
+pub mod Range

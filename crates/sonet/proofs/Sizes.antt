@@ -1,12 +1,12 @@
 -- Of a rising list the first size that is enough is the smallest that is, since every later one is above it: by recursion over the list.
 use Prim.Native.Nat.{ℕ, _≤_, _<_}
-use mathlib.Core.Bool.{true, and-eq-true-iff}
+use mathlib.Core.Bool.{Bool, true, false, cond, and-eq-true-iff}
 use mathlib.Core.List.{List, [], _∷_, List·Memᴰ, List·Memᴰ·head, List·Memᴰ·tail, List·Memᴰ·cases-cons, List·Memᴰ·not-nil}
 use mathlib.Core.Logic.{_⊎_, inl, inr}
 use mathlib.Core.Path.{_≡_, refl}
 use native.Mathlib.Omega.{arith}
 use native.Mathlib.Decide.{decLe}
-use lib.Dec.{ltb}
+use lib.Dec.{leb, ltb}
 use borrow.Author.Tests.{ltb-true, le-leb, lt-leb}
 use Rattle.sonet.specs.Size.{smallestIn, sonetSizes, sonetSize, risesAbove, rises, Smallest, NoneFits}
 
@@ -63,3 +63,16 @@ smallest-is (x ∷ xs) e peak = go (decLe peak x) (smallest-is xs (tail-rises x 
 pub sonet-smallest : (peak : ℕ) → Answers sonetSizes peak (sonetSize peak)
 unfolding rises
 sonet-smallest peak = smallest-is sonetSizes refl peak
+
+-- no size is above the largest
+pub size-small : (peak : ℕ) → sonetSize peak ≤ 768
+unfolding smallestIn
+size-small peak = go (leb peak 3) (leb peak 12) (leb peak 48) (leb peak 192) (leb peak 768)
+  where
+    go : (a b c d e : Bool) → cond a 3 (cond b 12 (cond c 48 (cond d 192 (cond e 768 0)))) ≤ 768
+    go true b c d e = omega arith
+    go false true c d e = omega arith
+    go false false true d e = omega arith
+    go false false false true e = omega arith
+    go false false false false true = omega arith
+    go false false false false false = omega arith

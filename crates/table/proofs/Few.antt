@@ -3,7 +3,8 @@ use Prim.Native.Nat.{ℕ, _+_, _≤_}
 use mathlib.Core.List.{List}
 use native.Mathlib.Omega.{arith}
 use lib.ListN.{length}
-use Rattle.ring.specs.Row.{Row}
+use Rattle.ring.specs.Lists.{Each}
+use Rattle.ring.specs.Row.{Row, TableRows}
 use Rattle.ring.specs.Limits.{desk}
 use Rattle.table.specs.Table.{InRange}
 use Rattle.table.proofs.Rank.{rank, rank-none, rank-up, rank-most}
@@ -20,5 +21,8 @@ few-behind {a} {b} many most k (fine-row {r = r} o up m f) =
       few-behind many high (rank-most (r .i) (r .j) (o .low) (o .order) high) f,
     )
 
+pub few-rows : (n : ℕ) (rs : List Row) → n ≤ desk .nodes → TableRows n rs → Each (λ r. r .d ≤ desk .amount) rs → length rs ≤ desk .rows
+few-rows n rs many rows amounts = omega (arith, rank-none, few-behind many (omega arith) (omega (arith, rank-none)) (fine-rows {limits = desk} rows amounts))
+
 pub few : (n : ℕ) (rs : List Row) → InRange desk n rs → length rs ≤ desk .rows
-few n rs h = omega (arith, rank-none, few-behind (h .many) (omega arith) (omega (arith, rank-none)) (fine-rows {limits = desk} (h .rows) (h .amounts)))
+few n rs h = few-rows n rs (h .many) (h .rows) (h .amounts)

@@ -60,11 +60,11 @@ pub(crate) fn write_line(buf: &mut [u8], at: usize, shape: &[u8], values: &[u32]
     ensures { λ r. ⌜ Written (now (buf .entry)) at (writeLine (now (shape .entry)) (now (values .entry))) (now (buf .exit)) r ⌝ }
 {
     let mut p = at;
-    let mut t: usize = 0;
-    while t < shape.len() {
-        let v = values[t];
-        p = write_field(buf, p, shape[t], v, end_of(shape.len() - t - 1));
-        t = t + 1;
+    let mut next: usize = 0;
+    while next < shape.len() {
+        let v = values[next];
+        p = write_field(buf, p, shape[next], v, end_of(shape.len() - next - 1));
+        next = next + 1;
     }
     p
 }

@@ -36,8 +36,8 @@ end-of-requires c κs = search needs
 write-field-requires : tie.Need-write-field-requires Inv-loop μ-loop
 write-field-requires c κs = search (field-fits)
 
-add-t : tie.Need-add-t Inv-loop μ-loop
-add-t c = search needs
+add-next : tie.Need-add-next Inv-loop μ-loop
+add-next c = search needs
 
 loop-less : tie.Need-loop-less Inv-loop μ-loop
 loop-less c = search needs
@@ -65,7 +65,7 @@ write-line-spec =
     sub-end-of-2
     end-of-requires
     write-field-requires
-    add-t
+    add-next
     loop-less
     loop-again
     same-length

@@ -5,23 +5,29 @@ use mathlib.Core.Path.{_≡_, refl}
 use mathlib.Core.List.{List, [], _∷_}
 use native.Mathlib.Omega.{arith}
 use native.Mathlib.Nat.{mul-suc}
+use lib.ListN.{length}
 use Rattle.ring.specs.Row.{Row, inFront}
 use Rattle.ring.specs.Cut.{part, across}
 use Rattle.ring.specs.Routing.{Sent, Routed, Way, F, B, byWay, sentOver, splitLoad, wholeOver, unsplitLoad}
+use Rattle.ring.specs.Lists.{Each, none, more}
 use Rattle.ring.specs.Columns.{listed}
+use Rattle.ring.proofs.Listed.{each-listed, listed-length}
 
 -- what a row adds, and the sum of it over rows
 pub record Total {A : Type 0} (share : A → ℕ) (sum : List A → ℕ) : Type 0 where
   pub none : sum [] ≡ 0
   pub more : (a : A) (l : List A) → sum (a ∷ l) ≡ share a + sum l
 
+-- where no row adds more than `most`
+pub total-most : {A : Type 0} {share : A → ℕ} {sum : List A → ℕ} → Total share sum → (most : ℕ) {l : List A} → Each (λ a. share a ≤ most) l → sum l ≤ most * length l
+total-most t most none = omega (arith, t .none)
+total-most {sum = sum} t most (more {a = a} {l = l} p e) = omega (arith, t .more a l, mul-suc most (length l), total-most {sum = sum} t most e)
+
+-- the same of rows by place
 pub total-small : {A : Type 0} {share : A → ℕ} {sum : List A → ℕ} → Total share sum → (f : ℕ → A) (most k m : ℕ) →
     ((x : ℕ) → k ≤ x → x < k + m → share (f x) ≤ most) → sum (listed f k m) ≤ most * m
-unfolding listed
-total-small t f most k zero h = omega (arith, t .none)
-total-small {sum = sum} t f most k (suc m) h =
-    omega
-    (arith, t .more (f k) (listed f (suc k) m), h k (omega arith) (omega arith), mul-suc most m, total-small {sum = sum} t f most (suc k) m (λ x a b. h x (omega arith) (omega arith)))
+total-small {share = share} {sum = sum} t f most k m h =
+    let e = listed-length f k m in rw e at (total-most {sum = sum} t most (each-listed {P = λ a. share a ≤ most} f k m h))
 
 pub across-total : (g h : ℕ) → Total (λ r. part r g h) (λ rs. across rs g h)
 unfolding across

@@ -1,0 +1,28 @@
+-- The calls that read a table: its refusals (then 15), or the text that is due to its values.
+use Prim.Native.Nat.{ℕ}
+use mathlib.Core.List.{List}
+use Rattle.ring.specs.Limits.{desk}
+use Rattle.ring.specs.Row.{Row}
+use Rattle.ring.specs.Sheet.{plan}
+use Rattle.table.specs.Table.{Result, accepted, refused, tableOf, writeTable}
+use Rattle.sheet.specs.WriteSheet.{writeSheet}
+use Rattle.ringkit.specs.Outcome.{Outcome, write, refuse}
+
+-- the outcome of a reading, by what is due to the values of an accepted table
+unfoldable pub ofTable : (ℕ → List Row → List ℕ) → Result → Outcome
+ofTable due (accepted n rs) = write (due n rs)
+ofTable due (refused reason line) = refuse reason line
+
+-- reading a table and writing its values afresh
+unfoldable pub tableAfresh : List ℕ → Outcome
+unfolding ofTable
+tableAfresh t = ofTable writeTable (tableOf desk t)
+
+-- the sheet that the four rules give
+abbrev pub sheetDue : ℕ → List Row → List ℕ
+sheetDue n rs = writeSheet (plan n rs)
+
+-- routing a table
+unfoldable pub tableRouted : List ℕ → Outcome
+unfolding ofTable
+tableRouted t = ofTable sheetDue (tableOf desk t)
