@@ -2,14 +2,15 @@
 -- halves; the peak is a load.
 use Prim.Native.Nat.{ℕ, _+_, _*_, _≤_}
 use mathlib.Core.List.{List}
-use mathlib.Core.Path.{_≡_, ap, _∙_}
+use mathlib.Core.Path.{_≡_, _∙_}
 use native.Mathlib.Omega.{arith}
 use lib.ListN.{length, length-map}
-use Rattle.sonet.proofs.Sizes.{size-small}
+use Rattle.sonet.specs.Size.{sonetSizes}
+use Rattle.sonet.proofs.Sizes.{largestOf, smallest-small}
 use Rattle.ring.specs.Lists.{Each}
 use Rattle.ring.specs.Row.{Row}
-use Rattle.ring.specs.Cut.{part, across}
-use Rattle.ring.specs.Routing.{Sent, Routed, sentOver, splitLoad, wholeOver, unsplitLoad}
+use Rattle.ring.specs.Cut.{across}
+use Rattle.ring.specs.Routing.{Sent, Routed, splitLoad, unsplitLoad}
 use Rattle.ring.specs.Sheet.{Link, Sheet, sents, demands, unsplitPeak}
 use Rattle.ring.specs.True.{SumsTo2d, TrueSheet}
 use Rattle.ring.proofs.Lists.{each, each-both, each-of-map}
@@ -64,7 +65,7 @@ pub record SmallFigures (most : ℕ) (x : Sheet) : Type 0 where
   pub across : x .cut .number ≤ most * length (x .rows)
   pub links : Each (SmallLink most (length (x .rows))) (x .links)
   pub peak : x .peak ≤ most * length (x .rows)
-  pub size : x .size ≤ 768
+  pub size : x .size ≤ largestOf sonetSizes
 
 pub figures-small : (most : ℕ) (x : Sheet) → TrueSheet x → Each (λ (r : Row). r .d ≤ most) (demands (sents (x .rows))) → SmallFigures most x
 figures-small most x t amounts =
@@ -76,5 +77,5 @@ figures-small most x t amounts =
         unsplit = omega (arith, loads .unsplit, unsplit-small most (x .rows) amounts (l .link));
       }) (t .loads);
       peak = omega (arith, t .peak, peak-least (unsplitLoad (x .rows)) (x .n) (most * length (x .rows)) (λ k a b. unsplit-small most (x .rows) amounts k));
-      size = omega (arith, t .size, size-small (unsplitPeak x));
+      size = omega (arith, t .size, smallest-small sonetSizes (unsplitPeak x));
     }

@@ -1,4 +1,4 @@
-// The mathematics of the ring: definitions in specs/, theorems in proofs/. Its only code is the numbers of 01, each named once.
+// The mathematics of the ring: definitions in specs/, theorems in proofs/. Its only code is the numbers of 01, each named once, and those of the ways.
 
 // A text has at most so many bytes.
 pub const BYTES: usize = 32768;
@@ -15,3 +15,8 @@ pub const AMOUNT: u32 = 9999;
 
 // Working arrays have room for so many rows.
 pub const ROWS: usize = 496;
+
+// The ways F and B as numbers.
+pub const FRONT: u32 = 0;
+
+pub const BACK: u32 = 1;

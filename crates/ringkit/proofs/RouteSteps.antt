@@ -52,13 +52,13 @@ module _ (s old : List ℕ) (t : Table) (e : t ≡ tableIn (tableOf desk s)) whe
     range : InRange desk n rows
     range = table-text desk desk-spelled s n rows .0 (told .is) .1
 
-    -- the table is one that the router takes
-    pub router-takes : router.Table n count (t .first) (t .second) (t .amount)
-    router-takes =
+    -- the table's rows, or as many of them as there are up to some place, are what the router takes
+    pub router-takes : (some : ℕ) → some ≤ count → router.Table n some (t .first) (t .second) (t .amount)
+    router-takes some up-to =
         record {
           two = range .few;
           links = range .many;
-          few = told .room;
+          few = omega (arith, told .room);
           nodes = λ k l. each-at (OnRing n) (rowAt (t .first) (t .second) (t .amount)) 0 count (range .rows .nodes) k (omega arith) (omega arith);
           small = λ k l. each-at (λ r. r .d ≤ desk .amount) (rowAt (t .first) (t .second) (t .amount)) 0 count (range .amounts) k (omega arith) (omega arith);
         }

@@ -3,13 +3,13 @@
 use Prim.Native.Nat.{ℕ, _≤_, _<_}
 use mathlib.Core.List.{List}
 use mathlib.Core.Logic.{_↔_}
-use mathlib.Core.Path.{_≡_, refl, ap, _∙_, sym}
+use mathlib.Core.Path.{_≡_, refl, ap, _∙_, sym, subst}
 use native.Mathlib.Omega.{arith}
 use lib.ListN.{length}
 use Rattle.ring.specs.Limits.{desk}
 use Rattle.ring.specs.Row.{Row}
 use Rattle.table.specs.Reasons.{numberOf}
-use Rattle.table.specs.Table.{Result, accepted, refused, tableOf, writeTable, InRange}
+use Rattle.table.specs.Table.{Result, accepted, refused, tableOf, writeTable}
 use Rattle.table.specs.Says.{Given, Accepted}
 use Rattle.table.specs.declared.reason.Reason.{Reason}
 use Rattle.table.specs.declared.reason.Reason.the-variants.{NoRoom}
@@ -19,11 +19,11 @@ use Rattle.table.proofs.TableText.{desk-spelled, table-text}
 use Rattle.table.proofs.Accepted.{same-table}
 use Rattle.sheet.specs.Range.{longest}
 use Rattle.sheet.proofs.Short.{plan-short}
-use Rattle.ringkit.specs.Outcome.{Outcome, Fills}
+use Rattle.ringkit.specs.Outcome.{Fills}
 use Rattle.ringkit.specs.TableCalls.{ofTable, tableAfresh, sheetDue, tableRouted}
-use Rattle.ringkit.specs.Says.{Success, CallSays, TableDue}
+use Rattle.ringkit.specs.Says.{Success, Refusal, CallSays, TableDue, Fitting, TooLarge}
 use Rattle.ringkit.specs.declared.Reply.{Reply}
-use Rattle.ringkit.proofs.Calls.{Decided, is-due, is-given, One, every-call, succeeds, succeeds-with}
+use Rattle.ringkit.proofs.Calls.{Decided, is-due, is-given, One, every-call, succeeds, succeeds-with, no-room, refuses-text}
 
 module _ (due : ℕ → List Row → List ℕ) (t : List ℕ) where
   -- something is due exactly to an accepted table
@@ -73,6 +73,34 @@ rewrite-says t = table-call writeTable t
 pub same-bytes : (t text : List ℕ) → TableDue writeTable t text → text ≡ t
 same-bytes t text d = d .is ∙ sym (d .table)
 
+module _ (t old new : List ℕ) (r : Reply) (call : Fills (tableAfresh t) old new r) where
+  itself-due : Accepted desk t → TableDue writeTable t t
+  itself-due a = let s = due-accepted writeTable t .0 a in subst (TableDue writeTable t) (same-bytes t (s .text) (s .is)) (s .is)
+
+  -- 0 exactly when the table is accepted and the buffer has room for it
+  pub rewrite-succeeds : (r .reason ≡ 0) ↔ (Accepted desk t × (length t ≤ length old))
+  rewrite-succeeds =
+      let law = succeeds (one-due writeTable t) (rewrite-says t old new r call) in (
+        λ e. let f = law .0 e in (due-accepted writeTable t .1 (record { text = f .text; is = f .due }), omega (arith, f .fits, ap length (same-bytes t (f .text) (f .due)))),
+        λ h. law .1 (record { text = t; due = itself-due (h .0); fits = h .1 }),
+      )
+
+  -- and then the same bytes are written
+  pub rewrite-writes : Accepted desk t → length t ≤ length old → Success t old new r
+  rewrite-writes a fits = succeeds-with (one-due writeTable t) (rewrite-says t old new r call) t (itself-due a) fits
+
+  -- 15 exactly when the table is accepted and the buffer is too short for it
+  pub rewrite-no-room : (r .reason ≡ numberOf NoRoom) ↔ (Accepted desk t × (length old < length t))
+  rewrite-no-room =
+      let law = no-room (one-due writeTable t) (rewrite-says t old new r call) in (
+        λ e. let f = law .0 e in (due-accepted writeTable t .1 (record { text = f .text; is = f .due }), omega (arith, f .large, ap length (same-bytes t (f .text) (f .due)))),
+        λ h. law .1 (record { text = t; due = itself-due (h .0); large = h .1 }),
+      )
+
+  -- every other reason exactly when it is the table's first, and with its line
+  pub rewrite-refuses : (reason : Reason) (line : ℕ) → numberOf reason < numberOf NoRoom → Given desk t reason line ↔ Refusal reason line old new r
+  rewrite-refuses = refuses-text (one-due writeTable t) (rewrite-says t old new r call)
+
 -- ---- routing
 
 pub route-says : (t old new : List ℕ) (r : Reply) → Fills (tableRouted t) old new r → CallSays (TableDue sheetDue t) (Given desk t) old new r
@@ -83,8 +111,25 @@ route-says t = table-call sheetDue t
 pub due-short : (t text : List ℕ) → TableDue sheetDue t text → length text ≤ longest desk
 due-short t text d = omega (arith, ap length (d .is), plan-short (d .n) (d .rs) (d .range))
 
--- so with that much room every accepted table is routed
-pub always-routed : (t old new : List ℕ) (r : Reply) → Fills (tableRouted t) old new r → Accepted desk t → longest desk ≤ length old → r .reason ≡ 0
-always-routed t old new r f a room =
-    let s = due-accepted sheetDue t .0 a in
-    succeeds (one-due sheetDue t) (route-says t old new r f) .1 (record { text = s .text; due = s .is; fits = omega (arith, due-short t (s .text) (s .is)) })
+module _ (t old new : List ℕ) (r : Reply) (call : Fills (tableRouted t) old new r) where
+  -- 0 exactly when the table has a sheet that fits
+  pub route-succeeds : (r .reason ≡ 0) ↔ Fitting (TableDue sheetDue t) old
+  route-succeeds = succeeds (one-due sheetDue t) (route-says t old new r call)
+
+  -- and then that sheet is written
+  pub route-writes : (text : List ℕ) → TableDue sheetDue t text → length text ≤ length old → Success text old new r
+  route-writes = succeeds-with (one-due sheetDue t) (route-says t old new r call)
+
+  -- 15 exactly when it has a sheet that does not fit
+  pub route-no-room : (r .reason ≡ numberOf NoRoom) ↔ TooLarge (TableDue sheetDue t) old
+  route-no-room = no-room (one-due sheetDue t) (route-says t old new r call)
+
+  -- every other reason exactly when it is the table's first, and with its line
+  pub route-refuses : (reason : Reason) (line : ℕ) → numberOf reason < numberOf NoRoom → Given desk t reason line ↔ Refusal reason line old new r
+  route-refuses = refuses-text (one-due sheetDue t) (route-says t old new r call)
+
+  -- with `longest` bytes of room every accepted table is routed
+  pub always-routed : Accepted desk t → longest desk ≤ length old → r .reason ≡ 0
+  always-routed a room =
+      let s = due-accepted sheetDue t .0 a in
+      route-succeeds .1 (record { text = s .text; due = s .is; fits = omega (arith, due-short t (s .text) (s .is)) })

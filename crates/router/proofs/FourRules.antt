@@ -1,69 +1,46 @@
 -- What the router's functions ensure one after the other is the plan of rules A to D: each array is the column of the sheet's figures.
-use Prim.Native.Nat.{ℕ, zero, suc, _-_, _≤_, _<_}
+use Prim.Native.Nat.{ℕ, _-_, _≤_}
 use mathlib.Core.Path.{_≡_, refl, sym, _∙_, ap}
-use mathlib.Core.List.{List, _∷_, map}
+use mathlib.Core.List.{List, map, map-map}
 use native.Mathlib.Omega.{arith}
 use native.Mathlib.Decide.{ℕ-discrete}
 use borrow.Author.Tests.{eq-eqb, ne-eqb}
 use lib.ListN.{getD, replicate, length-replicate, getD-replicate}
+use lib.Seq.{sets}
 use Rattle.sonet.specs.Size.{sonetSize}
 use Rattle.ring.specs.Row.{Row}
 use Rattle.ring.specs.Cut.{across}
-use Rattle.ring.specs.Routing.{Routed, splitLoad, unsplitLoad, peak}
+use Rattle.ring.specs.Routing.{Routed, unsplitLoad, peak}
 use Rattle.ring.specs.RuleA.{largestCut, ruleA}
 use Rattle.ring.specs.RuleB.{ruleB}
 use Rattle.ring.specs.RuleC.{ruleC}
 use Rattle.ring.specs.RuleD.{ruleD}
-use Rattle.ring.specs.Sheet.{Link, sents, numbersFrom, linkOf, sheetOf, plan}
+use Rattle.ring.specs.Sheet.{Link, numbersFrom, linkOf, sheetOf, plan}
 use Rattle.ring.proofs.LargestCut.{largest-cut}
 use Rattle.router.specs.declared.Plan.{Plan}
 use Rattle.router.specs.declared.cut.Cut.{Cut}
+use Rattle.router.specs.declared.weighing.Weight.{Weight}
 use Rattle.router.specs.Limits.{mostRows, mostLinks, mostAcross}
-use Rattle.ring.specs.Columns.{listed, rowAt, rowsIn, sentsIn, wayOf, wayNumber, routedAt, routedIn, column}
-use Rattle.router.specs.Rows.{Nodes}
+use Rattle.ring.specs.Columns.{rowAt, rowsIn, sentsIn, wayOf, wayNumber, routedAt, routedIn, column}
 use Rattle.router.specs.Rows.{Table}
-use Rattle.router.specs.Arrays.{at, linkAt, Square, Rooms, Halves, Loads}
+use Rattle.router.specs.Arrays.{at, Square, Rooms, Halves}
 use Rattle.router.specs.Answers.{cutIn, SentAll, Untangles, Chooses}
+use Rattle.router.specs.Weighed.{weightIn}
 use Rattle.router.specs.Planned.{Divided, planIn}
-use Rattle.ring.proofs.Listed.{listed-all, listed-map, listed-shift, each-listed}
+use Rattle.ring.proofs.Listed.{listed-all, each-listed}
 use Rattle.router.proofs.SquareSteps.{rows-fit}
 use Rattle.router.proofs.CutSteps.{same-cut}
 use Rattle.router.proofs.Rooms.{same-sending}
 use Rattle.ring.proofs.Laid.{laid}
 
--- ---- a column of links
-
-links-listed : (k m : ℕ) → numbersFrom k m ≡ listed (λ x. x) k m
-unfolding numbersFrom listed
-links-listed k zero = refl
-links-listed k (suc m) = ap (λ (l : List ℕ). k ∷ l) (links-listed (suc k) m)
-
--- the lines of links 1 to n, from place 0
-lines-listed : (rs : List Routed) (n : ℕ) → map (linkOf rs) (numbersFrom 1 n) ≡ listed (λ x. linkOf rs (suc x)) 0 n
-lines-listed rs n = rw (links-listed 1 n) (listed-map (linkOf rs) (λ x. x) 1 n ∙ listed-shift (linkOf rs) 0 n)
-
 -- a figure of links, in its array
-links-laid : (figure : Link → ℕ) (rs : List Routed) (n : ℕ) (load : ℕ → ℕ) (links : List ℕ) → n ≤ mostLinks → ((k : ℕ) → load k ≡ figure (linkOf rs k)) → Loads n load links →
-    links ≡ column figure mostLinks (map (linkOf rs) (numbersFrom 1 n))
-links-laid figure rs n load links few same l =
-    laid figure (λ x. linkOf rs (suc x)) mostLinks n links (l .size) few (λ k a. here k a) (l .behind) ∙ sym (ap (column figure mostLinks) (lines-listed rs n))
-  where
-    here : (k : ℕ) → k < n → getD links k 0 ≡ figure (linkOf rs (suc k))
-    here k a =
-        let e : suc k - 1 ≡ k = omega arith in
-        (rw e at (l .is (suc k) (omega arith) (omega arith))) ∙ same (suc k)
+lines-laid : (figure : Link → ℕ) (rs : List Routed) (ks : List ℕ) → column (λ k. figure (linkOf rs k)) mostLinks ks ≡ column figure mostLinks (map (linkOf rs) ks)
+unfolding column
+lines-laid figure rs ks = ap (sets (replicate {A = ℕ} mostLinks 0) 0) (sym (map-map figure (linkOf rs) ks))
 
 -- a way's number, of a way that is one
 way-number : (w : ℕ) → w ≤ 1 → w ≡ wayNumber (wayOf w)
 way-number w l = elim (ℕ-discrete w 0) [ yes e ↦ rw (eq-eqb w 0 e) e | no e ↦ rw (ne-eqb w 0 e) (omega arith) ]
-
--- the same table, with the number of nodes as a place
-pub same-table : (n m count : ℕ) (first second amount : List ℕ) → m ≡ n → Table n count first second amount → Table m count first second amount
-same-table n m count first second amount e t = rw e t
-
-pub nodes-of : (n count : ℕ) (first second amount : List ℕ) → Table n count first second amount → Nodes n count first second
-nodes-of n count first second amount t =
-    record { links = t .links; few = t .few; on = λ k l. record { low = t .nodes k l .low; order = t .nodes k l .order; high = t .nodes k l .high } }
 
 -- ---- rules A to C
 
@@ -109,11 +86,9 @@ module _ (n count : ℕ) (first second amount : List ℕ) (table : Table n count
 
 -- ---- rule D and the figures
 
-module _ (n count : ℕ) (first second amount : List ℕ) (table : Table n count first second amount) (front back way split unsplit : List ℕ) (cut : Cut) (top size : ℕ)
-    (d : Divided n count first second amount front back cut)
-    (turned : Chooses count amount front back way)
-    (splits : (amount : List ℕ) → Loads n (splitLoad (sentsIn count first second amount front back)) split)
-    (unsplits : (front back : List ℕ) → Loads n (unsplitLoad (routedIn count first second amount front back way)) unsplit) (et : top ≡ peak (linkAt unsplit) n) (ez : size ≡ sonetSize top) where
+module _ (n count : ℕ) (first second amount : List ℕ) (table : Table n count first second amount) (front back way : List ℕ) (cut : Cut) (weight : Weight) (size : ℕ)
+    (d : Divided n count first second amount front back cut) (turned : Chooses count amount front back way) (weighed : weight ≡ weightIn n (routedIn count first second amount front back way))
+    (ez : size ≡ sonetSize (weight .peak)) where
   abbrev routes : List Routed
   routes = routedIn count first second amount front back way
 
@@ -122,9 +97,6 @@ module _ (n count : ℕ) (first second amount : List ℕ) (table : Table n count
 
   routes-are : routes ≡ ruleD (ruleC (ruleB n (rowsIn count first second amount)))
   routes-are = turned .is first second ∙ ap ruleD (d .sent)
-
-  sents-are : sents routes ≡ sentsIn count first second amount front back
-  sents-are = listed-map (λ (r : Routed). r .sent) (routedAt first second amount front back way) 0 count
 
   front-laid : front ≡ column (λ (r : Routed). r .sent .front) mostRows routes
   front-laid = laid _ (routedAt first second amount front back way) mostRows count front (halves .fronts) (table .few) (λ k l. refl) (halves .no-front)
@@ -138,23 +110,21 @@ module _ (n count : ℕ) (first second amount : List ℕ) (table : Table n count
   abbrev lines : List Link
   lines = map (linkOf routes) (numbersFrom 1 n)
 
-  split-laid : split ≡ column (λ (l : Link). l .split) mostLinks lines
-  split-laid = links-laid (λ l. l .split) routes n _ split (table .links) (λ k. ap (λ ss. splitLoad ss k) (sym sents-are)) (splits amount)
+  split-laid : weight .split ≡ column (λ (l : Link). l .split) mostLinks lines
+  unfolding weightIn
+  split-laid = ap (λ (w : Weight). w .split) weighed ∙ lines-laid (λ l. l .split) routes (numbersFrom 1 n)
 
-  unsplit-laid : unsplit ≡ column (λ (l : Link). l .unsplit) mostLinks lines
-  unsplit-laid = links-laid (λ l. l .unsplit) routes n _ unsplit (table .links) (λ k. refl) (unsplits front back)
+  unsplit-laid : weight .unsplit ≡ column (λ (l : Link). l .unsplit) mostLinks lines
+  unfolding weightIn
+  unsplit-laid = ap (λ (w : Weight). w .unsplit) weighed ∙ lines-laid (λ l. l .unsplit) routes (numbersFrom 1 n)
 
-  same-peak : (f g : ℕ → ℕ) (m : ℕ) → ((k : ℕ) → 1 ≤ k → k ≤ m → f k ≡ g k) → peak f m ≡ peak g m
-  unfolding peak
-  same-peak f g zero h = refl
-  same-peak f g (suc m) h = omega (arith, same-peak f g m (λ k a b. h k a (omega arith)), h (suc m) (omega arith) (omega arith))
-
-  top-is : top ≡ peak (unsplitLoad routes) n
-  top-is = et ∙ same-peak (linkAt unsplit) (unsplitLoad routes) n (unsplits front back .is)
+  top-is : weight .peak ≡ peak (unsplitLoad routes) n
+  unfolding weightIn
+  top-is = ap (λ (w : Weight). w .peak) weighed
 
   abbrev answer : Plan
   answer =
-      record { g = cut .g; h = cut .h; across = cut .number; front = front; back = back; way = way; split = split; unsplit = unsplit; peak = top; size = size }
+      record { g = cut .g; h = cut .h; across = cut .number; front = front; back = back; way = way; split = weight .split; unsplit = weight .unsplit; peak = weight .peak; size = size }
 
   sheet-is : answer ≡ planIn (sheetOf n (ruleA n (rowsIn count first second amount)) routes)
   unfolding planIn sheetOf

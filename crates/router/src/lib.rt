@@ -7,12 +7,10 @@ mod sending;
 mod spans;
 mod square;
 mod ways;
+mod weighing;
 
 use cut::Cut;
 use cut::largest_cut;
-use loads::highest;
-use loads::split_loads;
-use loads::unsplit_loads;
 use numbers::wide;
 use parallel::untangle;
 use ring::LINKS;
@@ -21,6 +19,8 @@ use sending::send_all;
 use sonet::Sonet;
 use square::fill;
 use ways::choose;
+pub use weighing::Weight;
+pub use weighing::weigh;
 ghost use mathlib.Core.Path.{_≡_};
 ghost use Rattle.ring.specs.Sheet.{plan};
 ghost use Rattle.ring.specs.Columns.{rowsIn};
@@ -96,11 +96,10 @@ pub fn route<'a>(
     let cut = divide(links, count, first, second, amount, &mut front, &mut back);
     let mut way: [u32; ROWS] = [0; ROWS];
     choose(count, amount, &front, &back, &mut way);
-    let mut split: [u32; LINKS] = [0; LINKS];
-    split_loads(links, count, first, second, &front, &back, &mut split);
-    let mut unsplit: [u32; LINKS] = [0; LINKS];
-    unsplit_loads(links, count, first, second, amount, &way, &mut unsplit);
-    let peak = highest(&unsplit, links);
+    let weight = weigh(n, count, first, second, amount, &front, &back, &way);
+    let split = weight.split;
+    let unsplit = weight.unsplit;
+    let peak = weight.peak;
     let size = Sonet::size(peak);
     Plan {
         g: cut.g,

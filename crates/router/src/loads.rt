@@ -2,7 +2,7 @@
 use crate::numbers::larger;
 use crate::numbers::wide;
 use crate::spans::step_over;
-use crate::ways::FRONT;
+use ring::FRONT;
 use ring::LINKS;
 use ring::ROWS;
 ghost use mathlib.Core.List.{List};

@@ -1,6 +1,8 @@
 // Rule D: each row goes whole, front or back.
 use crate::numbers::larger;
 use crate::parallel::is_split;
+use ring::BACK;
+use ring::FRONT;
 use ring::ROWS;
 ghost use mathlib.Core.List.{List};
 ghost use mathlib.Core.Path.{_≡_};
@@ -13,11 +15,6 @@ ghost use Rattle.ring.specs.Columns.{sentsIn};
 ghost use Rattle.router.specs.Arrays.{Halves, Ways};
 ghost use Rattle.router.specs.Answers.{largerSplit, Stepped, Chooses};
 
-// F and B as numbers.
-pub(crate) const FRONT: u32 = 0;
-
-const BACK: u32 = 1;
-
 // The largest amount of a split row, with one row more.
 fn larger_split(most: u32, d: u32, front: u32, back: u32) -> u32
     ensures { λ r. ⌜ r ≡ largerSplit most (sent 0 0 d front back) ⌝ }
@@ -27,7 +24,12 @@ fn larger_split(most: u32, d: u32, front: u32, back: u32) -> u32
 }
 
 // D: the largest amount of a split row.
-fn largest_split(count: usize, amount: &[u32; ROWS], front: &[u32; ROWS], back: &[u32; ROWS]) -> u32
+pub(crate) fn largest_split(
+    count: usize,
+    amount: &[u32; ROWS],
+    front: &[u32; ROWS],
+    back: &[u32; ROWS],
+) -> u32
     requires { ⌜ count ≤ mostRows ⌝ }
     ensures { λ r. ⌜ ((first second : List ℕ) → r ≡ largestSplit (sentsIn count first second (now (amount .entry)) (now (front .entry)) (now (back .entry)))) ⌝ }
 {

@@ -29,7 +29,7 @@ at-listed f none m zero k h = absurd (omega arith)
 at-listed f none m (suc n) zero h = let e : m + 0 ≡ m = omega arith in rw e
 at-listed f none m (suc n) (suc k) h = let e : m + suc k ≡ suc m + k = omega arith in rw e (at-listed f none (suc m) n k (omega arith))
 
-way-back : (w : Way) → wayOf (wayNumber w) ≡ w
+pub way-back : (w : Way) → wayOf (wayNumber w) ≡ w
 way-back F = refl
 way-back B = refl
 

@@ -4,3 +4,10 @@ pub mod Back
 pub mod Unique
 pub mod SheetLines
 pub mod Short
+pub mod Tested
+pub mod SheetJudged
+pub mod Rest
+pub mod Read
+pub mod SheetText
+pub mod Truth
+pub mod Demands

@@ -31,7 +31,7 @@ lines-listed line f k =
     ap (linesOf line) (listed-snoc f 0 k) ∙ lines-more line (listed f 0 k) (f (0 + k)) ∙ ap (λ m. linesOf line (listed f 0 k) ++ line (f m)) e
 
 -- a way is spelled by whether it is 0
-way-spelled : (i j d f b w : ℕ) → sentLine i j d f b (wayNumber (wayOf w)) ≡ sentLine i j d f b w
+pub way-spelled : (i j d f b w : ℕ) → sentLine i j d f b (wayNumber (wayOf w)) ≡ sentLine i j d f b w
 unfolding writeLine spell markByte
 way-spelled i j d f b w = go (eqb w 0) refl
   where

@@ -6,6 +6,8 @@ use mathlib.Core.Path.{_≡_, refl, ap, _∙_, sym, subst}
 use native.Mathlib.Omega.{arith}
 use native.Mathlib.Nat.{mul-suc}
 use lib.ListN.{length, length-append, length-map}
+use Rattle.sonet.specs.Size.{sonetSizes}
+use Rattle.sonet.proofs.Sizes.{largestOf}
 use Rattle.ring.specs.Limits.{desk}
 use Rattle.ring.specs.Lists.{Each, none, more}
 use Rattle.ring.specs.Row.{Row, OnRing, TableRows}
@@ -14,7 +16,7 @@ use Rattle.ring.specs.Columns.{wayNumber}
 use Rattle.ring.specs.Sheet.{Link, Sheet, sents, demands, numbersFrom, plan}
 use Rattle.ring.specs.True.{TrueSheet}
 use Rattle.ring.proofs.Lists.{each, each-both, each-of-map}
-use Rattle.ring.proofs.Figures.{SmallRow, SmallLink, SmallFigures, figures-small}
+use Rattle.ring.proofs.Figures.{SmallFigures, figures-small}
 use Rattle.ring.proofs.OurPlan.{plan-true, plan-demands}
 use Rattle.text.specs.Number.{limit}
 use Rattle.text.specs.Shapes.{ringShape, sentShape, cutShape, linkShape, lastShape, ringLine, cutLine, lastLine}
@@ -34,7 +36,7 @@ unfolding linesOf
 lines-most line most none = omega arith
 lines-most line most (more {a = a} {l = l} p e) = omega (arith, length-append (line a) (linesOf line l), mul-suc most (length l), lines-most line most e)
 
-way-small : (w : Way) → wayNumber w < 2
+pub way-small : (w : Way) → wayNumber w < 2
 way-small F = omega arith
 way-small B = omega arith
 
@@ -105,6 +107,10 @@ module _ (x : Sheet) (many : x .n ≤ desk .nodes) (rows : TableRows (x .n) (dem
 
 -- ---- a true sheet's figures
 
+sizes-spelled : largestOf sonetSizes < limit
+unfolding largestOf
+sizes-spelled = omega arith
+
 numbers-within : (top k m : ℕ) → k + m ≤ top → Each (λ j. j < top) (numbersFrom k m)
 unfolding numbersFrom
 numbers-within top k zero h = none
@@ -127,7 +133,7 @@ module _ (x : Sheet) (t : TrueSheet x) (many : x .n ≤ desk .nodes) (rows : Tab
         halves = each (λ r h. record { front = omega (arith, h .halves); back = omega (arith, h .halves) }) (small .rows);
         cut = (omega (arith, t .cut .order, t .cut .high), (omega (arith, t .cut .high), omega (arith, small .across, count)));
         loads = each-both (λ l k h. record { link = k; split = omega (arith, h .split, count); unsplit = omega (arith, h .unsplit, count) }) numbers (small .links);
-        last = (omega (arith, small .peak, count), omega (arith, small .size));
+        last = (omega (arith, small .peak, count), omega (arith, small .size, sizes-spelled));
       }
 
   pub true-links : length (x .links) ≡ x .n

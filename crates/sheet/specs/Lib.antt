@@ -1,3 +1,6 @@
 pub mod WriteSheet
 pub mod Arrays
 pub mod Range
+pub mod Judge
+pub mod Check
+pub mod Says

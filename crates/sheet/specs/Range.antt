@@ -2,12 +2,13 @@
 use Prim.Native.Nat.{ℕ, _+_, _*_, _≤_, _<_}
 use mathlib.Core.Path.{_≡_}
 use lib.ListN.{length}
-use Rattle.ring.specs.Limits.{Limits, desk}
+use Rattle.ring.specs.Limits.{Limits}
 use Rattle.ring.specs.Lists.{Each}
 use Rattle.ring.specs.Row.{Row, TableRows}
 use Rattle.ring.specs.Routing.{Routed}
 use Rattle.ring.specs.Sheet.{Link, Sheet, sents, demands}
 use Rattle.text.specs.Number.{limit}
+use Rattle.text.specs.Shapes.{ringShape, sentShape, cutShape, linkShape, lastShape}
 use Rattle.sheet.specs.WriteSheet.{writeSheet}
 
 -- the halves of a row can be spelled
@@ -39,6 +40,6 @@ pub record InRange (limits : Limits) (x : Sheet) : Type 0 where
   pub links : length (x .links) ≡ x .n
   pub short : length (writeSheet x) ≤ limits .bytes
 
--- no sheet of so many rows and nodes is longer: R has 2 fields, D 7, C 4, L 4, Z 3, and a field at most 7 digits and the byte behind them
+-- no sheet of so many rows and nodes is longer: a field has at most 7 digits and the byte behind them
 abbrev pub longest : Limits → ℕ
-longest limits = 8 * (2 + 7 * limits .rows + 4 + 4 * limits .nodes + 3)
+longest limits = 8 * (length ringShape + length sentShape * limits .rows + length cutShape + length linkShape * limits .nodes + length lastShape)

@@ -38,7 +38,7 @@ join-lines (b ∷ t) = join-byte (eqb b lf) b (lines t) ∙ ap (λ (l : List ℕ
 abbrev pub FirstLine : List ℕ → Type 0
 FirstLine l = (t : List ℕ) → lines (l ++ t) ≡ l ∷ lines t
 
-abbrev NoLf : ℕ → Type 0
+abbrev pub NoLf : ℕ → Type 0
 NoLf b = b ≡ lf → ⊥
 
 lf-first : FirstLine (lf ∷ [])

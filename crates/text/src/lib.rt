@@ -39,9 +39,9 @@ const LINK: [u8; 4] = *b"Lnnn";
 const LAST: [u8; 3] = *b"Znn";
 
 // A way is a number, and no enum: callers keep ways in arrays and compare them by ==, which an enum does not let them do.
-pub const WAY_F: u32 = 0;
+pub(crate) const WAY_F: u32 = 0;
 
-pub const WAY_B: u32 = 1;
+pub(crate) const WAY_B: u32 = 1;
 
 // What a line of one number says: R n.
 pub enum OneNumber {

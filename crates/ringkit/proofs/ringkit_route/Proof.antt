@@ -17,10 +17,10 @@ enum-known-answer-2 : tie.Need-enum-known-answer-2
 enum-known-answer-2 c = search needs
 
 route-requires : tie.Need-route-requires
-route-requires c κs = search router-takes
+route-requires c κs = search (router-takes, needs)
 
 put-sheet-requires : tie.Need-put-sheet-requires
-put-sheet-requires c κs = (search rows-have-room, search links-have-room)
+put-sheet-requires c κs = (search (rows-have-room, needs), search (links-have-room, needs))
 
 returns : tie.Need-returns
 returns c = search route-refused

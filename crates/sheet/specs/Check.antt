@@ -1,0 +1,154 @@
+-- Checking a sheet: reason 1 first, then lines in order, and in a line by rising reason; then 13, then 14.
+use Prim.Native.Nat.{ℕ, _+_}
+use mathlib.Core.Bool.{Bool, true, false, cond}
+use mathlib.Core.List.{List, [], _∷_, _++_}
+use lib.ListN.{length}
+use lib.Dec.{ltb}
+use Rattle.ring.specs.Columns.{wayOf}
+use Rattle.ring.specs.Cut.{Cut}
+use Rattle.ring.specs.Limits.{Limits}
+use Rattle.ring.specs.Routing.{Routed, routed, sent}
+use Rattle.ring.specs.Sheet.{Link, Sheet}
+use Rattle.text.specs.ReadLine.{readLine}
+use Rattle.text.specs.Answers.{oneIn, twoIn, threeIn, sentIn}
+use Rattle.text.specs.Shapes.{ringShape, sentShape, cutShape, linkShape, lastShape}
+use Rattle.text.specs.declared.OneNumber.{OneNumber}
+use Rattle.text.specs.declared.OneNumber.the-variants.{Is as IsOne, Bad as NotOne}
+use Rattle.text.specs.declared.TwoNumbers.{TwoNumbers}
+use Rattle.text.specs.declared.TwoNumbers.the-variants.{Are as AreTwo, Bad as NotTwo}
+use Rattle.text.specs.declared.ThreeNumbers.{ThreeNumbers}
+use Rattle.text.specs.declared.ThreeNumbers.the-variants.{Are as AreThree, Bad as NotThree}
+use Rattle.text.specs.declared.SentRow.{SentRow}
+use Rattle.text.specs.declared.SentRow.the-variants.{Is as IsSent, Bad as NotSent}
+use Rattle.table.specs.Lines.{lines}
+use Rattle.table.specs.Judge.{judgeRing, judgeRow}
+use Rattle.table.specs.declared.reason.Reason.{Reason}
+use Rattle.table.specs.declared.reason.Reason.the-variants.{TooLong, Misshapen}
+use Rattle.table.specs.declared.judge.Verdict.{Verdict}
+use Rattle.table.specs.declared.judge.Verdict.the-variants.{Fine, Fault}
+use Rattle.sheet.specs.Judge.{orElse, judgeHalves, judgeCut, judgeLink, judgeLast, judgeWhole}
+
+-- a sheet; or a reason and a line
+pub data Result : Type 0 where
+  accepted : Sheet → Result
+  refused : Reason → ℕ → Result
+
+-- what has been read, and so what is due: the R line; a D line or the C line; behind the C line an L line for each link, and then the Z line;
+-- behind that nothing
+pub data State : Type 0 where
+  start : State
+  -- behind R n and rows, of which the last is a, b (0, 0 where there is none)
+  rows : ℕ → ℕ → ℕ → List Routed → State
+  -- behind the cut and links
+  links : ℕ → List Routed → Cut → List Link → State
+  end : Sheet → State
+
+-- a line leads on to another state, or to a reason
+pub data Turn : Type 0 where
+  on : State → Turn
+  stop : Reason → Turn
+
+unfoldable pub unless : Verdict → State → Turn
+unless Fine next = on next
+unless (Fault reason) next = stop reason
+
+-- 8 to 14 are given only where `judging` says so
+unfoldable pub when : Bool → Verdict → Verdict
+when true v = v
+when false v = Fine
+
+-- ---- the values of a line
+
+-- C g h across
+abbrev pub cutOf : ℕ → ℕ → ℕ → Cut
+cutOf g h m = record { g = g; h = h; number = m }
+
+-- D i j amount front back F-or-B
+abbrev pub routedOf : ℕ → ℕ → ℕ → ℕ → ℕ → ℕ → Routed
+routedOf i j d f k w = routed (sent i j d f k) (wayOf w)
+
+-- L link split-load unsplit-load
+abbrev pub linkOf : ℕ → ℕ → ℕ → Link
+linkOf k s u = record { link = k; split = s; unsplit = u }
+
+-- ---- one line, by what it is read to: its shape, then what is found against its numbers
+
+-- R n
+unfoldable pub ringTurn : Limits → OneNumber → Turn
+unfolding unless
+ringTurn limits (IsOne n) = unless (judgeRing limits n) (rows n 0 0 [])
+ringTurn limits (NotOne p) = stop Misshapen
+
+-- C g h across
+unfoldable pub cutTurn : Bool → ℕ → List Routed → ThreeNumbers → Turn
+unfolding unless when
+cutTurn judging n rs (AreThree g h m) = unless (when judging (judgeCut n rs (cutOf g h m))) (links n rs (cutOf g h m) [])
+cutTurn judging n rs (NotThree p) = stop Misshapen
+
+-- D i j amount front back F-or-B, else C
+unfoldable pub rowTurn : Limits → Bool → ℕ → ℕ → ℕ → List Routed → SentRow → ThreeNumbers → Turn
+unfolding unless when cutTurn orElse
+rowTurn limits judging n a b rs (IsSent i j d f k w) other =
+    unless (orElse (judgeRow limits n a b i j d) (when judging (judgeHalves (routedOf i j d f k w)))) (rows n i j (rs ++ routedOf i j d f k w ∷ []))
+rowTurn limits judging n a b rs (NotSent p) other = cutTurn judging n rs other
+
+-- L link split-load unsplit-load
+unfoldable pub linkTurn : Bool → ℕ → List Routed → Cut → List Link → ThreeNumbers → Turn
+unfolding unless when
+linkTurn judging n rs c ks (AreThree k s u) =
+    unless (when judging (judgeLink rs (length ks + 1) (linkOf k s u))) (links n rs c (ks ++ linkOf k s u ∷ []))
+linkTurn judging n rs c ks (NotThree p) = stop Misshapen
+
+-- Z unsplit-peak size
+unfoldable pub lastTurn : Bool → ℕ → List Routed → Cut → List Link → TwoNumbers → Turn
+unfolding unless when
+lastTurn judging n rs c ks (AreTwo p z) = unless (when judging (judgeLast n rs p z)) (end (record { n = n; rows = rs; cut = c; links = ks; peak = p; size = z }))
+lastTurn judging n rs c ks (NotTwo p) = stop Misshapen
+
+-- by what is due; a line behind the last is left over
+unfoldable pub turn : Limits → Bool → State → List ℕ → Turn
+unfolding ringTurn rowTurn linkTurn lastTurn
+turn limits judging start l = ringTurn limits (oneIn (readLine ringShape l))
+turn limits judging (rows n a b rs) l = rowTurn limits judging n a b rs (sentIn (readLine sentShape l)) (threeIn (readLine cutShape l))
+turn limits judging (links n rs c ks) l =
+    cond (ltb (length ks) n) (linkTurn judging n rs c ks (threeIn (readLine linkShape l))) (lastTurn judging n rs c ks (twoIn (readLine lastShape l)))
+turn limits judging (end x) l = stop Misshapen
+
+-- ---- the lines in order
+
+-- a whole sheet is judged once more, without a line
+unfoldable pub wholeResult : Sheet → Verdict → Result
+wholeResult x Fine = accepted x
+wholeResult x (Fault reason) = refused reason 0
+
+-- no line is left: the one that is due is missing
+unfoldable pub atEnd : Bool → State → ℕ → Result
+unfolding wholeResult when
+atEnd judging (end x) line = wholeResult x (when judging (judgeWhole x))
+atEnd judging start line = refused Misshapen line
+atEnd judging (rows n a b rs) line = refused Misshapen line
+atEnd judging (links n rs c ks) line = refused Misshapen line
+
+unfoldable pub after : Turn → ℕ → (State → Result) → Result
+after (on next) line rest = rest next
+after (stop reason) line rest = refused reason line
+
+-- from a state, the lines ls, of which the first has the number `line`
+unfoldable pub checkFrom : Limits → Bool → State → ℕ → List (List ℕ) → Result
+unfolding turn atEnd after
+checkFrom limits judging state line [] = atEnd judging state line
+checkFrom limits judging state line (l ∷ ls) = after (turn limits judging state l) line λ next. checkFrom limits judging next (line + 1) ls
+
+unfoldable pub checkBy : Limits → Bool → List ℕ → Result
+unfolding checkFrom
+checkBy limits judging t = cond (ltb (limits .bytes) (length t)) (refused TooLong 0) (checkFrom limits judging start 1 (lines t))
+
+-- checking a sheet
+unfoldable pub check : Limits → List ℕ → Result
+unfolding checkBy
+check limits t = checkBy limits true t
+
+-- the same, if 8 to 14 were never given: a sheet is well-formed when this does not refuse it
+unfoldable pub form : Limits → List ℕ → Result
+unfolding checkBy
+form limits t = checkBy limits false t

@@ -1,0 +1,247 @@
+-- What each reason says of a sheet's text, by its lines and the writer alone; which reason is given; and what accepted and well-formed sheets are.
+use Prim.Native.Nat.{ℕ, _+_, _*_, _≤_, _<_}
+use mathlib.Core.List.{List, [], _∷_, _++_}
+use mathlib.Core.Logic.{_⊎_}
+use mathlib.Core.Path.{_≡_}
+use lib.ListN.{length}
+use Rattle.sonet.specs.Size.{sonetSize}
+use Rattle.ring.specs.Cut.{Cut, IsCut, across}
+use Rattle.ring.specs.Limits.{Limits}
+use Rattle.ring.specs.Routing.{Routed, splitLoad, unsplitLoad, peak}
+use Rattle.ring.specs.Sheet.{Link, Sheet, sents, demands, splitPeak, unsplitPeak, largestSplitOf}
+use Rattle.ring.specs.True.{SumsTo2d, Kept}
+use Rattle.text.specs.Number.{limit}
+use Rattle.text.specs.Shapes.{cutLine, lastLine}
+use Rattle.table.specs.Lines.{lines}
+use Rattle.table.specs.Reasons.{numberOf}
+use Rattle.table.specs.Says.{LineIs, RingIs, WrongRing, NoNode, NotAfter}
+use Rattle.table.specs.declared.reason.Reason.{Reason}
+use Rattle.table.specs.declared.reason.Reason.the-variants.{TooLong, Misshapen, RingSize, NoSuchNode, NotBelow, NotAbove, TooMuch, WrongSum, WrongWay, WrongCut, WrongLink, WrongLast, NotTight, OverBound, NoRoom}
+use Rattle.sheet.specs.WriteSheet.{routedLine, loadLine}
+use Rattle.sheet.specs.Check.{State, start, rows, links, end}
+
+-- ---- lines
+
+-- this line is D i j amount front back F-or-B
+pub record SentIs (t : List ℕ) (line : ℕ) (r : Routed) : Type 0 where
+  pub text : LineIs (lines t) line (routedLine r)
+  pub nodes : (r .sent .row .i < limit) × (r .sent .row .j < limit)
+  pub amount : r .sent .row .d < limit
+  pub halves : (r .sent .front < limit) × (r .sent .back < limit)
+
+-- this line is C g h across
+pub record CutIs (t : List ℕ) (line : ℕ) (c : Cut) : Type 0 where
+  pub text : LineIs (lines t) line (cutLine (c .g) (c .h) (c .number))
+  pub pair : (c .g < limit) × (c .h < limit)
+  pub number : c .number < limit
+
+-- this line is L link split-load unsplit-load
+pub record LinkIs (t : List ℕ) (line : ℕ) (l : Link) : Type 0 where
+  pub text : LineIs (lines t) line (loadLine l)
+  pub link : l .link < limit
+  pub loads : (l .split < limit) × (l .unsplit < limit)
+
+-- this line is Z unsplit-peak size
+pub record LastIs (t : List ℕ) (line p z : ℕ) : Type 0 where
+  pub text : LineIs (lines t) line (lastLine p z)
+  pub spelled : (p < limit) × (z < limit)
+
+-- what the lines before this one are, and so what is due on it
+pub data At (t : List ℕ) : ℕ → State → Type 0 where
+  at-start : At t 1 start
+  behind-ring : {n : ℕ} → RingIs t n → At t 2 (rows n 0 0 [])
+  behind-row : {line n a b : ℕ} {rs : List Routed} {r : Routed} → At t line (rows n a b rs) → SentIs t line r
+      → At t (line + 1) (rows n (r .sent .row .i) (r .sent .row .j) (rs ++ r ∷ []))
+  behind-cut : {line n a b : ℕ} {rs : List Routed} {c : Cut} → At t line (rows n a b rs) → CutIs t line c → At t (line + 1) (links n rs c [])
+  behind-link : {line n : ℕ} {rs : List Routed} {c : Cut} {ks : List Link} {l : Link} → At t line (links n rs c ks) → length ks < n → LinkIs t line l
+      → At t (line + 1) (links n rs c (ks ++ l ∷ []))
+  behind-last : {line n : ℕ} {rs : List Routed} {c : Cut} {ks : List Link} {p z : ℕ} → At t line (links n rs c ks) → n ≤ length ks → LastIs t line p z
+      → At t (line + 1) (end (record { n = n; rows = rs; cut = c; links = ks; peak = p; size = z }))
+
+-- a D line that is due
+pub record RowAt (t : List ℕ) (line : ℕ) (r : Routed) : Type 0 where
+  pub n : ℕ
+  pub a : ℕ
+  pub b : ℕ
+  pub rs : List Routed
+  pub due : At t line (rows n a b rs)
+  pub is : SentIs t line r
+
+-- ---- the reasons
+
+-- 2: line of the wrong shape, missing, or left over
+pub data WrongLine (t : List ℕ) (line : ℕ) : Type 0 where
+  no-ring : At t line start → ((n : ℕ) → RingIs t n → ⊥) → WrongLine t line
+  no-row-no-cut : {n a b : ℕ} {rs : List Routed} → At t line (rows n a b rs) → ((r : Routed) → SentIs t line r → ⊥) → ((c : Cut) → CutIs t line c → ⊥)
+      → WrongLine t line
+  no-link : {n : ℕ} {rs : List Routed} {c : Cut} {ks : List Link} → At t line (links n rs c ks) → length ks < n → ((l : Link) → LinkIs t line l → ⊥)
+      → WrongLine t line
+  no-last : {n : ℕ} {rs : List Routed} {c : Cut} {ks : List Link} → At t line (links n rs c ks) → n ≤ length ks → ((p z : ℕ) → LastIs t line p z → ⊥)
+      → WrongLine t line
+  left-over : {x : Sheet} {l : List ℕ} → At t line (end x) → LineIs (lines t) line l → WrongLine t line
+
+-- 4: a node outside 1..n
+pub record WrongNode (t : List ℕ) (line : ℕ) : Type 0 where
+  pub r : Routed
+  pub row : RowAt t line r
+  pub wrong : NoNode (row .n) (r .sent .row .i) ⊎ NoNode (row .n) (r .sent .row .j)
+
+-- 5: first node not below second
+pub record WrongPair (t : List ℕ) (line : ℕ) : Type 0 where
+  pub r : Routed
+  pub row : RowAt t line r
+  pub wrong : r .sent .row .j ≤ r .sent .row .i
+
+-- 6: row's nodes not above the row before
+pub record WrongOrder (t : List ℕ) (line : ℕ) : Type 0 where
+  pub before : ℕ
+  pub next : line ≡ before + 1
+  pub q : Routed
+  pub above : RowAt t before q
+  pub r : Routed
+  pub row : RowAt t line r
+  pub wrong : NotAfter (q .sent .row .i) (q .sent .row .j) (r .sent .row .i) (r .sent .row .j)
+
+-- 7: amount over 9,999
+pub record WrongAmount (limits : Limits) (t : List ℕ) (line : ℕ) : Type 0 where
+  pub r : Routed
+  pub row : RowAt t line r
+  pub wrong : limits .amount < r .sent .row .d
+
+-- 8: front + back is not 2 x amount
+pub record WrongHalves (t : List ℕ) (line : ℕ) : Type 0 where
+  pub r : Routed
+  pub row : RowAt t line r
+  pub wrong : SumsTo2d (r .sent) → ⊥
+
+-- 9: direction of an unsplit row differs from rule D
+pub record WrongDirection (t : List ℕ) (line : ℕ) : Type 0 where
+  pub r : Routed
+  pub row : RowAt t line r
+  pub wrong : Kept r → ⊥
+
+-- 10: not 1 <= g < h <= n, or across number false
+pub record WrongCutLine (t : List ℕ) (line : ℕ) : Type 0 where
+  pub n : ℕ
+  pub a : ℕ
+  pub b : ℕ
+  pub rs : List Routed
+  pub due : At t line (rows n a b rs)
+  pub c : Cut
+  pub is : CutIs t line c
+  pub wrong : (IsCut n c → ⊥) ⊎ (c .number ≡ across (demands (sents rs)) (c .g) (c .h) → ⊥)
+
+-- 11: link out of order, or either load false
+pub record WrongLinkLine (t : List ℕ) (line : ℕ) : Type 0 where
+  pub n : ℕ
+  pub rs : List Routed
+  pub c : Cut
+  pub ks : List Link
+  pub due : At t line (links n rs c ks)
+  pub few : length ks < n
+  pub l : Link
+  pub is : LinkIs t line l
+  pub wrong : (l .link ≡ length ks + 1 → ⊥) ⊎ ((l .split ≡ splitLoad (sents rs) (length ks + 1) → ⊥) ⊎ (l .unsplit ≡ unsplitLoad rs (length ks + 1) → ⊥))
+
+-- 12: unsplit peak or size false
+pub record WrongLastLine (t : List ℕ) (line : ℕ) : Type 0 where
+  pub n : ℕ
+  pub rs : List Routed
+  pub c : Cut
+  pub ks : List Link
+  pub due : At t line (links n rs c ks)
+  pub all : n ≤ length ks
+  pub p : ℕ
+  pub z : ℕ
+  pub is : LastIs t line p z
+  pub wrong : (p ≡ peak (unsplitLoad rs) n → ⊥) ⊎ (z ≡ sonetSize (peak (unsplitLoad rs) n) → ⊥)
+
+-- the text is a whole sheet: its lines end behind the Z line
+pub record WholeIs (t : List ℕ) (x : Sheet) : Type 0 where
+  pub line : ℕ
+  pub due : At t line (end x)
+  pub none : (l : List ℕ) → LineIs (lines t) line l → ⊥
+
+-- 13: split peak (halves) is not the across number
+pub record WrongPeak (t : List ℕ) : Type 0 where
+  pub x : Sheet
+  pub whole : WholeIs t x
+  pub wrong : splitPeak x ≡ x .cut .number → ⊥
+
+-- 14: the bound of rule D broken
+pub record WrongBound (t : List ℕ) : Type 0 where
+  pub x : Sheet
+  pub whole : WholeIs t x
+  pub wrong : splitPeak x + 3 * largestSplitOf x < 2 * unsplitPeak x
+
+-- what a reason says, with its line
+unfoldable pub Says : Limits → List ℕ → Reason → ℕ → Type 0
+Says limits t TooLong line = (line ≡ 0) × (limits .bytes < length t)
+Says limits t Misshapen line = WrongLine t line
+Says limits t RingSize line = WrongRing limits t line
+Says limits t NoSuchNode line = WrongNode t line
+Says limits t NotBelow line = WrongPair t line
+Says limits t NotAbove line = WrongOrder t line
+Says limits t TooMuch line = WrongAmount limits t line
+Says limits t WrongSum line = WrongHalves t line
+Says limits t WrongWay line = WrongDirection t line
+Says limits t WrongCut line = WrongCutLine t line
+Says limits t WrongLink line = WrongLinkLine t line
+Says limits t WrongLast line = WrongLastLine t line
+Says limits t NotTight line = (line ≡ 0) × WrongPeak t
+Says limits t OverBound line = (line ≡ 0) × WrongBound t
+-- this one judges no sheet
+Says limits t NoRoom line = ⊥
+
+-- ---- which is given
+
+-- 13 and 14 come behind all lines
+abbrev pub stage : Reason → ℕ
+stage NotTight = 1
+stage OverBound = 1
+stage TooLong = 0
+stage Misshapen = 0
+stage RingSize = 0
+stage NoSuchNode = 0
+stage NotBelow = 0
+stage NotAbove = 0
+stage TooMuch = 0
+stage WrongSum = 0
+stage WrongWay = 0
+stage WrongCut = 0
+stage WrongLink = 0
+stage WrongLast = 0
+stage NoRoom = 0
+
+-- reason 1, with line 0, is tried first; then lines in order, and in a line the rising reason number; then 13, then 14
+abbrev pub Earlier : Reason → ℕ → Reason → ℕ → Type 0
+Earlier r line s other =
+    (stage r < stage s) ⊎ ((stage r ≡ stage s) × ((line < other) ⊎ ((line ≡ other) × (numberOf r < numberOf s))))
+
+-- of the reasons that count, this one is given exactly when it holds and nothing before it in the order does
+pub record GivenAmong (Counts : Reason → Type 0) (limits : Limits) (t : List ℕ) (r : Reason) (line : ℕ) : Type 0 where
+  pub counts : Counts r
+  pub holds : Says limits t r line
+  pub first : (s : Reason) (other : ℕ) → Counts s → Earlier s other r line → Says limits t s other → ⊥
+
+-- none of the reasons that count holds
+abbrev pub NoneAmong : (Reason → Type 0) → Limits → List ℕ → Type 0
+NoneAmong Counts limits t = (r : Reason) (line : ℕ) → Counts r → Says limits t r line → ⊥
+
+-- each reason of 01
+abbrev pub Any : Reason → Type 0
+Any r = Unit {0}
+
+-- 8 to 14 are never given
+abbrev pub OfForm : Reason → Type 0
+OfForm r = numberOf r < numberOf WrongSum
+
+abbrev pub Given : Limits → List ℕ → Reason → ℕ → Type 0
+Given = GivenAmong Any
+
+-- a sheet is accepted when no reason holds of it, and well-formed when it would not be refused if 8 to 14 were never given
+abbrev pub Accepted : Limits → List ℕ → Type 0
+Accepted = NoneAmong Any
+
+abbrev pub WellFormed : Limits → List ℕ → Type 0
+WellFormed = NoneAmong OfForm
