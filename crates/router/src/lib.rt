@@ -11,7 +11,10 @@ mod weighing;
 
 use cut::Cut;
 use cut::largest_cut;
-use numbers::wide;
+pub use numbers::wide;
+pub use parallel::disjoint;
+pub use parallel::holds;
+pub use parallel::is_split;
 use parallel::untangle;
 use ring::LINKS;
 use ring::ROWS;

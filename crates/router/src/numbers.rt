@@ -6,7 +6,7 @@ ghost use Rattle.router.specs.Limits.{mostLoad};
 ghost use Rattle.router.specs.Arrays.{step};
 
 // A node as a place.
-pub(crate) fn wide(x: u32) -> usize
+pub fn wide(x: u32) -> usize
     ensures { λ r. ⌜ r ≡ x ⌝ }
 {
     x as usize

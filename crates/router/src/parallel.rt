@@ -14,7 +14,8 @@ ghost use Rattle.router.specs.Limits.{mostRows, mostHalves};
 ghost use Rattle.router.specs.Arrays.{Halves};
 ghost use Rattle.router.specs.Answers.{twoHalves, MovedTo, Untangles};
 
-pub(crate) fn is_split(front: u32, back: u32) -> bool
+// Whether a row is split.
+pub fn is_split(front: u32, back: u32) -> bool
     ensures { λ r. ⌜ r ≡ isSplit (sent 0 0 0 front back) ⌝ }
 {
     0 < front && 0 < back
@@ -30,13 +31,15 @@ fn both_split(front: u32, back: u32, front2: u32, back2: u32) -> bool
     }
 }
 
-fn disjoint(i: u32, j: u32, k: u32, l: u32) -> bool
+// Whether the fronts i-j and k-l are disjoint.
+pub fn disjoint(i: u32, j: u32, k: u32, l: u32) -> bool
     ensures { λ r. ⌜ r ≡ disjointOf (row i j 0) (row k l 0) ⌝ }
 {
     j <= k || l <= i
 }
 
-fn holds(i: u32, j: u32, k: u32, l: u32) -> bool
+// Whether the front k-l lies inside the front i-j.
+pub fn holds(i: u32, j: u32, k: u32, l: u32) -> bool
     ensures { λ r. ⌜ r ≡ holdsOf (row i j 0) (row k l 0) ⌝ }
 {
     i <= k && l <= j

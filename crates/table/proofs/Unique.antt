@@ -6,11 +6,14 @@ use lib.ListN.{length}
 use Rattle.text.specs.Written.{Written}
 use Rattle.text.proofs.Unique.{same-result, same-written}
 use Rattle.ring.specs.Limits.{desk}
+use Rattle.table.specs.Judge.{judgeRing, judgeRow}
+use Rattle.table.specs.LineEnds.{LineEnds}
 use Rattle.table.specs.Reasons.{numberOf}
 use Rattle.table.specs.Table.{tableOf, writeTable}
 use Rattle.ring.specs.Columns.{rowsIn}
 use Rattle.table.specs.Arrays.{tableIn}
 use Rattle.table.specs.declared.reason.Reason.{Reason}
+use Rattle.table.specs.declared.judge.Verdict.{Verdict}
 use Rattle.table.specs.declared.read.Table.{Table}
 
 pub number-unique : (reason : Reason) (r q : ℕ) → r ≡ numberOf reason → q ≡ numberOf reason → r ≡ q
@@ -26,3 +29,12 @@ module _ (n count : ℕ) (first second amount : List ℕ) where
   pub write-table-unique : (old new buf : List ℕ) (r q : ℕ) → Written old 0 (writeTable n (rowsIn count first second amount)) new r →
       Written old 0 (writeTable n (rowsIn count first second amount)) buf q → (r ≡ q) × (new ≡ buf)
   write-table-unique old new buf r q = same-written
+
+pub line-end-unique : (s : List ℕ) (at r q : ℕ) → LineEnds s at r → LineEnds s at q → r ≡ q
+line-end-unique s at r q a b = same-result (a .is) (b .is)
+
+pub judge-ring-unique : (n : ℕ) (r q : Verdict) → r ≡ judgeRing desk n → q ≡ judgeRing desk n → r ≡ q
+judge-ring-unique n r q = same-result
+
+pub judge-row-unique : (n a b i j d : ℕ) (r q : Verdict) → r ≡ judgeRow desk n a b i j d → q ≡ judgeRow desk n a b i j d → r ≡ q
+judge-row-unique n a b i j d r q = same-result

@@ -12,7 +12,8 @@ pub enum Verdict {
     Fault(Reason),
 }
 
-pub(crate) fn judge_ring(n: u32) -> Verdict
+// n nodes.
+pub fn judge_ring(n: u32) -> Verdict
     ensures { λ r. ⌜ r ≡ judgeRing desk n ⌝ }
 {
     if n < FEWEST {
@@ -39,7 +40,7 @@ fn not_above(a: u32, b: u32, i: u32, j: u32) -> bool
 }
 
 // The row i, j of d, behind the row a, b (0, 0 where there is none), on a ring of n nodes.
-pub(crate) fn judge_row(n: u32, a: u32, b: u32, i: u32, j: u32, d: u32) -> Verdict
+pub fn judge_row(n: u32, a: u32, b: u32, i: u32, j: u32, d: u32) -> Verdict
     ensures { λ r. ⌜ r ≡ judgeRow desk n a b i j d ⌝ }
 {
     let no_first = no_node(n, i);

@@ -5,6 +5,10 @@ mod lines; // where a line ends
 mod read; // a text to rows in arrays
 mod write; // rows in arrays to a text
 
+pub use judge::Verdict;
+pub use judge::judge_ring;
+pub use judge::judge_row;
+pub use lines::line_end;
 pub use read::Answer;
 pub use read::Table;
 pub use read::read_table;

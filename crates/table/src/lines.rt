@@ -4,7 +4,7 @@ ghost use lib.ListN.{length};
 ghost use Rattle.table.specs.LineEnds.{LineEnds};
 
 // The place behind the line that begins at `at`.
-pub(crate) fn line_end(s: &[u8], at: usize) -> usize
+pub fn line_end(s: &[u8], at: usize) -> usize
     requires { ⌜ at < length (now s) ⌝ }
     ensures { λ r. ⌜ LineEnds (now (s .entry)) at r ⌝ }
 {
