@@ -12,8 +12,6 @@ mod weighing;
 use cut::Cut;
 use cut::largest_cut;
 pub use numbers::wide;
-pub use parallel::disjoint;
-pub use parallel::holds;
 pub use parallel::is_split;
 use parallel::untangle;
 use ring::LINKS;

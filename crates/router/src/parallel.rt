@@ -32,14 +32,14 @@ fn both_split(front: u32, back: u32, front2: u32, back2: u32) -> bool
 }
 
 // Whether the fronts i-j and k-l are disjoint.
-pub fn disjoint(i: u32, j: u32, k: u32, l: u32) -> bool
+fn disjoint(i: u32, j: u32, k: u32, l: u32) -> bool
     ensures { λ r. ⌜ r ≡ disjointOf (row i j 0) (row k l 0) ⌝ }
 {
     j <= k || l <= i
 }
 
 // Whether the front k-l lies inside the front i-j.
-pub fn holds(i: u32, j: u32, k: u32, l: u32) -> bool
+fn holds(i: u32, j: u32, k: u32, l: u32) -> bool
     ensures { λ r. ⌜ r ≡ holdsOf (row i j 0) (row k l 0) ⌝ }
 {
     i <= k && l <= j

@@ -65,7 +65,7 @@ unfolding numbersFrom
 numbers-length k zero = refl
 numbers-length k (suc m) = ap suc (numbers-length (suc k) m)
 
-number-at : (a m k : ℕ) → k < m → getD (numbersFrom a m) k 0 ≡ a + k
+pub number-at : (a m k : ℕ) → k < m → getD (numbersFrom a m) k 0 ≡ a + k
 unfolding numbersFrom
 number-at a zero k h = absurd (omega arith)
 number-at a (suc m) zero h = omega arith

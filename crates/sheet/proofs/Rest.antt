@@ -65,7 +65,7 @@ unfolding unless
 unless-on Fine next state e = (refl, cc)
 unless-on (Fault r) next state e = clash (cc)
 
-or-fine : (v w : Verdict) → orElse v w ≡ Fine → (v ≡ Fine) × (w ≡ Fine)
+pub or-fine : (v w : Verdict) → orElse v w ≡ Fine → (v ≡ Fine) × (w ≡ Fine)
 unfolding orElse
 or-fine Fine w e = (refl, e)
 or-fine (Fault r) w e = clash (cc)

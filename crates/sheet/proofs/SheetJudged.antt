@@ -1,10 +1,9 @@
 -- What each verdict on a sheet's rows, cut, links and figures means: the first of the reasons against them, and Fine where there is none; shown
 -- test by test, as the judging puts them together.
 use Prim.Native.Nat.{ℕ, _+_, _*_, _≤_, _<_}
-use mathlib.Core.Bool.{Bool, true, false}
 use mathlib.Core.List.{List}
 use mathlib.Core.Logic.{_⊎_, inl, inr, ⊎-elim}
-use mathlib.Core.Path.{_≡_, refl, ap, _∙_, sym}
+use mathlib.Core.Path.{_≡_, ap, _∙_, sym}
 use native.Mathlib.Omega.{arith}
 use native.Mathlib.Decide.{ℕ-discrete}
 use borrow.Author.Tests.{eq-eqb, ne-eqb}
@@ -18,82 +17,10 @@ use Rattle.ring.specs.True.{SumsTo2d, Kept}
 use Rattle.table.specs.Reasons.{numberOf}
 use Rattle.table.specs.declared.reason.Reason.{Reason}
 use Rattle.table.specs.declared.reason.Reason.the-variants.{WrongSum, WrongWay, WrongCut, WrongLink, WrongLast, NotTight, OverBound}
-use Rattle.table.specs.declared.judge.Verdict.{Verdict}
-use Rattle.table.specs.declared.judge.Verdict.the-variants.{Fine, Fault}
-use Rattle.table.proofs.Against.{NoLater}
-use Rattle.sheet.specs.Judge.{faultIf, orElse, wrongSum, wrongWay, noCut, judgeHalves, judgeCut, judgeLink, judgeLast, judgeWhole}
-use Rattle.sheet.specs.Check.{when}
-use Rattle.sheet.specs.Says.{Any, OfForm}
+use Rattle.sheet.specs.Judge.{wrongSum, wrongWay, noCut, judgeHalves, judgeCut, judgeLink, judgeLast, judgeWhole}
 use Rattle.sheet.proofs.Back.{way-back}
-use Rattle.sheet.proofs.Tested.{Tested, is-so, not-so, test-of, test-not, test-or, test-and, test-less, test-most, test-other}
-
--- ---- the first of the reasons that hold
-
--- the reason of a verdict holds
-abbrev pub Holds : (Reason → Type 0) → Verdict → Type 0
-Holds P Fine = Unit {0}
-Holds P (Fault r) = P r
-
-pub record First (P : Reason → Type 0) (v : Verdict) : Type 0 where
-  pub holds : Holds P v
-  pub least : (s : Reason) → P s → NoLater v s
-
-module _ {P Q : Reason → Type 0} where
-  also-holds : (v : Verdict) → ((s : Reason) → P s → Q s) → Holds P v → Holds Q v
-  also-holds Fine f h = tt
-  also-holds (Fault r) f h = f r h
-
-  -- the same reasons, put in another way
-  pub first-as : {v : Verdict} → ((s : Reason) → P s → Q s) → ((s : Reason) → Q s → P s) → First P v → First Q v
-  first-as {v} f g h = record { holds = also-holds v f (h .holds); least = λ s q. h .least s (g s q) }
-
-  -- of two findings, where no reason for the second comes before one for the first
-  pub or-else-first : {v w : Verdict} → ((r s : Reason) → P r → Q s → numberOf r ≤ numberOf s) → First P v → First Q w → First (λ s. P s ⊎ Q s) (orElse v w)
-  unfolding orElse
-  or-else-first {v = Fine} {w} late f g =
-      record { holds = go w (g .holds); least = λ s. ⊎-elim (λ p. absurd (f .least s p)) (g .least s) }
-    where
-      go : (w : Verdict) → Holds Q w → Holds (λ s. P s ⊎ Q s) w
-      go Fine h = tt
-      go (Fault r) h = inr h
-  or-else-first {v = Fault r} late f g = record { holds = inl (f .holds); least = λ s. ⊎-elim (f .least s) (late r s (f .holds)) }
-
--- one reason, where a fact holds
-pub data Only (r : Reason) (A : Type 0) : Reason → Type 0 where
-  only : A → Only r A r
-
-pub only-number : {r s : Reason} {A : Type 0} → Only r A s → numberOf s ≡ numberOf r
-only-number (only a) = refl
-
-pub only-fact : {r s : Reason} {A : Type 0} → Only r A s → A
-only-fact (only a) = a
-
-pub fault-first : {A : Type 0} {b : Bool} (r : Reason) → Tested A b → First (Only r A) (faultIf b r)
-unfolding faultIf
-fault-first r (is-so a) = record { holds = only a; least = λ s o. omega (arith, only-number o) }
-fault-first r (not-so n) = record { holds = tt; least = λ s o. n (only-fact o) }
-
--- ---- the reasons that count
-
--- 8 to 14 only where the sheet is judged by them
-abbrev pub Counts : Bool → Reason → Type 0
-Counts true = Any
-Counts false = OfForm
-
-pub counts-form : (judging : Bool) (s : Reason) → numberOf s < numberOf WrongSum → Counts judging s
-counts-form true s h = tt
-counts-form false s h = h
-
-module _ {P : Reason → Type 0} {v : Verdict} (judging : Bool) where
-  -- 1 to 7 always count
-  pub form-first : ((s : Reason) → P s → numberOf s < numberOf WrongSum) → First P v → First (λ s. Counts judging s × P s) v
-  form-first early f = first-as (λ s p. (counts-form judging s (early s p), p)) (λ s p. p .1) f
-
-pub when-first : {P : Reason → Type 0} {v : Verdict} (judging : Bool) → ((s : Reason) → P s → numberOf WrongSum ≤ numberOf s) → First P v
-    → First (λ s. Counts judging s × P s) (when judging v)
-unfolding when
-when-first true late f = first-as (λ s p. (tt, p)) (λ s p. p .1) f
-when-first false late f = record { holds = tt; least = λ s p. omega (arith, p .0, late s (p .1)) }
+use Rattle.sheet.proofs.Tested.{Tested, test-of, test-not, test-or, test-and, test-less, test-most, test-other}
+use Rattle.sheet.proofs.FirstReason.{First, or-else-first, Only, only-number, either-late, fault-first}
 
 -- ---- 8 and 9: a row's halves and its way
 
@@ -137,6 +64,9 @@ test-way r =
 
 abbrev pub AgainstHalves : Routed → Reason → Type 0
 AgainstHalves r s = Only WrongSum (SumsTo2d (r .sent) → ⊥) s ⊎ Only WrongWay (Kept r → ⊥) s
+
+pub halves-late : (r : Routed) (s : Reason) → AgainstHalves r s → numberOf WrongSum ≤ numberOf s
+halves-late r s = either-late (omega arith) (omega arith)
 
 pub halves-first : (r : Routed) → First (AgainstHalves r) (judgeHalves r)
 unfolding judgeHalves wrongSum
@@ -197,6 +127,9 @@ last-first n rs p z =
 abbrev pub AgainstWhole : Sheet → Reason → Type 0
 AgainstWhole x s =
     Only NotTight (splitPeak x ≡ x .cut .number → ⊥) s ⊎ Only OverBound (splitPeak x + 3 * largestSplitOf x < 2 * unsplitPeak x) s
+
+pub whole-late : (x : Sheet) (s : Reason) → AgainstWhole x s → numberOf WrongSum ≤ numberOf s
+whole-late x s = either-late (omega arith) (omega arith)
 
 pub whole-first : (x : Sheet) → First (AgainstWhole x) (judgeWhole x)
 unfolding judgeWhole

@@ -22,7 +22,8 @@ use Rattle.table.specs.declared.judge.Verdict.{Verdict}
 use Rattle.table.specs.declared.judge.Verdict.the-variants.{Fine, Fault}
 use Rattle.sheet.specs.Judge.{judgeHalves, judgeCut, judgeLink, judgeLast, judgeWhole}
 use Rattle.sheet.specs.Check.{when}
-use Rattle.sheet.proofs.SheetJudged.{First, Only, only, only-fact, AgainstHalves, halves-first, CutWrong, cut-first, LinkWrong, link-first, LastWrong, last-first, AgainstWhole, whole-first}
+use Rattle.sheet.proofs.FirstReason.{First, Only, only, only-fact}
+use Rattle.sheet.proofs.SheetJudged.{AgainstHalves, halves-first, CutWrong, cut-first, LinkWrong, link-first, LastWrong, last-first, AgainstWhole, whole-first}
 use Rattle.sheet.proofs.Read.{LinksJudged, no-links, and-link, Judged}
 
 -- ---- Fine exactly where no reason holds
@@ -57,7 +58,7 @@ kept r n = record { front = λ e. front (r .way) refl e; back = λ e h. back (r 
 
 -- ---- a row
 
-row-true : (r : Routed) → judgeHalves r ≡ Fine → SumsTo2d (r .sent) × Kept r
+pub row-true : (r : Routed) → judgeHalves r ≡ Fine → SumsTo2d (r .sent) × Kept r
 row-true r e =
     let never = none-holds (halves-first r) e in
     (same (r .sent .front + r .sent .back) (2 * r .sent .row .d) (λ d. never WrongSum (inl (only d))), kept r (λ k. never WrongWay (inr (only k))))
@@ -92,12 +93,12 @@ cut-fine n rs c k e = is-fine (cut-first n rs c) (no-fact (⊎-elim (λ d. d k) 
 
 -- ---- the links
 
-record LinkTrue (rs : List Routed) (k : ℕ) (l : Link) : Type 0 where
-  number : l .link ≡ k
-  split : l .split ≡ splitLoad (sents rs) k
-  unsplit : l .unsplit ≡ unsplitLoad rs k
+pub record LinkTrue (rs : List Routed) (k : ℕ) (l : Link) : Type 0 where
+  pub number : l .link ≡ k
+  pub split : l .split ≡ splitLoad (sents rs) k
+  pub unsplit : l .unsplit ≡ unsplitLoad rs k
 
-link-true : (rs : List Routed) (k : ℕ) (l : Link) → judgeLink rs k l ≡ Fine → LinkTrue rs k l
+pub link-true : (rs : List Routed) (k : ℕ) (l : Link) → judgeLink rs k l ≡ Fine → LinkTrue rs k l
 link-true rs k l e =
     let never = none-holds (link-first rs k l) e in
     record {
@@ -147,7 +148,7 @@ module _ (x : Sheet) where
 
 -- ---- the last line, and the whole
 
-last-true : (n : ℕ) (rs : List Routed) (p z : ℕ) → judgeLast n rs p z ≡ Fine → (p ≡ peak (unsplitLoad rs) n) × (z ≡ sonetSize (peak (unsplitLoad rs) n))
+pub last-true : (n : ℕ) (rs : List Routed) (p z : ℕ) → judgeLast n rs p z ≡ Fine → (p ≡ peak (unsplitLoad rs) n) × (z ≡ sonetSize (peak (unsplitLoad rs) n))
 last-true n rs p z e =
     let never = none-holds (last-first n rs p z) e in
     (same p (peak (unsplitLoad rs) n) (λ d. never WrongLast (only (inl d))), same z (sonetSize (peak (unsplitLoad rs) n)) (λ d. never WrongLast (only (inr d))))

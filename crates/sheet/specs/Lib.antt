@@ -4,3 +4,6 @@ pub mod Range
 pub mod Judge
 pub mod Check
 pub mod Says
+pub mod Verdicts
+pub mod Parts
+pub mod Pair

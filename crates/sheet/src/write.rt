@@ -2,6 +2,7 @@
 use crate::Figures;
 use ring::LINKS;
 use ring::ROWS;
+use router::wide;
 ghost use mathlib.Core.Path.{_≡_};
 ghost use Prim.Native.Nat.{_+_, _≤_};
 ghost use lib.ListN.{length};
@@ -10,12 +11,6 @@ ghost use Rattle.ring.specs.Columns.{routedIn};
 ghost use Rattle.text.specs.Written.{Written};
 ghost use Rattle.sheet.specs.WriteSheet.{routedLine, loadLine, linesOf, endText, writeSheet};
 ghost use Rattle.sheet.specs.Arrays.{linksIn, sheetIn};
-
-fn wide(x: u32) -> usize
-    ensures { λ r. ⌜ r ≡ x ⌝ }
-{
-    x as usize
-}
 
 // ---- how many bytes
 

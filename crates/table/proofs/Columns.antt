@@ -1,12 +1,13 @@
 -- Members go into zero-filled columns one behind the other, and come back: by place, over what of a member the column holds.
-use Prim.Native.Nat.{ℕ, zero, suc, _+_, _≤_, _<_}
+use Prim.Native.Nat.{ℕ, zero, suc, _+_, _-_, _≤_, _<_}
 use mathlib.Core.List.{List, [], _∷_, _++_, map}
 use mathlib.Core.Path.{_≡_, refl, ap, _∙_, sym}
 use native.Mathlib.Omega.{arith}
-use lib.ListN.{length, getD, set, replicate, length-map, length-replicate}
-use lib.Seq.{sets, sets-eq, length-sets}
+use lib.ListN.{length, getD, set, drop, replicate, length-map, length-replicate}
+use lib.Seq.{sets, sets-eq, length-sets, getD-append-add, getD-drop}
 use Rattle.ring.specs.Row.{Row, row}
 use Rattle.ring.specs.Columns.{listed, column, rowsIn}
+use Rattle.ring.proofs.Laid.{zeros-at}
 use Rattle.ring.proofs.Listed.{listed-shift, listed-same}
 use Rattle.text.proofs.Writing.{sets-append}
 
@@ -37,6 +38,16 @@ module _ {A : Type 0} (f : A → ℕ) (size : ℕ) where
   unfolding column
   column-at l none k few h =
       ap (λ m. getD m k 0) (sets-eq (map f l) (replicate {A = ℕ} size 0) 0 (omega (arith, length-map l f, length-replicate {A = ℕ} size 0))) ∙ at-place l _ none k h
+
+-- behind them are zeros
+pub column-behind : {A : Type 0} (f : A → ℕ) (size : ℕ) (l : List A) (k : ℕ) → length l ≤ size → length l ≤ k → getD (column f size l) k 0 ≡ 0
+unfolding column
+column-behind f size l k few h =
+    let m = length-map l f in
+    let e : 0 + length (map f l) ≡ length l = omega arith in
+    let q : length (map f l) + (k - length l) ≡ k = omega arith in
+    ap (λ a. getD a k 0) (sets-eq (map f l) (replicate {A = ℕ} size 0) 0 (omega (arith, length-replicate {A = ℕ} size 0)) ∙ ap (λ j. map f l ++ drop j (replicate {A = ℕ} size 0)) e)
+    ∙ (rw q at (getD-append-add (map f l) (drop (length l) (replicate {A = ℕ} size 0)) (k - length l) 0)) ∙ getD-drop (length l) (replicate {A = ℕ} size 0) (k - length l) 0 ∙ zeros-at size (length l + (k - length l))
 
 pub listed-members : {A : Type 0} (none : A) (l : List A) → listed (λ k. getD l k none) 0 (length l) ≡ l
 unfolding listed

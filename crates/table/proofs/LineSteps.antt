@@ -36,7 +36,7 @@ module _ (s : List ℕ) (at : ℕ) (there : at < length s) where
     unfolding lineLength
     scan-stops l = record { is = rw (scan .rest) (rw (drop-of-length-le s l) (omega arith)); within = scan .high; on = omega arith }
 
-first-line : (t : List ℕ) → 0 < length t → lines t ≡ take (lineLength t) t ∷ lines (drop (lineLength t) t)
+pub first-line : (t : List ℕ) → 0 < length t → lines t ≡ take (lineLength t) t ∷ lines (drop (lineLength t) t)
 unfolding lines lineLength
 first-line [] h = absurd (omega arith)
 first-line (b ∷ []) h = go (eqb b lf)

@@ -1,0 +1,152 @@
+-- On each line of a sheet the checker's turn is right: it stops with the first reason that counts and holds there, and goes on to the next place
+-- where none does; what is said of the line is said of its values, since the line has one reading.
+use Prim.Native.Nat.{ℕ, _+_, _≤_, _<_}
+use mathlib.Core.Bool.{Bool}
+use mathlib.Core.List.{List}
+use mathlib.Core.Logic.{inl, inr, ⊎-elim}
+use mathlib.Core.Path.{refl, _∙_, sym, subst}
+use native.Mathlib.Omega.{arith}
+use lib.ListN.{length}
+use borrow.Author.Tests.{ltb-true, ltb-false}
+use Rattle.ring.specs.Cut.{Cut}
+use Rattle.ring.specs.Limits.{Limits}
+use Rattle.ring.specs.Routing.{Routed}
+use Rattle.ring.specs.Sheet.{Link}
+use Rattle.ring.proofs.Side.{cond-elim}
+use Rattle.text.specs.declared.OneNumber.{OneNumber}
+use Rattle.text.specs.declared.TwoNumbers.{TwoNumbers}
+use Rattle.text.specs.declared.ThreeNumbers.{ThreeNumbers}
+use Rattle.text.specs.declared.SentRow.{SentRow}
+use Rattle.table.specs.Lines.{lines}
+use Rattle.table.specs.Judge.{judgeRing}
+use Rattle.table.specs.Says.{LineIs, RingIs}
+use Rattle.table.specs.declared.reason.Reason.{Reason}
+use Rattle.table.specs.declared.reason.Reason.the-variants.{Misshapen, RingSize}
+use Rattle.table.specs.declared.judge.Verdict.{Verdict}
+use Rattle.table.specs.declared.judge.Verdict.the-variants.{Fine, Fault}
+use Rattle.table.proofs.Judged.{RingJudged, wrong-size, right-size, ring-judged}
+use Rattle.table.proofs.LineRead.{RingRead, is-ring, no-ring, ring-read}
+use Rattle.table.proofs.LineNumbers.{line-one}
+use Rattle.sheet.specs.Check.{State, start, rows, links, end, Turn, on, stop, unless, cutOf, routedOf, linkOf, ringTurn, cutTurn, rowTurn, linkTurn, lastTurn, turn}
+use Rattle.sheet.specs.Says.{SentIs, CutIs, LinkIs, LastIs, At, at-start, behind-ring, behind-row, behind-cut, behind-link, behind-last, Says}
+use Rattle.sheet.proofs.LineAt.{way-spelled}
+use Rattle.sheet.proofs.SheetLines.{SentRead, is-sent, no-sent, sent-read, CutRead, is-cut, no-cut, cut-read, LinkRead, is-link, no-link, link-read, LastRead, is-last, no-last, last-read}
+use Rattle.sheet.proofs.Places.{sent-spelled}
+use Rattle.sheet.proofs.FirstReason.{First, first-as, Only, only, only-number, only-then, only-fact, Counts, counts-form, form-first, when-first}
+use Rattle.sheet.proofs.SheetJudged.{cut-first, link-first, last-first}
+use Rattle.sheet.proofs.SheetSaid.{said-of-ring, said-of-cut, said-of-link, said-of-last, Counted, Unfit, unfit-wrong, SizeWrong, SaidAt, said, said-here, from-2}
+use Rattle.sheet.proofs.RowFirst.{sent-first}
+
+-- ---- a turn that is right
+
+pub data Turned (limits : Limits) (judging : Bool) (t : List ℕ) (line : ℕ) : Turn → Type 0 where
+  goes-on : {next : State} → ((s : Reason) → Counted limits judging t line s → ⊥) → At t (line + 1) next → Turned limits judging t line (on next)
+  stops : {r : Reason} → First (Counted limits judging t line) (Fault r) → Turned limits judging t line (stop r)
+
+module _ (limits : Limits) (judging : Bool) {t : List ℕ} {line : ℕ} where
+  unless-turned : {v : Verdict} {next : State} → First (Counted limits judging t line) v → At t (line + 1) next → Turned limits judging t line (unless v next)
+  unfolding unless
+  unless-turned {v = Fine} f at = goes-on (f .least) at
+  unless-turned {v = Fault r} f at = stops f
+
+  -- a line of the wrong shape
+  pub unfit-first : {state : State} → At t line state → Unfit t line state → First (Counted limits judging t line) (Fault Misshapen)
+  unfolding Says
+  unfit-first at none =
+      record { holds = (counts-form judging Misshapen (omega arith), unfit-wrong at none); least = λ s c. from-2 limits at s (c .1) }
+
+  -- one of the right shape, against whose values there is one reason at most
+  values-turned : {r : Reason} {A : Type 0} {v : Verdict} {state next : State} → First (λ s. Counts judging s × Only r A s) v → At t line state
+      → ((s : Reason) → SaidAt limits t line state s → Only r A s) → (A → Says limits t r line) → At t (line + 1) next
+      → Turned limits judging t line (unless v next)
+  values-turned f at against says to =
+      unless-turned
+      (first-as (λ s p. (p .0, only-then (λ s. Says limits t s line) says s (p .1))) (λ s c. (c .0, against s (said-here at (said s (c .1))))) f)
+      to
+
+-- ---- R n
+
+ring-first : (limits : Limits) (n : ℕ) → First (Only RingSize (SizeWrong limits n)) (judgeRing limits n)
+ring-first limits n = go (ring-judged limits n)
+  where
+    go : {v : Verdict} → RingJudged limits n v → First (Only RingSize (SizeWrong limits n)) v
+    go (wrong-size w) = record { holds = only w; least = λ s o. omega (arith, only-number o) }
+    go (right-size few many) = record { holds = tt; least = λ s o. ⊎-elim (λ l. omega arith) (λ l. omega arith) (only-fact o) }
+
+-- ---- the turn of each line
+
+module _ (limits : Limits) (judging : Bool) {t l : List ℕ} where
+  -- R n
+  ring-turned : {x : OneNumber} {line : ℕ} → At t line start → LineIs (lines t) line l → RingRead l x → Turned limits judging t line (ringTurn limits x)
+  unfolding ringTurn Says
+  ring-turned at-start here (is-ring {n} e w) =
+      let ring : RingIs t n = record { text = subst (LineIs (lines t) 1) e here; spelled = w } in
+      values-turned limits judging (form-first judging (λ s o. omega (arith, only-number o)) (ring-first limits n)) at-start (λ s. said-of-ring ring)
+      (λ w. record { at = refl; n = n; ring = ring; wrong = w })
+      (behind-ring ring)
+  ring-turned at-start here (no-ring none) =
+      stops (unfit-first limits judging at-start (λ n r. none n (line-one here (r .text) refl) (r .spelled)))
+
+  module _ {line : ℕ} (here : LineIs (lines t) line l) where
+    -- C g h across, where the line is no D line
+    cut-turned : {n a b : ℕ} {rs : List Routed} {x : ThreeNumbers} → At t line (rows n a b rs) → ((r : Routed) → SentIs t line r → ⊥) → CutRead l x
+        → Turned limits judging t line (cutTurn judging n rs x)
+    unfolding cutTurn Says
+    cut-turned {n} {a} {b} {rs} at none (is-cut {g} {h} {m} e u v w) =
+        let is : CutIs t line (cutOf g h m) = record { text = subst (LineIs (lines t) line) e here; pair = (u, v); number = w } in
+        values-turned limits judging (when-first judging (λ s o. omega (arith, only-number o)) (cut-first n rs (cutOf g h m))) at (λ s. said-of-cut is)
+        (λ w. record { n = n; a = a; b = b; rs = rs; due = at; c = cutOf g h m; is = is; wrong = w })
+        (behind-cut at is)
+    cut-turned at none (no-cut none′) =
+        stops (unfit-first limits judging at (none, λ c k. none′ (c .g) (c .h) (c .number) (line-one here (k .text) refl) (k .pair .0) (k .pair .1) (k .number)))
+
+    -- D i j amount front back F-or-B, else C
+    row-turned : {n a b : ℕ} {rs : List Routed} {x : SentRow} {y : ThreeNumbers} → At t line (rows n a b rs) → SentRead l x → CutRead l y
+        → Turned limits judging t line (rowTurn limits judging n a b rs x y)
+    unfolding rowTurn
+    row-turned at (is-sent {i} {j} {d} {f} {b = k} {w} e h) c =
+        let is : SentIs t line (routedOf i j d f k w) =
+        record {
+          text = subst (LineIs (lines t) line) (e ∙ sym (way-spelled i j d f k w)) here;
+          nodes = (h .first, h .second);
+          amount = h .amount;
+          halves = (h .front, h .back);
+        } in
+        unless-turned limits judging (sent-first limits at is judging) (behind-row at is)
+    row-turned at (no-sent none) c =
+        cut-turned at (λ r s. none _ _ _ _ _ _ (line-one here (s .text) refl) (sent-spelled s)) c
+
+    module _ {n : ℕ} {rs : List Routed} {c : Cut} {ks : List Link} (at : At t line (links n rs c ks)) where
+      -- L link split-load unsplit-load
+      link-turned : {x : ThreeNumbers} → length ks < n → LinkRead l x → Turned limits judging t line (linkTurn judging n rs c ks x)
+      unfolding linkTurn Says
+      link-turned few (is-link {k} {s} {u} e p q o) =
+          let is : LinkIs t line (linkOf k s u) = record { text = subst (LineIs (lines t) line) e here; link = p; loads = (q, o) } in
+          values-turned limits judging (when-first judging (λ s o. omega (arith, only-number o)) (link-first rs (length ks + 1) (linkOf k s u))) at
+          (λ s. said-of-link few is)
+          (λ w. record { n = n; rs = rs; c = c; ks = ks; due = at; few = few; l = linkOf k s u; is = is; wrong = w })
+          (behind-link at few is)
+      link-turned few (no-link none) =
+          stops (unfit-first limits judging at (inl (few, λ k m. none (k .link) (k .split) (k .unsplit) (line-one here (m .text) refl) (m .link) (m .loads .0) (m .loads .1))))
+
+      -- Z unsplit-peak size
+      last-turned : {x : TwoNumbers} → n ≤ length ks → LastRead l x → Turned limits judging t line (lastTurn judging n rs c ks x)
+      unfolding lastTurn Says
+      last-turned all (is-last {p} {z} e v w) =
+          let is : LastIs t line p z = record { text = subst (LineIs (lines t) line) e here; spelled = (v, w) } in
+          values-turned limits judging (when-first judging (λ s o. omega (arith, only-number o)) (last-first n rs p z)) at (λ s. said-of-last all is)
+          (λ w. record { n = n; rs = rs; c = c; ks = ks; due = at; all = all; p = p; z = z; is = is; wrong = w })
+          (behind-last at all is)
+      last-turned all (no-last none) =
+          stops (unfit-first limits judging at (inr (all, λ p z m. none p z (line-one here (m .text) refl) (m .spelled .0) (m .spelled .1))))
+
+  -- by what is due
+  pub turned : {state : State} {line : ℕ} → At t line state → LineIs (lines t) line l → Turned limits judging t line (turn limits judging state l)
+  unfolding turn
+  turned {state = start} at here = ring-turned at here (ring-read l)
+  turned {state = rows n a b rs} at here = row-turned here at (sent-read l) (cut-read l)
+  turned {state = links n rs c ks} {line} at here =
+      cond-elim (Turned limits judging t line) _ _ _
+      (λ e. link-turned here at (ltb-true (length ks) n e) (link-read l))
+      (λ e. last-turned here at (ltb-false (length ks) n e) (last-read l))
+  turned {state = end x} at here = stops (unfit-first limits judging at (l, here))

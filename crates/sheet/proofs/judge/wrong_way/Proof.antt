@@ -1,0 +1,23 @@
+-- A split row goes either way; any other goes by whether it has a back amount.
+use Rattle.sheet.proofs.JudgeSteps.{split-row, goes-front, goes-back}
+use borrow.Author.Needs.{needs}
+use Rattle.sheet.proofs.judge.wrong_way.Statement.{statement}
+use Rattle.sheet.proofs.judge.wrong_way.Tie as tie
+use Rattle.sheet.proofs.judge.wrong_way.Reads as reads
+use Rattle.sheet.proofs.judge.wrong_way.Lts as lts
+use Rattle.router.proofs.is_split.Reads as is-split-reads
+
+is-split-requires : tie.Need-is-split-requires
+is-split-requires c κs = search needs
+
+returns : tie.Need-returns
+returns c = search split-row
+
+returns-2 : tie.Need-returns-2
+returns-2 c = search goes-front
+
+returns-3 : tie.Need-returns-3
+returns-3 c = search goes-back
+
+pub wrong-way-spec : {M : Type 1} → statement M
+wrong-way-spec = tie.close (tie.spec is-split-requires returns returns-2 returns-3)
