@@ -1,7 +1,9 @@
 // The public calls, as C sees them: byte slices and numbers in, a reply by value out. No call has a `requires`.
 use ring::LINKS;
 use ring::ROWS;
+use sheet::Answer as Judged;
 use sheet::Figures;
+use sheet::Pair;
 use table::Answer;
 use table::Reason;
 ghost use mathlib.Core.Path.{_≡_};
@@ -12,6 +14,7 @@ ghost use Rattle.sheet.specs.Arrays.{sheetIn};
 ghost use Rattle.sheet.specs.Range.{longest};
 ghost use Rattle.ringkit.specs.Outcome.{replyOf, refuse, write, Fills};
 ghost use Rattle.ringkit.specs.TableCalls.{tableAfresh, tableRouted};
+ghost use Rattle.ringkit.specs.SheetCalls.{sheetChecked, sheetParallel, sheetAfresh};
 
 // A buffer of so many bytes has room for every sheet that routing writes: R has 2 fields, D 7, C 4, L 4, Z 3, and a field takes at most 7 digits and
 // the byte behind them.
@@ -149,6 +152,94 @@ pub extern "C" fn ringkit_route(table: &[u8], buffer: &mut [u8]) -> Reply
                 &p.way,
                 &p.split,
                 &p.unsplit,
+            )
+        }
+    }
+}
+
+// Checks a sheet, whatever tool it comes from.
+#[no_mangle]
+pub extern "C" fn ringkit_check(sheet: &[u8]) -> Reply
+    ensures { λ r. ⌜ r ≡ sheetChecked (now (sheet .entry)) ⌝ }
+{
+    let c = sheet::check_sheet(sheet);
+    let answer = c.answer;
+    match answer {
+        Judged::Refused(reason, line) => refusal(reason, line),
+        Judged::Is(_) => Reply {
+            reason: 0,
+            line: 0,
+            length: 0,
+        },
+    }
+}
+
+// reason 0 is success: two rows by their places, counted from 1; both are 0 where there is no pair, and on a refusal.
+#[repr(C)]
+pub struct PairReply {
+    pub reason: u32,
+    pub line: u32,
+    pub first: usize,
+    pub second: usize,
+}
+
+// The first pair of split rows of a sheet that are parallel.
+#[no_mangle]
+pub extern "C" fn ringkit_parallel(sheet: &[u8]) -> PairReply
+    ensures { λ r. ⌜ r ≡ sheetParallel (now (sheet .entry)) ⌝ }
+{
+    let c = sheet::check_sheet(sheet);
+    let answer = c.answer;
+    match answer {
+        Judged::Refused(reason, line) => PairReply {
+            reason: reason.number(),
+            line,
+            first: 0,
+            second: 0,
+        },
+        Judged::Is(count) => {
+            let pair = sheet::first_pair(count, &c.first, &c.second, &c.front, &c.back);
+            let Pair::Are(first, second) = pair else {
+                return PairReply {
+                    reason: 0,
+                    line: 0,
+                    first: 0,
+                    second: 0,
+                };
+            };
+            PairReply {
+                reason: 0,
+                line: 0,
+                first,
+                second,
+            }
+        }
+    }
+}
+
+// Reads a sheet and writes its values afresh.
+#[no_mangle]
+pub extern "C" fn ringkit_rewrite_sheet(sheet: &[u8], buffer: &mut [u8]) -> Reply
+    ensures { λ r. ⌜ Fills (sheetAfresh (now (sheet .entry))) (now (buffer .entry)) (now (buffer .exit)) r ⌝ }
+{
+    let c = sheet::check_sheet(sheet);
+    let answer = c.answer;
+    match answer {
+        Judged::Refused(reason, line) => refusal(reason, line),
+        Judged::Is(count) => {
+            let x = c.figures;
+            put_sheet(
+                buffer,
+                x,
+                count,
+                &c.first,
+                &c.second,
+                &c.amount,
+                &c.front,
+                &c.back,
+                &c.way,
+                &c.split,
+                &c.unsplit,
             )
         }
     }
