@@ -6,6 +6,8 @@
 
 #![allow(dead_code)]
 
+#[path = "../tests/twin/src/check.rs"]
+mod check;
 #[path = "../tests/twin/src/gen.rs"]
 mod gen;
 #[path = "../tests/twin/src/rng.rs"]

@@ -1,105 +1,56 @@
 #!/usr/bin/env python3
 """Writes crates/cases/stdin and stdout: stored cases for the public calls, and the answers that document 01 gives them.
 
-The answers come from the reading of 01 below and from nothing else: no source of the project is used. Run it by hand after adding a case
+The answers come from the reading of 01 in reading.py and rules.py and from nothing else: no source of the project is used. Run it by hand after adding a case
 and look at the difference; the tests only compare what the program writes with what is stored."""
 import functools
 import random
 
 import rules
+import sheets
+from reading import Sheet, fields, first_reason, first_reason_of_sheet, holding, lines_of, rewritten
+from sheets import full, pairs, t, write_table
 
-LONGEST, ROOM, PATTERN = 32768, 40000, 85
-
-
-def fields(line, letter, numbers):
-    """The numbers of a line, or None where it has not this shape."""
-    if not line.endswith(b"\n"):
-        return None
-    parts = line[:-1].split(b"\t")
-    if len(parts) != 1 + numbers or parts[0] != letter:
-        return None
-    out = []
-    for p in parts[1:]:
-        if not 1 <= len(p) <= 7 or any(c not in b"0123456789" for c in p) or (p[:1] == b"0" and p != b"0"):
-            return None
-        out.append(int(p))
-    return out
+ROOM, PATTERN = 40000, 85
 
 
-def lines_of(text):
-    out, rest = [], text
-    while rest:
-        k = rest.find(b"\n") + 1 or len(rest)
-        out.append(rest[:k])
-        rest = rest[k:]
-    return out
-
-
-def holding(lines, at):
-    """The reasons that hold of a line, each judged by its own words alone."""
-    ring = fields(lines[0], b"R", 1) if lines else None
-    if at == 1:
-        tests = {2: ring is None, 3: ring and not 2 <= ring[0] <= 32}
-    else:
-        row = fields(lines[at - 1], b"D", 3)
-        before = fields(lines[at - 2], b"D", 3) if at > 2 else None
-        tests = {
-            2: row is None,
-            4: row and ring and not all(1 <= node <= ring[0] for node in row[:2]),
-            5: row and row[0] >= row[1],
-            6: row and before and row[:2] <= before[:2],
-            7: row and row[2] > 9999,
-        }
-    return {reason for reason, holds in tests.items() if holds}
-
-
-def first_reason(text):
-    """The reason that is given, and its line: the least line and in it the least reason; 1 stands on line 0. None where no reason holds."""
-    lines = lines_of(text)
-    held = {(0, 1)} if len(text) > LONGEST else set()
-    for at in range(1, max(1, len(lines)) + 1):
-        held |= {(at, reason) for reason in holding(lines, at)}
-    line, reason = min(held, default=(None, None))
-    return reason and (reason, line)
-
-
-def write_table(n, rows):
-    return b"".join([b"R\t%d\n" % n] + [b"D\t%d\t%d\t%d\n" % r for r in rows])
-
-
-def sum_of(buffer):
+@functools.cache
+def sum_of(out):
+    """The sum over a buffer that begins with this text."""
     s = 0
-    for b in buffer:
+    for b in out + bytes([PATTERN]) * (ROOM - len(out)):
         s = (s * 31 + b) % 1000003
     return s
 
 
-# the text that a call writes, by the call's letter
-WRITES = {"T": write_table, "R": rules.sheet}
+@functools.cache
+def written(letter, text):
+    """The text that a call writes, by the call's letter."""
+    if letter == "S":
+        return rewritten(text)
+    ring, *rows = lines_of(text)
+    n, rows = fields(ring, b"R", 1)[0], tuple(tuple(fields(row, b"D", 3)) for row in rows)
+    return rules.sheet(n, rows) if letter == "R" else write_table(n, rows)
 
 
 @functools.cache
-def written(letter, text):
-    ring, *rows = lines_of(text)
-    return WRITES[letter](*fields(ring, b"R", 1), [tuple(fields(row, b"D", 3)) for row in rows])
+def refused(letter, text):
+    return first_reason(text) if letter in "TR" else first_reason_of_sheet(text)
 
 
 def answer(letter, text, room):
-    reply, out = first_reason(text), b""
+    """The line that answers a case."""
+    reply, out = refused(letter, text), b""
+    if letter == "C":
+        return reply or (0, 0)
+    if letter == "P":
+        sheet = Sheet(text)
+        return reply + (0, 0) if reply else (0, 0) + rules.first_parallel(sheet.rows, sheet.sent)
     if not reply:
         out = written(letter, text)
         if room < len(out):
             reply, out = (15, 0), b""
-    return (reply or (0, 0)) + (len(out), sum_of(out + bytes([PATTERN]) * (ROOM - len(out))))
-
-
-def t(*lines, end="\n"):
-    """A text from lines with | for tabs."""
-    return ("\n".join(lines) + end).replace("|", "\t").encode("latin-1")
-
-
-def pairs(n):
-    return [(i, j) for i in range(1, n) for j in range(i + 1, n + 1)]
+    return (reply or (0, 0)) + (len(out), sum_of(out))
 
 
 def refusals():
@@ -169,10 +120,6 @@ def rings():
         yield t("R|%d" % n, "D|0|%d|1" % n)
         yield t("R|%d" % n, "D|1|%d|1" % (n + 1))
         yield t("R|%d" % n, "D|%d|%d|1" % (n, n + 1))
-
-
-def full(n, amount):
-    return write_table(n, [p + (amount(k),) for k, p in enumerate(pairs(n))])
 
 
 def longest():
@@ -259,11 +206,9 @@ def to_route():
     yield b"", 200
     yield b"\n" * 32769, ROOM
     rng = random.Random(496)
-    for n in (20, 32):
-        for amounts in (range(10000), (0, 1, 9999), (9999,)):
-            text = full(n, lambda k: rng.choice(amounts))
-            for room in around(text):
-                yield text, room
+    for text in sheets.full_tables(rng):
+        for room in around(text):
+            yield text, room
     for k in range(60):
         n = rng.choice([2, 3, 4, 6, 9, 16, 20])
         rows = [p + (rng.choice([0, 1, 2, rng.randrange(10000), 9999]),) for p in pairs(n) if rng.random() < rng.choice([0.1, 0.5])]
@@ -277,16 +222,34 @@ def around(text):
     return [0, need - 1, need, need + 1]
 
 
+def of_sheets():
+    """Each sheet is checked. Those that pass the lines, the first of each reason and some others are asked for a pair and written afresh too."""
+    met = set()
+    for k, text in enumerate(dict.fromkeys(sheets.all_texts())):
+        reason = (refused("C", text) or (0, 0))[0]
+        yield "C", text, 0
+        if reason in (0, 13, 14) or reason not in met or k % 12 == 0:
+            need = min(len(text), ROOM - 1)
+            yield "P", text, 0
+            yield "S", text, (need, need + 1, max(need - 1, 0), 0)[k % 4]
+        met.add(reason)
+    for text in sheets.rewritten_often():
+        for room in (0, 1, len(text) - 1, len(text), len(text) + 1, ROOM):
+            yield "S", text, max(room, 0)
+
+
 def main():
     given, due = [], []
-    calls = [("T", text, min(room, ROOM)) for text, room in all_cases()] + [("R", *case) for case in to_route()]
+    calls = [("T", text, min(room, ROOM)) for text, room in all_cases()] + [("R", *case) for case in to_route()] + [*of_sheets()]
     for letter, text, room in dict.fromkeys(calls):
         given.append(b"%c%05d%05d\n" % (ord(letter), len(text), room) + text)
-        due.append("%d %d %d %d\n" % answer(letter, text, room))
+        due.append(letter + " %s\n" % " ".join(map(str, answer(letter, text, room))))
     open("crates/cases/stdin", "wb").write(b"".join(given))
-    open("crates/cases/stdout", "w").write("".join(due))
-    seen = {line.split()[0] for line in due}
-    print(len(due), "cases, reasons seen:", sorted(map(int, seen)))
+    open("crates/cases/stdout", "w").write("".join(line[2:] for line in due))
+    for letter in "TRCPS":
+        mine = [line.split() for line in due if line[0] == letter]
+        print(letter, len(mine), "cases, reasons seen:", sorted({int(words[1]) for words in mine}))
+    print("pairs seen:", len({line for line in due if line.startswith("P 0") and not line.endswith(" 0 0\n")}))
 
 
 main()

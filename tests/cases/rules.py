@@ -1,4 +1,6 @@
-"""Rules A to D of document 01 and the sheet's text, read from 01 alone: sums are taken afresh wherever a rule speaks of one."""
+"""Rules A to D of document 01, the figures of a sheet and its text, read from 01 alone: sums are taken afresh wherever a rule speaks of one."""
+
+import functools
 
 SIZES = (3, 12, 48, 192, 768)
 
@@ -51,8 +53,13 @@ def rule_c(rows, sent):
                 sent[inner] = [sent[inner][0] + t, sent[inner][1] - t]
 
 
+def largest_split(rows, sent):
+    """D of rule D."""
+    return max((row[2] for row, x in zip(rows, sent) if all(x)), default=0)
+
+
 def rule_d(rows, sent):
-    most = max((row[2] for row, x in zip(rows, sent) if all(x)), default=0)
+    most = largest_split(rows, sent)
     s, ways = 0, []
     for f, b in sent:
         if b == 0:
@@ -68,22 +75,49 @@ def rule_d(rows, sent):
     return ways
 
 
-def sheet(n, rows):
-    """The text of the sheet."""
-    g, h, m = rule_a(n, rows)
-    sent = rule_b(n, rows, m)
-    rule_c(rows, sent)
-    ways = rule_d(rows, sent)
-    split, unsplit = [0] * n, [0] * n
-    for row, (f, b), way in zip(rows, sent, ways):
-        for k in range(1, n + 1):
-            inside = k in front_of(row)
-            split[k - 1] += f if inside else b
-            unsplit[k - 1] += row[2] if inside == (way == "F") else 0
-    peak = max(unsplit)
+def split_load(rows, sent, k):
+    return sum(x[0 if k in front_of(row) else 1] for row, x in zip(rows, sent))
+
+
+def unsplit_load(rows, ways, k):
+    return sum(row[2] for row, way in zip(rows, ways) if (k in front_of(row)) == (way == "F"))
+
+
+def size_for(peak):
+    return min((size for size in SIZES if size >= peak), default=0)
+
+
+def crossing(one, two):
+    """Four distinct nodes, and exactly one of two's strictly between one's."""
+    return len({*one[:2], *two[:2]}) == 4 and sum(one[0] < node < one[1] for node in two[:2]) == 1
+
+
+def first_parallel(rows, sent):
+    """The places from 1 of the first pair of split rows that are parallel; 0 and 0 where there is none."""
+    places = range(len(rows))
+    pairs = ((a, b) for a in places for b in places if a < b and all(sent[a]) and all(sent[b]) and not crossing(rows[a], rows[b]))
+    return next(((a + 1, b + 1) for a, b in pairs), (0, 0))
+
+
+def figures(n, rows, cut, sent, ways):
+    """The lines of a sheet with this split, this cut and these ways, all other figures true. A cut given with its across number keeps it."""
+    links = range(1, n + 1)
+    unsplit = [unsplit_load(rows, ways, k) for k in links]
     out = [("R", n)]
     out += [("D", *row, f, b, way) for row, (f, b), way in zip(rows, sent, ways)]
-    out += [("C", g, h, m)]
-    out += [("L", k + 1, split[k], unsplit[k]) for k in range(n)]
-    out += [("Z", peak, next((size for size in SIZES if size >= peak), 0))]
-    return "".join("\t".join(map(str, line)) + "\n" for line in out).encode()
+    out += [("C", *cut) if len(cut) == 3 else ("C", *cut, across(rows, *cut))]
+    out += [("L", k, split_load(rows, sent, k), unsplit[k - 1]) for k in links]
+    return out + [("Z", max(unsplit), size_for(max(unsplit)))]
+
+
+def text_of(lines):
+    return "".join("\t".join(map(str, line)) + "\n" for line in lines).encode()
+
+
+@functools.cache
+def sheet(n, rows):
+    """The text of our sheet."""
+    cut = rule_a(n, rows)
+    sent = rule_b(n, rows, cut[2])
+    rule_c(rows, sent)
+    return text_of(figures(n, rows, cut, sent, rule_d(rows, sent)))

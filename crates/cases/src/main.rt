@@ -1,6 +1,7 @@
 // Runs stored cases: each is a header of 12 bytes (the letter of the call, the text's length and the buffer's in five digits each, LF) and
 // the text. Each is answered by a line: the reply's numbers, and a sum over every byte of the buffer, which is filled with a pattern before the call.
-// The letter T is `ringkit_rewrite_table`, R is `ringkit_route`; any other ends the run.
+// The letter T is `ringkit_rewrite_table`, R is `ringkit_route`, S is `ringkit_rewrite_sheet`. C is `ringkit_check` and P is `ringkit_parallel`: these lend no
+// buffer, so their lines have reason and line, and for P the two places. Any other letter ends the run.
 use libc::STDIN_FILENO;
 use libc::STDOUT_FILENO;
 use ringkit::Reply;
@@ -57,7 +58,21 @@ fn show_word(n: u32) {
 }
 
 fn known(letter: u8) -> bool {
+    if lends(letter) {
+        return true;
+    }
+    if letter == b'C' {
+        return true;
+    }
+    letter == b'P'
+}
+
+// Whether the call lends a buffer.
+fn lends(letter: u8) -> bool {
     if letter == b'T' {
+        return true;
+    }
+    if letter == b'S' {
         return true;
     }
     letter == b'R'
@@ -67,7 +82,33 @@ fn call(letter: u8, text: &[u8], buffer: &mut [u8]) -> Reply {
     if letter == b'R' {
         return ringkit::ringkit_route(text, buffer);
     }
+    if letter == b'S' {
+        return ringkit::ringkit_rewrite_sheet(text, buffer);
+    }
     ringkit::ringkit_rewrite_table(text, buffer)
+}
+
+fn show_check(text: &[u8]) {
+    let reply = ringkit::ringkit_check(text);
+    show_word(reply.reason);
+    show(reply.line as u64, b"\n");
+}
+
+fn show_parallel(text: &[u8]) {
+    let pair = ringkit::ringkit_parallel(text);
+    show_word(pair.reason);
+    show_word(pair.line);
+    show(pair.first as u64, b" ");
+    show(pair.second as u64, b"\n");
+}
+
+// The calls that lend no buffer.
+fn show_judged(letter: u8, text: &[u8]) {
+    if letter == b'C' {
+        show_check(text);
+        return;
+    }
+    show_parallel(text);
 }
 
 // One case, in fresh memory; false at the end of the input and at an unknown letter.
@@ -96,6 +137,10 @@ fn answer(text: &mut [u8], buffer: &mut [u8]) -> bool {
     }
     if io::read_full(STDIN_FILENO, &mut text[0..size]) < size {
         return false;
+    }
+    if !lends(letter) {
+        show_judged(letter, &text[0..size]);
+        return true;
     }
     let reply = call(letter, &text[0..size], &mut buffer[0..room]);
     show_word(reply.reason);

@@ -118,3 +118,25 @@ module _ {Due : List ℕ → Type 0} {Given : Reason → ℕ → Type 0} (one : 
           let e : x ≡ reason = same-reason x reason (omega (arith, s .number, h .number)) in
           let l : m ≡ line = omega (arith, s .at, h .at) in
           rw (← e, ← l) g
+
+-- ---- a call that writes an accepted text afresh: what is due is the text itself
+
+module _ {Due : List ℕ → Type 0} {Given : Reason → ℕ → Type 0} (one : One Due Given) (Accepted : Type 0) (t : List ℕ) (itself : Accepted → Due t)
+    (only : (text : List ℕ) → Due text → Accepted × (text ≡ t)) {old new : List ℕ} {r : Reply} (call : CallSays Due Given old new r) where
+  -- 0 exactly when the text is accepted and the buffer has room for it
+  pub afresh-succeeds : (r .reason ≡ 0) ↔ (Accepted × (length t ≤ length old))
+  afresh-succeeds = (
+    λ e. let f = succeeds one call .0 e in let o = only (f .text) (f .due) in (o .0, omega (arith, f .fits, ap length (o .1))),
+    λ h. succeeds one call .1 (record { text = t; due = itself (h .0); fits = h .1 }),
+  )
+
+  -- and then the same bytes are written
+  pub afresh-writes : Accepted → length t ≤ length old → Success t old new r
+  afresh-writes a fits = succeeds-with one call t (itself a) fits
+
+  -- 15 exactly when it is accepted and the buffer is too short for it
+  pub afresh-no-room : (r .reason ≡ numberOf NoRoom) ↔ (Accepted × (length old < length t))
+  afresh-no-room = (
+    λ e. let f = no-room one call .0 e in let o = only (f .text) (f .due) in (o .0, omega (arith, f .large, ap length (o .1))),
+    λ h. no-room one call .1 (record { text = t; due = itself (h .0); large = h .1 }),
+  )

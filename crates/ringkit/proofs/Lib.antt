@@ -5,3 +5,4 @@ pub mod SheetSteps
 pub mod Unique
 pub mod Calls
 pub mod TableCalls
+pub mod SheetCalls

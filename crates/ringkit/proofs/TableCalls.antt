@@ -23,7 +23,7 @@ use Rattle.ringkit.specs.Outcome.{Fills}
 use Rattle.ringkit.specs.TableCalls.{ofTable, tableAfresh, sheetDue, tableRouted}
 use Rattle.ringkit.specs.Says.{Success, Refusal, CallSays, TableDue, Fitting, TooLarge}
 use Rattle.ringkit.specs.declared.Reply.{Reply}
-use Rattle.ringkit.proofs.Calls.{Decided, is-due, is-given, One, every-call, succeeds, succeeds-with, no-room, refuses-text}
+use Rattle.ringkit.proofs.Calls.{Decided, is-due, is-given, One, every-call, succeeds, succeeds-with, no-room, refuses-text, afresh-succeeds, afresh-writes, afresh-no-room}
 
 module _ (due : ℕ → List Row → List ℕ) (t : List ℕ) where
   -- something is due exactly to an accepted table
@@ -73,29 +73,24 @@ rewrite-says t = table-call writeTable t
 pub same-bytes : (t text : List ℕ) → TableDue writeTable t text → text ≡ t
 same-bytes t text d = d .is ∙ sym (d .table)
 
-module _ (t old new : List ℕ) (r : Reply) (call : Fills (tableAfresh t) old new r) where
-  itself-due : Accepted desk t → TableDue writeTable t t
-  itself-due a = let s = due-accepted writeTable t .0 a in subst (TableDue writeTable t) (same-bytes t (s .text) (s .is)) (s .is)
+itself-due : (t : List ℕ) → Accepted desk t → TableDue writeTable t t
+itself-due t a = let s = due-accepted writeTable t .0 a in subst (TableDue writeTable t) (same-bytes t (s .text) (s .is)) (s .is)
 
+only-itself : (t text : List ℕ) → TableDue writeTable t text → Accepted desk t × (text ≡ t)
+only-itself t text d = (due-accepted writeTable t .1 (record { text = text; is = d }), same-bytes t text d)
+
+module _ (t old new : List ℕ) (r : Reply) (call : Fills (tableAfresh t) old new r) where
   -- 0 exactly when the table is accepted and the buffer has room for it
   pub rewrite-succeeds : (r .reason ≡ 0) ↔ (Accepted desk t × (length t ≤ length old))
-  rewrite-succeeds =
-      let law = succeeds (one-due writeTable t) (rewrite-says t old new r call) in (
-        λ e. let f = law .0 e in (due-accepted writeTable t .1 (record { text = f .text; is = f .due }), omega (arith, f .fits, ap length (same-bytes t (f .text) (f .due)))),
-        λ h. law .1 (record { text = t; due = itself-due (h .0); fits = h .1 }),
-      )
+  rewrite-succeeds = afresh-succeeds (one-due writeTable t) (Accepted desk t) t (itself-due t) (only-itself t) (rewrite-says t old new r call)
 
   -- and then the same bytes are written
   pub rewrite-writes : Accepted desk t → length t ≤ length old → Success t old new r
-  rewrite-writes a fits = succeeds-with (one-due writeTable t) (rewrite-says t old new r call) t (itself-due a) fits
+  rewrite-writes = afresh-writes (one-due writeTable t) (Accepted desk t) t (itself-due t) (only-itself t) (rewrite-says t old new r call)
 
   -- 15 exactly when the table is accepted and the buffer is too short for it
   pub rewrite-no-room : (r .reason ≡ numberOf NoRoom) ↔ (Accepted desk t × (length old < length t))
-  rewrite-no-room =
-      let law = no-room (one-due writeTable t) (rewrite-says t old new r call) in (
-        λ e. let f = law .0 e in (due-accepted writeTable t .1 (record { text = f .text; is = f .due }), omega (arith, f .large, ap length (same-bytes t (f .text) (f .due)))),
-        λ h. law .1 (record { text = t; due = itself-due (h .0); large = h .1 }),
-      )
+  rewrite-no-room = afresh-no-room (one-due writeTable t) (Accepted desk t) t (itself-due t) (only-itself t) (rewrite-says t old new r call)
 
   -- every other reason exactly when it is the table's first, and with its line
   pub rewrite-refuses : (reason : Reason) (line : ℕ) → numberOf reason < numberOf NoRoom → Given desk t reason line ↔ Refusal reason line old new r

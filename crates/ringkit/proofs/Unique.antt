@@ -7,7 +7,9 @@ use Rattle.text.proofs.Unique.{same-result}
 use Rattle.sheet.specs.Range.{longest}
 use Rattle.ringkit.specs.Outcome.{Outcome, Fills}
 use Rattle.ringkit.specs.TableCalls.{tableAfresh, tableRouted}
+use Rattle.ringkit.specs.SheetCalls.{sheetChecked, sheetParallel, sheetAfresh}
 use Rattle.ringkit.specs.declared.Reply.{Reply}
+use Rattle.ringkit.specs.declared.PairReply.{PairReply}
 
 fills-unique : (outcome : Outcome) (old new buf : List ℕ) (r q : Reply) → Fills outcome old new r → Fills outcome old buf q → (r ≡ q) × (new ≡ buf)
 fills-unique outcome old new buf r q a b = (same-result (a .reply) (b .reply), same-result (a .buffer) (b .buffer))
@@ -20,3 +22,12 @@ route-unique t = fills-unique (tableRouted t)
 
 pub sheet-bytes-unique : (r q : ℕ) → r ≡ longest desk → q ≡ longest desk → r ≡ q
 sheet-bytes-unique r q = same-result
+
+pub check-unique : (t : List ℕ) (r q : Reply) → r ≡ sheetChecked t → q ≡ sheetChecked t → r ≡ q
+check-unique t r q = same-result
+
+pub parallel-unique : (t : List ℕ) (r q : PairReply) → r ≡ sheetParallel t → q ≡ sheetParallel t → r ≡ q
+parallel-unique t r q = same-result
+
+pub rewrite-sheet-unique : (t old new buf : List ℕ) (r q : Reply) → Fills (sheetAfresh t) old new r → Fills (sheetAfresh t) old buf q → (r ≡ q) × (new ≡ buf)
+rewrite-sheet-unique t = fills-unique (sheetAfresh t)

@@ -5,6 +5,10 @@ use mathlib.Core.Path.{_≡_}
 use lib.ListN.{length, drop}
 use Rattle.ring.specs.Limits.{desk}
 use Rattle.ring.specs.Row.{Row}
+use Rattle.ring.specs.Sheet.{Sheet}
+use Rattle.ring.specs.True.{TrueSheet}
+use Rattle.sheet.specs.Range as sheet-range
+use Rattle.sheet.specs.WriteSheet.{writeSheet}
 use Rattle.table.specs.Reasons.{numberOf}
 use Rattle.table.specs.Table.{writeTable, InRange}
 use Rattle.table.specs.declared.reason.Reason.{Reason}
@@ -38,6 +42,14 @@ pub record TableDue (due : ℕ → List Row → List ℕ) (t text : List ℕ) : 
   pub table : t ≡ writeTable n rs
   pub range : InRange desk n rs
   pub is : text ≡ due n rs
+
+-- the text that is due to a sheet that is written afresh: t is the sheet of these values, they are in the desk's range, and the sheet is true
+pub record SheetDue (t text : List ℕ) : Type 0 where
+  pub x : Sheet
+  pub sheet : t ≡ writeSheet x
+  pub range : sheet-range.InRange desk x
+  pub true-sheet : TrueSheet x
+  pub is : text ≡ writeSheet x
 
 -- a text is due that fits into the buffer
 pub record Fitting (Due : List ℕ → Type 0) (old : List ℕ) : Type 0 where

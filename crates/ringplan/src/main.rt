@@ -1,4 +1,4 @@
-// Reads a table on standard input and writes its sheet, or the line E, reason, line (parted by tabs) where it is refused.
+// Reads a table on standard input and writes its sheet, or the line of its refusal.
 use libc::STDIN_FILENO;
 use libc::STDOUT_FILENO;
 use ring::BYTES;
@@ -7,21 +7,10 @@ use ringkit::SHEET_BYTES;
 // One byte more than a table can have, so that a longer text is seen to be longer.
 const MOST: usize = BYTES + 1;
 
-fn show(n: u32, end: &[u8]) {
-    io::print_decimal(STDOUT_FILENO, n as u64);
-    io::write_all(STDOUT_FILENO, end);
-}
-
-fn refuse(reason: u32, line: u32) {
-    io::write_all(STDOUT_FILENO, b"E\t");
-    show(reason, b"\t");
-    show(line, b"\n");
-}
-
 fn plan(text: &[u8], sheet: &mut [u8]) {
     let reply = ringkit::ringkit_route(text, sheet);
     if reply.reason != 0 {
-        refuse(reply.reason, reply.line);
+        report::refuse(reply.reason, reply.line);
         return;
     }
     let length = reply.length;

@@ -1,7 +1,7 @@
 //! The comparison: reply and every byte of the buffer, for one call or a case.
 
 use crate::kit::Kit;
-use crate::twin::{self, Answer, Call, Reply};
+use crate::twin::{self, Answer, Call, Said};
 
 /// Bytes on both sides of the lent buffer that no call may change.
 const GUARD: usize = 32;
@@ -11,13 +11,16 @@ const GUARD: usize = 32;
 pub enum Lend {
     Exactly(usize),
     /// The length of the text to be written and so many more (or fewer). A
-    /// refused table needs nothing: its lengths lie around 40.
+    /// refused text needs nothing: its lengths lie around 40.
     Need(i64),
 }
 
+/// For a call that lends no buffer.
+pub const NONE: Lend = Lend::Exactly(0);
+
 impl Lend {
     fn length(self, answer: &Answer) -> usize {
-        let need = answer.as_ref().map_or(40, |text| text.len());
+        let need = answer.as_ref().map_or(40, |granted| granted.text.len());
         match self {
             Lend::Exactly(length) => length,
             Lend::Need(more) => (need as i64 + more).max(0) as usize,
@@ -25,9 +28,9 @@ impl Lend {
     }
 }
 
-/// A table text and the calls that are made with it.
+/// A text and the calls that are made with it.
 pub struct Case {
-    /// The offices of the table that the text was made from.
+    /// The offices of the table or sheet that the text was made from.
     pub offices: i64,
     pub text: Vec<u8>,
     pub trials: Vec<(Call, Lend)>,
@@ -38,11 +41,11 @@ pub struct Mismatch {
     pub call: Call,
     pub lend: Lend,
     pub length: usize,
-    pub twin: Reply,
-    pub kit: Reply,
+    pub twin: Said,
+    pub kit: Said,
     /// Place in the buffer, what the twin has there, what the library has.
     pub byte: Option<(i64, Vec<u8>, Vec<u8>)>,
-    pub table_changed: bool,
+    pub text_changed: bool,
 }
 
 /// The pattern that fills the buffer before a call.
@@ -62,15 +65,15 @@ pub fn compare(
     text: &[u8],
     answer: &Answer,
     salt: u64,
-) -> Result<Reply, Box<Mismatch>> {
+) -> Result<Said, Box<Mismatch>> {
     let length = lend.length(answer);
     let lent = GUARD..GUARD + length;
     let mut expected = pattern(length + 2 * GUARD, salt);
     let mut got = expected.clone();
-    let mut table = text.to_vec();
-    let by_twin = twin::reply(answer, &mut expected[lent.clone()]);
-    let by_kit = kit.call(call, &mut table, &mut got, lent);
-    if by_twin == by_kit && expected == got && table == text {
+    let mut handed = text.to_vec();
+    let by_twin = twin::say(call, answer, &mut expected[lent.clone()]);
+    let by_kit = kit.call(call, &mut handed, &mut got, lent);
+    if by_twin == by_kit && expected == got && handed == text {
         return Ok(by_twin);
     }
     Err(Box::new(Mismatch {
@@ -80,7 +83,7 @@ pub fn compare(
         twin: by_twin,
         kit: by_kit,
         byte: first_difference(&expected, &got),
-        table_changed: table != text,
+        text_changed: handed != text,
     }))
 }
 
@@ -153,7 +156,7 @@ pub fn shown(text: &[u8], lines: usize) -> String {
 /// A mismatch in words.
 pub fn describe(text: &[u8], mismatch: &Mismatch) -> String {
     let mut words = format!(
-        "  call {:?}, buffer of {} bytes ({:?}), table text of {} bytes:\n",
+        "  call {:?}, buffer of {} bytes ({:?}), text of {} bytes:\n",
         mismatch.call,
         mismatch.length,
         mismatch.lend,
@@ -170,8 +173,8 @@ pub fn describe(text: &[u8], mismatch: &Mismatch) -> String {
         words.push_str(&format!("    twin:    {}\n", line(twin)));
         words.push_str(&format!("    library: {}\n", line(kit)));
     }
-    if mismatch.table_changed {
-        words.push_str("  the call changed the table text\n");
+    if mismatch.text_changed {
+        words.push_str("  the call changed the text\n");
     }
     words
 }

@@ -112,12 +112,12 @@ pub fn shaped(rng: &mut Rng, n: i64) -> Table {
     }
 }
 
-/// A byte that a table could hold, or any byte.
+/// A byte that a table or a sheet could hold, or any byte.
 fn byte(rng: &mut Rng) -> u8 {
     if rng.chance(1, 4) {
         return rng.below(256) as u8;
     }
-    rng.pick(b"RDLZ\t\t\n\n\r 0123456789")
+    rng.pick(b"RDCLZFBfb\t\t\n\n\r 0123456789")
 }
 
 /// One byte changed, dropped or inserted, or the text cut short.
@@ -139,7 +139,7 @@ pub fn damage_bytes(rng: &mut Rng, text: &mut Vec<u8>) {
     }
 }
 
-fn lines_of(text: &[u8]) -> Vec<Vec<u8>> {
+pub fn lines_of(text: &[u8]) -> Vec<Vec<u8>> {
     let lines = text.split_inclusive(|byte| *byte == b'\n');
     lines.map(|line| line.to_vec()).collect()
 }
@@ -172,11 +172,11 @@ pub fn damage_lines(rng: &mut Rng, text: &mut Vec<u8>) {
 }
 
 /// Numbers at the boundaries of what 01 allows, good and bad spellings.
-pub const BOUNDARY: [&str; 10] = [
-    "0", "1", "2", "32", "33", "9999", "10000", "9999999", "10000000", "00",
+pub const BOUNDARY: [&str; 11] = [
+    "0", "1", "2", "32", "33", "9999", "10000", "19998", "9999999", "10000000", "00",
 ];
 
-const ODD: [&str; 12] = [
+pub const ODD: [&str; 12] = [
     "", "01", "-1", "+1", "1 ", " 1", "1.", "0x1", "31", "17", "9998", "99999999",
 ];
 
@@ -228,6 +228,28 @@ pub fn damage_row(rng: &mut Rng, text: &mut Vec<u8>) {
     *text = lines.concat();
 }
 
+/// One line of a sheet replaced by a row whose numbers are all drawn: most of
+/// the time its front and back fit its amount, so that a later reason is met.
+pub fn damage_sheet_row(rng: &mut Rng, text: &mut Vec<u8>) {
+    let mut lines = lines_of(text);
+    if lines.is_empty() {
+        return;
+    }
+    let at = rng.below(lines.len());
+    let i = rng.pick(&[0, 1, 1, 2, 3, 8, 16, 31, 32, 33, 9_999_999]);
+    let j = rng.pick(&[0, 1, 2, 3, 4, 9, 17, 31, 32, 33, 9_999_999]);
+    let d = rng.pick(&[0, 1, 2, 9_999, 9_999, 10_000, 9_999_999]);
+    let mut front = rng.pick(&[0, 1, d, 2 * d, 19_998]);
+    let mut back = (2 * d - front).max(0);
+    if rng.chance(1, 4) {
+        front = rng.pick(&[0, 1, 19_998, 9_999_999]);
+        back = rng.pick(&[0, 1, 19_998, 9_999_999]);
+    }
+    let way = rng.pick(b"FB") as char;
+    lines[at] = format!("D\t{i}\t{j}\t{d}\t{front}\t{back}\t{way}\n").into_bytes();
+    *text = lines.concat();
+}
+
 /// The text made `length` bytes long, by bytes put in or taken away.
 pub fn pad(rng: &mut Rng, text: &mut Vec<u8>, length: usize) {
     let filler: &[u8] = rng.pick(&[
@@ -239,6 +261,9 @@ pub fn pad(rng: &mut Rng, text: &mut Vec<u8>, length: usize) {
         b"D\t1\t2\t1\n",
         b"D\t31\t32\t9999\n",
         b"R\t2\n",
+        b"D\t1\t2\t0\t0\t0\tF\n",
+        b"L\t1\t0\t0\n",
+        b"Z\t0\t3\n",
         b"\0",
     ]);
     let missing = length.saturating_sub(text.len());
@@ -253,7 +278,7 @@ pub fn pad(rng: &mut Rng, text: &mut Vec<u8>, length: usize) {
     }
 }
 
-/// A text of a few random bytes that a table could hold.
+/// A text of a few random bytes that a table or a sheet could hold.
 pub fn noise(rng: &mut Rng) -> Vec<u8> {
     let length = rng.below(40);
     (0..length).map(|_| byte(rng)).collect()

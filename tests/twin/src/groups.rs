@@ -1,14 +1,16 @@
-//! The groups of cases: whole lists first, then random tables and texts.
+//! The groups of cases: of tables whole lists first, then random tables and
+//! texts; the groups of sheets after them.
 
 use crate::compare::{Case, Lend};
 use crate::gen::{self, Amounts};
 use crate::rng::Rng;
 use crate::sheet::table_text;
+use crate::sheets;
 use crate::table::{Row, Table};
 use crate::twin::Call;
 
 /// A group of cases. A group with share 0 is a list: it runs until `make`
-/// gives None. Any other runs until it has its share, out of 1,000, of the
+/// gives None. Any other runs until it has its share, out of 10,000, of the
 /// number of random comparisons.
 pub struct Group {
     pub name: &'static str,
@@ -20,29 +22,66 @@ const fn group(name: &'static str, share: u64, make: fn(&mut Rng, u64) -> Option
     Group { name, share, make }
 }
 
-pub const GROUPS: [Group; 19] = [
+pub const GROUPS: [Group; 40] = [
     group("numbers to try of 01", 0, numbers_to_try),
     group("all small tables", 0, all_small),
     group("every byte of the square", 0, every_byte),
     group("boundary numbers in two fields", 0, two_fields),
     group("every buffer length", 0, every_length),
-    group("random tables, 2 to 15 offices", 120, small),
-    group("random tables, 16 to 32 offices", 34, large),
-    group("thin tables, 16 to 32 offices", 250, thin),
-    group("shaped tables", 150, shaped),
-    group("full tables, 20 offices", 24, full_20),
-    group("full tables, 32 offices", 6, full_32),
-    group("full tables of 0, 1, 9999", 6, full_ends),
-    group("damaged bytes", 90, damaged_bytes),
-    group("damaged lines", 90, damaged_lines),
-    group("damaged fields", 100, damaged_fields),
-    group("damaged rows", 30, damaged_rows),
-    group("damaged several times", 60, damaged_often),
-    group("padded texts", 26, padded),
-    group("noise", 14, noise),
+    group("random tables, 2 to 15 offices", 480, small),
+    group("random tables, 16 to 32 offices", 136, large),
+    group("thin tables, 16 to 32 offices", 1000, thin),
+    group("shaped tables", 600, shaped),
+    group("full tables, 20 offices", 96, full_20),
+    group("full tables, 32 offices", 24, full_32),
+    group("full tables of 0, 1, 9999", 24, full_ends),
+    group("damaged bytes", 360, damaged_bytes),
+    group("damaged lines", 360, damaged_lines),
+    group("damaged fields", 400, damaged_fields),
+    group("damaged rows", 120, damaged_rows),
+    group("damaged several times", 240, damaged_often),
+    group("padded texts", 104, padded),
+    group("noise", 56, noise),
+    group("sheets: of 01", 0, sheets::sheets_of_01),
+    group("sheets: all small ones", 0, sheets::all_small),
+    group("sheets: every byte of the square's", 0, sheets::every_byte),
+    group(
+        "sheets: every field of document 002's",
+        0,
+        sheets::every_field,
+    ),
+    group("sheets: every buffer length", 0, sheets::every_length),
+    group("sheets of ours", 700, sheets::ours),
+    group("sheets of ours, full rings", 100, sheets::ours_full),
+    group(
+        "foreign sheets, 2 to 15 offices",
+        400,
+        sheets::foreign_small,
+    ),
+    group(
+        "foreign sheets, 16 to 32 offices",
+        1100,
+        sheets::foreign_large,
+    ),
+    group("foreign sheets, full rings", 100, sheets::foreign_full),
+    group("foreign sheets, rows that cross", 500, sheets::crossing),
+    group(
+        "foreign sheets, rows across one cut",
+        400,
+        sheets::all_across,
+    ),
+    group("sheets with a figure off by one", 800, sheets::off_by_one),
+    group("sheets with two figures off", 250, sheets::two_off),
+    group("damaged sheets: bytes", 400, sheets::damaged_bytes),
+    group("damaged sheets: lines", 400, sheets::damaged_lines),
+    group("damaged sheets: fields", 450, sheets::damaged_fields),
+    group("damaged sheets: rows", 150, sheets::damaged_rows),
+    group("damaged sheets: several times", 150, sheets::damaged_often),
+    group("padded sheets", 50, sheets::padded),
+    group("tables and noise for sheets", 50, sheets::no_sheets),
 ];
 
-const LENDS: [Lend; 6] = [
+pub const LENDS: [Lend; 6] = [
     Lend::Exactly(0),
     Lend::Need(-1),
     Lend::Need(0),
@@ -51,14 +90,14 @@ const LENDS: [Lend; 6] = [
     Lend::Need(5_000),
 ];
 
-const ENOUGH: [Lend; 4] = [
+pub const ENOUGH: [Lend; 4] = [
     Lend::Need(0),
     Lend::Need(1),
     Lend::Need(17),
     Lend::Need(5_000),
 ];
 
-const SHORT: [Lend; 4] = [
+pub const SHORT: [Lend; 4] = [
     Lend::Exactly(0),
     Lend::Exactly(1),
     Lend::Need(-1),
@@ -103,7 +142,7 @@ fn of_table(table: &Table, trials: Vec<(Call, Lend)>) -> Option<Case> {
     })
 }
 
-fn of_text(text: &str, trials: Vec<(Call, Lend)>) -> Option<Case> {
+pub fn of_text(text: &str, trials: Vec<(Call, Lend)>) -> Option<Case> {
     Some(Case {
         offices: 4,
         text: text.replace('|', "\t").into_bytes(),

@@ -2,7 +2,9 @@
 //! `--cfg mock`, the twin itself stands in for the library.
 
 use crate::mutant::Mutant;
-use crate::twin::{Call, Reply};
+use crate::twin::{Call, Said};
+#[cfg(not(mock))]
+use crate::twin::{Pair, Reply};
 use std::ops::Range;
 
 /// What answers the calls.
@@ -14,15 +16,18 @@ pub enum Kit {
 
 impl Kit {
     /// One call. The lent buffer is the part `lent` of `area`; the bytes of
-    /// `area` around it are not lent. The table is handed over so that a call
+    /// `area` around it are not lent. The text is handed over so that a call
     /// that changes it can be seen.
-    pub fn call(self, call: Call, text: &mut [u8], area: &mut [u8], lent: Range<usize>) -> Reply {
+    pub fn call(self, call: Call, text: &mut [u8], area: &mut [u8], lent: Range<usize>) -> Said {
         match self {
             Kit::Library => library(call, text, &mut area[lent]),
             Kit::Mutant(mutant) => mutant.call(call, text, area, lent),
         }
     }
 }
+
+#[cfg(not(mock))]
+type Writing = unsafe extern "C" fn(*const u8, usize, *mut u8, usize) -> Reply;
 
 #[cfg(not(mock))]
 extern "C" {
@@ -38,23 +43,34 @@ extern "C" {
         buffer_ptr: *mut u8,
         buffer_len: usize,
     ) -> Reply;
+    fn ringkit_check(sheet_ptr: *const u8, sheet_len: usize) -> Reply;
+    fn ringkit_rewrite_sheet(
+        sheet_ptr: *const u8,
+        sheet_len: usize,
+        buffer_ptr: *mut u8,
+        buffer_len: usize,
+    ) -> Reply;
+    fn ringkit_parallel(sheet_ptr: *const u8, sheet_len: usize) -> Pair;
 }
 
 #[cfg(not(mock))]
-fn library(call: Call, text: &mut [u8], buffer: &mut [u8]) -> Reply {
-    let (table_ptr, table_len) = (text.as_mut_ptr().cast_const(), text.len());
-    let (buffer_ptr, buffer_len) = (buffer.as_mut_ptr(), buffer.len());
+fn library(call: Call, text: &mut [u8], buffer: &mut [u8]) -> Said {
+    let (text_ptr, text_len) = (text.as_mut_ptr().cast_const(), text.len());
+    let write: Writing = match call {
+        Call::Route => ringkit_route,
+        Call::Rewrite => ringkit_rewrite_table,
+        Call::RewriteSheet => ringkit_rewrite_sheet,
+        // SAFETY: the pointer comes from a slice of the length given, which
+        // lives through the call.
+        Call::Check => return Said::Reply(unsafe { ringkit_check(text_ptr, text_len) }),
+        Call::Parallel => return Said::Pair(unsafe { ringkit_parallel(text_ptr, text_len) }),
+    };
     // SAFETY: both pointers come from slices of the lengths given, which live
     // through the call and do not overlap.
-    unsafe {
-        match call {
-            Call::Route => ringkit_route(table_ptr, table_len, buffer_ptr, buffer_len),
-            Call::Rewrite => ringkit_rewrite_table(table_ptr, table_len, buffer_ptr, buffer_len),
-        }
-    }
+    Said::Reply(unsafe { write(text_ptr, text_len, buffer.as_mut_ptr(), buffer.len()) })
 }
 
 #[cfg(mock)]
-fn library(call: Call, text: &mut [u8], buffer: &mut [u8]) -> Reply {
-    crate::twin::reply(&crate::twin::answer(call, text), buffer)
+fn library(call: Call, text: &mut [u8], buffer: &mut [u8]) -> Said {
+    crate::twin::say(call, &crate::twin::answer(call, text), buffer)
 }

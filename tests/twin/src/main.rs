@@ -1,5 +1,6 @@
-//! The twin: ring routing written once more from 01's sentences alone, and
-//! compared with the library call by call and byte by byte.
+//! The twin: ring routing and the checking of sheets written once more from
+//! 01's sentences alone, and compared with the library call by call and byte by
+//! byte.
 //!
 //! `twin [SEED [COUNT]]` compares: the lists in full and COUNT random
 //! comparisons. The exit status is 0 only when nothing failed.
@@ -8,8 +9,15 @@
 //! [COUNT]]` lists which faults it catches, and where. `twin --mutant K [SEED
 //! [COUNT]]` puts the K-th fault in the library's place, from 1. Built with
 //! `--cfg mock` and no library, the twin stands in for the library.
+//!
+//! `twin --cases` answers the stored cases given on standard input by itself,
+//! without the library, so that its reading of 01 is compared with the one that
+//! wrote their answers.
 
+mod check;
+mod checking_faults;
 mod compare;
+mod foreign;
 mod gen;
 mod groups;
 mod kit;
@@ -18,6 +26,8 @@ mod rng;
 mod rules;
 mod selfcheck;
 mod sheet;
+mod sheets;
+mod stored;
 mod table;
 mod twin;
 
@@ -28,16 +38,17 @@ use mutant::{Mutant, FAULTS, SAME};
 use rng::Rng;
 use std::process::ExitCode;
 use std::time::Instant;
-use twin::Call;
+use table::Table;
+use twin::{Answer, Call, Said, CALLS};
 
 const SEED: u64 = 20_010_496;
-const COUNT: u64 = 40_000;
+const COUNT: u64 = 100_000;
 const MUTANT_COUNT: u64 = 12_000;
 /// The run goes on up to so many mismatches, one in a group at most.
 const MISMATCHES: usize = 5;
 /// The reasons that must have been seen among the random cases.
-const REASONS: [usize; 9] = [0, 1, 2, 3, 4, 5, 6, 7, 15];
-/// The size classes of accepted tables, by offices.
+const REASONS: [usize; 16] = [0, 1, 2, 3, 4, 5, 6, 7, 8, 9, 10, 11, 12, 13, 14, 15];
+/// The size classes of accepted tables and sheets, by offices.
 const CLASSES: [(i64, i64); 7] = [
     (2, 3),
     (4, 7),
@@ -48,24 +59,16 @@ const CLASSES: [(i64, i64); 7] = [
     (32, 32),
 ];
 
-/// What has been counted.
+/// How many accepted texts of a kind there were.
 #[derive(Default)]
-struct Tally {
-    comparisons: u64,
-    /// Comparisons with a table of 16 offices and more.
-    large: u64,
-    reasons: [u64; 16],
-    random_reasons: [u64; 16],
+struct Accepted {
     classes: [u64; CLASSES.len()],
-    /// Accepted tables that hold every pair of 20, and of 32 offices.
+    /// Those that hold every pair of 20, and of 32 offices.
     full: [u64; 2],
 }
 
-impl Tally {
-    fn count_table(&mut self, case: &Case) {
-        let Ok(table) = table::read(&case.text) else {
-            return;
-        };
+impl Accepted {
+    fn count(&mut self, table: &Table) {
         for (at, (low, high)) in CLASSES.iter().enumerate() {
             self.classes[at] += u64::from(*low <= table.n && table.n <= *high);
         }
@@ -73,11 +76,53 @@ impl Tally {
         self.full[1] += u64::from(table.n == 32 && table.rows.len() == 496);
     }
 
-    fn count_reply(&mut self, case: &Case, reason: u32, random: bool) {
+    fn print(&self, what: &str) {
+        for ((low, high), number) in CLASSES.iter().zip(self.classes) {
+            println!("accepted {what} of {low} to {high} offices: {number}");
+        }
+        let [of_20, of_32] = self.full;
+        println!("full {what} of 20 offices: {of_20}, of 32 offices: {of_32}");
+    }
+}
+
+/// What has been counted.
+#[derive(Default)]
+struct Tally {
+    comparisons: u64,
+    /// Comparisons with a table or sheet of 16 offices and more.
+    large: u64,
+    calls: [u64; CALLS.len()],
+    reasons: [u64; 16],
+    random_reasons: [u64; 16],
+    tables: Accepted,
+    sheets: Accepted,
+    /// Random accepted sheets with no parallel pair, with one, and with one
+    /// that is not the first two rows.
+    pairs: [u64; 3],
+}
+
+impl Tally {
+    fn count_text(&mut self, case: &Case) {
+        if let Ok(table) = table::read(&case.text) {
+            self.tables.count(&table);
+        }
+        if let Ok(sheet) = check::read(&case.text) {
+            self.sheets.count(&sheet.table);
+        }
+    }
+
+    fn count_said(&mut self, case: &Case, call: Call, said: Said, random: bool) {
+        let reason = said.reason() as usize;
         self.comparisons += 1;
         self.large += u64::from(case.offices >= 16);
-        self.reasons[reason as usize] += 1;
-        self.random_reasons[reason as usize] += u64::from(random);
+        self.calls[call as usize] += 1;
+        self.reasons[reason] += 1;
+        self.random_reasons[reason] += u64::from(random);
+        if let (Said::Pair(pair), 0, true) = (said, reason, random) {
+            self.pairs[0] += u64::from(pair.first == 0);
+            self.pairs[1] += u64::from(pair.first > 0);
+            self.pairs[2] += u64::from(pair.second > 2);
+        }
     }
 }
 
@@ -102,7 +147,7 @@ impl Run<'_> {
         let quota = if list {
             u64::MAX
         } else {
-            self.count * group.share / 1_000
+            self.count * group.share / 10_000
         };
         let mut ended = Ended {
             comparisons: 0,
@@ -116,7 +161,7 @@ impl Run<'_> {
             let Some(case) = (group.make)(&mut rng, number) else {
                 break;
             };
-            self.tally.count_table(&case);
+            self.tally.count_text(&case);
             ended.comparisons += case.trials.len() as u64;
             let words = self.case(&case, number, !list, describing);
             ended.mismatch = words.map(|words| (number, words));
@@ -126,17 +171,13 @@ impl Run<'_> {
 
     /// All calls of a case up to the first mismatch, in words.
     fn case(&mut self, case: &Case, number: u64, random: bool, describing: bool) -> Option<String> {
-        let mut routed = None;
-        let mut rewritten = None;
+        let mut answers: [Option<Answer>; CALLS.len()] = Default::default();
         for (at, trial) in case.trials.iter().enumerate() {
-            let known = match trial.0 {
-                Call::Route => &mut routed,
-                Call::Rewrite => &mut rewritten,
-            };
+            let known = &mut answers[trial.0 as usize];
             let answer = known.get_or_insert_with(|| twin::answer(trial.0, &case.text));
             let salt = number.wrapping_mul(1_000) + at as u64;
             match compare(self.kit, *trial, &case.text, answer, salt) {
-                Ok(reply) => self.tally.count_reply(case, reply.reason, random),
+                Ok(said) => self.tally.count_said(case, trial.0, said, random),
                 Err(_) if !describing => return Some(String::new()),
                 Err(mismatch) => {
                     let (text, mismatch) = shrink(self.kit, &case.text, mismatch);
@@ -156,6 +197,7 @@ fn self_checks(seed: u64) -> (u64, u64) {
         ("self-check: figure 4.1", selfcheck::figure_4_1()),
         ("self-check: small rings", selfcheck::small_rings()),
         ("self-check: refusals", selfcheck::refusals()),
+        ("self-check: sheets", selfcheck::sheets()),
         ("self-check: theorems", selfcheck::random_theorems(seed)),
     ];
     let mut failed = 0;
@@ -204,24 +246,38 @@ fn all_groups(kit: Kit, seed: u64, count: u64, tally: &mut Tally) -> (u64, u64) 
     (passed, failed)
 }
 
-/// Prints the counts. True when every reason was seen among the random cases.
-fn print_counts(tally: &Tally) -> bool {
+/// Prints the counts. How many of the two demands on them passed and failed.
+fn print_counts(tally: &Tally) -> (u64, u64) {
     let (all, large) = (tally.comparisons, tally.large);
     println!("comparisons: {all}, of these {large} on 16 offices and more");
+    for call in CALLS {
+        println!("call {call:?}: {}", tally.calls[call as usize]);
+    }
     for reason in REASONS {
         let (seen, random) = (tally.reasons[reason], tally.random_reasons[reason]);
         println!("reason {reason}: {seen}, of these {random} in random cases");
     }
-    for ((low, high), tables) in CLASSES.iter().zip(tally.classes) {
-        println!("accepted tables of {low} to {high} offices: {tables}");
-    }
-    let [of_20, of_32] = tally.full;
-    println!("full tables of 20 offices: {of_20}, of 32 offices: {of_32}");
+    tally.tables.print("tables");
+    tally.sheets.print("sheets");
+    let [none, some, later] = tally.pairs;
+    println!("random accepted sheets with no parallel pair: {none}");
+    println!("with one: {some}, of these {later} with other than rows 1 and 2");
     let seen = |reason: &usize| tally.random_reasons[*reason] > 0;
-    let all_seen = REASONS.iter().all(seen);
-    let word = if all_seen { "passed" } else { "FAILED" };
-    println!("{word}: every reason of 0 to 7 and 15 seen in random cases");
-    all_seen
+    let demands = [
+        (
+            "every reason of 0 to 15 seen in random cases",
+            REASONS.iter().all(seen),
+        ),
+        (
+            "a parallel pair, and none, seen in random accepted sheets",
+            none > 0 && later > 0,
+        ),
+    ];
+    for (name, good) in demands {
+        println!("{}: {name}", if good { "passed" } else { "FAILED" });
+    }
+    let passed = demands.iter().filter(|(_, good)| *good).count() as u64;
+    (passed, demands.len() as u64 - passed)
 }
 
 /// The groups that catch a mutant: in how many places.
@@ -272,6 +328,7 @@ fn mutants(seed: u64, count: u64) -> bool {
 
 /// What the arguments ask for.
 struct Asked {
+    cases: bool,
     mutants: bool,
     kit: Kit,
     seed: u64,
@@ -282,7 +339,7 @@ fn asked() -> Option<Asked> {
     let words: Vec<String> = std::env::args().skip(1).collect();
     let mode = words.first().map_or("", |word| word.as_str());
     let taken = match mode {
-        "--mutants" => 1,
+        "--cases" | "--mutants" => 1,
         "--mutant" => 2,
         _ => 0,
     };
@@ -294,6 +351,7 @@ fn asked() -> Option<Asked> {
         kit = Kit::Mutant(FAULTS.get(place.checked_sub(1)?)?);
     }
     (numbers.len() <= 2).then_some(Asked {
+        cases: mode == "--cases",
         mutants: mode == "--mutants",
         kit,
         seed: numbers.first().copied().unwrap_or(SEED),
@@ -303,9 +361,12 @@ fn asked() -> Option<Asked> {
 
 fn main() -> ExitCode {
     let Some(asked) = asked() else {
-        eprintln!("usage: twin [--mutants | --mutant K] [SEED [COUNT]]");
+        eprintln!("usage: twin --cases | twin [--mutants | --mutant K] [SEED [COUNT]]");
         return ExitCode::from(2);
     };
+    if asked.cases {
+        return ExitCode::from(u8::from(!stored::answer_all()));
+    }
     let seed = asked.seed;
     if asked.mutants {
         let good = mutants(seed, asked.count.unwrap_or(MUTANT_COUNT));
@@ -316,9 +377,9 @@ fn main() -> ExitCode {
     let mut tally = Tally::default();
     let (own_passed, own_failed) = self_checks(seed);
     let (passed, failed) = all_groups(asked.kit, seed, count, &mut tally);
-    let seen = print_counts(&tally);
-    let passed = own_passed + passed + u64::from(seen);
-    let failed = own_failed + failed + u64::from(!seen);
+    let (seen, unseen) = print_counts(&tally);
+    let passed = own_passed + passed + seen;
+    let failed = own_failed + failed + unseen;
     println!("{passed} passed, {failed} failed");
     ExitCode::from(u8::from(failed > 0))
 }

@@ -1,10 +1,13 @@
 //! Faulty stand-ins for the library, to show that the comparison catches them.
 //! Each is the twin with one fault.
 
+use crate::check::{self, Question, Questions, Sheet, QUESTIONS};
+use crate::checking_faults::*;
+use crate::foreign::cuts;
 use crate::rules::{self, Cut, Plan, Sent, Way};
 use crate::sheet;
 use crate::table::{self, Refusal, Row, Table};
-use crate::twin::{self, Answer, Call, Reply};
+use crate::twin::{self, Answer, Call, Reply, Said};
 use std::ops::Range;
 
 pub struct Mutant {
@@ -18,24 +21,57 @@ enum How {
     Read(fn(&[u8]) -> Result<Table, Refusal>),
     Write(fn(&Answer, &mut [u8], Range<usize>) -> Reply),
     Rewrite(fn(Table) -> Table),
+    Check(Questions),
+    ReadSheet(fn(&[u8]) -> Result<Sheet, Refusal>),
+    Parallel(fn(&Sheet) -> Option<(usize, usize)>),
+    RewriteSheet(fn(Sheet) -> Sheet),
+    Say(fn(&[u8], Said) -> Said),
 }
 
 impl Mutant {
-    pub fn call(&self, call: Call, text: &[u8], area: &mut [u8], lent: Range<usize>) -> Reply {
-        let read = match self.how {
-            How::Read(read) => read(text),
-            _ => table::read(text),
+    pub fn call(&self, call: Call, text: &[u8], area: &mut [u8], lent: Range<usize>) -> Said {
+        let answer = match call {
+            Call::Route | Call::Rewrite => self.answer_table(call, text),
+            _ => self.answer_sheet(call, text),
         };
-        let answer = read.map(|table| match (call, &self.how) {
+        match self.how {
+            How::Write(write) if call.writes() => Said::Reply(write(&answer, area, lent)),
+            How::Say(change) if !call.writes() => {
+                change(text, twin::say(call, &answer, &mut area[lent]))
+            }
+            _ => twin::say(call, &answer, &mut area[lent]),
+        }
+    }
+
+    fn answer_table(&self, call: Call, text: &[u8]) -> Answer {
+        let table = match self.how {
+            How::Read(read) => read(text)?,
+            _ => table::read(text)?,
+        };
+        Ok(twin::written(match (call, &self.how) {
             (Call::Route, How::Plan(plan)) => sheet::sheet_text(&table, &plan(&table)),
             (Call::Route, _) => sheet::sheet_text(&table, &rules::plan(&table)),
-            (Call::Rewrite, How::Rewrite(change)) => sheet::table_text(&change(table)),
-            (Call::Rewrite, _) => sheet::table_text(&table),
-        });
-        match self.how {
-            How::Write(write) => write(&answer, area, lent),
-            _ => twin::reply(&answer, &mut area[lent]),
-        }
+            (_, How::Rewrite(change)) => sheet::table_text(&change(table)),
+            _ => sheet::table_text(&table),
+        }))
+    }
+
+    fn answer_sheet(&self, call: Call, text: &[u8]) -> Answer {
+        let sheet = match &self.how {
+            How::Check(questions) => check::read_asking(text, questions)?,
+            How::ReadSheet(read) => read(text)?,
+            _ => check::read(text)?,
+        };
+        Ok(match (call, &self.how) {
+            (Call::Parallel, How::Parallel(parallel)) => twin::found(parallel(&sheet)),
+            (Call::Parallel, _) => twin::found(check::first_parallel(&sheet)),
+            (Call::RewriteSheet, How::RewriteSheet(change)) => {
+                let sheet = change(sheet);
+                twin::written(sheet::sheet_text(&sheet.table, &sheet.plan))
+            }
+            (Call::RewriteSheet, _) => twin::written(sheet::sheet_text(&sheet.table, &sheet.plan)),
+            _ => twin::Granted::default(),
+        })
     }
 }
 
@@ -59,8 +95,68 @@ const fn rewrite(name: &'static str, change: fn(Table) -> Table) -> Mutant {
     Mutant { name, how }
 }
 
+const fn check(name: &'static str, questions: Questions) -> Mutant {
+    let how = How::Check(questions);
+    Mutant { name, how }
+}
+
+const fn on_sum(name: &'static str, sum: Question) -> Mutant {
+    let questions = Questions { sum, ..QUESTIONS };
+    check(name, questions)
+}
+
+const fn on_way(name: &'static str, way: Question) -> Mutant {
+    let questions = Questions { way, ..QUESTIONS };
+    check(name, questions)
+}
+
+const fn on_cut(name: &'static str, cut: Question) -> Mutant {
+    let questions = Questions { cut, ..QUESTIONS };
+    check(name, questions)
+}
+
+const fn on_link(name: &'static str, link: Question) -> Mutant {
+    let questions = Questions { link, ..QUESTIONS };
+    check(name, questions)
+}
+
+const fn on_size(name: &'static str, size: Question) -> Mutant {
+    let questions = Questions { size, ..QUESTIONS };
+    check(name, questions)
+}
+
+const fn on_best(name: &'static str, best: Question) -> Mutant {
+    let questions = Questions { best, ..QUESTIONS };
+    check(name, questions)
+}
+
+const fn on_bound(name: &'static str, bound: Question) -> Mutant {
+    let questions = Questions { bound, ..QUESTIONS };
+    check(name, questions)
+}
+
+const fn read_sheet(name: &'static str, read: fn(&[u8]) -> Result<Sheet, Refusal>) -> Mutant {
+    let how = How::ReadSheet(read);
+    Mutant { name, how }
+}
+
+const fn parallel(name: &'static str, parallel: fn(&Sheet) -> Option<(usize, usize)>) -> Mutant {
+    let how = How::Parallel(parallel);
+    Mutant { name, how }
+}
+
+const fn rewrite_sheet(name: &'static str, change: fn(Sheet) -> Sheet) -> Mutant {
+    let how = How::RewriteSheet(change);
+    Mutant { name, how }
+}
+
+const fn say(name: &'static str, change: fn(&[u8], Said) -> Said) -> Mutant {
+    let how = How::Say(change);
+    Mutant { name, how }
+}
+
 /// Faults that change some sheet or reply: each must be caught.
-pub static FAULTS: [Mutant; 49] = [
+pub static FAULTS: [Mutant; 109] = [
     write("one byte after the text changed", after_text),
     write("one byte after the buffer changed", after_buffer),
     write("one byte before the buffer changed", before_buffer),
@@ -110,9 +206,69 @@ pub static FAULTS: [Mutant; 49] = [
     read("reading: amount 10,000 taken", amount_high),
     read("reading: 2 in any line first", shape_first),
     rewrite("rewriting: rows of amount 0 left out", without_zeros),
+    read_sheet("checking: says yes to all", yes_to_all),
+    read_sheet("checking: refuses all", no_to_all),
+    read_sheet("checking: only a sheet equal to ours", only_ours),
+    read_sheet("checking: 13 and 14 before the lines", peaks_first),
+    read_sheet("checking: 14 before 13", bound_first),
+    read_sheet("checking: lines after Z taken", after_z),
+    read_sheet("checking: final LF not asked for", sheet_final_lf),
+    read_sheet("checking: CR LF taken for LF", sheet_cr_lf),
+    read_sheet("checking: 32,769 bytes read", sheet_limit_high),
+    read_sheet("checking: lower case f and b taken", lower_case),
+    read_sheet("checking: 2 in any line first", sheet_shape_first),
+    read_sheet("checking: a missing line is the last", missing_is_last),
+    say("checking: a yes has the text's length", yes_with_length),
+    say("parallel: a refused sheet has its pair", refused_with_pair),
+    on_sum("8: sum not compared", yes),
+    on_sum("8: sum at most 2d", sum_most),
+    on_sum("8: sum in 16 bits", sum_short),
+    on_way("9: way not compared", yes),
+    on_way("9: amount 0 may go B", way_of_zero),
+    on_way("9: split rows as rule D says", way_of_split),
+    on_cut("10: across not compared", cut_on_ring),
+    on_cut("10: across at most the true one", cut_most),
+    on_cut("10: g = h taken", cut_equal),
+    on_cut("10: g and h in either order", cut_either),
+    on_cut("10: our own cut asked for", cut_ours),
+    on_link("11: loads not compared", link_number),
+    on_link("11: split loads not compared", link_unsplit),
+    on_link("11: unsplit loads not compared", link_split),
+    on_link("11: link numbers not compared", link_loads),
+    on_link("11: last link not compared", link_but_last),
+    on_size("12: peak not compared", size_of_named),
+    on_size("12: size not compared", peak_alone),
+    on_size("12: size large enough is enough", size_enough),
+    on_size("12: 768 for every larger peak", size_largest),
+    on_best("13: not asked", yes),
+    on_best("13: our own largest cut, not the sheet's", best_ours),
+    check("10, 13: our own largest cut in the sheet's place", OUR_CUT),
+    on_best("13: peak above the across number taken", best_least),
+    on_best("13: peak of links g and h only", best_at_cut),
+    on_bound("14: not asked", yes),
+    on_bound("14: 2D", bound_two),
+    on_bound("14: 4D", bound_four),
+    on_bound("14: strictly below", bound_strict),
+    on_bound("14: one half more", bound_loose),
+    on_bound("14: D over all rows", bound_all),
+    on_bound("14: D the largest half of a split row", bound_half),
+    parallel("parallel: the last pair", pair_last),
+    parallel("parallel: unsplit rows counted", pair_unsplit),
+    parallel("parallel: places from 0", pair_from_0),
+    parallel("parallel: places among split rows", pair_among_split),
+    parallel("parallel: by second, then first", pair_by_second),
+    parallel("parallel: second before first", pair_swapped),
+    parallel("parallel: none ever", pair_never),
+    parallel("parallel: a shared node crosses", pair_shared),
+    parallel("parallel: disjoint fronts only", pair_disjoint),
+    parallel("parallel: fronts inside only", pair_inside),
+    parallel("parallel: neighbours only", pair_next),
+    rewrite_sheet("rewriting: our own cut", with_our_cut),
+    rewrite_sheet("rewriting: our own ways", with_our_ways),
+    rewrite_sheet("rewriting: our own plan", with_our_plan),
 ];
 
-/// Other readings that come to the same on every table, so none may differ.
+/// Other readings that come to the same on every text, so none may differ.
 ///
 /// - Ties: where (g,h) and (g',h') with g < g' < h' < h both have the largest
 ///   across number, (g,h') has it too, so the smallest g goes with the
@@ -124,12 +280,15 @@ pub static FAULTS: [Mutant; 49] = [
 ///   one inside the other the outer is the first.
 /// - Order: two orders of rule C's pairs that agree on all pairs with a row in
 ///   common move the same amounts.
-pub static SAME: [Mutant; 5] = [
+/// - 13: each row across the cut sends 2d over g and h together, so the split
+///   peak is never below a true across number.
+pub static SAME: [Mutant; 6] = [
     plan("A: tie to the smallest h, then g", a_by_h),
     plan("C: disjoint fronts skipped", c_disjoint),
     plan("C: fronts that touch taken for crossing", c_touching),
     plan("C: the first taken for the outer", c_first_outer),
     plan("C: by second, then first", c_by_second),
+    on_best("13: peak below the across number taken", best_most),
 ];
 
 // Faults of replying.
@@ -162,15 +321,15 @@ fn refusal_touches(answer: &Answer, area: &mut [u8], lent: Range<usize>) -> Repl
 
 fn short_writes(answer: &Answer, area: &mut [u8], lent: Range<usize>) -> Reply {
     let reply = twin::reply(answer, &mut area[lent.clone()]);
-    if let (Ok(text), 15) = (answer, reply.reason) {
+    if let (Ok(granted), 15) = (answer, reply.reason) {
         let length = lent.len();
-        area[lent].copy_from_slice(&text[..length]);
+        area[lent].copy_from_slice(&granted.text[..length]);
     }
     reply
 }
 
 fn short_at_need(answer: &Answer, area: &mut [u8], lent: Range<usize>) -> Reply {
-    let need = answer.as_ref().map_or(0, |text| text.len());
+    let need = answer.as_ref().map_or(0, |granted| granted.text.len());
     let shorter = lent.len() == need;
     let end = lent.end - usize::from(shorter && need > 0);
     twin::reply(answer, &mut area[lent.start..end])
@@ -190,7 +349,7 @@ fn short_first(answer: &Answer, area: &mut [u8], lent: Range<usize>) -> Reply {
 
 fn refusal_length(answer: &Answer, area: &mut [u8], lent: Range<usize>) -> Reply {
     let mut reply = twin::reply(answer, &mut area[lent]);
-    reply.length = answer.as_ref().map_or(0, |text| text.len());
+    reply.length = answer.as_ref().map_or(0, |granted| granted.text.len());
     reply
 }
 
@@ -213,18 +372,6 @@ fn from_cut(table: &Table, cut: Cut) -> Plan {
     rules::rule_c(&table.rows, &mut sent);
     let ways = rules::rule_d(&table.rows, &sent);
     rules::figures(table, cut, sent, ways)
-}
-
-/// All cuts, by g and then by h.
-fn cuts(table: &Table) -> Vec<Cut> {
-    let mut cuts = Vec::new();
-    for g in 1..=table.n {
-        for h in g + 1..=table.n {
-            let across = rules::across(&table.rows, g, h);
-            cuts.push(Cut { g, h, across });
-        }
-    }
-    cuts
 }
 
 fn a_later(table: &Table) -> Plan {

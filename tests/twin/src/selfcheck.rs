@@ -2,12 +2,15 @@
 //! 01's "Numbers to try"; the theorems are those that 01 states of its rules.
 //! A failure here means that the twin misreads 01.
 
+use crate::check;
+use crate::foreign;
 use crate::gen;
 use crate::rng::Rng;
 use crate::rules::{self, Plan, Sent, Way};
 use crate::sheet;
+use crate::sheets;
 use crate::table::{self, Table};
-use crate::twin::{self, Call};
+use crate::twin::{self, Call, Pair};
 
 pub type Outcome = Result<(), String>;
 
@@ -51,7 +54,7 @@ pub fn square() -> Outcome {
     let wanted = "R|4\nD|1|3|1|1|1|F\nD|2|4|1|1|1|B\nC|1|3|2\nL|1|2|2\nL|2|2|1\nL|3|2|0\n\
                   L|4|2|1\nZ|2|3\n";
     let answer = twin::answer(Call::Route, text.as_bytes());
-    let got = answer.map(|text| String::from_utf8_lossy(&text).replace('\t', "|"));
+    let got = answer.map(|granted| String::from_utf8_lossy(&granted.text).replace('\t', "|"));
     same("the square", got, Ok(wanted.to_string()))?;
     theorems(&table(text)?)
 }
@@ -130,12 +133,59 @@ pub fn refusals() -> Outcome {
     ];
     for (text, reason, line) in wanted {
         let answer = twin::answer(Call::Route, text.replace('|', "\t").as_bytes());
-        let need = answer.as_ref().map_or(0, |text| text.len());
+        let need = answer.as_ref().map_or(0, |granted| granted.text.len());
         let short = if reason == 15 { 1 } else { 0 };
         let reply = twin::reply(&answer, &mut vec![0; need - short]);
         same(text, (reply.reason, reply.line), (reason, line))?;
     }
     Ok(())
+}
+
+/// The sheets of 01: reason, line, and the parallel pair.
+pub fn sheets() -> Outcome {
+    let accepted = [0, 1, 2, 3, 4, 5, 6, 7, 10, 14];
+    let refused = [
+        (8, 13, 0),
+        (9, 14, 0),
+        (11, 9, 2),
+        (12, 3, 1),
+        (13, 3, 1),
+        (15, 7, 2),
+        (16, 4, 2),
+        (17, 2, 1),
+        (18, 2, 2),
+    ];
+    let yes = accepted.map(|at| (at, 0, 0, 0, 0));
+    let no = refused.map(|(at, reason, line)| (at, reason, line, 0, 0));
+    let pair = [(19, 0, 0, 1, 2)];
+    for (at, reason, line, first, second) in [yes.as_slice(), &no, &pair].concat() {
+        let text = sheets::SHEETS[at].replace('|', "\t");
+        let got = twin::pair(&twin::answer(Call::Parallel, text.as_bytes()));
+        let wanted = Pair {
+            reason,
+            line,
+            first,
+            second,
+        };
+        same(sheets::SHEETS[at], got, wanted)?;
+    }
+    Ok(())
+}
+
+/// A sheet of ours is accepted, says what was written, and has no parallel pair.
+fn theorem_sheet(table: &Table, plan: &Plan) -> Outcome {
+    let text = sheet::sheet_text(table, plan);
+    let read = check::read(&text).map_err(|refusal| format!("ours: {refusal:?}"))?;
+    let same_values = read.table == *table && read.plan == *plan;
+    holds("a sheet read afresh", same_values)?;
+    holds("no parallel pair", check::first_parallel(&read).is_none())
+}
+
+/// What an accepted sheet of any tool proves: no cut has a larger across number.
+fn theorem_accepted(table: &Table, plan: &Plan) -> Outcome {
+    let accepted = check::read(&sheet::sheet_text(table, plan)).is_ok();
+    let largest = rules::rule_a(table).across;
+    holds("the peak is best", !accepted || plan.cut.across == largest)
 }
 
 /// Rule B: s is always even, and never below 0; no link's room falls below 0.
@@ -188,6 +238,7 @@ pub fn theorems(table: &Table) -> Outcome {
     holds("split peak is M", rules::peak(&plan.split) == m)?;
     let largest = rules::largest_split(&table.rows, &plan.sent);
     holds("the bound", 2 * plan.peak <= m + 3 * largest)?;
+    theorem_sheet(table, &plan)?;
     let text = sheet::table_text(table);
     let again = table::read(&text).map_err(|refusal| format!("{refusal:?}"))?;
     holds("a table read afresh", again == *table)
@@ -203,7 +254,9 @@ pub fn random_theorems(seed: u64) -> Outcome {
             1 => gen::any(&mut rng, n),
             _ => gen::sparse(&mut rng, n, 30),
         };
-        theorems(&table).map_err(|what| {
+        let plan = foreign::plan(&mut rng, &table);
+        let both = theorems(&table).and_then(|()| theorem_accepted(&table, &plan));
+        both.map_err(|what| {
             let text = String::from_utf8_lossy(&sheet::table_text(&table)).replace('\t', "|");
             format!("seed {seed}, table {case}: {what}\n{text}")
         })?;

@@ -23,15 +23,21 @@ pub struct Refusal {
     pub line: u32,
 }
 
-fn refuse<T>(reason: u32, line: u32) -> Result<T, Refusal> {
+pub fn refuse<T>(reason: u32, line: u32) -> Result<T, Refusal> {
     Err(Refusal { reason, line })
 }
 
-/// Reason 1 is tried first. Then lines in order.
-pub fn read(text: &[u8]) -> Result<Table, Refusal> {
+/// Reason 1 is tried first.
+pub fn read_length(text: &[u8]) -> Result<(), Refusal> {
     if text.len() > 32_768 {
         return refuse(1, 0);
     }
+    Ok(())
+}
+
+/// The length first, then lines in order.
+pub fn read(text: &[u8]) -> Result<Table, Refusal> {
+    read_length(text)?;
     let lines = lines(text);
     // A missing line is the one after the last.
     let Some(first) = lines.first() else {
@@ -49,14 +55,15 @@ pub fn read(text: &[u8]) -> Result<Table, Refusal> {
 }
 
 /// One line of a text, without its LF, and whether it ended with one.
-struct Line<'a> {
-    bytes: &'a [u8],
-    ended: bool,
+#[derive(Clone, Copy)]
+pub struct Line<'a> {
+    pub bytes: &'a [u8],
+    pub ended: bool,
 }
 
 /// Lines end with LF, the last one too. What stands after the last LF is a
 /// line only if it has a byte.
-fn lines(text: &[u8]) -> Vec<Line<'_>> {
+pub fn lines(text: &[u8]) -> Vec<Line<'_>> {
     let pieces: Vec<&[u8]> = text.split(|byte| *byte == b'\n').collect();
     let last = pieces.len() - 1;
     let mut lines = Vec::new();
@@ -71,7 +78,7 @@ fn lines(text: &[u8]) -> Vec<Line<'_>> {
 
 /// The numbers of a line of the right shape: the letter, then `count` numbers,
 /// fields parted by one tab, LF at the end. None is reason 2.
-fn numbers(line: &Line, letter: &[u8], count: usize) -> Option<Vec<i64>> {
+pub fn numbers(line: &Line, letter: &[u8], count: usize) -> Option<Vec<i64>> {
     let fields: Vec<&[u8]> = line.bytes.split(|byte| *byte == b'\t').collect();
     if !line.ended || fields.len() != count + 1 || fields[0] != letter {
         return None;
@@ -96,7 +103,7 @@ fn number(field: &[u8]) -> Option<i64> {
 }
 
 /// `R n`: in the line the rising reason number, 2 then 3.
-fn read_ring(line: &Line) -> Result<i64, Refusal> {
+pub fn read_ring(line: &Line) -> Result<i64, Refusal> {
     let Some(numbers) = numbers(line, b"R", 1) else {
         return refuse(2, 1);
     };
@@ -107,11 +114,17 @@ fn read_ring(line: &Line) -> Result<i64, Refusal> {
     Ok(n)
 }
 
-/// `D i j amount`: in the line the rising reason number, 2, 4, 5, 6, 7.
+/// `D i j amount`: in the line the rising reason number, first 2.
 fn read_row(line: &Line, at: u32, above: &Table) -> Result<Row, Refusal> {
     let Some(numbers) = numbers(line, b"D", 3) else {
         return refuse(2, at);
     };
+    judge_row(&numbers, at, above)
+}
+
+/// Then 4, 5, 6, 7, of a row's nodes and amount, which stand first in the row
+/// of a sheet too.
+pub fn judge_row(numbers: &[i64], at: u32, above: &Table) -> Result<Row, Refusal> {
     let (i, j, d) = (numbers[0], numbers[1], numbers[2]);
     // 4: a node outside 1..n.
     if i < 1 || i > above.n || j < 1 || j > above.n {

@@ -1,19 +1,43 @@
 //! What the twin says of a call: the reply and the content of the lent buffer.
 
+use crate::check;
 use crate::rules;
 use crate::sheet;
 use crate::table::{self, Refusal};
 
-/// The two calls that are compared.
+/// The calls that are compared.
 #[derive(Clone, Copy, PartialEq, Eq, Debug)]
 pub enum Call {
     /// Table text in, sheet text out.
     Route,
     /// The table's own values written afresh.
     Rewrite,
+    /// Sheet text in, no more than the reply out.
+    Check,
+    /// The sheet's own values written afresh.
+    RewriteSheet,
+    /// The first parallel pair of split rows of an accepted sheet.
+    Parallel,
 }
 
-/// The reply of either call: reason 0 is success, with the length of the text.
+/// All calls, each at the place of its number.
+pub const CALLS: [Call; 5] = [
+    Call::Route,
+    Call::Rewrite,
+    Call::Check,
+    Call::RewriteSheet,
+    Call::Parallel,
+];
+
+impl Call {
+    /// Whether a buffer is lent.
+    pub fn writes(self) -> bool {
+        !matches!(self, Call::Check | Call::Parallel)
+    }
+}
+
+/// The reply of a call that judges or writes: reason 0 is success, with the
+/// length of the text, 0 where none is written.
 #[repr(C)]
 #[derive(Clone, Copy, PartialEq, Eq, Debug)]
 pub struct Reply {
@@ -22,31 +46,83 @@ pub struct Reply {
     pub length: usize,
 }
 
-/// The text to be written, or the table's refusal.
-pub type Answer = Result<Vec<u8>, Refusal>;
-
-/// Reading the table, then the text that the call writes.
-pub fn answer(call: Call, text: &[u8]) -> Answer {
-    let table = table::read(text)?;
-    Ok(match call {
-        Call::Route => sheet::sheet_text(&table, &rules::plan(&table)),
-        Call::Rewrite => sheet::table_text(&table),
-    })
+/// The reply to the parallel question: two places from 1, or 0 and 0.
+#[repr(C)]
+#[derive(Clone, Copy, PartialEq, Eq, Debug)]
+pub struct Pair {
+    pub reason: u32,
+    pub line: u32,
+    pub first: usize,
+    pub second: usize,
 }
 
-/// 15 comes after all table reasons, and is given exactly when the buffer is
-/// too short. A refusal returns only reason and line. Success writes its text
-/// at the buffer's start, returns its length and keeps the bytes after it.
+/// What a call says.
+#[derive(Clone, Copy, PartialEq, Eq, Debug)]
+pub enum Said {
+    Reply(Reply),
+    Pair(Pair),
+}
+
+impl Said {
+    pub fn reason(self) -> u32 {
+        match self {
+            Said::Reply(reply) => reply.reason,
+            Said::Pair(pair) => pair.reason,
+        }
+    }
+}
+
+/// What an accepted text gets: the text to be written, empty for a call that
+/// lends no buffer, and the pair that was asked for, if there is one.
+#[derive(Clone, Default, Debug)]
+pub struct Granted {
+    pub text: Vec<u8>,
+    pub pair: Option<(usize, usize)>,
+}
+
+/// What is granted, or the refusal of the table or sheet.
+pub type Answer = Result<Granted, Refusal>;
+
+/// Reading the table or the sheet, then what the call is for.
+pub fn answer(call: Call, text: &[u8]) -> Answer {
+    match call {
+        Call::Route => {
+            let table = table::read(text)?;
+            Ok(written(sheet::sheet_text(&table, &rules::plan(&table))))
+        }
+        Call::Rewrite => Ok(written(sheet::table_text(&table::read(text)?))),
+        Call::Check => check::read(text).map(|_| Granted::default()),
+        Call::RewriteSheet => {
+            let sheet = check::read(text)?;
+            Ok(written(sheet::sheet_text(&sheet.table, &sheet.plan)))
+        }
+        Call::Parallel => Ok(found(check::first_parallel(&check::read(text)?))),
+    }
+}
+
+pub fn written(text: Vec<u8>) -> Granted {
+    Granted { text, pair: None }
+}
+
+pub fn found(pair: Option<(usize, usize)>) -> Granted {
+    let text = Vec::new();
+    Granted { text, pair }
+}
+
+/// 15 comes after all reasons of the text, and is given exactly when the buffer
+/// is too short. A refusal returns only reason and line. Success writes its
+/// text at the buffer's start, returns its length and keeps the bytes after it.
 pub fn reply(answer: &Answer, buffer: &mut [u8]) -> Reply {
     match answer {
         Err(refusal) => refused(refusal.reason, refusal.line),
-        Ok(text) if buffer.len() < text.len() => refused(15, 0),
-        Ok(text) => {
-            buffer[..text.len()].copy_from_slice(text);
+        Ok(granted) if buffer.len() < granted.text.len() => refused(15, 0),
+        Ok(granted) => {
+            let length = granted.text.len();
+            buffer[..length].copy_from_slice(&granted.text);
             Reply {
                 reason: 0,
                 line: 0,
-                length: text.len(),
+                length,
             }
         }
     }
@@ -57,5 +133,29 @@ fn refused(reason: u32, line: u32) -> Reply {
         reason,
         line,
         length: 0,
+    }
+}
+
+/// The answer that there is none is told from a pair by its places, which are 0.
+pub fn pair(answer: &Answer) -> Pair {
+    let (reason, line) = match answer {
+        Err(refusal) => (refusal.reason, refusal.line),
+        Ok(_) => (0, 0),
+    };
+    let pair = answer.as_ref().ok().and_then(|granted| granted.pair);
+    let (first, second) = pair.unwrap_or((0, 0));
+    Pair {
+        reason,
+        line,
+        first,
+        second,
+    }
+}
+
+/// The reply that the call has, whichever kind it is.
+pub fn say(call: Call, answer: &Answer, buffer: &mut [u8]) -> Said {
+    match call {
+        Call::Parallel => Said::Pair(pair(answer)),
+        _ => Said::Reply(reply(answer, buffer)),
     }
 }
