@@ -18,7 +18,6 @@ use Rattle.sheet.proofs.Told.{Told, told-sheet, told-refusal}
 use Rattle.ringkit.specs.Outcome.{write, refuse, replyOf, Fills}
 use Rattle.ringkit.specs.SheetCalls.{verdictReply, sheetChecked, pairReply, questionReply, sheetParallel, ofSheet, sheetAfresh}
 use Rattle.ringkit.specs.declared.Reply.{Reply}
-use Rattle.ringkit.specs.declared.PairReply.{PairReply}
 use Rattle.ringkit.proofs.FillSteps.{refuses}
 
 module _ (s : List ℕ) (c : Checked) (e : c ≡ checkedIn (check desk s)) where

@@ -1,18 +1,16 @@
 -- Checking a sheet part by part: what each part says of the rest is what checking the whole says. One law for each way on and each way out.
 use Prim.Native.Nat.{ℕ, _+_, _-_, _≤_, _<_}
 use mathlib.Core.Bool.{true}
-use mathlib.Core.List.{List, [], _∷_}
+use mathlib.Core.List.{List, []}
 use mathlib.Core.Path.{_≡_, refl, ap, _∙_, sym, subst}
 use native.Mathlib.Omega.{arith}
 use lib.ListN.{length, getD, take, drop}
 use borrow.Author.Tests.{lt-ltb, le-ltb}
 use Rattle.sonet.specs.Size.{sonetSize}
-use Rattle.ring.specs.Columns.{column, rowAt, rowsIn, sentsIn, routedAt, routedIn, wayNumber}
-use Rattle.ring.specs.Cut.{Cut}
+use Rattle.ring.specs.Columns.{column, rowsIn, routedAt, routedIn}
 use Rattle.ring.specs.Limits.{desk}
 use Rattle.ring.specs.Routing.{Sent, Routed, splitLoad, unsplitLoad, peak}
-use Rattle.ring.specs.RuleD.{largestSplit}
-use Rattle.ring.specs.Sheet.{Link, Sheet, sents, demands, numbersFrom}
+use Rattle.ring.specs.Sheet.{Link, sents, demands, numbersFrom}
 use Rattle.ring.proofs.Laid.{laid}
 use Rattle.ring.proofs.Listed.{listed-map}
 use Rattle.router.specs.Rows.{Table}
@@ -37,10 +35,9 @@ use Rattle.table.proofs.Columns.{column-length, column-behind}
 use Rattle.table.proofs.Judged.{RingJudged, right-size, ring-judged}
 use Rattle.sheet.specs.Arrays.{linkAt, linksIn, checkedIn}
 use Rattle.sheet.specs.Judge.{judgeCut}
-use Rattle.sheet.specs.Check.{Result, accepted, refused, start, rows, links, cutOf, when, unless, ringTurn, cutTurn, turn, after, checkFrom, checkBy, check}
+use Rattle.sheet.specs.Check.{Result, accepted, refused, start, rows, links, cutOf, when, unless, ringTurn, cutTurn, turn, after, checkFrom, check}
 use Rattle.sheet.specs.Verdicts.{cutVerdict}
-use Rattle.sheet.specs.WriteSheet.{figuresOf}
-use Rattle.sheet.specs.Parts.{NextEnds, firstOf, behindFirst, cutFrom, Columns, RowsMean, rows-at, rows-refused, RowsRead, Weighed, StepMeans, steps-on, step-refused, TailRead, sheetWith, EndMeans, ends-with, end-refused, EndRead, WeighedRead}
+use Rattle.sheet.specs.Parts.{NextEnds, cutFrom, Columns, RowsMean, rows-at, rows-refused, RowsRead, Weighed, StepMeans, steps-on, step-refused, TailRead, sheetWith, EndMeans, ends-with, end-refused, EndRead, WeighedRead}
 use Rattle.sheet.specs.declared.Figures.{Figures}
 use Rattle.sheet.specs.declared.check.Checked.{Checked}
 use Rattle.sheet.specs.declared.check.Answer.{Answer}

@@ -1,6 +1,6 @@
 -- Demands 2 and 3 of sheets: from the two laws of a sheet's text (`SheetText`) and of what judging finds (`Truth`).
 use Prim.Native.Nat.{ℕ, _+_, _*_, _≤_}
-use mathlib.Core.Bool.{Bool, true, false}
+use mathlib.Core.Bool.{true, false}
 use mathlib.Core.List.{List, [], _∷_}
 use mathlib.Core.Logic.{_↔_}
 use mathlib.Core.Path.{_≡_, refl, ap, _∙_, sym}
@@ -19,7 +19,7 @@ use Rattle.table.proofs.TableText.{Spelled, desk-spelled}
 use Rattle.sheet.specs.WriteSheet.{writeSheet}
 use Rattle.sheet.specs.Range.{InRange}
 use Rattle.sheet.specs.Judge.{judgeHalves}
-use Rattle.sheet.specs.Check.{accepted, when, checkBy, check, form}
+use Rattle.sheet.specs.Check.{accepted, when, check, form}
 use Rattle.sheet.proofs.Short.{plan-in-range}
 use Rattle.sheet.proofs.Read.{LinksJudged, no-links, and-link, Judged}
 use Rattle.sheet.proofs.SheetText.{sheet-text}

@@ -1,11 +1,10 @@
 -- The lines behind the rows: each is held against figures that were worked out, which are those of the definition where they are true of the rows. One
 -- law for each way on and each way out.
-use Prim.Native.Nat.{ℕ, _+_, _-_, _*_, _≤_, _<_}
+use Prim.Native.Nat.{ℕ, _+_, _-_, _≤_, _<_}
 use mathlib.Core.Bool.{true}
 use mathlib.Core.List.{List, [], _∷_, _++_}
 use mathlib.Core.Path.{_≡_, refl, ap, _∙_, sym, subst}
 use native.Mathlib.Omega.{arith}
-use native.Mathlib.Decide.{decLt}
 use lib.ListN.{length, getD, take, drop, drop-of-length-le, length-drop}
 use mir.Syntax.{w32}
 use mir.Val.{Fits}
@@ -16,8 +15,8 @@ use Rattle.ring.specs.Cut.{Cut}
 use Rattle.ring.specs.Limits.{desk}
 use Rattle.ring.specs.Routing.{Routed, splitLoad, unsplitLoad, peak}
 use Rattle.ring.specs.RuleD.{largestSplit}
-use Rattle.ring.specs.Sheet.{Link, Sheet, sents, numbersFrom, splitPeak, unsplitPeak, largestSplitOf}
-use Rattle.ring.proofs.Listed.{listed-nil, listed-snoc, listed-length}
+use Rattle.ring.specs.Sheet.{Link, Sheet, sents, numbersFrom}
+use Rattle.ring.proofs.Listed.{listed-snoc, listed-length}
 use Rattle.text.specs.Answers.{twoIn, threeIn}
 use Rattle.text.specs.ReadLine.{readLine}
 use Rattle.text.specs.Shapes.{linkShape, lastShape}
@@ -35,14 +34,14 @@ use Rattle.table.proofs.Columns.{column-at}
 use Rattle.table.proofs.LineSteps.{first-line}
 use Rattle.sheet.specs.Arrays.{linkAt, linksIn}
 use Rattle.sheet.specs.Judge.{judgeLink, judgeLast, judgeWhole}
-use Rattle.sheet.specs.Check.{Result, accepted, refused, State, links, end, cutOf, linkOf, when, unless, linkTurn, lastTurn, turn, after, atEnd, wholeResult, checkFrom}
+use Rattle.sheet.specs.Check.{Result, accepted, refused, links, end, cutOf, linkOf, when, unless, linkTurn, lastTurn, turn, after, atEnd, wholeResult, checkFrom}
 use Rattle.sheet.specs.Verdicts.{linkVerdict, lastVerdict, wholeVerdict}
 use Rattle.sheet.specs.Parts.{NextEnds, Weighed, StepMeans, steps-on, step-refused, Within, LinksRead, LastRead, WholeRead, TailRead, sheetWith}
 use Rattle.sheet.specs.declared.ending.Step.{Step}
 use Rattle.sheet.specs.declared.ending.Step.the-variants.{On, Refused}
 use Rattle.sheet.proofs.Back.{numbers-length, number-at}
 use Rattle.sheet.proofs.NextLine.{step-at}
-use Rattle.sheet.proofs.Truth.{LinkTrue, link-true, last-true}
+use Rattle.sheet.proofs.Truth.{link-true, last-true}
 
 -- a refusal is no place of the text
 not-on : {s : List ℕ} {reason : Reason} {line : ℕ} → Within s (Refused reason line)

@@ -3,7 +3,7 @@
 use Prim.Native.Nat.{ℕ, _+_, _-_, _*_, _≤_, _<_}
 use mathlib.Core.Bool.{Bool, true, false, not, cond, xor}
 use mathlib.Core.List.{List}
-use mathlib.Core.Path.{_≡_, refl, ap, _∙_, sym}
+use mathlib.Core.Path.{_≡_, refl, _∙_, sym}
 use native.Mathlib.Omega.{arith}
 use lib.Dec.{eqb}
 use lib.ListN.{getD}
@@ -24,7 +24,7 @@ use Rattle.table.specs.declared.reason.Reason.{Reason}
 use Rattle.table.specs.declared.reason.Reason.the-variants.{WrongSum, WrongWay, WrongCut, NotTight, OverBound}
 use Rattle.table.specs.declared.judge.Verdict.{Verdict}
 use Rattle.table.specs.declared.judge.Verdict.the-variants.{Fine, Fault}
-use Rattle.sheet.specs.Judge.{faultIf, orElse, wrongSum, wrongWay, noCut, judgeHalves}
+use Rattle.sheet.specs.Judge.{wrongSum, wrongWay, noCut, judgeHalves}
 use Rattle.sheet.specs.Check.{cutOf, routedOf}
 use Rattle.sheet.specs.Verdicts.{sentVerdict, cutVerdict, wholeVerdict}
 

@@ -5,7 +5,6 @@ use mathlib.Core.List.{List, [], _∷_, _++_, append-assoc, append-nil}
 use mathlib.Core.Path.{_≡_, refl, ap, _∙_, sym, subst}
 use native.Mathlib.Omega.{arith}
 use lib.ListN.{length, length-append}
-use Rattle.ring.specs.Columns.{wayNumber, wayOf}
 use Rattle.ring.specs.Cut.{Cut}
 use Rattle.ring.specs.Limits.{Limits}
 use Rattle.ring.specs.Lists.{Each, none, more}
@@ -13,15 +12,14 @@ use Rattle.ring.specs.Routing.{Routed}
 use Rattle.ring.specs.Sheet.{Link, Sheet, sents, demands}
 use Rattle.text.specs.Number.{limit}
 use Rattle.text.specs.Shapes.{ringLine, sentLine, cutLine, linkLine, lastLine}
-use Rattle.table.specs.Judge.{judgeRing, judgeRow}
-use Rattle.table.specs.declared.judge.Verdict.{Verdict}
+use Rattle.table.specs.Judge.{judgeRow}
 use Rattle.table.specs.declared.judge.Verdict.the-variants.{Fine}
 use Rattle.table.proofs.Judged.{RingJudged, right-size, ring-judged, RowJudged, row-fine, row-judged}
-use Rattle.table.proofs.FineRows.{FineRows, no-row, fine-row, table-rows, amounts-fine}
+use Rattle.table.proofs.FineRows.{FineRows, no-row, fine-row}
 use Rattle.sheet.specs.WriteSheet.{routedLine, loadLine, linesOf, figuresOf, endText, writeSheet}
-use Rattle.sheet.specs.Range.{RowSpelled, LinkSpelled, Spelled, InRange}
+use Rattle.sheet.specs.Range.{RowSpelled, LinkSpelled, Spelled}
 use Rattle.sheet.specs.Judge.{judgeHalves, judgeCut, judgeLink, judgeLast, judgeWhole}
-use Rattle.sheet.specs.Check.{State, start, rows, links, end, when, cutOf, routedOf, linkOf}
+use Rattle.sheet.specs.Check.{start, rows, links, end, when, cutOf, routedOf, linkOf}
 use Rattle.sheet.proofs.LineAt.{way-spelled}
 use Rattle.sheet.proofs.SheetLines.{SentSpelled}
 use Rattle.sheet.proofs.Rest.{Rest, rest-end, rest-last, rest-link, rest-cut, rest-row, rest-ring}

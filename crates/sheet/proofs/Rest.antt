@@ -1,18 +1,16 @@
 -- How the rest of a text leads from a state of the checker to an accepted sheet, by the writer alone: the checker accepts exactly where there is
 -- such a rest; read line by line one way, rebuilt line by line the other.
 use Prim.Native.Nat.{ℕ, _+_, _≤_, _<_}
-use mathlib.Core.Bool.{Bool, true, false, cond}
-use mathlib.Core.List.{List, [], _∷_, _++_, append-nil, flatten}
-use mathlib.Core.Path.{_≡_, refl, ap, _∙_, sym, subst}
+use mathlib.Core.Bool.{Bool}
+use mathlib.Core.List.{List, [], _∷_, _++_, flatten}
+use mathlib.Core.Path.{_≡_, refl, ap, sym, subst}
 use native.Mathlib.Omega.{arith}
 use native.Mathlib.Decide.{decLt}
 use lib.ListN.{length, getD}
 use borrow.Author.Tests.{lt-ltb, le-ltb}
-use Rattle.ring.specs.Columns.{wayNumber, wayOf}
 use Rattle.ring.specs.Cut.{Cut}
 use Rattle.ring.specs.Limits.{Limits}
 use Rattle.ring.specs.Lists.{Each, none, more}
-use Rattle.ring.specs.Row.{row, OnRing, PairBefore}
 use Rattle.ring.specs.Routing.{Routed}
 use Rattle.ring.specs.Sheet.{Link, Sheet}
 use Rattle.text.specs.Number.{limit}
@@ -32,12 +30,10 @@ use Rattle.table.specs.Lines.{lines}
 use Rattle.table.specs.Judge.{judgeRing, judgeRow}
 use Rattle.table.specs.declared.judge.Verdict.{Verdict}
 use Rattle.table.specs.declared.judge.Verdict.the-variants.{Fine, Fault}
-use Rattle.table.proofs.Judged.{RingJudged, right-size, ring-judged, RowJudged, row-fine, row-judged}
-use Rattle.table.proofs.Against.{fine-ring-judged, fine-row-judged}
 use Rattle.table.proofs.LineRead.{RingRead, is-ring, no-ring, ring-read, ring-line-read}
 use Rattle.table.proofs.LinesOf.{FirstLine, NoLf, written-first, ring-first}
 use Rattle.sheet.specs.Judge.{orElse, judgeHalves, judgeCut, judgeLink, judgeLast, judgeWhole}
-use Rattle.sheet.specs.Check.{Result, accepted, State, start, rows, links, end, Turn, on, stop, unless, when, cutOf, routedOf, linkOf, ringTurn, cutTurn, rowTurn, linkTurn, lastTurn, turn, wholeResult, atEnd, after, checkFrom}
+use Rattle.sheet.specs.Check.{accepted, State, start, rows, links, end, Turn, on, stop, unless, when, cutOf, routedOf, linkOf, ringTurn, cutTurn, rowTurn, linkTurn, lastTurn, turn, wholeResult, atEnd, after, checkFrom}
 use Rattle.sheet.proofs.SheetLines.{SentSpelled, SentRead, is-sent, no-sent, sent-read, CutRead, is-cut, no-cut, cut-read, LinkRead, is-link, no-link, link-read, LastRead, is-last, no-last, last-read, sent-line-read, cut-line-read, link-line-read, last-line-read, sent-in-range, cut-in-range, link-in-range, last-in-range}
 
 -- the rest `text` leads from a state to the sheet x; where `judging`, nothing is found against it

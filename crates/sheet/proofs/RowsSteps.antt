@@ -1,6 +1,6 @@
 -- Reading the D lines of a sheet: the rows read so far stand in the columns, and checking the rest behind them is checking the whole. One law for each way
 -- on and each way out.
-use Prim.Native.Nat.{ℕ, zero, suc, _+_, _-_, _*_, _≤_, _<_}
+use Prim.Native.Nat.{ℕ, zero, suc, _+_, _-_, _≤_, _<_}
 use mathlib.Core.Bool.{true}
 use mathlib.Core.List.{List, [], _∷_, _++_, map}
 use mathlib.Core.Path.{_≡_, refl, ap, _∙_, sym}
@@ -10,7 +10,7 @@ use lib.ListN.{length, getD, replicate, set, take, drop, length-append, length-m
 use lib.Seq.{sets}
 use mir.Syntax.{w32}
 use mir.Val.{Fits}
-use Rattle.ring.specs.Columns.{column, rowAt, rowsIn, wayNumber, wayOf, routedIn}
+use Rattle.ring.specs.Columns.{column, wayNumber, wayOf, routedIn}
 use Rattle.ring.specs.Limits.{desk}
 use Rattle.ring.specs.Lists.{Each, none, more}
 use Rattle.ring.specs.Row.{Row, row, OnRing, PairBefore}
@@ -35,10 +35,10 @@ use Rattle.table.specs.declared.judge.Verdict.the-variants.{Fine, Fault}
 use Rattle.table.proofs.Judged.{RowJudged, row-fine, row-judged}
 use Rattle.table.proofs.Rank.{rank, rank-up, rank-most}
 use Rattle.table.proofs.Columns.{column-length, column-more, column-at, column-behind, rows-back}
-use Rattle.sheet.specs.Judge.{orElse, judgeHalves}
+use Rattle.sheet.specs.Judge.{judgeHalves}
 use Rattle.sheet.specs.Check.{Result, rows, routedOf, when, unless, rowTurn, turn, after, checkFrom}
 use Rattle.sheet.specs.Verdicts.{sentVerdict}
-use Rattle.sheet.specs.Parts.{NextEnds, firstOf, behindFirst, cutFrom, Columns, RowsMean, rows-at, rows-refused, RowsRead}
+use Rattle.sheet.specs.Parts.{NextEnds, firstOf, cutFrom, RowsMean, rows-at, rows-refused, RowsRead}
 use Rattle.sheet.specs.declared.rows.Rows.{Rows}
 use Rattle.sheet.specs.declared.rows.RowsEnd.the-variants.{At, Refused}
 use Rattle.sheet.proofs.Back as back-law

@@ -10,12 +10,10 @@ use lib.ListN.{length, length-append}
 use borrow.Author.Tests.{le-ltb, ltb-false}
 use Rattle.ring.proofs.Side.{cond-elim}
 use Rattle.ring.specs.Columns.{wayNumber, wayOf}
-use Rattle.ring.specs.Cut.{Cut}
 use Rattle.ring.specs.Limits.{Limits}
 use Rattle.ring.specs.Lists.{Each, none, more}
 use Rattle.ring.specs.Routing.{Routed}
 use Rattle.ring.specs.Sheet.{Link, Sheet, sents, demands}
-use Rattle.text.specs.Number.{limit}
 use Rattle.text.specs.Shapes.{lastLine}
 use Rattle.text.proofs.Apart.{clash}
 use Rattle.table.specs.Lines.{lines}
@@ -27,7 +25,7 @@ use Rattle.table.proofs.TableText as table
 use Rattle.sheet.specs.WriteSheet.{routedLine, loadLine, linesOf, figuresOf, endText, writeSheet}
 use Rattle.sheet.specs.Range.{RowSpelled, LinkSpelled, Spelled, InRange}
 use Rattle.sheet.specs.Judge.{judgeHalves}
-use Rattle.sheet.specs.Check.{Result, accepted, refused, State, start, rows, links, when, checkFrom, checkBy}
+use Rattle.sheet.specs.Check.{Result, accepted, start, rows, links, when, checkBy}
 use Rattle.sheet.proofs.Back.{way-back}
 use Rattle.sheet.proofs.Short.{way-small}
 use Rattle.sheet.proofs.SheetLines.{SentSpelled}

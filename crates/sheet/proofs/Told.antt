@@ -5,17 +5,16 @@ use mathlib.Core.List.{List}
 use mathlib.Core.Path.{_≡_, refl, ap, _∙_, sym}
 use native.Mathlib.Omega.{arith}
 use lib.ListN.{length}
-use Rattle.ring.specs.Columns.{column, sentAt, sentsIn, routedAt, routedIn, wayNumber}
+use Rattle.ring.specs.Columns.{column, sentsIn, routedAt, routedIn, wayNumber}
 use Rattle.ring.specs.Limits.{desk}
 use Rattle.ring.specs.Routing.{Routed}
-use Rattle.ring.specs.Sheet.{Link, Sheet, sents}
+use Rattle.ring.specs.Sheet.{Sheet, sents}
 use Rattle.ring.proofs.Listed.{listed-map}
 use Rattle.text.proofs.Apart.{clash}
 use Rattle.table.specs.declared.reason.Reason.{Reason}
 use Rattle.table.proofs.TableText.{desk-spelled}
 use Rattle.sheet.specs.Arrays.{sheetIn, checkedIn}
 use Rattle.sheet.specs.Check.{Result, accepted, refused, check}
-use Rattle.sheet.specs.WriteSheet.{figuresOf}
 use Rattle.sheet.specs.declared.check.Checked.{Checked}
 use Rattle.sheet.specs.declared.check.Answer.the-variants.{Is, Refused}
 use Rattle.sheet.proofs.Back.{links-back}

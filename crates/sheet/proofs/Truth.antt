@@ -1,6 +1,6 @@
 -- Nothing is found against a sheet exactly when it is a true sheet, where it has as many L lines as links: reason by reason, each verdict being the first
 -- of the reasons that hold (`SheetJudged`).
-use Prim.Native.Nat.{ℕ, zero, suc, _+_, _*_, _≤_, _<_}
+use Prim.Native.Nat.{ℕ, suc, _+_, _*_, _≤_, _<_}
 use mathlib.Core.Bool.{true}
 use mathlib.Core.List.{List, [], _∷_, map}
 use mathlib.Core.Logic.{_↔_, _⊎_, inl, inr, ⊎-elim}
@@ -11,7 +11,7 @@ use lib.ListN.{length}
 use Rattle.sonet.specs.Size.{sonetSize}
 use Rattle.ring.specs.Cut.{Cut, IsCut, across}
 use Rattle.ring.specs.Lists.{Each, none, more}
-use Rattle.ring.specs.Routing.{Sent, Routed, Way, F, B, splitLoad, unsplitLoad, peak}
+use Rattle.ring.specs.Routing.{Routed, Way, F, B, splitLoad, unsplitLoad, peak}
 use Rattle.ring.specs.Sheet.{Link, Sheet, sents, demands, numbersFrom, splitPeak, unsplitPeak, largestSplitOf}
 use Rattle.ring.specs.True.{SumsTo2d, Kept, TrueLoads, TrueSheet}
 use Rattle.ring.proofs.Lists.{each, each-both, each-of-map}
@@ -23,7 +23,7 @@ use Rattle.table.specs.declared.judge.Verdict.the-variants.{Fine, Fault}
 use Rattle.sheet.specs.Judge.{judgeHalves, judgeCut, judgeLink, judgeLast, judgeWhole}
 use Rattle.sheet.specs.Check.{when}
 use Rattle.sheet.proofs.FirstReason.{First, Only, only, only-fact}
-use Rattle.sheet.proofs.SheetJudged.{AgainstHalves, halves-first, CutWrong, cut-first, LinkWrong, link-first, LastWrong, last-first, AgainstWhole, whole-first}
+use Rattle.sheet.proofs.SheetJudged.{halves-first, CutWrong, cut-first, link-first, last-first, whole-first}
 use Rattle.sheet.proofs.Read.{LinksJudged, no-links, and-link, Judged}
 
 -- ---- Fine exactly where no reason holds

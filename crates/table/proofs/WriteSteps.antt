@@ -4,7 +4,7 @@ use mathlib.Core.List.{List, [], _∷_, _++_, append-assoc, append-nil}
 use mathlib.Core.Path.{_≡_, refl, ap, _∙_, sym}
 use native.Mathlib.Omega.{arith}
 use lib.ListN.{length, getD, length-append}
-use Rattle.ring.specs.Row.{Row, row}
+use Rattle.ring.specs.Row.{Row}
 use Rattle.ring.specs.Columns.{listed, rowsIn, rowAt}
 use Rattle.ring.proofs.Listed.{listed-snoc}
 use Rattle.text.specs.Shapes.{ringShape, rowShape, ringLine, rowLine}

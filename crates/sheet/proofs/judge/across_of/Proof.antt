@@ -3,10 +3,6 @@ use Rattle.sheet.proofs.JudgeSteps.{Summing, summing-starts, sum-fits, 
 use borrow.Author.Needs.{needs}
 use Rattle.sheet.proofs.judge.across_of.Statement.{statement}
 use Rattle.sheet.proofs.judge.across_of.Tie as tie
-use Rattle.sheet.proofs.judge.across_of.Reads as reads
-use Rattle.sheet.proofs.judge.across_of.Lts as lts
-use Rattle.router.proofs.wide.Reads as wide-reads
-use Rattle.sheet.proofs.judge.part_of.Reads as part-of-reads
 
 abbrev Inv-loop : tie.InvT-loop
 Inv-loop n count first second amount g h sum₀ t₀ sum t = Summing n count first second amount g h sum t

@@ -2,8 +2,6 @@
 use Rattle.text.proofs.Tests.{tests}
 use Rattle.sheet.proofs.judge.in_front.Statement.{statement}
 use Rattle.sheet.proofs.judge.in_front.Tie as tie
-use Rattle.sheet.proofs.judge.in_front.Reads as reads
-use Rattle.sheet.proofs.judge.in_front.Lts as lts
 
 returns : tie.Need-returns
 returns c = search tests

@@ -3,10 +3,6 @@ use Rattle.sheet.proofs.JudgeSteps.{unequal, turned, halves-fine}
 use borrow.Author.Needs.{needs}
 use Rattle.sheet.proofs.judge.judge_halves.Statement.{statement}
 use Rattle.sheet.proofs.judge.judge_halves.Tie as tie
-use Rattle.sheet.proofs.judge.judge_halves.Reads as reads
-use Rattle.sheet.proofs.judge.judge_halves.Lts as lts
-use Rattle.sheet.proofs.judge.wrong_sum.Reads as wrong-sum-reads
-use Rattle.sheet.proofs.judge.wrong_way.Reads as wrong-way-reads
 
 wrong-sum-requires : tie.Need-wrong-sum-requires
 wrong-sum-requires c κs = search needs

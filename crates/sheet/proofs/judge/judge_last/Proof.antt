@@ -3,8 +3,6 @@ use Rattle.text.proofs.Tests.{tests}
 use Rattle.sheet.specs.Verdicts.{lastVerdict}
 use Rattle.sheet.proofs.judge.judge_last.Statement.{statement}
 use Rattle.sheet.proofs.judge.judge_last.Tie as tie
-use Rattle.sheet.proofs.judge.judge_last.Reads as reads
-use Rattle.sheet.proofs.judge.judge_last.Lts as lts
 
 returns : tie.Need-returns
 unfolding lastVerdict

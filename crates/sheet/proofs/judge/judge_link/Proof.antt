@@ -3,8 +3,6 @@ use Rattle.text.proofs.Tests.{tests}
 use Rattle.sheet.specs.Verdicts.{linkVerdict}
 use Rattle.sheet.proofs.judge.judge_link.Statement.{statement}
 use Rattle.sheet.proofs.judge.judge_link.Tie as tie
-use Rattle.sheet.proofs.judge.judge_link.Reads as reads
-use Rattle.sheet.proofs.judge.judge_link.Lts as lts
 
 returns : tie.Need-returns
 unfolding linkVerdict

@@ -3,10 +3,6 @@ use Rattle.sheet.proofs.JudgeSteps.{row-fault, then-halves}
 use borrow.Author.Needs.{needs}
 use Rattle.sheet.proofs.judge.judge_sent.Statement.{statement}
 use Rattle.sheet.proofs.judge.judge_sent.Tie as tie
-use Rattle.sheet.proofs.judge.judge_sent.Reads as reads
-use Rattle.sheet.proofs.judge.judge_sent.Lts as lts
-use Rattle.sheet.proofs.judge.judge_halves.Reads as judge-halves-reads
-use Rattle.table.proofs.judge_row.Reads as judge-row-reads
 
 judge-row-requires : tie.Need-judge-row-requires
 judge-row-requires c κs = search needs

@@ -3,9 +3,6 @@ use Rattle.sheet.proofs.JudgeSteps.{sum-is}
 use borrow.Author.Needs.{needs}
 use Rattle.sheet.proofs.judge.wrong_sum.Statement.{statement}
 use Rattle.sheet.proofs.judge.wrong_sum.Tie as tie
-use Rattle.sheet.proofs.judge.wrong_sum.Reads as reads
-use Rattle.sheet.proofs.judge.wrong_sum.Lts as lts
-use Rattle.router.proofs.wide.Reads as wide-reads
 
 wide-requires : tie.Need-wide-requires
 wide-requires c κs = search needs

@@ -3,9 +3,6 @@ use Rattle.sheet.proofs.JudgeSteps.{split-row, goes-front, goes-back}
 use borrow.Author.Needs.{needs}
 use Rattle.sheet.proofs.judge.wrong_way.Statement.{statement}
 use Rattle.sheet.proofs.judge.wrong_way.Tie as tie
-use Rattle.sheet.proofs.judge.wrong_way.Reads as reads
-use Rattle.sheet.proofs.judge.wrong_way.Lts as lts
-use Rattle.router.proofs.is_split.Reads as is-split-reads
 
 is-split-requires : tie.Need-is-split-requires
 is-split-requires c κs = search needs
