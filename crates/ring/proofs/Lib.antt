@@ -15,7 +15,6 @@ pub mod Untangle
 pub mod Directions
 pub mod OurPlan
 pub mod NoLower
-pub mod CasesHold
 pub mod Listed
 pub mod Laid
 pub mod Totals

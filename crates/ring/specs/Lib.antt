@@ -13,4 +13,3 @@ pub mod True
 pub mod Division
 pub mod Paper
 pub mod Columns
-pub mod Cases

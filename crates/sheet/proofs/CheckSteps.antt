@@ -8,6 +8,7 @@ use lib.ListN.{length, getD, take, drop}
 use borrow.Author.Tests.{lt-ltb, le-ltb}
 use Rattle.sonet.specs.Size.{sonetSize}
 use Rattle.ring.specs.Columns.{column, rowsIn, routedAt, routedIn}
+use Rattle.ring.specs.Cut.{across}
 use Rattle.ring.specs.Limits.{desk}
 use Rattle.ring.specs.Routing.{Sent, Routed, splitLoad, unsplitLoad, peak}
 use Rattle.ring.specs.Sheet.{Link, sents, demands, numbersFrom}
@@ -116,9 +117,9 @@ module _ (count : ℕ) (first second amount front back way : List ℕ) where
     unfolding cutTurn after
     no-cut-line p t q e = rw e (end-refused {reason = Misshapen} {line = line} (cut-led ∙ rw q))
 
-    module _ (g h number : ℕ) (is : x ≡ AreThree g h number) (v : Verdict) (ev : v ≡ cutVerdict n (rowsIn count first second amount) g h number) where
+    module _ (g h number : ℕ) (is : x ≡ AreThree g h number) (v : Verdict) (ev : v ≡ cutVerdict n (across (rowsIn count first second amount) g h) g h number) where
       cut-judged : judgeCut n rs (cutOf g h number) ≡ v
-      unfolding judgeCut cutVerdict
+      unfolding judgeCut
       cut-judged = let d = demands-in in sym (ev ∙ rw (← d))
 
       pub cut-fault : (reason : Reason) (t : Ending) → v ≡ Fault reason → t .step ≡ StepRefused reason line → EndRead s at line n (routedIn count first second amount front back way) t

@@ -118,7 +118,7 @@ module _ (s : List ℕ) (from n start : ℕ) (split unsplit : List ℕ) where
 
       module _ (a b d due : ℕ) (is : x ≡ AreThree a b d) (edue : due ≡ k + 1) (v : Verdict) (ev : v ≡ linkVerdict due (getD split k 0) (getD unsplit k 0) a b d) where
         judged : (rs : List Routed) (tight top largest : ℕ) → Weighed n rs split unsplit tight top largest → judgeLink rs (length ks + 1) (linkOf a b d) ≡ v
-        unfolding judgeLink linkVerdict
+        unfolding judgeLink
         judged rs tight top largest w =
             let e : length ks + 1 ≡ k + 1 = omega (arith, long) in
             let s1 = split-due (reading .many) w k (omega arith) in
@@ -184,7 +184,7 @@ module _ (s : List ℕ) (at line top size : ℕ) (to : ℕ) (ends : NextEnds s a
 
   module _ (p z : ℕ) (is : x ≡ AreTwo p z) (v : Verdict) (ev : v ≡ lastVerdict top size p z) where
     last-judged : (n : ℕ) (rs : List Routed) → top ≡ peak (unsplitLoad rs) n → size ≡ sonetSize top → judgeLast n rs p z ≡ v
-    unfolding judgeLast lastVerdict
+    unfolding judgeLast
     last-judged n rs et ez = sym (ev ∙ rw (ez, et))
 
     pub last-fault : (reason : Reason) → v ≡ Fault reason → LastRead s at line top size (Refused reason line)
@@ -249,7 +249,7 @@ module _ (s : List ℕ) (at line number tight top size largest : ℕ) (r : Step)
       x = record { n = n; rows = rs; cut = cutOf g h number; links = ks; peak = top; size = size }
 
       whole-judged : judgeWhole x ≡ v
-      unfolding judgeWhole wholeVerdict
+      unfolding judgeWhole
       whole-judged = sym (ev ∙ rw (es, et, el))
 
       result : checkFrom desk true (links n rs (cutOf g h number) ks) line (lines (drop at s)) ≡ wholeResult x v

@@ -12,7 +12,7 @@ use Rattle.table.specs.declared.reason.Reason.the-variants.{WrongSum}
 use Rattle.table.specs.declared.judge.Verdict.{Verdict}
 use Rattle.table.specs.declared.judge.Verdict.the-variants.{Fine, Fault}
 use Rattle.table.proofs.Against.{NoLater}
-use Rattle.sheet.specs.Judge.{faultIf, orElse}
+use Rattle.sheet.specs.Verdicts.{faultIf, orElse}
 use Rattle.sheet.specs.Check.{when}
 use Rattle.sheet.specs.Says.{Any, OfForm}
 use Rattle.sheet.proofs.Tested.{Tested, is-so, not-so}

@@ -24,9 +24,9 @@ use Rattle.table.specs.declared.reason.Reason.{Reason}
 use Rattle.table.specs.declared.reason.Reason.the-variants.{WrongSum, WrongWay, WrongCut, NotTight, OverBound}
 use Rattle.table.specs.declared.judge.Verdict.{Verdict}
 use Rattle.table.specs.declared.judge.Verdict.the-variants.{Fine, Fault}
-use Rattle.sheet.specs.Judge.{wrongSum, wrongWay, noCut, judgeHalves}
-use Rattle.sheet.specs.Check.{cutOf, routedOf}
-use Rattle.sheet.specs.Verdicts.{sentVerdict, cutVerdict, wholeVerdict}
+use Rattle.sheet.specs.Judge.{wrongSum, wrongWay, judgeHalves}
+use Rattle.sheet.specs.Check.{routedOf, sentVerdict}
+use Rattle.sheet.specs.Verdicts.{noCut, cutVerdict, wholeVerdict}
 
 -- ---- 8 and 9
 
@@ -76,11 +76,11 @@ module _ (d f k w : ℕ) (x : Bool) (ex : x ≡ wrongSum (sent 0 0 d f k)) where
 -- ---- 4 to 9
 
 module _ (n a b i j d f k w : ℕ) (v : Verdict) (ev : v ≡ judgeRow desk n a b i j d) where
-  pub row-fault : (reason : Reason) → v ≡ Fault reason → Fault reason ≡ sentVerdict n a b i j d f k w
+  pub row-fault : (reason : Reason) → v ≡ Fault reason → Fault reason ≡ sentVerdict desk n a b (routedOf i j d f k w)
   unfolding sentVerdict
   row-fault reason e = rw (sym ev ∙ e)
 
-  pub then-halves : v ≡ Fine → (u : Verdict) → u ≡ judgeHalves (routedOf 0 0 d f k w) → u ≡ sentVerdict n a b i j d f k w
+  pub then-halves : v ≡ Fine → (u : Verdict) → u ≡ judgeHalves (routedOf 0 0 d f k w) → u ≡ sentVerdict desk n a b (routedOf i j d f k w)
   unfolding sentVerdict judgeHalves wrongSum wrongWay
   then-halves e u q = rw (sym ev ∙ e) q
 
@@ -153,23 +153,19 @@ module _ (n count : ℕ) (first second amount : List ℕ) (g h : ℕ) where
 
 -- ---- 10
 
-module _ (n : ℕ) (rs : List Row) (g h m : ℕ) (x : Bool) (ex : x ≡ noCut n (cutOf g h 0)) where
-  same-pair : noCut n (cutOf g h m) ≡ x
-  unfolding noCut
-  same-pair = sym ex
-
-  pub not-a-cut : x ≡ true → Fault WrongCut ≡ cutVerdict n rs g h m
+module _ (n due g h m : ℕ) (x : Bool) (ex : x ≡ noCut n g h) where
+  pub not-a-cut : x ≡ true → Fault WrongCut ≡ cutVerdict n due g h m
   unfolding cutVerdict
-  not-a-cut t = rw (same-pair ∙ t)
+  not-a-cut t = rw (sym ex ∙ t)
 
-  module _ (fx : x ≡ false) (sum w : ℕ) (es : sum ≡ across rs g h) (ew : w ≡ m) where
-    pub number-false : (w ≡ sum → ⊥) → Fault WrongCut ≡ cutVerdict n rs g h m
+  module _ (fx : x ≡ false) (sum w : ℕ) (es : sum ≡ due) (ew : w ≡ m) where
+    pub number-false : (w ≡ sum → ⊥) → Fault WrongCut ≡ cutVerdict n due g h m
     unfolding cutVerdict
-    number-false d = rw (same-pair ∙ fx, ne-eqb m (across rs g h) (λ q. d (ew ∙ q ∙ sym es)))
+    number-false d = rw (sym ex ∙ fx, ne-eqb m due (λ q. d (ew ∙ q ∙ sym es)))
 
-    pub number-true : w ≡ sum → Fine ≡ cutVerdict n rs g h m
+    pub number-true : w ≡ sum → Fine ≡ cutVerdict n due g h m
     unfolding cutVerdict
-    number-true e = rw (same-pair ∙ fx, eq-eqb m (across rs g h) (sym ew ∙ e ∙ es))
+    number-true e = rw (sym ex ∙ fx, eq-eqb m due (sym ew ∙ e ∙ es))
 
 -- ---- 13 and 14
 

@@ -28,3 +28,4 @@ pub mod RowsSteps
 pub mod EndSteps
 pub mod CheckSteps
 pub mod Told
+pub mod CasesHold

@@ -32,7 +32,8 @@ use Rattle.table.specs.declared.judge.Verdict.{Verdict}
 use Rattle.table.specs.declared.judge.Verdict.the-variants.{Fine, Fault}
 use Rattle.table.proofs.LineRead.{RingRead, is-ring, no-ring, ring-read, ring-line-read}
 use Rattle.table.proofs.LinesOf.{FirstLine, NoLf, written-first, ring-first}
-use Rattle.sheet.specs.Judge.{orElse, judgeHalves, judgeCut, judgeLink, judgeLast, judgeWhole}
+use Rattle.sheet.specs.Verdicts.{orElse}
+use Rattle.sheet.specs.Judge.{judgeHalves, judgeCut, judgeLink, judgeLast, judgeWhole}
 use Rattle.sheet.specs.Check.{accepted, State, start, rows, links, end, Turn, on, stop, unless, when, cutOf, routedOf, linkOf, ringTurn, cutTurn, rowTurn, linkTurn, lastTurn, turn, wholeResult, atEnd, after, checkFrom}
 use Rattle.sheet.proofs.SheetLines.{SentSpelled, SentRead, is-sent, no-sent, sent-read, CutRead, is-cut, no-cut, cut-read, LinkRead, is-link, no-link, link-read, LastRead, is-last, no-last, last-read, sent-line-read, cut-line-read, link-line-read, last-line-read, sent-in-range, cut-in-range, link-in-range, last-in-range}
 

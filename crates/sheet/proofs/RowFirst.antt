@@ -16,7 +16,8 @@ use Rattle.table.specs.declared.reason.Reason.the-variants.{WrongSum}
 use Rattle.table.specs.declared.judge.Verdict.{Verdict}
 use Rattle.table.proofs.Judged.{RowJudged, no-such-node, not-below, not-above, too-much, row-fine, row-judged}
 use Rattle.table.proofs.Against.{AgainstRow, by-nodes, by-pair, by-order, by-amount, row-least}
-use Rattle.sheet.specs.Judge.{orElse, judgeHalves}
+use Rattle.sheet.specs.Verdicts.{orElse}
+use Rattle.sheet.specs.Judge.{judgeHalves}
 use Rattle.sheet.specs.Check.{rows, when}
 use Rattle.sheet.specs.Says.{SentIs, At, behind-ring, behind-row, RowAt, WrongOrder, Says}
 use Rattle.sheet.proofs.FirstReason.{Holds, First, first-as, or-else-first, only-then, Counts, form-first, when-first}

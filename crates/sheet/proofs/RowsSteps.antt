@@ -36,8 +36,7 @@ use Rattle.table.proofs.Judged.{RowJudged, row-fine, row-judged}
 use Rattle.table.proofs.Rank.{rank, rank-up, rank-most}
 use Rattle.table.proofs.Columns.{column-length, column-more, column-at, column-behind, rows-back}
 use Rattle.sheet.specs.Judge.{judgeHalves}
-use Rattle.sheet.specs.Check.{Result, rows, routedOf, when, unless, rowTurn, turn, after, checkFrom}
-use Rattle.sheet.specs.Verdicts.{sentVerdict}
+use Rattle.sheet.specs.Check.{Result, rows, routedOf, when, unless, rowTurn, turn, after, checkFrom, sentVerdict}
 use Rattle.sheet.specs.Parts.{NextEnds, firstOf, cutFrom, RowsMean, rows-at, rows-refused, RowsRead}
 use Rattle.sheet.specs.declared.rows.Rows.{Rows}
 use Rattle.sheet.specs.declared.rows.RowsEnd.the-variants.{At, Refused}
@@ -58,7 +57,7 @@ record FineRow (n a b i j d f k w : ℕ) : Type 0 where
   fine : FineSent n (routedOf i j d f k w)
   rises : PairBefore a b i j
 
-fine-row : (n a b i j d f k w : ℕ) (v : Verdict) → v ≡ sentVerdict n a b i j d f k w → v ≡ Fine → FineRow n a b i j d f k w
+fine-row : (n a b i j d f k w : ℕ) (v : Verdict) → v ≡ sentVerdict desk n a b (routedOf i j d f k w) → v ≡ Fine → FineRow n a b i j d f k w
 unfolding sentVerdict
 fine-row n a b i j d f k w v e q =
     let both = or-fine (judgeRow desk n a b i j d) (judgeHalves (routedOf i j d f k w)) (sym e ∙ q) in
@@ -254,7 +253,7 @@ module _ (s : List ℕ) (n from line a b count at : ℕ) (first second amount fr
         (rw (e, c1, c2, c3) (fine-table n (reading .rs) few (reading .fine) (reading .two) (reading .size)))
         (rw (e, c4, c5) (fine-halves n (reading .rs) few (reading .fine)))
 
-    module _ (i j d f k w : ℕ) (is : x ≡ IsSent i j d f k w) (v : Verdict) (ev : v ≡ sentVerdict n a b i j d f k w) where
+    module _ (i j d f k w : ℕ) (is : x ≡ IsSent i j d f k w) (v : Verdict) (ev : v ≡ sentVerdict desk n a b (routedOf i j d f k w)) where
       -- what is found against it decides
       led : whole s n from ≡ after (unless v (rows n i j (reading .rs ++ routedOf i j d f k w ∷ []))) line (λ next. checkFrom desk true next (line + 1) (lines (drop to s)))
       unfolding turn rowTurn sentVerdict when

@@ -17,7 +17,8 @@ use Rattle.ring.specs.True.{SumsTo2d, Kept}
 use Rattle.table.specs.Reasons.{numberOf}
 use Rattle.table.specs.declared.reason.Reason.{Reason}
 use Rattle.table.specs.declared.reason.Reason.the-variants.{WrongSum, WrongWay, WrongCut, WrongLink, WrongLast, NotTight, OverBound}
-use Rattle.sheet.specs.Judge.{wrongSum, wrongWay, noCut, judgeHalves, judgeCut, judgeLink, judgeLast, judgeWhole}
+use Rattle.sheet.specs.Verdicts.{noCut, cutVerdict, linkVerdict, lastVerdict, wholeVerdict}
+use Rattle.sheet.specs.Judge.{wrongSum, wrongWay, judgeHalves, judgeCut, judgeLink, judgeLast, judgeWhole}
 use Rattle.sheet.proofs.Back.{way-back}
 use Rattle.sheet.proofs.Tested.{Tested, test-of, test-not, test-or, test-and, test-less, test-most, test-other}
 use Rattle.sheet.proofs.FirstReason.{First, or-else-first, Only, only-number, either-late, fault-first}
@@ -80,7 +81,7 @@ halves-first r =
 abbrev pub CutWrong : ℕ → List Routed → Cut → Type 0
 CutWrong n rs c = (IsCut n c → ⊥) ⊎ (c .number ≡ across (demands (sents rs)) (c .g) (c .h) → ⊥)
 
-test-cut : (n : ℕ) (c : Cut) → Tested (IsCut n c → ⊥) (noCut n c)
+test-cut : (n : ℕ) (c : Cut) → Tested (IsCut n c → ⊥) (noCut n (c .g) (c .h))
 unfolding noCut
 test-cut n c = test-of there back (test-or (test-or (test-less (c .g) 1) (test-most (c .h) (c .g))) (test-less n (c .h)))
   where
@@ -97,7 +98,7 @@ test-cut n c = test-of there back (test-or (test-or (test-less (c .g) 1) (test-m
         wrong (record { low = omega arith; order = omega arith; high = omega arith })
 
 pub cut-first : (n : ℕ) (rs : List Routed) (c : Cut) → First (Only WrongCut (CutWrong n rs c)) (judgeCut n rs c)
-unfolding judgeCut
+unfolding judgeCut cutVerdict
 cut-first n rs c = fault-first WrongCut (test-or (test-cut n c) (test-other (c .number) (across (demands (sents rs)) (c .g) (c .h))))
 
 -- ---- 11: a link, where link k is due
@@ -106,7 +107,7 @@ abbrev pub LinkWrong : List Routed → ℕ → Link → Type 0
 LinkWrong rs k l = (l .link ≡ k → ⊥) ⊎ ((l .split ≡ splitLoad (sents rs) k → ⊥) ⊎ (l .unsplit ≡ unsplitLoad rs k → ⊥))
 
 pub link-first : (rs : List Routed) (k : ℕ) (l : Link) → First (Only WrongLink (LinkWrong rs k l)) (judgeLink rs k l)
-unfolding judgeLink
+unfolding judgeLink linkVerdict
 link-first rs k l =
     fault-first WrongLink
     (test-of (⊎-elim (⊎-elim inl (λ b. inr (inl b))) (λ c. inr (inr c))) (λ none. ⊎-elim (λ a. none (inl (inl a))) (⊎-elim (λ b. none (inl (inr b))) (λ c. none (inr c))))
@@ -118,7 +119,7 @@ abbrev pub LastWrong : ℕ → List Routed → ℕ → ℕ → Type 0
 LastWrong n rs p z = (p ≡ peak (unsplitLoad rs) n → ⊥) ⊎ (z ≡ sonetSize (peak (unsplitLoad rs) n) → ⊥)
 
 pub last-first : (n : ℕ) (rs : List Routed) (p z : ℕ) → First (Only WrongLast (LastWrong n rs p z)) (judgeLast n rs p z)
-unfolding judgeLast
+unfolding judgeLast lastVerdict
 last-first n rs p z =
     fault-first WrongLast (test-or (test-other p (peak (unsplitLoad rs) n)) (test-other z (sonetSize (peak (unsplitLoad rs) n))))
 
@@ -132,7 +133,7 @@ pub whole-late : (x : Sheet) (s : Reason) → AgainstWhole x s → numberOf Wron
 whole-late x s = either-late (omega arith) (omega arith)
 
 pub whole-first : (x : Sheet) → First (AgainstWhole x) (judgeWhole x)
-unfolding judgeWhole
+unfolding judgeWhole wholeVerdict
 whole-first x =
     or-else-first (λ a b p q. omega (arith, only-number p, only-number q))
     (fault-first NotTight (test-other (splitPeak x) (x .cut .number)))

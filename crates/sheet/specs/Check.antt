@@ -26,7 +26,8 @@ use Rattle.table.specs.declared.reason.Reason.{Reason}
 use Rattle.table.specs.declared.reason.Reason.the-variants.{TooLong, Misshapen}
 use Rattle.table.specs.declared.judge.Verdict.{Verdict}
 use Rattle.table.specs.declared.judge.Verdict.the-variants.{Fine, Fault}
-use Rattle.sheet.specs.Judge.{orElse, judgeHalves, judgeCut, judgeLink, judgeLast, judgeWhole}
+use Rattle.sheet.specs.Judge.{judgeHalves, judgeCut, judgeLink, judgeLast, judgeWhole}
+use Rattle.sheet.specs.Verdicts.{orElse}
 
 -- a sheet; or a reason and a line
 pub data Result : Type 0 where
@@ -66,6 +67,11 @@ cutOf g h m = record { g = g; h = h; number = m }
 -- D i j amount front back F-or-B
 abbrev pub routedOf : ℕ → ℕ → ℕ → ℕ → ℕ → ℕ → Routed
 routedOf i j d f k w = routed (sent i j d f k) (wayOf w)
+
+-- 4 to 9 of a D line
+unfoldable pub sentVerdict : Limits → ℕ → ℕ → ℕ → Routed → Verdict
+unfolding orElse
+sentVerdict limits n a b r = orElse (judgeRow limits n a b (r .sent .row .i) (r .sent .row .j) (r .sent .row .d)) (judgeHalves r)
 
 -- L link split-load unsplit-load
 abbrev pub linkOf : ℕ → ℕ → ℕ → Link

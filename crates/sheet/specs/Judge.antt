@@ -1,29 +1,17 @@
--- What is found against a sheet's rows, cut, links and figures, over any numbers: nothing, or the first reason that holds, by rising number. 4 to 7 of
--- a row are a table's (`judgeRow`).
+-- What is found against a sheet's rows, cut, links and figures, over any numbers, judged by its own rows. 4 to 7 of a row are a table's (`judgeRow`).
 use Prim.Native.Nat.{ℕ, _+_, _*_}
-use mathlib.Core.Bool.{Bool, true, false, not, _&&_, _||_}
+use mathlib.Core.Bool.{Bool, not, _&&_}
 use mathlib.Core.List.{List}
-use lib.Dec.{ltb, leb, eqb}
+use lib.Dec.{eqb}
 use Rattle.sonet.specs.Size.{sonetSize}
 use Rattle.ring.specs.Columns.{wayNumber}
 use Rattle.ring.specs.Cut.{Cut, across}
 use Rattle.ring.specs.Routing.{Sent, Routed, isSplit, splitLoad, unsplitLoad, peak}
 use Rattle.ring.specs.RuleD.{wholeWay}
 use Rattle.ring.specs.Sheet.{Link, Sheet, sents, demands, splitPeak, unsplitPeak, largestSplitOf}
-use Rattle.table.specs.declared.reason.Reason.{Reason}
-use Rattle.table.specs.declared.reason.Reason.the-variants.{WrongSum, WrongWay, WrongCut, WrongLink, WrongLast, NotTight, OverBound}
+use Rattle.table.specs.declared.reason.Reason.the-variants.{WrongSum, WrongWay}
 use Rattle.table.specs.declared.judge.Verdict.{Verdict}
-use Rattle.table.specs.declared.judge.Verdict.the-variants.{Fine, Fault}
-
--- a reason, where its test holds
-unfoldable pub faultIf : Bool → Reason → Verdict
-faultIf true reason = Fault reason
-faultIf false reason = Fine
-
--- the first of two findings
-unfoldable pub orElse : Verdict → Verdict → Verdict
-orElse Fine next = next
-orElse (Fault reason) next = Fault reason
+use Rattle.sheet.specs.Verdicts.{faultIf, orElse, cutVerdict, linkVerdict, lastVerdict, wholeVerdict}
 
 -- 8: front + back is not 2 x amount
 unfoldable pub wrongSum : Sent → Bool
@@ -38,28 +26,22 @@ unfoldable pub judgeHalves : Routed → Verdict
 unfolding faultIf orElse wrongSum wrongWay
 judgeHalves r = orElse (faultIf (wrongSum (r .sent)) WrongSum) (faultIf (wrongWay r) WrongWay)
 
--- 10: not 1 <= g < h <= n, or across number false
-unfoldable pub noCut : ℕ → Cut → Bool
-noCut n c = ltb (c .g) 1 || leb (c .h) (c .g) || ltb n (c .h)
-
+-- 10, by the across number of the rows
 unfoldable pub judgeCut : ℕ → List Routed → Cut → Verdict
-unfolding faultIf noCut across
-judgeCut n rs c = faultIf (noCut n c || not (eqb (c .number) (across (demands (sents rs)) (c .g) (c .h)))) WrongCut
+unfolding cutVerdict across
+judgeCut n rs c = cutVerdict n (across (demands (sents rs)) (c .g) (c .h)) (c .g) (c .h) (c .number)
 
--- 11: link out of order, or either load false; link k is due
+-- 11, by the loads of the link k that is due
 unfoldable pub judgeLink : List Routed → ℕ → Link → Verdict
-unfolding faultIf splitLoad unsplitLoad
-judgeLink rs k l =
-    faultIf (not (eqb (l .link) k) || not (eqb (l .split) (splitLoad (sents rs) k)) || not (eqb (l .unsplit) (unsplitLoad rs k))) WrongLink
+unfolding linkVerdict splitLoad unsplitLoad
+judgeLink rs k l = linkVerdict k (splitLoad (sents rs) k) (unsplitLoad rs k) (l .link) (l .split) (l .unsplit)
 
--- 12: unsplit peak or size false
+-- 12, by the unsplit peak of the rows
 unfoldable pub judgeLast : ℕ → List Routed → ℕ → ℕ → Verdict
-unfolding faultIf unsplitLoad peak
-judgeLast n rs p size = let u = peak (unsplitLoad rs) n in faultIf (not (eqb p u) || not (eqb size (sonetSize u))) WrongLast
+unfolding lastVerdict unsplitLoad peak
+judgeLast n rs p size = let u = peak (unsplitLoad rs) n in lastVerdict u (sonetSize u) p size
 
--- 13: split peak (halves) is not the across number; 14: the bound of rule D broken
+-- 13 and 14
 unfoldable pub judgeWhole : Sheet → Verdict
-unfolding faultIf orElse
-judgeWhole x =
-    orElse (faultIf (not (eqb (splitPeak x) (x .cut .number))) NotTight)
-    (faultIf (ltb (splitPeak x + 3 * largestSplitOf x) (2 * unsplitPeak x)) OverBound)
+unfolding wholeVerdict
+judgeWhole x = wholeVerdict (splitPeak x) (x .cut .number) (largestSplitOf x) (unsplitPeak x)

@@ -1,9 +1,11 @@
 pub mod WriteSheet
 pub mod Arrays
 pub mod Range
+pub mod Verdicts
 pub mod Judge
 pub mod Check
 pub mod Says
-pub mod Verdicts
 pub mod Parts
 pub mod Pair
+pub mod Printed
+pub mod Cases

@@ -1,38 +1,42 @@
--- The same findings over numbers that were worked out before: what the checker's loops compare a line with.
+-- What is found against a line's figures, where those that are true of the rows are known: nothing, or the first reason that holds, by rising number.
 use Prim.Native.Nat.{ℕ, _+_, _*_}
-use mathlib.Core.Bool.{not, _||_}
-use mathlib.Core.List.{List}
-use lib.Dec.{ltb, eqb}
-use Rattle.ring.specs.Cut.{across}
-use Rattle.ring.specs.Limits.{desk}
-use Rattle.ring.specs.Row.{Row}
-use Rattle.table.specs.Judge.{judgeRow}
+use mathlib.Core.Bool.{Bool, true, false, not, _||_}
+use lib.Dec.{ltb, leb, eqb}
+use Rattle.table.specs.declared.reason.Reason.{Reason}
 use Rattle.table.specs.declared.reason.Reason.the-variants.{WrongCut, WrongLink, WrongLast, NotTight, OverBound}
 use Rattle.table.specs.declared.judge.Verdict.{Verdict}
-use Rattle.sheet.specs.Judge.{faultIf, orElse, noCut, judgeHalves}
-use Rattle.sheet.specs.Check.{cutOf, routedOf}
+use Rattle.table.specs.declared.judge.Verdict.the-variants.{Fine, Fault}
 
--- 4 to 9 of a D line
-unfoldable pub sentVerdict : ℕ → ℕ → ℕ → ℕ → ℕ → ℕ → ℕ → ℕ → ℕ → Verdict
-unfolding orElse
-sentVerdict n a b i j d f k w = orElse (judgeRow desk n a b i j d) (judgeHalves (routedOf i j d f k w))
+-- a reason, where its test holds
+unfoldable pub faultIf : Bool → Reason → Verdict
+faultIf true reason = Fault reason
+faultIf false reason = Fine
 
--- 10 of the cut g, h, over these rows
-unfoldable pub cutVerdict : ℕ → List Row → ℕ → ℕ → ℕ → Verdict
+-- the first of two findings
+unfoldable pub orElse : Verdict → Verdict → Verdict
+orElse Fine next = next
+orElse (Fault reason) next = Fault reason
+
+-- not 1 <= g < h <= n
+unfoldable pub noCut : ℕ → ℕ → ℕ → Bool
+noCut n g h = ltb g 1 || leb h g || ltb n h
+
+-- 10: not 1 <= g < h <= n, or across number false; `across` is true of g and h
+unfoldable pub cutVerdict : ℕ → ℕ → ℕ → ℕ → ℕ → Verdict
 unfolding faultIf noCut
-cutVerdict n rs g h m = faultIf (noCut n (cutOf g h m) || not (eqb m (across rs g h))) WrongCut
+cutVerdict n across g h number = faultIf (noCut n g h || not (eqb number across)) WrongCut
 
--- 11 of an L line, where link k with these loads is due
+-- 11: link out of order, or either load false; link k with these loads is due
 unfoldable pub linkVerdict : ℕ → ℕ → ℕ → ℕ → ℕ → ℕ → Verdict
 unfolding faultIf
 linkVerdict k split unsplit link s u = faultIf (not (eqb link k) || not (eqb s split) || not (eqb u unsplit)) WrongLink
 
--- 12 of the Z line, where this peak and this size are due
+-- 12: unsplit peak or size false
 unfoldable pub lastVerdict : ℕ → ℕ → ℕ → ℕ → Verdict
 unfolding faultIf
 lastVerdict peak size p z = faultIf (not (eqb p peak) || not (eqb z size)) WrongLast
 
--- 13 and 14
+-- 13: split peak (halves) is not the across number; 14: the bound of rule D broken
 unfoldable pub wholeVerdict : ℕ → ℕ → ℕ → ℕ → Verdict
 unfolding faultIf orElse
 wholeVerdict split number largest peak = orElse (faultIf (not (eqb split number)) NotTight) (faultIf (ltb (split + 3 * largest) (2 * peak)) OverBound)

@@ -8,11 +8,12 @@ use table::Verdict;
 ghost use mathlib.Core.Path.{_≡_};
 ghost use Rattle.ring.specs.Columns.{rowsIn};
 ghost use Rattle.ring.specs.Cut.{part, across};
+ghost use Rattle.ring.specs.Limits.{desk};
 ghost use Rattle.ring.specs.Row.{row, inFront};
 ghost use Rattle.router.specs.Rows.{Table};
-ghost use Rattle.sheet.specs.Judge.{wrongSum, wrongWay, noCut, judgeHalves};
-ghost use Rattle.sheet.specs.Check.{cutOf, routedOf};
-ghost use Rattle.sheet.specs.Verdicts.{sentVerdict, cutVerdict, linkVerdict, lastVerdict, wholeVerdict};
+ghost use Rattle.sheet.specs.Judge.{wrongSum, wrongWay, judgeHalves};
+ghost use Rattle.sheet.specs.Check.{routedOf, sentVerdict};
+ghost use Rattle.sheet.specs.Verdicts.{noCut, cutVerdict, linkVerdict, lastVerdict, wholeVerdict};
 
 // 8: front + back is not 2 x amount.
 fn wrong_sum(d: u32, front: u32, back: u32) -> bool
@@ -62,7 +63,7 @@ pub(crate) fn judge_sent(
     back: u32,
     way: u32,
 ) -> Verdict
-    ensures { λ r. ⌜ r ≡ sentVerdict n a b i j d front back way ⌝ }
+    ensures { λ r. ⌜ r ≡ sentVerdict desk n a b (routedOf i j d front back way) ⌝ }
 {
     let verdict = table::judge_row(n, a, b, i, j, d);
     match verdict {
@@ -121,7 +122,7 @@ fn across_of(
 
 // Whether g, h is no cut of a ring of n nodes.
 fn no_cut(n: u32, g: u32, h: u32) -> bool
-    ensures { λ r. ⌜ r ≡ noCut n (cutOf g h 0) ⌝ }
+    ensures { λ r. ⌜ r ≡ noCut n g h ⌝ }
 {
     if g < 1 {
         return true;
@@ -144,7 +145,7 @@ pub(crate) fn judge_cut(
     number: u32,
 ) -> Verdict
     requires { ⌜ Table n count (now first) (now second) (now amount) ⌝ }
-    ensures { λ r. ⌜ r ≡ cutVerdict n (rowsIn count (now (first .entry)) (now (second .entry)) (now (amount .entry))) g h number ⌝ }
+    ensures { λ r. ⌜ r ≡ cutVerdict n (across (rowsIn count (now (first .entry)) (now (second .entry)) (now (amount .entry))) g h) g h number ⌝ }
 {
     let none = no_cut(n, g, h);
     if none {

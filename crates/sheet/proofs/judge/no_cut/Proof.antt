@@ -1,6 +1,6 @@
 -- The definition's own three tests.
 use Rattle.text.proofs.Tests.{tests}
-use Rattle.sheet.specs.Judge.{noCut}
+use Rattle.sheet.specs.Verdicts.{noCut}
 use Rattle.sheet.proofs.judge.no_cut.Statement.{statement}
 use Rattle.sheet.proofs.judge.no_cut.Tie as tie
 
