@@ -39,7 +39,7 @@ pub no-row : {k p : ℕ} {s : Sent} → RowFrom k [] p s → ⊥
 no-row = elim [ ]
 
 -- no place is before the first
-low : {k p : ℕ} {ss : List Sent} {s : Sent} → RowFrom k ss p s → k ≤ p
+pub low : {k p : ℕ} {ss : List Sent} {s : Sent} → RowFrom k ss p s → k ≤ p
 low {k} at-first = le-refl k
 low (behind r) = let l = low r in omega arith
 
