@@ -18,15 +18,15 @@ use Rattle.table.specs.declared.reason.Reason.the-variants.{TooLong, Misshapen,
 use Rattle.table.proofs.ReasonNumbers.{same-reason, no-reason-0}
 use Rattle.table.proofs.TableText.{desk-spelled}
 use Rattle.sheet.specs.Check.{Result, accepted, refused, check, form}
-use Rattle.sheet.specs.Pair.{firstPair, FirstPair, NoPair}
+use Rattle.checker.specs.Pair.{firstPair, FirstPair, NoPair}
 use Rattle.sheet.specs.Range as sheet-range
 use Rattle.sheet.specs.Says.{Says, Given, Accepted, WellFormed}
 use Rattle.sheet.specs.WriteSheet.{writeSheet}
-use Rattle.sheet.specs.declared.pair.Pair.{Pair}
-use Rattle.sheet.specs.declared.pair.Pair.the-variants.{Are, None}
+use Rattle.checker.specs.declared.pair.Pair.{Pair}
+use Rattle.checker.specs.declared.pair.Pair.the-variants.{Are, None}
 use Rattle.sheet.proofs.Demands.{form-text, check-text, accepted-true, accepted-formed, no-lower-peak, plan-accepted}
-use Rattle.sheet.proofs.OurPair.{plan-no-pair}
-use Rattle.sheet.proofs.PairLaws.{low, first-pair-is, no-pair-is}
+use Rattle.checker.proofs.OurPair.{plan-no-pair}
+use Rattle.checker.proofs.PairLaws.{low, first-pair-is, no-pair-is}
 use Rattle.sheet.proofs.SheetReasons.{one-given, given, accepted-is, well-formed-is}
 use Rattle.ringkit.specs.Outcome.{Fills}
 use Rattle.ringkit.specs.TableCalls.{sheetDue, tableRouted}

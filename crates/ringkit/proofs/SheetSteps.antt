@@ -6,15 +6,16 @@ use Rattle.ring.specs.Columns.{sentsIn}
 use Rattle.ring.specs.Limits.{desk}
 use Rattle.table.specs.Reasons.{numberOf}
 use Rattle.table.specs.declared.reason.Reason.{Reason}
-use Rattle.sheet.specs.Arrays.{sheetIn, checkedIn}
+use Rattle.sheet.specs.Arrays.{sheetIn}
+use Rattle.checker.specs.Arrays.{checkedIn}
 use Rattle.sheet.specs.Check.{check}
-use Rattle.sheet.specs.Pair.{firstPair}
+use Rattle.checker.specs.Pair.{firstPair}
 use Rattle.sheet.specs.WriteSheet.{writeSheet}
-use Rattle.sheet.specs.declared.check.Checked.{Checked}
-use Rattle.sheet.specs.declared.check.Answer.the-variants.{Is, Refused}
-use Rattle.sheet.specs.declared.pair.Pair.{Pair}
-use Rattle.sheet.specs.declared.pair.Pair.the-variants.{Are, None}
-use Rattle.sheet.proofs.Told.{Told, told-sheet, told-refusal}
+use Rattle.checker.specs.declared.check.Checked.{Checked}
+use Rattle.checker.specs.declared.check.Answer.the-variants.{Is, Refused}
+use Rattle.checker.specs.declared.pair.Pair.{Pair}
+use Rattle.checker.specs.declared.pair.Pair.the-variants.{Are, None}
+use Rattle.checker.proofs.Told.{Told, told-sheet, told-refusal}
 use Rattle.ringkit.specs.Outcome.{write, refuse, replyOf, Fills}
 use Rattle.ringkit.specs.SheetCalls.{verdictReply, sheetChecked, pairReply, questionReply, sheetParallel, ofSheet, sheetAfresh}
 use Rattle.ringkit.specs.declared.Reply.{Reply}

@@ -5,10 +5,10 @@ use Rattle.ring.specs.Limits.{desk}
 use Rattle.ring.specs.Sheet.{sents}
 use Rattle.table.specs.Reasons.{numberOf}
 use Rattle.sheet.specs.Check.{Result, accepted, refused, check}
-use Rattle.sheet.specs.Pair.{firstPair}
+use Rattle.checker.specs.Pair.{firstPair}
 use Rattle.sheet.specs.WriteSheet.{writeSheet}
-use Rattle.sheet.specs.declared.pair.Pair.{Pair}
-use Rattle.sheet.specs.declared.pair.Pair.the-variants.{Are, None}
+use Rattle.checker.specs.declared.pair.Pair.{Pair}
+use Rattle.checker.specs.declared.pair.Pair.the-variants.{Are, None}
 use Rattle.ringkit.specs.Outcome.{Outcome, write, refuse, replyOf}
 use Rattle.ringkit.specs.declared.Reply.{Reply}
 use Rattle.ringkit.specs.declared.PairReply.{PairReply}

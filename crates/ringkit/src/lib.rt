@@ -1,9 +1,9 @@
 // The public calls, as C sees them: byte slices and numbers in, a reply by value out. No call has a `requires`.
+use checker::Answer as Judged;
+use checker::Pair;
 use ring::LINKS;
 use ring::ROWS;
-use sheet::Answer as Judged;
 use sheet::Figures;
-use sheet::Pair;
 use table::Answer;
 use table::Reason;
 ghost use mathlib.Core.Path.{_≡_};
@@ -162,7 +162,7 @@ pub extern "C" fn ringkit_route(table: &[u8], buffer: &mut [u8]) -> Reply
 pub extern "C" fn ringkit_check(sheet: &[u8]) -> Reply
     ensures { λ r. ⌜ r ≡ sheetChecked (now (sheet .entry)) ⌝ }
 {
-    let c = sheet::check_sheet(sheet);
+    let c = checker::check_sheet(sheet);
     let answer = c.answer;
     match answer {
         Judged::Refused(reason, line) => refusal(reason, line),
@@ -188,7 +188,7 @@ pub struct PairReply {
 pub extern "C" fn ringkit_parallel(sheet: &[u8]) -> PairReply
     ensures { λ r. ⌜ r ≡ sheetParallel (now (sheet .entry)) ⌝ }
 {
-    let c = sheet::check_sheet(sheet);
+    let c = checker::check_sheet(sheet);
     let answer = c.answer;
     match answer {
         Judged::Refused(reason, line) => PairReply {
@@ -198,7 +198,7 @@ pub extern "C" fn ringkit_parallel(sheet: &[u8]) -> PairReply
             second: 0,
         },
         Judged::Is(count) => {
-            let pair = sheet::first_pair(count, &c.first, &c.second, &c.front, &c.back);
+            let pair = checker::first_pair(count, &c.first, &c.second, &c.front, &c.back);
             let Pair::Are(first, second) = pair else {
                 return PairReply {
                     reason: 0,
@@ -222,7 +222,7 @@ pub extern "C" fn ringkit_parallel(sheet: &[u8]) -> PairReply
 pub extern "C" fn ringkit_rewrite_sheet(sheet: &[u8], buffer: &mut [u8]) -> Reply
     ensures { λ r. ⌜ Fills (sheetAfresh (now (sheet .entry))) (now (buffer .entry)) (now (buffer .exit)) r ⌝ }
 {
-    let c = sheet::check_sheet(sheet);
+    let c = checker::check_sheet(sheet);
     let answer = c.answer;
     match answer {
         Judged::Refused(reason, line) => refusal(reason, line),

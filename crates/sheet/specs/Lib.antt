@@ -5,7 +5,5 @@ pub mod Verdicts
 pub mod Judge
 pub mod Check
 pub mod Says
-pub mod Parts
-pub mod Pair
 pub mod Printed
 pub mod Cases

@@ -1,17 +1,6 @@
-// A sheet: values in arrays to text, and text, judged line by line, to values.
-mod check; // a text, accepted or refused
-mod ending; // the lines behind the rows
-mod judge; // what is found against a line
-mod next; // where the next line ends
-mod pair; // the first parallel split pair
-mod rows; // the D lines
+// A sheet: what its lines and figures are, how it is judged (specs/, proofs/), and values in arrays to text.
 mod write; // values in arrays to a text
 
-pub use check::Answer;
-pub use check::Checked;
-pub use check::check_sheet;
-pub use pair::Pair;
-pub use pair::first_pair;
 pub use write::sheet_length;
 pub use write::write_sheet;
 

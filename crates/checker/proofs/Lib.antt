@@ -1,0 +1,11 @@
+pub mod JudgeSteps
+pub mod NextLine
+pub mod RowsSteps
+pub mod EndSteps
+pub mod CheckSteps
+pub mod Told
+pub mod PairTests
+pub mod PairSteps
+pub mod PairLaws
+pub mod OurPair
+pub mod Unique

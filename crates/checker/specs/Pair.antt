@@ -1,0 +1,73 @@
+-- The first pair of split rows that are parallel, in rule C's order: the scans, and what their answer says.
+use Prim.Native.Nat.{ℕ, _+_, _<_}
+use mathlib.Core.Bool.{true, cond}
+use mathlib.Core.List.{List, [], _∷_}
+use mathlib.Core.Path.{_≡_}
+use Rattle.ring.specs.Row.{PairBefore}
+use Rattle.ring.specs.Routing.{Sent, Split}
+use Rattle.ring.specs.Crossing.{parallel}
+use Rattle.ring.specs.RuleC.{clash}
+use Rattle.checker.specs.declared.pair.Pair.{Pair}
+use Rattle.checker.specs.declared.pair.Pair.the-variants.{Are, None}
+
+-- ---- the scans, by first and then by second
+
+-- the row s at place p with the first of the rows from place q on that is parallel to it, both being split
+unfoldable pub pairWith : Sent → ℕ → ℕ → List Sent → Pair
+unfolding clash
+pairWith s p q [] = None
+pairWith s p q (t ∷ ts) = cond (clash s t) (Are p q) (pairWith s p (q + 1) ts)
+
+-- a pair, or where there is none the next answer
+unfoldable pub orNext : Pair → Pair → Pair
+orNext (Are p q) next = Are p q
+orNext None next = next
+
+-- the first pair of the rows from place p on
+unfoldable pub pairFrom : ℕ → List Sent → Pair
+unfolding pairWith orNext
+pairFrom p [] = None
+pairFrom p (s ∷ ss) = orNext (pairWith s p (p + 1) ss) (pairFrom (p + 1) ss)
+
+-- places are counted from 1
+unfoldable pub firstPair : List Sent → Pair
+unfolding pairFrom
+firstPair ss = pairFrom 1 ss
+
+-- ---- what the answer says
+
+-- of rows whose places are counted from k, the one at place p
+pub data RowFrom : ℕ → List Sent → ℕ → Sent → Type 0 where
+  at-first : {k : ℕ} {s : Sent} {ss : List Sent} → RowFrom k (s ∷ ss) k s
+  behind : {k p : ℕ} {s t : Sent} {ss : List Sent} → RowFrom (k + 1) ss p t → RowFrom k (s ∷ ss) p t
+
+-- two rows are both split, and parallel
+pub record ParallelSplit (a b : Sent) : Type 0 where
+  pub one : Split a
+  pub two : Split b
+  pub parallel : parallel (a .row) (b .row) ≡ true
+
+-- rows p and q are such, the first before the second
+pub record PairAt (k : ℕ) (ss : List Sent) (p q : ℕ) : Type 0 where
+  pub s : Sent
+  pub t : Sent
+  pub first : RowFrom k ss p s
+  pub second : RowFrom k ss q t
+  pub order : p < q
+  pub both : ParallelSplit s t
+
+-- and no two rows that come before them are such: by first, then by second
+pub record FirstFrom (k : ℕ) (ss : List Sent) (p q : ℕ) : Type 0 where
+  pub are : PairAt k ss p q
+  pub none-before : (a b : ℕ) → PairBefore a b p q → PairAt k ss a b → ⊥
+
+-- no two rows are such
+abbrev pub NoneFrom : ℕ → List Sent → Type 0
+NoneFrom k ss = (p q : ℕ) → PairAt k ss p q → ⊥
+
+-- the same, counted from 1
+abbrev pub FirstPair : List Sent → ℕ → ℕ → Type 0
+FirstPair ss p q = FirstFrom 1 ss p q
+
+abbrev pub NoPair : List Sent → Type 0
+NoPair ss = NoneFrom 1 ss

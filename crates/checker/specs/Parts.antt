@@ -1,0 +1,140 @@
+-- The parts of the checker's code: each reads some lines and says from where, and in which state, checking goes on.
+use Prim.Native.Nat.{ℕ, _+_, _≤_}
+use mathlib.Core.Bool.{true}
+use mathlib.Core.List.{List, [], _∷_}
+use mathlib.Core.Path.{_≡_}
+use lib.ListN.{length, drop}
+use Rattle.sonet.specs.Size.{sonetSize}
+use Rattle.ring.specs.Columns.{column, wayNumber, routedIn}
+use Rattle.ring.specs.Cut.{Cut}
+use Rattle.ring.specs.Limits.{desk}
+use Rattle.ring.specs.Routing.{Routed, splitLoad, unsplitLoad, peak}
+use Rattle.ring.specs.RuleD.{largestSplit}
+use Rattle.ring.specs.Sheet.{Link, Sheet, sents, numbersFrom}
+use Rattle.router.specs.Rows.{Table}
+use Rattle.router.specs.Arrays.{Halves}
+use Rattle.text.specs.Answers.{threeIn}
+use Rattle.text.specs.ReadLine.{readLine}
+use Rattle.text.specs.Shapes.{cutShape}
+use Rattle.table.specs.Lines.{lines, lineLength}
+use Rattle.sheet.specs.Arrays.{linksIn}
+use Rattle.sheet.specs.Judge.{judgeWhole}
+use Rattle.table.specs.declared.reason.Reason.{Reason}
+use Rattle.sheet.specs.WriteSheet.{figuresOf}
+use Rattle.sheet.specs.Check.{Result, accepted, refused, rows, links, cutOf, cutTurn, after, wholeResult, checkFrom}
+use Rattle.checker.specs.declared.rows.Rows.{Rows}
+use Rattle.checker.specs.declared.rows.RowsEnd.{RowsEnd}
+use Rattle.checker.specs.declared.rows.RowsEnd.the-variants.{At, Refused as RowsRefused}
+use Rattle.checker.specs.declared.ending.Ending.{Ending}
+use Rattle.checker.specs.declared.ending.Step.{Step}
+use Rattle.checker.specs.declared.ending.Step.the-variants.{On, Refused as StepRefused}
+
+-- ---- the next line
+
+-- it ends before this place
+pub record NextEnds (s : List ℕ) (at end : ℕ) : Type 0 where
+  pub is : end ≡ at + lineLength (drop at s)
+  pub within : end ≤ length s
+
+-- the first of some lines, empty where there is none; and the lines behind it
+unfoldable pub firstOf : List (List ℕ) → List ℕ
+firstOf [] = []
+firstOf (l ∷ ls) = l
+
+unfoldable pub behindFirst : List (List ℕ) → List (List ℕ)
+behindFirst [] = []
+behindFirst (l ∷ ls) = ls
+
+-- ---- the D lines
+
+-- from the C line on
+unfoldable pub cutFrom : ℕ → List Routed → ℕ → List (List ℕ) → Result
+unfolding after cutTurn checkFrom firstOf behindFirst
+cutFrom n rs line ls = after (cutTurn true n rs (threeIn (readLine cutShape (firstOf ls)))) line λ next. checkFrom desk true next (line + 1) (behindFirst ls)
+
+-- the rows rs stand in columns, from place 0 on, and zeros behind them
+pub record Columns (rs : List Routed) (count : ℕ) (first second amount front back way : List ℕ) : Type 0 where
+  pub many : count ≡ length rs
+  pub firsts : first ≡ column (λ (r : Routed). r .sent .row .i) (desk .rows) rs
+  pub seconds : second ≡ column (λ (r : Routed). r .sent .row .j) (desk .rows) rs
+  pub amounts : amount ≡ column (λ (r : Routed). r .sent .row .d) (desk .rows) rs
+  pub fronts : front ≡ column (λ (r : Routed). r .sent .front) (desk .rows) rs
+  pub backs : back ≡ column (λ (r : Routed). r .sent .back) (desk .rows) rs
+  pub ways : way ≡ column (λ (r : Routed). wayNumber (r .way)) (desk .rows) rs
+  pub is : routedIn count first second amount front back way ≡ rs
+
+-- what the rows that were read lead to, and what is known of their columns
+pub data RowsMean (s : List ℕ) (n : ℕ) (result : Result) (first second amount front back way : List ℕ) : RowsEnd → Type 0 where
+  rows-at : {count at line : ℕ} (rs : List Routed) → Columns rs count first second amount front back way → result ≡ cutFrom n rs line (lines (drop at s))
+      → at ≤ length s → line ≡ count + 2 → Table n count first second amount → Halves count front back → RowsMean s n result first second amount front back way (At count at line)
+  rows-refused : {reason : Reason} {line : ℕ} → result ≡ refused reason line → RowsMean s n result first second amount front back way (RowsRefused reason line)
+
+abbrev pub RowsRead : List ℕ → ℕ → ℕ → Rows → Type 0
+RowsRead s from n r =
+    RowsMean s n (checkFrom desk true (rows n 0 0 []) 2 (lines (drop from s))) (r .first) (r .second) (r .amount) (r .front) (r .back) (r .way) (r .end)
+
+-- ---- the lines behind them
+
+-- the figures that are true of rows
+pub record Weighed (n : ℕ) (rs : List Routed) (split unsplit : List ℕ) (tight top largest : ℕ) : Type 0 where
+  pub splits : split ≡ column (λ k. splitLoad (sents rs) k) (desk .nodes) (numbersFrom 1 n)
+  pub unsplits : unsplit ≡ column (λ k. unsplitLoad rs k) (desk .nodes) (numbersFrom 1 n)
+  pub tights : tight ≡ peak (splitLoad (sents rs)) n
+  pub tops : top ≡ peak (unsplitLoad rs) n
+  pub largests : largest ≡ largestSplit (sents rs)
+
+-- a step leads on from a place of the text, or is refused
+pub data StepMeans (s : List ℕ) (result : Result) (goes-on : ℕ → Result) : Step → Type 0 where
+  steps-on : {at : ℕ} → at ≤ length s → result ≡ goes-on at → StepMeans s result goes-on (On at)
+  step-refused : {reason : Reason} {line : ℕ} → result ≡ refused reason line → StepMeans s result goes-on (StepRefused reason line)
+
+-- where a step leads on, it is within the text
+pub record Within (s : List ℕ) (r : Step) : Type 0 where
+  pub place : (at : ℕ) → r ≡ On at → at ≤ length s
+
+-- the sheet of rows, of a cut and of true figures
+abbrev pub sheetWith : ℕ → List Routed → Cut → List ℕ → List ℕ → ℕ → ℕ → Sheet
+sheetWith n rs c split unsplit top size = record { n = n; rows = rs; cut = c; links = linksIn n split unsplit; peak = top; size = size }
+
+-- the L lines: behind the cut and no link, to behind the last link
+pub record LinksRead (s : List ℕ) (from n line : ℕ) (split unsplit : List ℕ) (r : Step) : Type 0 where
+  pub within : Within s r
+  pub means : (rs : List Routed) (c : Cut) (tight top largest : ℕ) → Weighed n rs split unsplit tight top largest →
+      StepMeans s (checkFrom desk true (links n rs c []) line (lines (drop from s)))
+      (λ at. checkFrom desk true (links n rs c (linksIn n split unsplit)) (line + n) (lines (drop at s))) r
+
+-- the Z line, and nothing behind it
+pub record LastRead (s : List ℕ) (at line top size : ℕ) (r : Step) : Type 0 where
+  pub within : Within s r
+  pub means : (n : ℕ) (rs : List Routed) (c : Cut) (ks : List Link) → n ≤ length ks → top ≡ peak (unsplitLoad rs) n → size ≡ sonetSize top →
+      let x : Sheet = record { n = n; rows = rs; cut = c; links = ks; peak = top; size = size } in
+      StepMeans s (checkFrom desk true (links n rs c ks) line (lines (drop at s))) (λ p. wholeResult x (judgeWhole x)) r
+
+-- the Z line, and then the whole sheet
+pub record WholeRead (s : List ℕ) (at line number tight top size largest : ℕ) (r : Step) : Type 0 where
+  pub means : (n : ℕ) (rs : List Routed) (g h : ℕ) (ks : List Link) → n ≤ length ks → tight ≡ peak (splitLoad (sents rs)) n → top ≡ peak (unsplitLoad rs) n →
+      largest ≡ largestSplit (sents rs) → size ≡ sonetSize top →
+      let x : Sheet = record { n = n; rows = rs; cut = cutOf g h number; links = ks; peak = top; size = size } in
+      StepMeans s (checkFrom desk true (links n rs (cutOf g h number) ks) line (lines (drop at s))) (λ p. accepted x) r
+
+-- all of them
+pub record TailRead (s : List ℕ) (at line n number : ℕ) (split unsplit : List ℕ) (tight top size largest : ℕ) (r : Step) : Type 0 where
+  pub means : (rs : List Routed) (g h : ℕ) → Weighed n rs split unsplit tight top largest → size ≡ sonetSize top →
+      StepMeans s (checkFrom desk true (links n rs (cutOf g h number) []) line (lines (drop at s)))
+      (λ p. accepted (sheetWith n rs (cutOf g h number) split unsplit top size)) r
+
+-- what a refusal returns beside its step does not count; else the figures and the loads are those of the sheet
+pub data EndMeans (n : ℕ) (rs : List Routed) (result : Result) (r : Ending) : Step → Type 0 where
+  ends-with : {at : ℕ} (c : Cut) (top size : ℕ) → result ≡ accepted (sheetWith n rs c (r .split) (r .unsplit) top size)
+      → r .figures ≡ figuresOf (sheetWith n rs c (r .split) (r .unsplit) top size)
+      → r .split ≡ column (λ (l : Link). l .split) (desk .nodes) (linksIn n (r .split) (r .unsplit))
+      → r .unsplit ≡ column (λ (l : Link). l .unsplit) (desk .nodes) (linksIn n (r .split) (r .unsplit)) → EndMeans n rs result r (On at)
+  end-refused : {reason : Reason} {line : ℕ} → result ≡ refused reason line → EndMeans n rs result r (StepRefused reason line)
+
+-- from the C line on
+abbrev pub EndRead : List ℕ → ℕ → ℕ → ℕ → List Routed → Ending → Type 0
+EndRead s at line n rs r = EndMeans n rs (cutFrom n rs line (lines (drop at s))) r (r .step)
+
+-- behind the cut g, h
+abbrev pub WeighedRead : List ℕ → ℕ → ℕ → ℕ → List Routed → ℕ → ℕ → ℕ → Ending → Type 0
+WeighedRead s at line n rs g h number r = EndMeans n rs (checkFrom desk true (links n rs (cutOf g h number) []) line (lines (drop at s))) r (r .step)

@@ -1,0 +1,137 @@
+// A sheet's text to its values in arrays, judged line by line.
+use crate::ending::Step;
+use crate::ending::finish;
+use crate::next::next_end;
+use crate::rows::RowsEnd;
+use crate::rows::read_rows;
+use ring::BYTES;
+use ring::LINKS;
+use ring::ROWS;
+use sheet::Figures;
+use table::Reason;
+use table::Verdict;
+use table::judge_ring;
+use text::OneNumber;
+ghost use mathlib.Core.Bool.{true};
+ghost use mathlib.Core.Path.{_≡_};
+ghost use mathlib.Core.List.{[]};
+ghost use Prim.Native.Nat.{_≤_};
+ghost use lib.ListN.{length, drop};
+ghost use Rattle.ring.specs.Limits.{desk};
+ghost use Rattle.table.specs.Lines.{lines};
+ghost use Rattle.sheet.specs.Check.{refused, rows, checkFrom, check};
+ghost use Rattle.checker.specs.Arrays.{checkedIn};
+
+// How many rows an accepted sheet has; or the reason and the line.
+pub enum Answer {
+    Is(usize),
+    Refused(Reason, u32),
+}
+
+// The rows stand in the arrays from place 0 on, the loads of link k at place k-1. After a refusal all is zero.
+pub struct Checked {
+    pub answer: Answer,
+    pub figures: Figures,
+    pub first: [u32; ROWS],
+    pub second: [u32; ROWS],
+    pub amount: [u32; ROWS],
+    pub front: [u32; ROWS],
+    pub back: [u32; ROWS],
+    pub way: [u32; ROWS],
+    pub split: [u32; LINKS],
+    pub unsplit: [u32; LINKS],
+}
+
+fn refusal(reason: Reason, line: u32) -> Checked
+    ensures { λ r. ⌜ r ≡ checkedIn (refused reason line) ⌝ }
+{
+    Checked {
+        answer: Answer::Refused(reason, line),
+        figures: Figures {
+            n: 0,
+            g: 0,
+            h: 0,
+            across: 0,
+            peak: 0,
+            size: 0,
+        },
+        first: [0u32; ROWS],
+        second: [0u32; ROWS],
+        amount: [0u32; ROWS],
+        front: [0u32; ROWS],
+        back: [0u32; ROWS],
+        way: [0u32; ROWS],
+        split: [0u32; LINKS],
+        unsplit: [0u32; LINKS],
+    }
+}
+
+// A sheet of a ring of n nodes, from the place `from` behind its R line on.
+fn check_rows(s: &[u8], from: usize, n: u32) -> Checked
+    requires { ⌜ (from ≤ length (now s)) × ((desk .fewest ≤ n) × (n ≤ desk .nodes)) ⌝ }
+    ensures { λ r. ⌜ r ≡ checkedIn (checkFrom desk true (rows n 0 0 []) 2 (lines (drop from (now (s .entry))))) ⌝ }
+{
+    let t = read_rows(s, from, n);
+    let first = t.first;
+    let second = t.second;
+    let amount = t.amount;
+    let front = t.front;
+    let back = t.back;
+    let way = t.way;
+    let end = t.end;
+    match end {
+        RowsEnd::Refused(reason, line) => refusal(reason, line),
+        RowsEnd::At(count, at, line) => {
+            let e = finish(
+                s,
+                at,
+                line,
+                n,
+                count,
+                &first,
+                &second,
+                &amount,
+                &front,
+                &back,
+                &way,
+            );
+            let step = e.step;
+            if let Step::Refused(reason, line) = step {
+                return refusal(reason, line);
+            }
+            let figures = e.figures;
+            let split = e.split;
+            let unsplit = e.unsplit;
+            Checked {
+                answer: Answer::Is(count),
+                figures,
+                first,
+                second,
+                amount,
+                front,
+                back,
+                way,
+                split,
+                unsplit,
+            }
+        }
+    }
+}
+
+pub fn check_sheet(s: &[u8]) -> Checked
+    ensures { λ r. ⌜ r ≡ checkedIn (check desk (now (s .entry))) ⌝ }
+{
+    if BYTES < s.len() {
+        return refusal(Reason::TooLong, 0);
+    }
+    let end = next_end(s, 0);
+    let ring = text::read_ring(&s[0..end]);
+    let OneNumber::Is(n) = ring else {
+        return refusal(Reason::Misshapen, 1);
+    };
+    let verdict = judge_ring(n);
+    if let Verdict::Fault(reason) = verdict {
+        return refusal(reason, 1);
+    }
+    check_rows(s, end, n)
+}
