@@ -39,7 +39,7 @@ use Rattle.checker.specs.Arrays.{checkedIn}
 use Rattle.sheet.specs.Judge.{judgeCut}
 use Rattle.sheet.specs.Check.{Result, accepted, refused, start, rows, links, cutOf, when, unless, ringTurn, cutTurn, turn, after, checkFrom, check}
 use Rattle.sheet.specs.Verdicts.{cutVerdict}
-use Rattle.checker.specs.Parts.{NextEnds, cutFrom, Columns, RowsMean, rows-at, rows-refused, RowsRead, Weighed, StepMeans, steps-on, step-refused, TailRead, sheetWith, EndMeans, ends-with, end-refused, EndRead, WeighedRead}
+use Rattle.checker.specs.Parts.{NextEnds, cutFrom, Columns, RowsMean, rows-at, rows-refused, RowsRead, Weighed, StepMeans, steps-on, step-refused, TailRead, sheetWith, checkedWith, EndMeans, ends-with, end-refused, EndRead, WeighedRead}
 use Rattle.sheet.specs.declared.Figures.{Figures}
 use Rattle.checker.specs.declared.check.Checked.{Checked}
 use Rattle.checker.specs.declared.check.Answer.{Answer}
@@ -221,36 +221,12 @@ module _ (s : List ℕ) (from n : ℕ) (t : Rows) (read : RowsRead s from n t) w
               let ey : y ≡ place = cc in
               a ∙ rw (ex, ey)
 
-      pub sheet-ends : (p : ℕ) → e .step ≡ On p →
-          record {
-            answer = Is count;
-            figures = e .figures;
-            first = t .first;
-            second = t .second;
-            amount = t .amount;
-            front = t .front;
-            back = t .back;
-            way = t .way;
-            split = e .split;
-            unsplit = e .unsplit;
-          } ≡ checkedIn (checkFrom desk true (rows n 0 0 []) 2 (lines (drop from s)))
+      pub sheet-ends : (p : ℕ) (r : Checked) → e .step ≡ On p → r ≡ checkedWith count t e → r ≡ checkedIn (checkFrom desk true (rows n 0 0 []) 2 (lines (drop from s)))
       unfolding checkedIn
-      sheet-ends p f = go end-read f
+      sheet-ends p r f er = er ∙ go end-read f
         where
           go : {step : Step} → EndMeans n (routedIn count (t .first) (t .second) (t .amount) (t .front) (t .back) (t .way)) (cutFrom n (routedIn count (t .first) (t .second) (t .amount) (t .front) (t .back) (t .way)) line (lines (drop at s))) e step
-              → step ≡ On p →
-              record {
-                answer = Is count;
-                figures = e .figures;
-                first = t .first;
-                second = t .second;
-                amount = t .amount;
-                front = t .front;
-                back = t .back;
-                way = t .way;
-                split = e .split;
-                unsplit = e .unsplit;
-              } ≡ checkedIn (from-rows s n from)
+              → step ≡ On p → checkedWith count t e ≡ checkedIn (from-rows s n from)
           go (ends-with c top size a b d u) g =
               let k = known .columns in
               let whole : from-rows s n from ≡ accepted (sheetWith n (known .rs) c (e .split) (e .unsplit) top size) =

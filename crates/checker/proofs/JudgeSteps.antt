@@ -13,7 +13,7 @@ use borrow.Author.Tests.{eq-eqb, ne-eqb, lt-ltb, le-ltb}
 use Rattle.ring.specs.Columns.{listed, rowAt, rowsIn, wayNumber}
 use Rattle.ring.specs.Cut.{ifOne, part, across}
 use Rattle.ring.specs.Limits.{desk}
-use Rattle.ring.specs.Row.{Row, row, inFront}
+use Rattle.ring.specs.Row.{row, inFront}
 use Rattle.ring.specs.Routing.{F, B, sent, isSplit}
 use Rattle.ring.specs.RuleD.{wholeWay}
 use Rattle.ring.proofs.Listed.{listed-none, listed-back, listed-all}

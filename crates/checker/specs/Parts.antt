@@ -22,6 +22,8 @@ use Rattle.sheet.specs.Judge.{judgeWhole}
 use Rattle.table.specs.declared.reason.Reason.{Reason}
 use Rattle.sheet.specs.WriteSheet.{figuresOf}
 use Rattle.sheet.specs.Check.{Result, accepted, refused, rows, links, cutOf, cutTurn, after, wholeResult, checkFrom}
+use Rattle.checker.specs.declared.check.Checked.{Checked}
+use Rattle.checker.specs.declared.check.Answer.the-variants.{Is}
 use Rattle.checker.specs.declared.rows.Rows.{Rows}
 use Rattle.checker.specs.declared.rows.RowsEnd.{RowsEnd}
 use Rattle.checker.specs.declared.rows.RowsEnd.the-variants.{At, Refused as RowsRefused}
@@ -138,3 +140,19 @@ EndRead s at line n rs r = EndMeans n rs (cutFrom n rs line (lines (drop at s)))
 -- behind the cut g, h
 abbrev pub WeighedRead : List ℕ → ℕ → ℕ → ℕ → List Routed → ℕ → ℕ → ℕ → Ending → Type 0
 WeighedRead s at line n rs g h number r = EndMeans n rs (checkFrom desk true (links n rs (cutOf g h number) []) line (lines (drop at s))) r (r .step)
+
+-- the columns of rows and the figures behind them, side by side
+abbrev pub checkedWith : ℕ → Rows → Ending → Checked
+checkedWith count t e =
+    record {
+      answer = Is count;
+      figures = e .figures;
+      first = t .first;
+      second = t .second;
+      amount = t .amount;
+      front = t .front;
+      back = t .back;
+      way = t .way;
+      split = e .split;
+      unsplit = e .unsplit;
+    }

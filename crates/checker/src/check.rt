@@ -1,7 +1,9 @@
 // A sheet's text to its values in arrays, judged line by line.
+use crate::ending::Ending;
 use crate::ending::Step;
 use crate::ending::finish;
 use crate::next::next_end;
+use crate::rows::Rows;
 use crate::rows::RowsEnd;
 use crate::rows::read_rows;
 use ring::BYTES;
@@ -21,6 +23,7 @@ ghost use Rattle.ring.specs.Limits.{desk};
 ghost use Rattle.table.specs.Lines.{lines};
 ghost use Rattle.sheet.specs.Check.{refused, rows, checkFrom, check};
 ghost use Rattle.checker.specs.Arrays.{checkedIn};
+ghost use Rattle.checker.specs.Parts.{checkedWith};
 
 // How many rows an accepted sheet has; or the reason and the line.
 pub enum Answer {
@@ -66,18 +69,39 @@ fn refusal(reason: Reason, line: u32) -> Checked
     }
 }
 
-// A sheet of a ring of n nodes, from the place `from` behind its R line on.
-fn check_rows(s: &[u8], from: usize, n: u32) -> Checked
-    requires { ⌜ (from ≤ length (now s)) × ((desk .fewest ≤ n) × (n ≤ desk .nodes)) ⌝ }
-    ensures { λ r. ⌜ r ≡ checkedIn (checkFrom desk true (rows n 0 0 []) 2 (lines (drop from (now (s .entry))))) ⌝ }
+// The sheet of rows and of what follows them.
+fn sheet_of(count: usize, t: Rows, e: Ending) -> Checked
+    ensures { λ r. ⌜ r ≡ checkedWith count t e ⌝ }
 {
-    let t = read_rows(s, from, n);
     let first = t.first;
     let second = t.second;
     let amount = t.amount;
     let front = t.front;
     let back = t.back;
     let way = t.way;
+    let figures = e.figures;
+    let split = e.split;
+    let unsplit = e.unsplit;
+    Checked {
+        answer: Answer::Is(count),
+        figures,
+        first,
+        second,
+        amount,
+        front,
+        back,
+        way,
+        split,
+        unsplit,
+    }
+}
+
+// A sheet of a ring of n nodes, from the place `from` behind its R line on.
+fn check_rows(s: &[u8], from: usize, n: u32) -> Checked
+    requires { ⌜ (from ≤ length (now s)) × ((desk .fewest ≤ n) × (n ≤ desk .nodes)) ⌝ }
+    ensures { λ r. ⌜ r ≡ checkedIn (checkFrom desk true (rows n 0 0 []) 2 (lines (drop from (now (s .entry))))) ⌝ }
+{
+    let t = read_rows(s, from, n);
     let end = t.end;
     match end {
         RowsEnd::Refused(reason, line) => refusal(reason, line),
@@ -88,32 +112,18 @@ fn check_rows(s: &[u8], from: usize, n: u32) -> Checked
                 line,
                 n,
                 count,
-                &first,
-                &second,
-                &amount,
-                &front,
-                &back,
-                &way,
+                &t.first,
+                &t.second,
+                &t.amount,
+                &t.front,
+                &t.back,
+                &t.way,
             );
             let step = e.step;
             if let Step::Refused(reason, line) = step {
                 return refusal(reason, line);
             }
-            let figures = e.figures;
-            let split = e.split;
-            let unsplit = e.unsplit;
-            Checked {
-                answer: Answer::Is(count),
-                figures,
-                first,
-                second,
-                amount,
-                front,
-                back,
-                way,
-                split,
-                unsplit,
-            }
+            sheet_of(count, t, e)
         }
     }
 }

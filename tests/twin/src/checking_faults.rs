@@ -48,17 +48,19 @@ pub fn only_ours(text: &[u8]) -> Result<Sheet, Refusal> {
     Ok(sheet)
 }
 
+/// No figure of a line is asked about.
+const NO_LINE_ASKED: Questions = Questions {
+    sum: yes,
+    way: yes,
+    cut: yes,
+    link: yes,
+    size: yes,
+    ..QUESTIONS
+};
+
 /// 13 or 14 of a well-formed sheet, whatever its lines say, is given first.
 pub fn peaks_first(text: &[u8]) -> Result<Sheet, Refusal> {
-    let lines = Questions {
-        sum: yes,
-        way: yes,
-        cut: yes,
-        link: yes,
-        size: yes,
-        ..QUESTIONS
-    };
-    match check::read_asking(text, &lines) {
+    match check::read_asking(text, &NO_LINE_ASKED) {
         Err(refusal) if refusal.line == 0 => Err(refusal),
         _ => check::read(text),
     }
@@ -114,15 +116,7 @@ pub fn lower_case(text: &[u8]) -> Result<Sheet, Refusal> {
 
 /// 2 is given wherever a sheet that no figure is asked of would get it.
 pub fn sheet_shape_first(text: &[u8]) -> Result<Sheet, Refusal> {
-    let shapes = Questions {
-        sum: yes,
-        way: yes,
-        cut: yes,
-        link: yes,
-        size: yes,
-        ..QUESTIONS
-    };
-    match check::read_asking(text, &shapes) {
+    match check::read_asking(text, &NO_LINE_ASKED) {
         Err(refusal) if refusal.reason == 2 => Err(refusal),
         _ => check::read(text),
     }

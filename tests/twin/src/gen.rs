@@ -214,6 +214,13 @@ pub fn damage_fields(rng: &mut Rng, text: &mut Vec<u8>) {
     *text = lines.concat();
 }
 
+/// Two nodes, many of them on one side or the other of a limit.
+fn drawn_nodes(rng: &mut Rng) -> (i64, i64) {
+    let i = rng.pick(&[0, 1, 1, 2, 3, 8, 16, 31, 32, 33, 9_999_999]);
+    let j = rng.pick(&[0, 1, 2, 3, 4, 9, 17, 31, 32, 33, 9_999_999]);
+    (i, j)
+}
+
 /// One row's numbers all replaced, so that several reasons hold of one line.
 pub fn damage_row(rng: &mut Rng, text: &mut Vec<u8>) {
     let mut lines = lines_of(text);
@@ -221,8 +228,7 @@ pub fn damage_row(rng: &mut Rng, text: &mut Vec<u8>) {
         return;
     }
     let at = rng.below(lines.len());
-    let i = rng.pick(&[0, 1, 1, 2, 3, 8, 16, 31, 32, 33, 9_999_999]);
-    let j = rng.pick(&[0, 1, 2, 3, 4, 9, 17, 31, 32, 33, 9_999_999]);
+    let (i, j) = drawn_nodes(rng);
     let d = rng.pick(&[0, 1, 9_999, 10_000, 10_000, 9_999_999]);
     lines[at] = format!("D\t{i}\t{j}\t{d}\n").into_bytes();
     *text = lines.concat();
@@ -236,8 +242,7 @@ pub fn damage_sheet_row(rng: &mut Rng, text: &mut Vec<u8>) {
         return;
     }
     let at = rng.below(lines.len());
-    let i = rng.pick(&[0, 1, 1, 2, 3, 8, 16, 31, 32, 33, 9_999_999]);
-    let j = rng.pick(&[0, 1, 2, 3, 4, 9, 17, 31, 32, 33, 9_999_999]);
+    let (i, j) = drawn_nodes(rng);
     let d = rng.pick(&[0, 1, 2, 9_999, 9_999, 10_000, 9_999_999]);
     let mut front = rng.pick(&[0, 1, d, 2 * d, 19_998]);
     let mut back = (2 * d - front).max(0);

@@ -567,11 +567,7 @@ fn c_by_place(rows: &[Row], sent: &mut [Sent], first_is_outer: bool) {
                 } else {
                     (second, first)
                 };
-                let t = sent[outer].front.min(sent[inner].back);
-                sent[outer].front -= t;
-                sent[outer].back += t;
-                sent[inner].back -= t;
-                sent[inner].front += t;
+                rules::exchange(sent, outer, inner);
             }
         }
     }

@@ -159,8 +159,12 @@ pub fn move_pair(rows: &[Row], sent: &mut [Sent], first: usize, second: usize) {
     } else {
         (second, first)
     };
-    // Move t from the outer's front to its back and t from the inner's back to
-    // its front, t being the smaller of the outer's front and the inner's back.
+    exchange(sent, outer, inner);
+}
+
+/// Move t from the outer's front to its back and t from the inner's back to
+/// its front, t being the smaller of the outer's front and the inner's back.
+pub fn exchange(sent: &mut [Sent], outer: usize, inner: usize) {
     let t = sent[outer].front.min(sent[inner].back);
     sent[outer].front -= t;
     sent[outer].back += t;
