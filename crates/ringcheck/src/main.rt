@@ -6,10 +6,22 @@ use ring::BYTES;
 // One byte more than a sheet can have, so that a longer text is seen to be longer.
 const MOST: usize = BYTES + 1;
 
+fn show(n: u32, end: &[u8]) {
+    io::print_decimal(STDOUT_FILENO, n as u64);
+    io::write_all(STDOUT_FILENO, end);
+}
+
+// The line of a refusal.
+fn refuse(reason: u32, line: u32) {
+    io::write_all(STDOUT_FILENO, b"E\t");
+    show(reason, b"\t");
+    show(line, b"\n");
+}
+
 fn check(text: &[u8]) {
     let reply = ringkit::ringkit_check(text);
     if reply.reason != 0 {
-        report::refuse(reply.reason, reply.line);
+        refuse(reply.reason, reply.line);
         return;
     }
     io::write_all(STDOUT_FILENO, b"Y\n");

@@ -7,10 +7,22 @@ use ringkit::SHEET_BYTES;
 // One byte more than a table can have, so that a longer text is seen to be longer.
 const MOST: usize = BYTES + 1;
 
+fn show(n: u32, end: &[u8]) {
+    io::print_decimal(STDOUT_FILENO, n as u64);
+    io::write_all(STDOUT_FILENO, end);
+}
+
+// The line of a refusal.
+fn refuse(reason: u32, line: u32) {
+    io::write_all(STDOUT_FILENO, b"E\t");
+    show(reason, b"\t");
+    show(line, b"\n");
+}
+
 fn plan(text: &[u8], sheet: &mut [u8]) {
     let reply = ringkit::ringkit_route(text, sheet);
     if reply.reason != 0 {
-        report::refuse(reply.reason, reply.line);
+        refuse(reply.reason, reply.line);
         return;
     }
     let length = reply.length;
