@@ -73,14 +73,14 @@ module _ (d f k w : ℕ) (x : Bool) (ex : x ≡ wrongSum (sent 0 0 d f k)) where
     unfolding judgeHalves
     halves-fine t = rw (sym ex ∙ fx, same-way ∙ t)
 
--- ---- 4 to 9
+-- ---- 4 to 9 and 16
 
-module _ (n a b i j d f k w : ℕ) (v : Verdict) (ev : v ≡ judgeRow desk n a b i j d) where
-  pub row-fault : (reason : Reason) → v ≡ Fault reason → Fault reason ≡ sentVerdict desk n a b (routedOf i j d f k w)
+module _ (n p a b i j d f k w : ℕ) (v : Verdict) (ev : v ≡ judgeRow desk n p a b i j d) where
+  pub row-fault : (reason : Reason) → v ≡ Fault reason → Fault reason ≡ sentVerdict desk n p a b (routedOf i j d f k w)
   unfolding sentVerdict
   row-fault reason e = rw (sym ev ∙ e)
 
-  pub then-halves : v ≡ Fine → (u : Verdict) → u ≡ judgeHalves (routedOf 0 0 d f k w) → u ≡ sentVerdict desk n a b (routedOf i j d f k w)
+  pub then-halves : v ≡ Fine → (u : Verdict) → u ≡ judgeHalves (routedOf 0 0 d f k w) → u ≡ sentVerdict desk n p a b (routedOf i j d f k w)
   unfolding sentVerdict judgeHalves wrongSum wrongWay
   then-halves e u q = rw (sym ev ∙ e) q
 

@@ -6,17 +6,18 @@ use mathlib.Core.List.{List, [], _∷_, _++_, map}
 use mathlib.Core.Path.{_≡_, refl, ap, _∙_, sym}
 use native.Mathlib.Decide.{decLt}
 use native.Mathlib.Omega.{arith}
-use lib.ListN.{length, getD, replicate, set, take, drop, length-append, length-map, length-take}
+use lib.ListN.{length, getD, replicate, set, take, drop, length-append, length-take}
 use lib.Seq.{sets}
 use mir.Syntax.{w32}
 use mir.Val.{Fits}
 use Rattle.ring.specs.Columns.{column, wayNumber, wayOf, routedIn}
 use Rattle.ring.specs.Limits.{desk}
 use Rattle.ring.specs.Lists.{Each, none, more}
-use Rattle.ring.specs.Row.{Row, row, OnRing, PairBefore}
-use Rattle.ring.specs.Routing.{Sent, Routed, sent, routed, F}
+use Rattle.ring.specs.Row.{Row, row, OnRing}
+use Rattle.ring.specs.Routing.{Routed, sent, routed, F}
 use Rattle.ring.specs.Sheet.{sents, demands}
 use Rattle.ring.specs.True.{SumsTo2d}
+use Rattle.ring.proofs.Figures.{demands-length}
 use Rattle.router.specs.Rows.{Table}
 use Rattle.router.specs.Arrays.{Halves}
 use Rattle.router.specs.Limits.{mostHalves}
@@ -33,7 +34,6 @@ use Rattle.table.specs.declared.reason.Reason.{Reason}
 use Rattle.table.specs.declared.judge.Verdict.{Verdict}
 use Rattle.table.specs.declared.judge.Verdict.the-variants.{Fine, Fault}
 use Rattle.table.proofs.Judged.{RowJudged, row-fine, row-judged}
-use Rattle.table.proofs.Rank.{rank, rank-up, rank-most}
 use Rattle.table.proofs.Columns.{column-length, column-more, column-at, column-behind, rows-back}
 use Rattle.sheet.specs.Judge.{judgeHalves}
 use Rattle.sheet.specs.Check.{Result, rows, routedOf, when, unless, rowTurn, turn, after, checkFrom, sentVerdict}
@@ -53,19 +53,20 @@ pub record FineSent (n : ℕ) (r : Routed) : Type 0 where
   pub amount : r .sent .row .d ≤ desk .amount
   pub sums : SumsTo2d (r .sent)
 
-record FineRow (n a b i j d f k w : ℕ) : Type 0 where
+-- behind `count` rows
+record FineRow (n count i j d f k w : ℕ) : Type 0 where
   fine : FineSent n (routedOf i j d f k w)
-  rises : PairBefore a b i j
+  room : count < desk .rows
 
-fine-row : (n a b i j d f k w : ℕ) (v : Verdict) → v ≡ sentVerdict desk n a b (routedOf i j d f k w) → v ≡ Fine → FineRow n a b i j d f k w
+fine-row : (n count a b i j d f k w : ℕ) (v : Verdict) → v ≡ sentVerdict desk n count a b (routedOf i j d f k w) → v ≡ Fine → FineRow n count i j d f k w
 unfolding sentVerdict
-fine-row n a b i j d f k w v e q =
-    let both = or-fine (judgeRow desk n a b i j d) (judgeHalves (routedOf i j d f k w)) (sym e ∙ q) in
+fine-row n count a b i j d f k w v e q =
+    let both = or-fine (judgeRow desk n count a b i j d) (judgeHalves (routedOf i j d f k w)) (sym e ∙ q) in
     let one = both .0 in
-    go (rw one at (row-judged desk n a b i j d)) (row-true (routedOf i j d f k w) (both .1) .0)
+    go (rw one at (row-judged desk n count a b i j d)) (row-true (routedOf i j d f k w) (both .1) .0)
   where
-    go : RowJudged desk n a b i j d Fine → SumsTo2d (sent i j d f k) → FineRow n a b i j d f k w
-    go (row-fine on rises most) s = record { fine = record { on = on; amount = most; sums = s }; rises = rises }
+    go : RowJudged desk n count a b i j d Fine → SumsTo2d (sent i j d f k) → FineRow n count i j d f k w
+    go (row-fine on order room most) s = record { fine = record { on = on; amount = most; sums = s }; room = room }
 
 -- ---- rows in columns
 
@@ -90,7 +91,7 @@ demand-column f rs = ap (λ l. sets (replicate {A = ℕ} (desk .rows) 0) 0 l) (g
 pub columns-back : (rs : List Routed) → length rs ≤ desk .rows → routedIn (length rs) (column (λ (r : Routed). r .sent .row .i) (desk .rows) rs) (column (λ (r : Routed). r .sent .row .j) (desk .rows) rs) (column (λ (r : Routed). r .sent .row .d) (desk .rows) rs)
     (column (λ (r : Routed). r .sent .front) (desk .rows) rs) (column (λ (r : Routed). r .sent .back) (desk .rows) rs) (column (λ (r : Routed). wayNumber (r .way)) (desk .rows) rs) ≡ rs
 columns-back rs few =
-    let long : length (demands (sents rs)) ≡ length rs = length-map (sents rs) (λ (s : Sent). s .row) ∙ length-map rs (λ (r : Routed). r .sent) in
+    let long = demands-length rs in
     let i = demand-column (λ (r : Row). r .i) rs in
     let j = demand-column (λ (r : Row). r .j) rs in
     let d = demand-column (λ (r : Row). r .d) rs in
@@ -169,9 +170,7 @@ pub record RowsReading (s : List ℕ) (n from line a b count at : ℕ) (first se
   pub ways : way ≡ column (λ (r : Routed). wayNumber (r .way)) (desk .rows) rs
   pub fine : Each (FineSent n) rs
   pub lined : line ≡ count + 2
-  pub ranked : count ≤ rank a b
   pub most : count ≤ desk .rows
-  pub low : b ≤ desk .nodes
   pub within : at ≤ length s
   pub two : desk .fewest ≤ n
   pub size : n ≤ desk .nodes
@@ -195,9 +194,7 @@ rows-start s n from w two size =
       ways = refl;
       fine = none;
       lined = refl;
-      ranked = omega arith;
       most = omega arith;
-      low = omega arith;
       within = w;
       two = two;
       size = size;
@@ -253,11 +250,14 @@ module _ (s : List ℕ) (n from line a b count at : ℕ) (first second amount fr
         (rw (e, c1, c2, c3) (fine-table n (reading .rs) few (reading .fine) (reading .two) (reading .size)))
         (rw (e, c4, c5) (fine-halves n (reading .rs) few (reading .fine)))
 
-    module _ (i j d f k w : ℕ) (is : x ≡ IsSent i j d f k w) (v : Verdict) (ev : v ≡ sentVerdict desk n a b (routedOf i j d f k w)) where
+    module _ (i j d f k w : ℕ) (is : x ≡ IsSent i j d f k w) (v : Verdict) (ev : v ≡ sentVerdict desk n count a b (routedOf i j d f k w)) where
       -- what is found against it decides
       led : whole s n from ≡ after (unless v (rows n i j (reading .rs ++ routedOf i j d f k w ∷ []))) line (λ next. checkFrom desk true next (line + 1) (lines (drop to s)))
       unfolding turn rowTurn sentVerdict when
-      led = reading .rest ∙ step-at desk true s at to ends (rows n a b (reading .rs)) tt line ∙ rw (← ex, is, ← ev)
+      led =
+          let e = reading .many in
+          let found : sentVerdict desk n (length (reading .rs)) a b (routedOf i j d f k w) ≡ v = rw (← e) (sym ev) in
+          reading .rest ∙ step-at desk true s at to ends (rows n a b (reading .rs)) tt line ∙ rw (← ex, is, found)
 
       pub row-stops : (reason : Reason) (t : Rows) → v ≡ Fault reason → t .end ≡ Refused reason line → RowsRead s from n t
       unfolding unless after
@@ -276,19 +276,12 @@ module _ (s : List ℕ) (n from line a b count at : ℕ) (first second amount fr
       row-less = omega (arith, row-on, ends .within)
 
       module _ (fine : v ≡ Fine) where
-        new-row : FineRow n a b i j d f k w
-        new-row = fine-row n a b i j d f k w v ev fine
-
-        up : count + 1 ≤ rank i j
-        up =
-            let r = new-row .fine .on in
-            omega (arith, reading .ranked, rank-up a b i j (reading .low) (new-row .rises) (r .low) (r .order))
+        new-row : FineRow n count i j d f k w
+        new-row = fine-row n count a b i j d f k w v ev fine
 
         -- there is room for it
         pub row-room : count < desk .rows
-        row-room =
-            let r = new-row .fine .on in
-            omega (arith, up, rank-most i j (r .low) (r .order) (omega (arith, r .high, reading .size)))
+        row-room = new-row .room
 
         pub line-fits : Fits w32 (line + 1)
         line-fits = omega (arith, reading .lined, reading .most)
@@ -313,9 +306,7 @@ module _ (s : List ℕ) (n from line a b count at : ℕ) (first second amount fr
                   ∙ column-more (λ (r : Routed). wayNumber (r .way)) (desk .rows) rs r count e;
               fine = each-more (reading .fine) (new-row .fine);
               lined = omega (arith, reading .lined);
-              ranked = up;
               most = omega (arith, row-room);
-              low = omega (arith, new-row .fine .on .high, reading .size);
               within = ends .within;
               two = reading .two;
               size = reading .size;

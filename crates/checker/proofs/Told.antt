@@ -21,7 +21,6 @@ use Rattle.checker.specs.declared.check.Answer.the-variants.{Is, Refused
 use Rattle.sheet.proofs.Back.{links-back}
 use Rattle.sheet.proofs.Demands.{check-text}
 use Rattle.checker.proofs.RowsSteps.{columns-back}
-use Rattle.sheet.proofs.Short.{count-few}
 
 pub record Told (s : List ℕ) (c : Checked) (count : ℕ) : Type 0 where
   pub x : Sheet
@@ -41,7 +40,7 @@ module _ (s : List ℕ) (c : Checked) where
       let p : Is count ≡ Is (length (x .rows)) = sym a ∙ ap (λ (y : Checked). y .answer) e in
       let k : count ≡ length (x .rows) = cc in
       let h = check-text desk desk-spelled s x .0 q .1 in
-      let few : length (x .rows) ≤ desk .rows = count-few x (h .0 .many) (h .0 .rows) (h .0 .amounts) in
+      let few : length (x .rows) ≤ desk .rows = h .0 .count in
       let rows = columns-back (x .rows) few in
       let links = links-back (x .n) (x .links) (h .0 .many) (h .1 .links) in
       let first = sents-in (length (x .rows)) (column (λ (r : Routed). r .sent .row .i) (desk .rows) (x .rows)) (column (λ (r : Routed). r .sent .row .j) (desk .rows) (x .rows)) (column (λ (r : Routed). r .sent .row .d) (desk .rows) (x .rows))

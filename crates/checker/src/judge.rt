@@ -51,9 +51,10 @@ fn judge_halves(d: u32, front: u32, back: u32, way: u32) -> Verdict
     Verdict::Fine
 }
 
-// 4 to 9, of the row i, j behind the row a, b (0, 0 where there is none), on a ring of n nodes.
+// 4 to 9 and 16, of the row i, j on a ring of n nodes, behind k rows of which the last is a, b (0, 0 where there is none).
 pub(crate) fn judge_sent(
     n: u32,
+    k: usize,
     a: u32,
     b: u32,
     i: u32,
@@ -63,9 +64,9 @@ pub(crate) fn judge_sent(
     back: u32,
     way: u32,
 ) -> Verdict
-    ensures { λ r. ⌜ r ≡ sentVerdict desk n a b (routedOf i j d front back way) ⌝ }
+    ensures { λ r. ⌜ r ≡ sentVerdict desk n k a b (routedOf i j d front back way) ⌝ }
 {
-    let verdict = table::judge_row(n, a, b, i, j, d);
+    let verdict = table::judge_row(n, k, a, b, i, j, d);
     match verdict {
         Verdict::Fault(reason) => Verdict::Fault(reason),
         Verdict::Fine => judge_halves(d, front, back, way),

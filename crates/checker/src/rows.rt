@@ -81,7 +81,7 @@ pub(crate) fn read_rows(s: &[u8], from: usize, n: u32) -> Rows
                 back: k,
                 way: w,
             } => {
-                let verdict = judge_sent(n, a, b, i, j, d, f, k, w);
+                let verdict = judge_sent(n, count, a, b, i, j, d, f, k, w);
                 if let Verdict::Fault(reason) = verdict {
                     return stopped(reason, line);
                 }

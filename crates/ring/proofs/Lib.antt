@@ -9,6 +9,8 @@ pub mod Papers
 pub mod Least
 pub mod Sending
 pub mod Parallel
+pub mod SameNodes
+pub mod Circuits
 pub mod Splits
 pub mod Move
 pub mod Untangle

@@ -8,7 +8,7 @@ use mathlib.Core.Path.{_≡_, refl, sym, _∙_, ap, subst}
 use native.Mathlib.Omega.{arith}
 use native.Mathlib.Decide.{decLt}
 use Rattle.ring.specs.Lists.{Each, none, more, Pairs}
-use Rattle.ring.specs.Row.{Row, OnRing, NodesRise, TableRows, NoFall}
+use Rattle.ring.specs.Row.{Row, OnRing, InTableOrder, TableRows, NoFall}
 use Rattle.ring.specs.Cut.{IsCut, across}
 use Rattle.ring.specs.Routing.{Sent, Routed, splitLoad, unsplitLoad, peak}
 use Rattle.ring.specs.Crossing.{parallel}
@@ -25,6 +25,7 @@ use Rattle.ring.proofs.Cuts.{cut-bounds}
 use Rattle.ring.proofs.Across.{one-link}
 use Rattle.ring.proofs.LargestCut.{Best, rule-A}
 use Rattle.ring.proofs.Sending.{Enough, Sends, sends}
+use Rattle.ring.proofs.Circuits.{NotBoth, one-split}
 use Rattle.ring.proofs.Parallel.{Crossed, Stand, apart, outer, inner, first, second, stand}
 use Rattle.ring.proofs.Move.{Quiet, InOrder}
 use Rattle.ring.proofs.Untangle.{Untangled, rule-C, divides-kept}
@@ -150,9 +151,20 @@ module _ (n : ℕ) (rs : List Row) (two : 2 ≤ n) (table : TableRows n rs) wher
   pub table-order : Pairs NoFall rs
   table-order = pairs-of-steps (λ a b c l m. omega arith) (steps no-fall (table .order))
     where
-      no-fall : (a b : Row) → NodesRise a b → NoFall a b
+      no-fall : (a b : Row) → InTableOrder a b → NoFall a b
       no-fall a b (inl l) = omega arith
       no-fall a b (inr l) = omega arith
+
+  -- of the rows of the same two nodes rule B splits one at most
+  pub one-circuit-split : Pairs NotBoth (ruleB n rs)
+  unfolding ruleB
+  one-circuit-split = one-split n rs (λ k. ruleA n rs .number) (table .nodes) (pairs-of-steps chain (table .order)) (enough n rs two (table .nodes)) (λ g h _ _ _ _. omega arith)
+    where
+      chain : (a b c : Row) → InTableOrder a b → InTableOrder b c → InTableOrder a c
+      chain a b c (inl l) (inl m) = inl (omega arith)
+      chain a b c (inl l) (inr m) = inl (omega (arith, m .0))
+      chain a b c (inr l) (inl m) = inl (omega (arith, l .0))
+      chain a b c (inr l) (inr m) = inr (l .0 ∙ m .0, omega (arith, l .1, m .1))
 
   pub plan-true : TrueSheet (plan n rs)
   plan-true = plan-true-of n rs two (table .nodes) table-order

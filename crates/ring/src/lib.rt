@@ -13,7 +13,7 @@ pub const LINKS: usize = NODES as usize;
 // A row's amount is at most this.
 pub const AMOUNT: u32 = 9999;
 
-// Working arrays have room for so many rows.
+// A table has at most so many rows, and working arrays have room for them.
 pub const ROWS: usize = 496;
 
 // The ways F and B as numbers.

@@ -25,7 +25,7 @@ pub record One (Due : List ℕ → Type 0) (Given : Reason → ℕ → Type 0) :
   pub text : {a b : List ℕ} → Due a → Due b → a ≡ b
   pub refusal : {r s : Reason} {line other : ℕ} → Given r line → Given s other → (r ≡ s) × (line ≡ other)
   pub apart : {a : List ℕ} {r : Reason} {line : ℕ} → Due a → Given r line → ⊥
-  pub early : {r : Reason} {line : ℕ} → Given r line → numberOf r < numberOf NoRoom
+  pub other : {r : Reason} {line : ℕ} → Given r line → numberOf r ≡ numberOf NoRoom → ⊥
 
 -- ---- every call is one of the three cases
 
@@ -95,7 +95,7 @@ module _ {Due : List ℕ → Type 0} {Given : Reason → ℕ → Type 0} (one : 
       there : r .reason ≡ numberOf NoRoom → CallSays Due Given old new r → TooLarge Due old
       there e (with-room a l s) = absurd (omega (arith, s .reason))
       there e (without-room {text} a l s) = record { text = text; due = a; large = l }
-      there e (none-due g s) = absurd (omega (arith, s .number, one .early g))
+      there e (none-due g s) = absurd (one .other g (omega (arith, s .number)))
 
       back : (text : List ℕ) → Due text → length old < length text → CallSays Due Given old new r → r .reason ≡ numberOf NoRoom
       back text due short (with-room a l s) = absurd (omega (arith, ap length (one .text a due)))
@@ -103,8 +103,8 @@ module _ {Due : List ℕ → Type 0} {Given : Reason → ℕ → Type 0} (one : 
       back text due short (none-due g s) = absurd (one .apart due g)
 
   -- every other reason exactly when it is given to the text, and with its line
-  pub refuses-text : (reason : Reason) (line : ℕ) → numberOf reason < numberOf NoRoom → Given reason line ↔ Refusal reason line old new r
-  refuses-text reason line early = (λ g. there g call, λ s. back s call)
+  pub refuses-text : (reason : Reason) (line : ℕ) → (numberOf reason ≡ numberOf NoRoom → ⊥) → Given reason line ↔ Refusal reason line old new r
+  refuses-text reason line other = (λ g. there g call, λ s. back s call)
     where
       there : Given reason line → CallSays Due Given old new r → Refusal reason line old new r
       there g (with-room a l s) = absurd (one .apart a g)
@@ -113,7 +113,7 @@ module _ {Due : List ℕ → Type 0} {Given : Reason → ℕ → Type 0} (one : 
 
       back : Refusal reason line old new r → CallSays Due Given old new r → Given reason line
       back h (with-room a l s) = absurd (omega (arith, no-reason-0 reason, s .reason, h .number))
-      back h (without-room a l s) = absurd (omega (arith, s .number, h .number))
+      back h (without-room a l s) = absurd (other (omega (arith, s .number, h .number)))
       back h (none-due {reason = x} {line = m} g s) =
           let e : x ≡ reason = same-reason x reason (omega (arith, s .number, h .number)) in
           let l : m ≡ line = omega (arith, s .at, h .at) in

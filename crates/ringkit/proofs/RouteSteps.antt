@@ -4,14 +4,14 @@ use mathlib.Core.List.{List}
 use mathlib.Core.Path.{_≡_, ap, _∙_, sym}
 use native.Mathlib.Decide.{ℕ-discrete}
 use native.Mathlib.Omega.{arith}
-use lib.ListN.{length, length-map}
+use lib.ListN.{length}
 use Rattle.ring.specs.Limits.{desk}
 use Rattle.ring.specs.Lists.{Each, more}
 use Rattle.ring.specs.Row.{Row, OnRing}
-use Rattle.ring.specs.Routing.{Sent, Routed}
 use Rattle.ring.specs.Sheet.{Sheet, plan, sents, demands}
 use Rattle.ring.specs.Columns.{listed, rowAt, rowsIn}
 use Rattle.ring.proofs.Listed.{listed-length}
+use Rattle.ring.proofs.Figures.{demands-length}
 use Rattle.ring.proofs.OurPlan.{plan-true, plan-demands}
 use Rattle.table.specs.Table.{tableOf, InRange}
 use Rattle.table.specs.Arrays.{tableIn}
@@ -75,7 +75,7 @@ module _ (s old : List ℕ) (t : Table) (e : t ≡ tableIn (tableOf desk s)) whe
 
     many : length (plan n rows .rows) ≡ count
     many =
-        sym (length-map (plan n rows .rows) (λ (r : Routed). r .sent)) ∙ sym (length-map (sents (plan n rows .rows)) (λ (x : Sent). x .row)) ∙ ap length same
+        sym (demands-length (plan n rows .rows)) ∙ ap length same
         ∙ listed-length (rowAt (t .first) (t .second) (t .amount)) 0 count
 
     module _ (p : Plan) (ep : p ≡ planIn (plan n rows)) where

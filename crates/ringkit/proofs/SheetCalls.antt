@@ -3,7 +3,7 @@
 use Prim.Native.Nat.{ℕ, _*_, _≤_, _<_}
 use mathlib.Core.List.{List}
 use mathlib.Core.Logic.{_↔_}
-use mathlib.Core.Path.{_≡_, refl, ap, _∙_, sym}
+use mathlib.Core.Path.{_≡_, refl, ap, _∙_, sym, subst}
 use native.Mathlib.Omega.{arith}
 use lib.ListN.{length}
 use Rattle.ring.specs.Division.{Divides}
@@ -14,7 +14,7 @@ use Rattle.ring.specs.True.{TrueSheet}
 use Rattle.table.specs.Reasons.{numberOf}
 use Rattle.table.specs.Says as table
 use Rattle.table.specs.declared.reason.Reason.{Reason}
-use Rattle.table.specs.declared.reason.Reason.the-variants.{TooLong, Misshapen, RingSize, NoSuchNode, NotBelow, NotAbove, TooMuch, WrongSum, WrongWay, WrongCut, WrongLink, WrongLast, NotTight, OverBound, NoRoom}
+use Rattle.table.specs.declared.reason.Reason.the-variants.{NoRoom}
 use Rattle.table.proofs.ReasonNumbers.{same-reason, no-reason-0}
 use Rattle.table.proofs.TableText.{desk-spelled}
 use Rattle.sheet.specs.Check.{Result, accepted, refused, check, form}
@@ -39,24 +39,10 @@ use Rattle.ringkit.proofs.TableCalls.{due-accepted, route-writes}
 
 -- ---- what is due to a sheet
 
--- no reason that judges a sheet is 15
-below-15 : (line : ℕ) (t : List ℕ) (r : Reason) → Says desk t r line → numberOf r < numberOf NoRoom
+-- 15 judges no sheet
+not-15 : (line : ℕ) (t : List ℕ) (r : Reason) → Says desk t r line → numberOf r ≡ numberOf NoRoom → ⊥
 unfolding Says
-below-15 line t TooLong h = omega arith
-below-15 line t Misshapen h = omega arith
-below-15 line t RingSize h = omega arith
-below-15 line t NoSuchNode h = omega arith
-below-15 line t NotBelow h = omega arith
-below-15 line t NotAbove h = omega arith
-below-15 line t TooMuch h = omega arith
-below-15 line t WrongSum h = omega arith
-below-15 line t WrongWay h = omega arith
-below-15 line t WrongCut h = omega arith
-below-15 line t WrongLink h = omega arith
-below-15 line t WrongLast h = omega arith
-below-15 line t NotTight h = omega arith
-below-15 line t OverBound h = omega arith
-below-15 line t NoRoom h = absurd h
+not-15 line t r h e = subst (λ s. Says desk t s line) (same-reason r NoRoom e) h
 
 module _ (t : List ℕ) where
   due-of : (x : Sheet) → check desk t ≡ accepted x → SheetDue t (writeSheet x)
@@ -78,7 +64,7 @@ module _ (t : List ℕ) where
         text = λ {a} {b} d f. only-itself a d .1 ∙ sym (only-itself b f .1);
         refusal = λ f g. one-given f g;
         apart = λ {a} {r} {line} d g. only-itself a d .0 r line tt (g .holds);
-        early = λ {r} {line} g. below-15 line t r (g .holds);
+        other = λ {r} {line} g. not-15 line t r (g .holds);
       }
 
   decided : (x : Result) → check desk t ≡ x → Decided (SheetDue t) (Given desk t) (ofSheet x)
@@ -106,7 +92,7 @@ module _ (t old new : List ℕ) (r : Reply) (call : Fills (sheetAfresh t) old ne
   sheet-no-room = afresh-no-room (one-sheet t) (Accepted desk t) t (itself-due t) (only-itself t) (rewrite-sheet-says t old new r call)
 
   -- every other reason exactly when it is the sheet's first, and with its line
-  pub sheet-refuses : (reason : Reason) (line : ℕ) → numberOf reason < numberOf NoRoom → Given desk t reason line ↔ Refusal reason line old new r
+  pub sheet-refuses : (reason : Reason) (line : ℕ) → (numberOf reason ≡ numberOf NoRoom → ⊥) → Given desk t reason line ↔ Refusal reason line old new r
   sheet-refuses = refuses-text (one-sheet t) (rewrite-sheet-says t old new r call)
 
 -- ---- checking

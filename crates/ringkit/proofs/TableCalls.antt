@@ -13,7 +13,7 @@ use Rattle.table.specs.Table.{Result, accepted, refused, tableOf, writeTable}
 use Rattle.table.specs.Says.{Given, Accepted}
 use Rattle.table.specs.declared.reason.Reason.{Reason}
 use Rattle.table.specs.declared.reason.Reason.the-variants.{NoRoom}
-use Rattle.table.proofs.Said.{said, up-to-7}
+use Rattle.table.proofs.Said.{not-15}
 use Rattle.table.proofs.ReasonsGiven.{one-given, given, accepted-is}
 use Rattle.table.proofs.TableText.{desk-spelled, table-text}
 use Rattle.table.proofs.Accepted.{same-table}
@@ -57,7 +57,7 @@ module _ (due : ℕ → List Row → List ℕ) (t : List ℕ) where
             a .is ∙ d ∙ sym (b .is);
         refusal = λ f g. one-given f g;
         apart = λ {a} {r} {line} d g. due-accepted .1 (record { text = a; is = d }) r line (g .holds);
-        early = λ {r} g. omega (arith, up-to-7 (said r (g .holds)));
+        other = λ {r} {line} g. not-15 desk t line r (g .holds);
       }
 
   pub table-call : (old new : List ℕ) (r : Reply) → Fills (ofTable due (tableOf desk t)) old new r → CallSays (TableDue due t) (Given desk t) old new r
@@ -93,7 +93,7 @@ module _ (t old new : List ℕ) (r : Reply) (call : Fills (tableAfresh t) old ne
   rewrite-no-room = afresh-no-room (one-due writeTable t) (Accepted desk t) t (itself-due t) (only-itself t) (rewrite-says t old new r call)
 
   -- every other reason exactly when it is the table's first, and with its line
-  pub rewrite-refuses : (reason : Reason) (line : ℕ) → numberOf reason < numberOf NoRoom → Given desk t reason line ↔ Refusal reason line old new r
+  pub rewrite-refuses : (reason : Reason) (line : ℕ) → (numberOf reason ≡ numberOf NoRoom → ⊥) → Given desk t reason line ↔ Refusal reason line old new r
   rewrite-refuses = refuses-text (one-due writeTable t) (rewrite-says t old new r call)
 
 -- ---- routing
@@ -120,7 +120,7 @@ module _ (t old new : List ℕ) (r : Reply) (call : Fills (tableRouted t) old ne
   route-no-room = no-room (one-due sheetDue t) (route-says t old new r call)
 
   -- every other reason exactly when it is the table's first, and with its line
-  pub route-refuses : (reason : Reason) (line : ℕ) → numberOf reason < numberOf NoRoom → Given desk t reason line ↔ Refusal reason line old new r
+  pub route-refuses : (reason : Reason) (line : ℕ) → (numberOf reason ≡ numberOf NoRoom → ⊥) → Given desk t reason line ↔ Refusal reason line old new r
   route-refuses = refuses-text (one-due sheetDue t) (route-says t old new r call)
 
   -- with `longest` bytes of room every accepted table is routed

@@ -8,13 +8,13 @@ use Rattle.text.specs.WriteLine.{endOf, writeLine}
 use Rattle.text.specs.ReadLine.{readLine, fieldsFrom}
 use Rattle.text.specs.Answers.{oneIn, twoIn, threeIn, sentIn}
 use Rattle.table.specs.Lines.{lines}
-use Rattle.table.specs.Judge.{judgeRing, judgeRow, outside, notAbove}
+use Rattle.table.specs.Judge.{judgeRing, judgeRow, outside, isBelow}
 use Rattle.sheet.specs.Judge.{judgeHalves, judgeCut, judgeLink, judgeLast, judgeWhole}
 use Rattle.sheet.specs.Cases.{cases, stated, computed}
 
 pub cases-hold : computed cases ≡ stated cases
 unfolding computed stated cases
     lines readLine fieldsFrom fieldAt numberAt digitOf markAt markOf marks oneIn twoIn threeIn sentIn
-    judgeRing judgeRow outside notAbove judgeHalves judgeCut judgeLink judgeLast judgeWhole
+    judgeRing judgeRow outside isBelow judgeHalves judgeCut judgeLink judgeLast judgeWhole
     writeLine spell digits digitsIn markByte endOf
 cases-hold = refl

@@ -6,7 +6,7 @@ use mathlib.Core.Logic.{_⊎_, inl, inr, ⊎-elim}
 use mathlib.Core.Path.{_≡_, refl}
 use native.Mathlib.Omega.{arith}
 use Rattle.ring.specs.Routing.{B}
-use Rattle.table.specs.Reasons.{numberOf}
+use Rattle.table.specs.Reasons.{rankOf}
 use Rattle.table.specs.declared.reason.Reason.{Reason}
 use Rattle.table.specs.declared.reason.Reason.the-variants.{WrongSum}
 use Rattle.table.specs.declared.judge.Verdict.{Verdict}
@@ -38,7 +38,7 @@ module _ {P Q : Reason → Type 0} where
   first-as {v} f g h = record { holds = also-holds v f (h .holds); least = λ s q. h .least s (g s q) }
 
   -- of two findings, where no reason for the second comes before one for the first
-  pub or-else-first : {v w : Verdict} → ((r s : Reason) → P r → Q s → numberOf r ≤ numberOf s) → First P v → First Q w → First (λ s. P s ⊎ Q s) (orElse v w)
+  pub or-else-first : {v w : Verdict} → ((r s : Reason) → P r → Q s → rankOf r ≤ rankOf s) → First P v → First Q w → First (λ s. P s ⊎ Q s) (orElse v w)
   unfolding orElse
   or-else-first {v = Fine} {w} late f g =
       record { holds = go w (g .holds); least = λ s. ⊎-elim (λ p. absurd (f .least s p)) (g .least s) }
@@ -52,8 +52,8 @@ module _ {P Q : Reason → Type 0} where
 pub data Only (r : Reason) (A : Type 0) : Reason → Type 0 where
   only : A → Only r A r
 
-pub only-number : {r s : Reason} {A : Type 0} → Only r A s → numberOf s ≡ numberOf r
-only-number (only a) = refl
+pub only-rank : {r s : Reason} {A : Type 0} → Only r A s → rankOf s ≡ rankOf r
+only-rank (only a) = refl
 
 -- what follows of that one
 pub only-then : {r : Reason} {A : Type 0} (Q : Reason → Type 0) → (A → Q r) → (s : Reason) → Only r A s → Q s
@@ -62,13 +62,13 @@ only-then Q f s (only a) = f a
 pub only-fact : {r s : Reason} {A : Type 0} → Only r A s → A
 only-fact (only a) = a
 
-pub either-late : {k : ℕ} {a b s : Reason} {A B : Type 0} → k ≤ numberOf a → k ≤ numberOf b → Only a A s ⊎ Only b B s → k ≤ numberOf s
-either-late l m (inl o) = omega (arith, only-number o)
-either-late l m (inr o) = omega (arith, only-number o)
+pub either-late : {k : ℕ} {a b s : Reason} {A B : Type 0} → k ≤ rankOf a → k ≤ rankOf b → Only a A s ⊎ Only b B s → k ≤ rankOf s
+either-late l m (inl o) = omega (arith, only-rank o)
+either-late l m (inr o) = omega (arith, only-rank o)
 
 pub fault-first : {A : Type 0} {b : Bool} (r : Reason) → Tested A b → First (Only r A) (faultIf b r)
 unfolding faultIf
-fault-first r (is-so a) = record { holds = only a; least = λ s o. omega (arith, only-number o) }
+fault-first r (is-so a) = record { holds = only a; least = λ s o. omega (arith, only-rank o) }
 fault-first r (not-so n) = record { holds = tt; least = λ s o. n (only-fact o) }
 
 -- ---- the reasons that count
@@ -78,16 +78,16 @@ abbrev pub Counts : Bool → Reason → Type 0
 Counts true = Any
 Counts false = OfForm
 
-pub counts-form : (judging : Bool) (s : Reason) → numberOf s < numberOf WrongSum → Counts judging s
+pub counts-form : (judging : Bool) (s : Reason) → rankOf s < rankOf WrongSum → Counts judging s
 counts-form true s h = tt
 counts-form false s h = h
 
 module _ {P : Reason → Type 0} {v : Verdict} (judging : Bool) where
-  -- 1 to 7 always count
-  pub form-first : ((s : Reason) → P s → numberOf s < numberOf WrongSum) → First P v → First (λ s. Counts judging s × P s) v
+  -- 1 to 7 and 16 always count
+  pub form-first : ((s : Reason) → P s → rankOf s < rankOf WrongSum) → First P v → First (λ s. Counts judging s × P s) v
   form-first early f = first-as (λ s p. (counts-form judging s (early s p), p)) (λ s p. p .1) f
 
-pub when-first : {P : Reason → Type 0} {v : Verdict} (judging : Bool) → ((s : Reason) → P s → numberOf WrongSum ≤ numberOf s) → First P v
+pub when-first : {P : Reason → Type 0} {v : Verdict} (judging : Bool) → ((s : Reason) → P s → rankOf WrongSum ≤ rankOf s) → First P v
     → First (λ s. Counts judging s × P s) (when judging v)
 unfolding when
 when-first true late f = first-as (λ s p. (tt, p)) (λ s p. p .1) f

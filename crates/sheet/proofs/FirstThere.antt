@@ -32,7 +32,7 @@ use Rattle.sheet.specs.Says.{SentIs, CutIs, LinkIs, LastIs, At, at-start
 use Rattle.sheet.proofs.LineAt.{way-spelled}
 use Rattle.sheet.proofs.SheetLines.{SentRead, is-sent, no-sent, sent-read, CutRead, is-cut, no-cut, cut-read, LinkRead, is-link, no-link, link-read, LastRead, is-last, no-last, last-read}
 use Rattle.sheet.proofs.Places.{sent-spelled}
-use Rattle.sheet.proofs.FirstReason.{First, first-as, Only, only, only-number, only-then, only-fact, Counts, counts-form, form-first, when-first}
+use Rattle.sheet.proofs.FirstReason.{First, first-as, Only, only, only-rank, only-then, only-fact, Counts, counts-form, form-first, when-first}
 use Rattle.sheet.proofs.SheetJudged.{cut-first, link-first, last-first}
 use Rattle.sheet.proofs.SheetSaid.{said-of-ring, said-of-cut, said-of-link, said-of-last, Counted, Unfit, unfit-wrong, SizeWrong, SaidAt, said, said-here, from-2}
 use Rattle.sheet.proofs.RowFirst.{sent-first}
@@ -70,7 +70,7 @@ ring-first : (limits : Limits) (n : ℕ) → First (Only RingSize (SizeWrong lim
 ring-first limits n = go (ring-judged limits n)
   where
     go : {v : Verdict} → RingJudged limits n v → First (Only RingSize (SizeWrong limits n)) v
-    go (wrong-size w) = record { holds = only w; least = λ s o. omega (arith, only-number o) }
+    go (wrong-size w) = record { holds = only w; least = λ s o. omega (arith, only-rank o) }
     go (right-size few many) = record { holds = tt; least = λ s o. ⊎-elim (λ l. omega arith) (λ l. omega arith) (only-fact o) }
 
 -- ---- the turn of each line
@@ -81,7 +81,7 @@ module _ (limits : Limits) (judging : Bool) {t l : List ℕ} where
   unfolding ringTurn Says
   ring-turned at-start here (is-ring {n} e w) =
       let ring : RingIs t n = record { text = subst (LineIs (lines t) 1) e here; spelled = w } in
-      values-turned limits judging (form-first judging (λ s o. omega (arith, only-number o)) (ring-first limits n)) at-start (λ s. said-of-ring ring)
+      values-turned limits judging (form-first judging (λ s o. omega (arith, only-rank o)) (ring-first limits n)) at-start (λ s. said-of-ring ring)
       (λ w. record { at = refl; n = n; ring = ring; wrong = w })
       (behind-ring ring)
   ring-turned at-start here (no-ring none) =
@@ -94,7 +94,7 @@ module _ (limits : Limits) (judging : Bool) {t l : List ℕ} where
     unfolding cutTurn Says
     cut-turned {n} {a} {b} {rs} at none (is-cut {g} {h} {m} e u v w) =
         let is : CutIs t line (cutOf g h m) = record { text = subst (LineIs (lines t) line) e here; pair = (u, v); number = w } in
-        values-turned limits judging (when-first judging (λ s o. omega (arith, only-number o)) (cut-first n rs (cutOf g h m))) at (λ s. said-of-cut is)
+        values-turned limits judging (when-first judging (λ s o. omega (arith, only-rank o)) (cut-first n rs (cutOf g h m))) at (λ s. said-of-cut is)
         (λ w. record { n = n; a = a; b = b; rs = rs; due = at; c = cutOf g h m; is = is; wrong = w })
         (behind-cut at is)
     cut-turned at none (no-cut none′) =
@@ -122,7 +122,7 @@ module _ (limits : Limits) (judging : Bool) {t l : List ℕ} where
       unfolding linkTurn Says
       link-turned few (is-link {k} {s} {u} e p q o) =
           let is : LinkIs t line (linkOf k s u) = record { text = subst (LineIs (lines t) line) e here; link = p; loads = (q, o) } in
-          values-turned limits judging (when-first judging (λ s o. omega (arith, only-number o)) (link-first rs (length ks + 1) (linkOf k s u))) at
+          values-turned limits judging (when-first judging (λ s o. omega (arith, only-rank o)) (link-first rs (length ks + 1) (linkOf k s u))) at
           (λ s. said-of-link few is)
           (λ w. record { n = n; rs = rs; c = c; ks = ks; due = at; few = few; l = linkOf k s u; is = is; wrong = w })
           (behind-link at few is)
@@ -134,7 +134,7 @@ module _ (limits : Limits) (judging : Bool) {t l : List ℕ} where
       unfolding lastTurn Says
       last-turned all (is-last {p} {z} e v w) =
           let is : LastIs t line p z = record { text = subst (LineIs (lines t) line) e here; spelled = (v, w) } in
-          values-turned limits judging (when-first judging (λ s o. omega (arith, only-number o)) (last-first n rs p z)) at (λ s. said-of-last all is)
+          values-turned limits judging (when-first judging (λ s o. omega (arith, only-rank o)) (last-first n rs p z)) at (λ s. said-of-last all is)
           (λ w. record { n = n; rs = rs; c = c; ks = ks; due = at; all = all; p = p; z = z; is = is; wrong = w })
           (behind-last at all is)
       last-turned all (no-last none) =

@@ -114,7 +114,7 @@ module _ (judging : Bool) (x : Sheet) where
     later : List Routed
     same : x .rows ≡ rs ++ later
     is-text : text ≡ linesOf routedLine later ++ endText (figuresOf x) (x .links)
-    fine : FineRows limits n a b (demands (sents later))
+    fine : FineRows limits n (length rs) a b (demands (sents later))
     halves : Each RowSpelled later
     judged : Each (λ r. when judging (judgeHalves r) ≡ Fine) later
     cut : (x .cut .g < limit) × ((x .cut .h < limit) × (x .cut .number < limit))
@@ -144,7 +144,7 @@ module _ (judging : Bool) (x : Sheet) where
       }
 
   -- what holds of a row that nothing is found against
-  row-from : {limits : Limits} {n a b : ℕ} {rs : List Routed} {i j d f k w : ℕ} {text : List ℕ} → SentSpelled i j d f k w → judgeRow limits n a b i j d ≡ Fine
+  row-from : {limits : Limits} {n a b : ℕ} {rs : List Routed} {i j d f k w : ℕ} {text : List ℕ} → SentSpelled i j d f k w → judgeRow limits n (length rs) a b i j d ≡ Fine
       → when judging (judgeHalves (routedOf i j d f k w)) ≡ Fine → FromRows limits n i j (rs ++ routedOf i j d f k w ∷ []) text
       → FromRows limits n a b rs (sentLine i j d f k w ++ text)
   unfolding linesOf
@@ -155,7 +155,7 @@ module _ (judging : Bool) (x : Sheet) where
         is-text =
             ap (λ (t : List ℕ). sentLine i j d f k w ++ t) (from .is-text) ∙ ap (λ (t : List ℕ). t ++ (linesOf routedLine (from .later) ++ endText (figuresOf x) (x .links))) (sym (way-spelled i j d f k w))
             ∙ sym (append-assoc (routedLine r) (linesOf routedLine (from .later)) (endText (figuresOf x) (x .links)));
-        fine = fine (rw v at (row-judged limits n a b i j d));
+        fine = fine (rw v at (row-judged limits n (length rs) a b i j d));
         halves = more (record { front = spelled .front; back = spelled .back }) (from .halves);
         judged = more u (from .judged);
         cut = from .cut;
@@ -166,8 +166,9 @@ module _ (judging : Bool) (x : Sheet) where
       r : Routed
       r = routedOf i j d f k w
 
-      fine : RowJudged limits n a b i j d Fine → FineRows limits n a b (demands (sents (r ∷ from .later)))
-      fine (row-fine on up most) = fine-row on up most (from .fine)
+      fine : RowJudged limits n (length rs) a b i j d Fine → FineRows limits n (length rs) a b (demands (sents (r ∷ from .later)))
+      fine (row-fine on up room most) =
+          fine-row on up room most (subst (λ m. FineRows limits n m i j (demands (sents (from .later)))) (length-append rs (r ∷ [])) (from .fine))
 
   from-rows : {limits : Limits} {n a b : ℕ} {rs : List Routed} {text : List ℕ} → Rest limits judging x (rows n a b rs) text → FromRows limits n a b rs text
   from-rows (rest-cut p q r v rest) = cut-from p q r v (from-links (omega arith) rest)
@@ -180,7 +181,7 @@ pub record IsSheet (limits : Limits) (judging : Bool) (t : List ℕ) (x : Sheet)
   pub text : t ≡ writeSheet x
   pub few : limits .fewest ≤ x .n
   pub many : x .n ≤ limits .nodes
-  pub fine : FineRows limits (x .n) 0 0 (demands (sents (x .rows)))
+  pub fine : FineRows limits (x .n) 0 0 0 (demands (sents (x .rows)))
   pub spelled : Spelled x
   pub links : length (x .links) ≡ x .n
   pub judged : Judged judging x

@@ -49,7 +49,7 @@ pub data Rest (limits : Limits) (judging : Bool) (x : Sheet) : State → List �
   rest-cut : {n a b : ℕ} {rs : List Routed} {g h m : ℕ} {text : List ℕ} → g < limit → h < limit → m < limit
       → when judging (judgeCut n rs (cutOf g h m)) ≡ Fine → Rest limits judging x (links n rs (cutOf g h m) []) text
       → Rest limits judging x (rows n a b rs) (cutLine g h m ++ text)
-  rest-row : {n a b : ℕ} {rs : List Routed} {i j d f k w : ℕ} {text : List ℕ} → SentSpelled i j d f k w → judgeRow limits n a b i j d ≡ Fine
+  rest-row : {n a b : ℕ} {rs : List Routed} {i j d f k w : ℕ} {text : List ℕ} → SentSpelled i j d f k w → judgeRow limits n (length rs) a b i j d ≡ Fine
       → when judging (judgeHalves (routedOf i j d f k w)) ≡ Fine → Rest limits judging x (rows n i j (rs ++ routedOf i j d f k w ∷ [])) text
       → Rest limits judging x (rows n a b rs) (sentLine i j d f k w ++ text)
   rest-ring : {n : ℕ} {text : List ℕ} → n < limit → judgeRing limits n ≡ Fine → Rest limits judging x (rows n 0 0 []) text
@@ -90,8 +90,8 @@ module _ (limits : Limits) (judging : Bool) (x : Sheet) where
     row-leads : (l : List ℕ) (a b : ℕ) {y : SentRow} {z : ThreeNumbers} → SentRead l y → CutRead l z → Leads (rows n a b rs) l (rowTurn limits judging n a b rs y z)
     unfolding rowTurn
     row-leads l a b (is-sent {i} {j} {d} {f} {b = k} {w} e spelled) other next t text rest =
-        let u = unless-on (orElse (judgeRow limits n a b i j d) (when judging (judgeHalves (routedOf i j d f k w)))) (rows n i j (rs ++ routedOf i j d f k w ∷ [])) next t in
-        let v = or-fine (judgeRow limits n a b i j d) (when judging (judgeHalves (routedOf i j d f k w))) (u .0) in
+        let u = unless-on (orElse (judgeRow limits n (length rs) a b i j d) (when judging (judgeHalves (routedOf i j d f k w)))) (rows n i j (rs ++ routedOf i j d f k w ∷ [])) next t in
+        let v = or-fine (judgeRow limits n (length rs) a b i j d) (when judging (judgeHalves (routedOf i j d f k w))) (u .0) in
         rw e (rest-row spelled (v .0) (v .1) (subst (λ s. Rest limits judging x s text) (sym (u .1)) rest))
     row-leads l a b (no-sent misread) other next t text rest = cut-leads l a b other next t text rest
 

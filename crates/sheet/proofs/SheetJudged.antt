@@ -14,14 +14,14 @@ use Rattle.ring.specs.Routing.{Sent, Routed, Way, F, B, isSplit, splitLoad, uns
 use Rattle.ring.specs.RuleD.{wholeWay}
 use Rattle.ring.specs.Sheet.{Link, Sheet, sents, demands, splitPeak, unsplitPeak, largestSplitOf}
 use Rattle.ring.specs.True.{SumsTo2d, Kept}
-use Rattle.table.specs.Reasons.{numberOf}
+use Rattle.table.specs.Reasons.{rankOf}
 use Rattle.table.specs.declared.reason.Reason.{Reason}
 use Rattle.table.specs.declared.reason.Reason.the-variants.{WrongSum, WrongWay, WrongCut, WrongLink, WrongLast, NotTight, OverBound}
 use Rattle.sheet.specs.Verdicts.{noCut, cutVerdict, linkVerdict, lastVerdict, wholeVerdict}
 use Rattle.sheet.specs.Judge.{wrongSum, wrongWay, judgeHalves, judgeCut, judgeLink, judgeLast, judgeWhole}
 use Rattle.sheet.proofs.Back.{way-back}
 use Rattle.sheet.proofs.Tested.{Tested, test-of, test-not, test-or, test-and, test-less, test-most, test-other}
-use Rattle.sheet.proofs.FirstReason.{First, or-else-first, Only, only-number, either-late, fault-first}
+use Rattle.sheet.proofs.FirstReason.{First, or-else-first, Only, only-rank, either-late, fault-first}
 
 -- ---- 8 and 9: a row's halves and its way
 
@@ -66,13 +66,13 @@ test-way r =
 abbrev pub AgainstHalves : Routed → Reason → Type 0
 AgainstHalves r s = Only WrongSum (SumsTo2d (r .sent) → ⊥) s ⊎ Only WrongWay (Kept r → ⊥) s
 
-pub halves-late : (r : Routed) (s : Reason) → AgainstHalves r s → numberOf WrongSum ≤ numberOf s
+pub halves-late : (r : Routed) (s : Reason) → AgainstHalves r s → rankOf WrongSum ≤ rankOf s
 halves-late r s = either-late (omega arith) (omega arith)
 
 pub halves-first : (r : Routed) → First (AgainstHalves r) (judgeHalves r)
 unfolding judgeHalves wrongSum
 halves-first r =
-    or-else-first (λ a b p q. omega (arith, only-number p, only-number q))
+    or-else-first (λ a b p q. omega (arith, only-rank p, only-rank q))
     (fault-first WrongSum (test-other (r .sent .front + r .sent .back) (2 * r .sent .row .d)))
     (fault-first WrongWay (test-way r))
 
@@ -129,12 +129,12 @@ abbrev pub AgainstWhole : Sheet → Reason → Type 0
 AgainstWhole x s =
     Only NotTight (splitPeak x ≡ x .cut .number → ⊥) s ⊎ Only OverBound (splitPeak x + 3 * largestSplitOf x < 2 * unsplitPeak x) s
 
-pub whole-late : (x : Sheet) (s : Reason) → AgainstWhole x s → numberOf WrongSum ≤ numberOf s
+pub whole-late : (x : Sheet) (s : Reason) → AgainstWhole x s → rankOf WrongSum ≤ rankOf s
 whole-late x s = either-late (omega arith) (omega arith)
 
 pub whole-first : (x : Sheet) → First (AgainstWhole x) (judgeWhole x)
 unfolding judgeWhole wholeVerdict
 whole-first x =
-    or-else-first (λ a b p q. omega (arith, only-number p, only-number q))
+    or-else-first (λ a b p q. omega (arith, only-rank p, only-rank q))
     (fault-first NotTight (test-other (splitPeak x) (x .cut .number)))
     (fault-first OverBound (test-less (splitPeak x + 3 * largestSplitOf x) (2 * unsplitPeak x)))

@@ -8,9 +8,9 @@ use mathlib.Core.Path.{_≡_, refl, sym, subst}
 use native.Mathlib.Omega.{arith}
 use Rattle.ring.specs.Limits.{Limits}
 use Rattle.ring.specs.Sheet.{Sheet}
-use Rattle.table.specs.Reasons.{numberOf}
+use Rattle.table.specs.Reasons.{rankOf}
 use Rattle.table.specs.declared.reason.Reason.{Reason}
-use Rattle.table.proofs.ReasonNumbers.{same-reason}
+use Rattle.table.proofs.ReasonNumbers.{same-rank}
 use Rattle.sheet.specs.Check.{Result, accepted, refused, checkBy, check, form}
 use Rattle.sheet.specs.Says.{stage, Earlier, GivenAmong, NoneAmong, Given, Accepted, WellFormed}
 use Rattle.sheet.proofs.FirstReason.{Counts}
@@ -29,9 +29,9 @@ one-among {r} {s} {line} {other} f g =
     let c : line < other → ⊥ = λ l. up (inr (z, inl l)) in
     let d : other < line → ⊥ = λ l. down (inr (sym z, inl l)) in
     let e : line ≡ other = omega arith in
-    let p : numberOf r < numberOf s → ⊥ = λ l. up (inr (z, inr (e, l))) in
-    let q : numberOf s < numberOf r → ⊥ = λ l. down (inr (sym z, inr (sym e, l))) in
-    (same-reason r s (omega arith), e)
+    let p : rankOf r < rankOf s → ⊥ = λ l. up (inr (z, inr (e, l))) in
+    let q : rankOf s < rankOf r → ⊥ = λ l. down (inr (sym z, inr (sym e, l))) in
+    (same-rank r s (omega arith), e)
 
 given-among : (limits : Limits) (judging : Bool) (t : List ℕ) (r : Reason) (line : ℕ)
     → (checkBy limits judging t ≡ refused r line) ↔ GivenAmong (Counts judging) limits t r line

@@ -14,13 +14,13 @@ use Rattle.ring.specs.Row.{Row}
 use Rattle.ring.specs.Routing.{Routed}
 use Rattle.ring.specs.Sheet.{Link, Sheet}
 use Rattle.table.specs.Lines.{lines}
-use Rattle.table.specs.Reasons.{numberOf}
+use Rattle.table.specs.Reasons.{rankOf}
 use Rattle.table.specs.Says.{LineIs, RingIs}
 use Rattle.table.specs.declared.reason.Reason.{Reason}
-use Rattle.table.specs.declared.reason.Reason.the-variants.{TooLong, Misshapen, RingSize, NoSuchNode, NotBelow, NotAbove, TooMuch, WrongSum, WrongWay, WrongCut, WrongLink, WrongLast, NotTight, OverBound, NoRoom}
-use Rattle.table.proofs.Against.{AgainstRow, by-nodes, by-pair, by-order, by-amount}
+use Rattle.table.specs.declared.reason.Reason.the-variants.{TooLong, Misshapen, RingSize, NoSuchNode, NotBelow, OutOfOrder, TooMany, TooMuch, WrongSum, WrongWay, WrongCut, WrongLink, WrongLast, NotTight, OverBound, NoRoom}
+use Rattle.table.proofs.Against.{AgainstRow, by-nodes, by-pair, by-order, by-count, by-amount}
 use Rattle.table.proofs.LineNumbers.{ring-one}
-use Rattle.table.proofs.ReasonNumbers.{same-reason, no-reason-0}
+use Rattle.table.proofs.ReasonNumbers.{same-rank, no-rank-0}
 use Rattle.sheet.specs.Check.{State, start, rows, links, end}
 use Rattle.sheet.specs.Says.{SentIs, CutIs, LinkIs, LastIs, At, at-start, behind-row, WrongLine, no-ring, no-row-no-cut, no-link, no-last, left-over, WholeIs, Says, stage}
 use Rattle.sheet.proofs.Places.{sent-one, cut-one, link-one, last-one, sent-or-cut, place-low, place-one}
@@ -48,18 +48,18 @@ unfit-wrong {state = end x} at left = left-over at (left .1)
 abbrev pub SizeWrong : Limits → ℕ → Type 0
 SizeWrong limits n = (n < limits .fewest) ⊎ (limits .nodes < n)
 
--- 4 to 7, of a demand behind the row a, b
-abbrev pub AgainstDemand : Limits → ℕ → ℕ → ℕ → Row → Reason → Type 0
-AgainstDemand limits n a b q = AgainstRow limits n a b (q .i) (q .j) (q .d)
+-- 4 to 7 and 16, of a demand behind k rows of which the last is a, b
+abbrev pub AgainstDemand : Limits → ℕ → ℕ → ℕ → ℕ → Row → Reason → Type 0
+AgainstDemand limits n k a b q = AgainstRow limits n k a b (q .i) (q .j) (q .d)
 
 -- and 8 and 9, of what is sent
-abbrev pub AgainstSent : Limits → ℕ → ℕ → ℕ → Routed → Reason → Type 0
-AgainstSent limits n a b r s = AgainstDemand limits n a b (r .sent .row) s ⊎ AgainstHalves r s
+abbrev pub AgainstSent : Limits → ℕ → ℕ → ℕ → ℕ → Routed → Reason → Type 0
+AgainstSent limits n k a b r s = AgainstDemand limits n k a b (r .sent .row) s ⊎ AgainstHalves r s
 
 pub data SaidAt (limits : Limits) (t : List ℕ) (line : ℕ) : State → Reason → Type 0 where
   of-shape : {state : State} → Unfit t line state → SaidAt limits t line state Misshapen
   of-ring : {n : ℕ} {s : Reason} → RingIs t n → Only RingSize (SizeWrong limits n) s → SaidAt limits t line start s
-  of-row : {n a b : ℕ} {rs : List Routed} {r : Routed} {s : Reason} → SentIs t line r → AgainstSent limits n a b r s → SaidAt limits t line (rows n a b rs) s
+  of-row : {n a b : ℕ} {rs : List Routed} {r : Routed} {s : Reason} → SentIs t line r → AgainstSent limits n (length rs) a b r s → SaidAt limits t line (rows n a b rs) s
   of-cut : {n a b : ℕ} {rs : List Routed} {c : Cut} {s : Reason} → CutIs t line c → Only WrongCut (CutWrong n rs c) s → SaidAt limits t line (rows n a b rs) s
   of-link : {n : ℕ} {rs : List Routed} {c : Cut} {ks : List Link} {l : Link} {s : Reason} → length ks < n → LinkIs t line l
       → Only WrongLink (LinkWrong rs (length ks + 1) l) s → SaidAt limits t line (links n rs c ks) s
@@ -91,8 +91,9 @@ module _ {limits : Limits} {t : List ℕ} {line : ℕ} where
   said RingSize h = of-line (at-line (h .at) at-start) (of-ring (h .ring) (only (h .wrong))) refl
   said NoSuchNode h = of-line (h .row .due) (of-row (h .row .is) (inl (by-nodes (h .wrong)))) refl
   said NotBelow h = of-line (h .row .due) (of-row (h .row .is) (inl (by-pair (h .wrong)))) refl
-  said NotAbove h =
+  said OutOfOrder h =
       of-line (at-line (h .next) (behind-row (h .above .due) (h .above .is))) (of-row (h .row .is) (inl (by-order (h .wrong)))) refl
+  said TooMany h = of-line (h .row .due) (of-row {rs = h .row .rs} (h .row .is) (inl (by-count (omega (arith, h .wrong))))) refl
   said TooMuch h = of-line (h .row .due) (of-row (h .row .is) (inl (by-amount (h .wrong)))) refl
   said WrongSum h = of-line (h .row .due) (of-row (h .row .is) (inr (inl (only (h .wrong))))) refl
   said WrongWay h = of-line (h .row .due) (of-row (h .row .is) (inr (inr (only (h .wrong))))) refl
@@ -110,13 +111,13 @@ module _ {limits : Limits} {t : List ℕ} {line : ℕ} where
   said-here at (of-whole z whole h e) = absurd (omega (arith, place-low at))
 
 -- only reason 1 comes before reason 2, and that stands on no line
-pub from-2 : (limits : Limits) {t : List ℕ} {line : ℕ} {state : State} → At t line state → (s : Reason) → Says limits t s line → 2 ≤ numberOf s
+pub from-2 : (limits : Limits) {t : List ℕ} {line : ℕ} {state : State} → At t line state → (s : Reason) → Says limits t s line → 2 ≤ rankOf s
 unfolding Says
 from-2 limits {t} {line} at s h =
-    elim (decLe 2 (numberOf s)) [
+    elim (decLe 2 (rankOf s)) [
       | yes l ↦ l
       | no l ↦
-          let e : s ≡ TooLong = same-reason s TooLong (omega (arith, no-reason-0 s)) in
+          let e : s ≡ TooLong = same-rank s TooLong (omega (arith, no-rank-0 s)) in
           let z : Says limits t TooLong line = subst (λ r. Says limits t r line) e h in
           absurd (omega (arith, place-low at, z .0))
     ]
@@ -138,9 +139,9 @@ module _ {limits : Limits} {t : List ℕ} {line : ℕ} where
   said-of-ring {s} is (of-ring r o) = subst (λ m. Only RingSize (SizeWrong limits m) s) (ring-one r is) o
 
   module _ {n a b : ℕ} {rs : List Routed} where
-    pub said-of-row : {r : Routed} {s : Reason} → SentIs t line r → SaidAt limits t line (rows n a b rs) s → AgainstSent limits n a b r s
+    pub said-of-row : {r : Routed} {s : Reason} → SentIs t line r → SaidAt limits t line (rows n a b rs) s → AgainstSent limits n (length rs) a b r s
     said-of-row {r} is (of-shape none) = absurd (none .0 r is)
-    said-of-row {s} is (of-row q o) = subst (λ r. AgainstSent limits n a b r s) (sent-one q is) o
+    said-of-row {s} is (of-row q o) = subst (λ r. AgainstSent limits n (length rs) a b r s) (sent-one q is) o
     said-of-row is (of-cut c o) = absurd (sent-or-cut is c)
 
     pub said-of-cut : {c : Cut} {s : Reason} → CutIs t line c → SaidAt limits t line (rows n a b rs) s → Only WrongCut (CutWrong n rs c) s

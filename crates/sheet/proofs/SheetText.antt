@@ -8,6 +8,7 @@ use mathlib.Core.Path.{_≡_, refl, ap, _∙_, sym, subst}
 use native.Mathlib.Omega.{arith}
 use lib.ListN.{length, length-append}
 use borrow.Author.Tests.{le-ltb, ltb-false}
+use Rattle.ring.proofs.Figures.{demands-length}
 use Rattle.ring.proofs.Side.{cond-elim}
 use Rattle.ring.specs.Columns.{wayNumber, wayOf}
 use Rattle.ring.specs.Limits.{Limits}
@@ -19,7 +20,7 @@ use Rattle.text.proofs.Apart.{clash}
 use Rattle.table.specs.Lines.{lines}
 use Rattle.table.specs.declared.judge.Verdict.the-variants.{Fine}
 use Rattle.table.proofs.Against.{fine-ring-judged, fine-row-judged}
-use Rattle.table.proofs.FineRows.{FineRows, no-row, fine-row, fine-rows, table-rows, amounts-fine}
+use Rattle.table.proofs.FineRows.{FineRows, no-row, fine-row, fine-rows, table-rows, amounts-fine, count-fine}
 use Rattle.table.proofs.LinesOf.{join-lines}
 use Rattle.table.proofs.TableText as table
 use Rattle.sheet.specs.WriteSheet.{routedLine, loadLine, linesOf, figuresOf, endText, writeSheet}
@@ -53,15 +54,17 @@ module _ (limits : Limits) (judging : Bool) (x : Sheet) (judged : Judged judging
       (rest-link few (s .link) (s .split) (s .unsplit) v (to-links later (ks ++ l ∷ []) f ss (subst (λ m. LinksJudged judging (x .rows) m later) (sym long) vs)))
 
   module _ (limited : table.Spelled limits) (many : x .n ≤ limits .nodes) where
-    to-rows : (later rs : List Routed) {a b : ℕ} → x .rows ≡ rs ++ later → FineRows limits (x .n) a b (demands (sents later)) → Each RowSpelled later
+    to-rows : (later rs : List Routed) {a b : ℕ} → x .rows ≡ rs ++ later → FineRows limits (x .n) (length rs) a b (demands (sents later)) → Each RowSpelled later
         → Each (λ r. when judging (judgeHalves r) ≡ Fine) later → Rest limits judging x (rows (x .n) a b rs) (linesOf routedLine later ++ endText (figuresOf x) (x .links))
     unfolding linesOf endText
     to-rows [] rs {a} {b} e no-row none none =
         let k : x .rows ≡ rs = e ∙ append-nil rs in
         subst (λ l. Rest limits judging x (rows (x .n) a b l) (endText (figuresOf x) (x .links))) k
         (rest-cut (spelled .cut .0) (spelled .cut .1 .0) (spelled .cut .1 .1) (judged .cut) (to-links (x .links) [] refl (spelled .loads) (judged .links)))
-    to-rows (r ∷ later) rs {a} {b} e (fine-row on up most fine) (more h hs) (more v vs) =
+    to-rows (r ∷ later) rs {a} {b} e (fine-row on up room most fine) (more h hs) (more v vs) =
         let f : x .rows ≡ (rs ++ r ∷ []) ++ later = e ∙ sym (append-assoc rs (r ∷ []) later) in
+        let one : length (rs ++ r ∷ []) ≡ length rs + 1 = length-append rs (r ∷ []) in
+        let behind = subst (λ m. FineRows limits (x .n) m (r .sent .row .i) (r .sent .row .j) (demands (sents later))) (sym one) fine in
         let same : wayOf (wayNumber (r .way)) ≡ r .way = way-back (r .way) in
         let s : SentSpelled (r .sent .row .i) (r .sent .row .j) (r .sent .row .d) (r .sent .front) (r .sent .back) (wayNumber (r .way)) =
         record {
@@ -73,9 +76,9 @@ module _ (limits : Limits) (judging : Bool) (x : Sheet) (judged : Judged judging
           way = way-small (r .way);
         } in
         subst (λ t. Rest limits judging x (rows (x .n) a b rs) t) (sym (append-assoc (routedLine r) (linesOf routedLine later) (endText (figuresOf x) (x .links))))
-        (rest-row s (fine-row-judged limits (x .n) a b (r .sent .row .i) (r .sent .row .j) (r .sent .row .d) on up most) (rw same v) (rw same (to-rows later (rs ++ r ∷ []) f fine hs vs)))
+        (rest-row s (fine-row-judged limits (x .n) (length rs) a b (r .sent .row .i) (r .sent .row .j) (r .sent .row .d) on up room most) (rw same v) (rw same (to-rows later (rs ++ r ∷ []) f behind hs vs)))
 
-    to-start : limits .fewest ≤ x .n → FineRows limits (x .n) 0 0 (demands (sents (x .rows))) → Rest limits judging x start (writeSheet x)
+    to-start : limits .fewest ≤ x .n → FineRows limits (x .n) 0 0 0 (demands (sents (x .rows))) → Rest limits judging x start (writeSheet x)
     unfolding writeSheet
     to-start few fine =
         rest-ring {n = x .n} (omega (arith, limited .nodes)) (fine-ring-judged limits (x .n) few many) (to-rows (x .rows) [] refl fine (spelled .halves) (judged .halves))
@@ -98,6 +101,7 @@ module _ (limits : Limits) (limited : table.Spelled limits) (judging : Bool) (t 
             few = s .few;
             many = s .many;
             rows = table-rows (s .fine);
+            count = omega (arith, count-fine (s .fine) (omega arith), demands-length (x .rows));
             amounts = amounts-fine (s .fine);
             spelled = s .spelled;
             links = s .links;
@@ -115,7 +119,7 @@ module _ (limits : Limits) (limited : table.Spelled limits) (judging : Bool) (t 
       let short : length t ≤ limits .bytes = omega (arith, ap length e, r .short) in
       rw (le-ltb (limits .bytes) (length t) short)
       (rest-read limits judging x (subst (Rest limits judging x start) (sym e)
-      (to-start limits judging x (h .1 .1) (r .spelled) (r .links) limited (r .many) (r .few) (fine-rows {limits = limits} (r .rows) (r .amounts)))) 1)
+      (to-start limits judging x (h .1 .1) (r .spelled) (r .links) limited (r .many) (r .few) (fine-rows {limits = limits} (r .rows) (omega (arith, r .count, demands-length (x .rows))) (r .amounts)))) 1)
 
   pub sheet-text : (checkBy limits judging t ≡ accepted x) ↔ ((t ≡ writeSheet x) × (InRange limits x × Judged judging x))
   sheet-text = (read-written, written-read)

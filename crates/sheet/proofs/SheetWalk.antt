@@ -19,7 +19,7 @@ use Rattle.table.specs.declared.reason.Reason.the-variants.{TooLong, Misshapen}
 use Rattle.table.specs.declared.judge.Verdict.{Verdict}
 use Rattle.table.specs.declared.judge.Verdict.the-variants.{Fine, Fault}
 use Rattle.table.proofs.LineNumbers.{LinesFrom, from-first, from-next, line-here, no-line-left}
-use Rattle.table.proofs.ReasonNumbers.{no-reason-0}
+use Rattle.table.proofs.ReasonNumbers.{no-rank-0}
 use Rattle.sheet.specs.Check.{Result, accepted, refused, State, start, rows, links, end, Turn, wholeResult, atEnd, after, checkFrom, checkBy}
 use Rattle.sheet.specs.Says.{At, at-start, WholeIs, Says, stage, Earlier, GivenAmong, NoneAmong}
 use Rattle.sheet.proofs.Places.{place-low, place-within, whole-one}
@@ -160,7 +160,7 @@ too-long-given judging long = record { counts = counts-form judging TooLong (ome
   where
     go : (s : Reason) (other : ℕ) → Earlier s other TooLong 0 → ⊥
     go s other (inl l) = omega arith
-    go s other (inr p) = ⊎-elim (λ l. omega arith) (λ q. omega (arith, q .1, no-reason-0 s)) (p .1)
+    go s other (inr p) = ⊎-elim (λ l. omega arith) (λ q. omega (arith, q .1, no-rank-0 s)) (p .1)
 
 pub right : (limits : Limits) (judging : Bool) (t : List ℕ) → Right limits judging t (checkBy limits judging t)
 unfolding checkBy

@@ -16,13 +16,12 @@ use Rattle.ring.specs.Columns.{wayNumber}
 use Rattle.ring.specs.Sheet.{Link, Sheet, sents, demands, numbersFrom, plan}
 use Rattle.ring.specs.True.{TrueSheet}
 use Rattle.ring.proofs.Lists.{each, each-both, each-of-map}
-use Rattle.ring.proofs.Figures.{SmallFigures, figures-small}
+use Rattle.ring.proofs.Figures.{SmallFigures, figures-small, demands-length}
 use Rattle.ring.proofs.OurPlan.{plan-true, plan-demands}
 use Rattle.text.specs.Number.{limit}
 use Rattle.text.specs.Shapes.{ringShape, sentShape, cutShape, linkShape, lastShape, ringLine, cutLine, lastLine}
 use Rattle.text.proofs.Lengths.{line-in-range-short}
 use Rattle.table.specs.Table as table
-use Rattle.table.proofs.Few.{few-rows}
 use Rattle.table.proofs.LineRead.{ring-in-range}
 use Rattle.sheet.specs.WriteSheet.{routedLine, loadLine, linesOf, figuresOf, endText, writeSheet}
 use Rattle.sheet.specs.Range.{RowSpelled, LinkSpelled, Spelled, InRange, longest}
@@ -67,15 +66,6 @@ link-short : (l : Link) → LinkSpelled l → length (loadLine l) ≤ 32
 link-short l h = line-in-range-short linkShape (0 ∷ l .link ∷ l .split ∷ l .unsplit ∷ []) (link-in-range (l .link) (l .split) (l .unsplit) (h .link) (h .split) (h .unsplit))
 
 module _ (x : Sheet) (many : x .n ≤ desk .nodes) (rows : TableRows (x .n) (demands (sents (x .rows)))) (amounts : Each (λ (r : Row). r .d ≤ desk .amount) (demands (sents (x .rows)))) where
-  pub count-few : length (x .rows) ≤ desk .rows
-  count-few =
-      omega (
-        arith,
-        few-rows (x .n) (demands (sents (x .rows))) many rows amounts,
-        length-map (sents (x .rows)) (λ (s : Sent). s .row),
-        length-map (x .rows) (λ (r : Routed). r .sent),
-      )
-
   of-demands : {P : Row → Type 0} → Each P (demands (sents (x .rows))) → Each (λ (r : Routed). P (r .sent .row)) (x .rows)
   of-demands {P} e = each-of-map (λ (r : Routed). r .sent) {P = λ s. P (s .row)} (x .rows) (each-of-map (λ (s : Sent). s .row) {P = P} (sents (x .rows)) e)
 
@@ -84,14 +74,14 @@ module _ (x : Sheet) (many : x .n ≤ desk .nodes) (rows : TableRows (x .n) (dem
       each-both {P = λ (r : Routed). OnRing (x .n) (r .sent .row) × (r .sent .row .d ≤ desk .amount)} (λ r h s. record { on = h .0; amount = h .1; spelled = s })
       (each-both (λ r o a. (o, a)) (of-demands {P = OnRing (x .n)} (rows .nodes)) (of-demands {P = λ r. r .d ≤ desk .amount} amounts)) halves
 
-  pub sheet-short : Spelled x → length (x .links) ≡ x .n → length (writeSheet x) ≤ longest desk
+  pub sheet-short : length (x .rows) ≤ desk .rows → Spelled x → length (x .links) ≡ x .n → length (writeSheet x) ≤ longest desk
   unfolding writeSheet endText
-  sheet-short spelled links =
+  sheet-short count spelled links =
       let n = x .n in
       let c = x .cut in
       omega (
         arith,
-        count-few,
+        count,
         many,
         links,
         length-append (ringLine n) (linesOf routedLine (x .rows) ++ endText (figuresOf x) (x .links)),
@@ -116,12 +106,10 @@ unfolding numbersFrom
 numbers-within top k zero h = none
 numbers-within top k (suc m) h = more {a = k} (omega arith) (numbers-within top (suc k) m (omega arith))
 
-module _ (x : Sheet) (t : TrueSheet x) (many : x .n ≤ desk .nodes) (rows : TableRows (x .n) (demands (sents (x .rows)))) (amounts : Each (λ (r : Row). r .d ≤ desk .amount) (demands (sents (x .rows)))) where
+module _ (x : Sheet) (t : TrueSheet x) (many : x .n ≤ desk .nodes) (rows : TableRows (x .n) (demands (sents (x .rows)))) (count : length (x .rows) ≤ desk .rows)
+    (amounts : Each (λ (r : Row). r .d ≤ desk .amount) (demands (sents (x .rows)))) where
   small : SmallFigures (desk .amount) x
   small = figures-small (desk .amount) x t amounts
-
-  count : length (x .rows) ≤ desk .rows
-  count = count-few x many rows amounts
 
   numbers : Each (λ (l : Link). l .link < limit) (x .links)
   numbers = each-of-map (λ (l : Link). l .link) {P = λ k. k < limit} (x .links) (subst (Each (λ k. k < limit)) (sym (t .links)) (numbers-within limit 1 (x .n) (omega arith)))
@@ -140,7 +128,7 @@ module _ (x : Sheet) (t : TrueSheet x) (many : x .n ≤ desk .nodes) (rows : Tab
   true-links = sym (length-map (x .links) (λ (l : Link). l .link)) ∙ ap length (t .links) ∙ numbers-length 1 (x .n)
 
   pub true-short : length (writeSheet x) ≤ longest desk
-  true-short = sheet-short x many rows amounts true-spelled true-links
+  true-short = sheet-short x many rows amounts count true-spelled true-links
 
 -- ---- so a plan's
 
@@ -158,11 +146,14 @@ module _ (n : ℕ) (rs : List Row) (h : table.InRange desk n rs) where
   rows : TableRows (plan n rs .n) (demands (sents (plan n rs .rows)))
   rows = let e = plan-demands n rs (h .few) (h .rows) in rw (ring-is, e) (h .rows)
 
+  count : length (plan n rs .rows) ≤ desk .rows
+  count = omega (arith, h .count, demands-length (plan n rs .rows), ap length (plan-demands n rs (h .few) (h .rows)))
+
   amounts : Each (λ (r : Row). r .d ≤ desk .amount) (demands (sents (plan n rs .rows)))
   amounts = let e = plan-demands n rs (h .few) (h .rows) in rw e (h .amounts)
 
   pub plan-short : length (writeSheet (plan n rs)) ≤ longest desk
-  plan-short = true-short (plan n rs) true-plan many rows amounts
+  plan-short = true-short (plan n rs) true-plan many rows count amounts
 
   pub plan-in-range : InRange desk (plan n rs)
   plan-in-range =
@@ -170,8 +161,9 @@ module _ (n : ℕ) (rs : List Row) (h : table.InRange desk n rs) where
         few = omega (arith, h .few, ring-is);
         many = many;
         rows = rows;
+        count = count;
         amounts = amounts;
-        spelled = true-spelled (plan n rs) true-plan many rows amounts;
-        links = true-links (plan n rs) true-plan many rows amounts;
+        spelled = true-spelled (plan n rs) true-plan many rows count amounts;
+        links = true-links (plan n rs) true-plan many rows count amounts;
         short = omega (arith, plan-short);
       }

@@ -1,5 +1,5 @@
--- 01's "Numbers to try" that are marked P: one list, each case by its texts and what 01 says besides; and the answers to them all, as they are stated and
--- as the definitions have them.
+-- 01's "Numbers to try" that are marked P, and two cases of 02's K1: one list, each case by its texts and what is said besides; and the answers to them all, as
+-- they are stated and as the definitions have them.
 use Prim.Native.Nat.{ℕ, _+_, _*_, min}
 use Prim.Native.String.{String}
 use mathlib.Core.Bool.{cond}
@@ -96,6 +96,15 @@ cases =
     "L|1|4|1" ∷ "L|2|4|2" ∷ "L|3|4|3" ∷ "L|4|4|4" ∷ "L|5|4|3" ∷ "L|6|4|2" ∷ "L|7|4|1" ∷ "L|8|4|0" ∷ "Z|4|12" ∷ [])
     14 0
     (tight 4 4 ∷ 8 above 4 plus 3 ∷ []) ∷
+    -- K1: three circuits between offices 1 and 3 of the square, of which rule B splits the second
+    plan-of ("R|4" ∷ "D|1|3|1" ∷ "D|1|3|1" ∷ "D|1|3|1" ∷ "D|2|4|1" ∷ [])
+    ("R|4" ∷ "D|1|3|1|2|0|F" ∷ "D|1|3|1|1|1|F" ∷ "D|1|3|1|0|2|B" ∷ "D|2|4|1|1|1|B" ∷ "C|1|3|4" ∷
+    "L|1|4|3" ∷ "L|2|4|2" ∷ "L|3|4|1" ∷ "L|4|4|2" ∷ "Z|3|3" ∷ [])
+    (M-is 4 ∷ 6 at-most 4 plus 3 ∷ []) ∷
+    -- K1: a row below the row before, behind one of the same nodes: 6
+    refusal-of ("R|4" ∷ "D|1|3|1|1|1|F" ∷ "D|1|3|1|1|1|B" ∷ "D|1|2|1|2|0|F" ∷ [])
+    6 4
+    [] ∷
     []
 
 -- ---- what is true of a sheet, in place of a claim

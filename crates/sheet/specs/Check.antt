@@ -1,4 +1,4 @@
--- Checking a sheet: reason 1 first, then lines in order, and in a line by rising reason; then 13, then 14.
+-- Checking a sheet: reason 1 first, then lines in order, and in a line the reasons in their order; then 13, then 14.
 use Prim.Native.Nat.{ℕ, _+_}
 use mathlib.Core.Bool.{Bool, true, false, cond}
 use mathlib.Core.List.{List, [], _∷_, _++_}
@@ -68,10 +68,10 @@ cutOf g h m = record { g = g; h = h; number = m }
 abbrev pub routedOf : ℕ → ℕ → ℕ → ℕ → ℕ → ℕ → Routed
 routedOf i j d f k w = routed (sent i j d f k) (wayOf w)
 
--- 4 to 9 of a D line
-unfoldable pub sentVerdict : Limits → ℕ → ℕ → ℕ → Routed → Verdict
+-- 4 to 9 and 16 of a D line, behind k rows of which the last is a, b
+unfoldable pub sentVerdict : Limits → ℕ → ℕ → ℕ → ℕ → Routed → Verdict
 unfolding orElse
-sentVerdict limits n a b r = orElse (judgeRow limits n a b (r .sent .row .i) (r .sent .row .j) (r .sent .row .d)) (judgeHalves r)
+sentVerdict limits n k a b r = orElse (judgeRow limits n k a b (r .sent .row .i) (r .sent .row .j) (r .sent .row .d)) (judgeHalves r)
 
 -- L link split-load unsplit-load
 abbrev pub linkOf : ℕ → ℕ → ℕ → Link
@@ -95,7 +95,7 @@ cutTurn judging n rs (NotThree p) = stop Misshapen
 unfoldable pub rowTurn : Limits → Bool → ℕ → ℕ → ℕ → List Routed → SentRow → ThreeNumbers → Turn
 unfolding unless when cutTurn orElse
 rowTurn limits judging n a b rs (IsSent i j d f k w) other =
-    unless (orElse (judgeRow limits n a b i j d) (when judging (judgeHalves (routedOf i j d f k w)))) (rows n i j (rs ++ routedOf i j d f k w ∷ []))
+    unless (orElse (judgeRow limits n (length rs) a b i j d) (when judging (judgeHalves (routedOf i j d f k w)))) (rows n i j (rs ++ routedOf i j d f k w ∷ []))
 rowTurn limits judging n a b rs (NotSent p) other = cutTurn judging n rs other
 
 -- L link split-load unsplit-load

@@ -1,4 +1,4 @@
--- What is found against a sheet's rows, cut, links and figures, over any numbers, judged by its own rows. 4 to 7 of a row are a table's (`judgeRow`).
+-- What is found against a sheet's rows, cut, links and figures, over any numbers, judged by its own rows. 4 to 7 and 16 of a row are a table's (`judgeRow`).
 use Prim.Native.Nat.{ℕ, _+_, _*_}
 use mathlib.Core.Bool.{Bool, not, _&&_}
 use mathlib.Core.List.{List}

@@ -34,6 +34,7 @@ pub record InRange (limits : Limits) (x : Sheet) : Type 0 where
   pub few : limits .fewest ≤ x .n
   pub many : x .n ≤ limits .nodes
   pub rows : TableRows (x .n) (demands (sents (x .rows)))
+  pub count : length (x .rows) ≤ limits .rows
   pub amounts : Each (λ (r : Row). r .d ≤ limits .amount) (demands (sents (x .rows)))
   pub spelled : Spelled x
   -- as many L lines as the ring has links

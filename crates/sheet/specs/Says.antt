@@ -7,16 +7,17 @@ use lib.ListN.{length}
 use Rattle.sonet.specs.Size.{sonetSize}
 use Rattle.ring.specs.Cut.{Cut, IsCut, across}
 use Rattle.ring.specs.Limits.{Limits}
+use Rattle.ring.specs.Row.{PairBefore}
 use Rattle.ring.specs.Routing.{Routed, splitLoad, unsplitLoad, peak}
 use Rattle.ring.specs.Sheet.{Link, Sheet, sents, demands, splitPeak, unsplitPeak, largestSplitOf}
 use Rattle.ring.specs.True.{SumsTo2d, Kept}
 use Rattle.text.specs.Number.{limit}
 use Rattle.text.specs.Shapes.{cutLine, lastLine}
 use Rattle.table.specs.Lines.{lines}
-use Rattle.table.specs.Reasons.{numberOf}
-use Rattle.table.specs.Says.{LineIs, RingIs, WrongRing, NoNode, NotAfter}
+use Rattle.table.specs.Reasons.{rankOf}
+use Rattle.table.specs.Says.{LineIs, RingIs, WrongRing, NoNode}
 use Rattle.table.specs.declared.reason.Reason.{Reason}
-use Rattle.table.specs.declared.reason.Reason.the-variants.{TooLong, Misshapen, RingSize, NoSuchNode, NotBelow, NotAbove, TooMuch, WrongSum, WrongWay, WrongCut, WrongLink, WrongLast, NotTight, OverBound, NoRoom}
+use Rattle.table.specs.declared.reason.Reason.the-variants.{TooLong, Misshapen, RingSize, NoSuchNode, NotBelow, OutOfOrder, TooMany, TooMuch, WrongSum, WrongWay, WrongCut, WrongLink, WrongLast, NotTight, OverBound, NoRoom}
 use Rattle.sheet.specs.WriteSheet.{routedLine, loadLine}
 use Rattle.sheet.specs.Check.{State, start, rows, links, end}
 
@@ -92,7 +93,7 @@ pub record WrongPair (t : List ℕ) (line : ℕ) : Type 0 where
   pub row : RowAt t line r
   pub wrong : r .sent .row .j ≤ r .sent .row .i
 
--- 6: row's nodes not above the row before
+-- 6: row's nodes below the row before, by first node, then second
 pub record WrongOrder (t : List ℕ) (line : ℕ) : Type 0 where
   pub before : ℕ
   pub next : line ≡ before + 1
@@ -100,7 +101,13 @@ pub record WrongOrder (t : List ℕ) (line : ℕ) : Type 0 where
   pub above : RowAt t before q
   pub r : Routed
   pub row : RowAt t line r
-  pub wrong : NotAfter (q .sent .row .i) (q .sent .row .j) (r .sent .row .i) (r .sent .row .j)
+  pub wrong : PairBefore (r .sent .row .i) (r .sent .row .j) (q .sent .row .i) (q .sent .row .j)
+
+-- 16: more than 496 rows
+pub record WrongCount (limits : Limits) (t : List ℕ) (line : ℕ) : Type 0 where
+  pub r : Routed
+  pub row : RowAt t line r
+  pub wrong : limits .rows < length (row .rs) + 1
 
 -- 7: amount over 9,999
 pub record WrongAmount (limits : Limits) (t : List ℕ) (line : ℕ) : Type 0 where
@@ -181,7 +188,8 @@ Says limits t Misshapen line = WrongLine t line
 Says limits t RingSize line = WrongRing limits t line
 Says limits t NoSuchNode line = WrongNode t line
 Says limits t NotBelow line = WrongPair t line
-Says limits t NotAbove line = WrongOrder t line
+Says limits t OutOfOrder line = WrongOrder t line
+Says limits t TooMany line = WrongCount limits t line
 Says limits t TooMuch line = WrongAmount limits t line
 Says limits t WrongSum line = WrongHalves t line
 Says limits t WrongWay line = WrongDirection t line
@@ -204,7 +212,8 @@ stage Misshapen = 0
 stage RingSize = 0
 stage NoSuchNode = 0
 stage NotBelow = 0
-stage NotAbove = 0
+stage OutOfOrder = 0
+stage TooMany = 0
 stage TooMuch = 0
 stage WrongSum = 0
 stage WrongWay = 0
@@ -213,10 +222,10 @@ stage WrongLink = 0
 stage WrongLast = 0
 stage NoRoom = 0
 
--- reason 1, with line 0, is tried first; then lines in order, and in a line the rising reason number; then 13, then 14
+-- reason 1, with line 0, is tried first; then lines in order, and in a line the reasons in their order; then 13, then 14
 abbrev pub Earlier : Reason → ℕ → Reason → ℕ → Type 0
 Earlier r line s other =
-    (stage r < stage s) ⊎ ((stage r ≡ stage s) × ((line < other) ⊎ ((line ≡ other) × (numberOf r < numberOf s))))
+    (stage r < stage s) ⊎ ((stage r ≡ stage s) × ((line < other) ⊎ ((line ≡ other) × (rankOf r < rankOf s))))
 
 -- of the reasons that count, this one is given exactly when it holds and nothing before it in the order does
 pub record GivenAmong (Counts : Reason → Type 0) (limits : Limits) (t : List ℕ) (r : Reason) (line : ℕ) : Type 0 where
@@ -228,13 +237,13 @@ pub record GivenAmong (Counts : Reason → Type 0) (limits : Limits) (t : List �
 abbrev pub NoneAmong : (Reason → Type 0) → Limits → List ℕ → Type 0
 NoneAmong Counts limits t = (r : Reason) (line : ℕ) → Counts r → Says limits t r line → ⊥
 
--- each reason of 01
+-- each reason
 abbrev pub Any : Reason → Type 0
 Any r = Unit {0}
 
--- 8 to 14 are never given
+-- 8 to 14 are never given: what is left comes before 8 in the order
 abbrev pub OfForm : Reason → Type 0
-OfForm r = numberOf r < numberOf WrongSum
+OfForm r = rankOf r < rankOf WrongSum
 
 abbrev pub Given : Limits → List ℕ → Reason → ℕ → Type 0
 Given = GivenAmong Any

@@ -1,19 +1,13 @@
--- What callers need of a text that the desk accepts: its table is in range, so that the arrays have room for its rows; and reading and writing
--- are each other's inverse, from `table-text` both ways.
-use Prim.Native.Nat.{ℕ, _≤_}
+-- Reading and writing a table are each other's inverse, from `table-text` both ways.
+use Prim.Native.Nat.{ℕ}
 use mathlib.Core.List.{List}
 use mathlib.Core.Path.{_≡_, refl, ap, _∙_, sym}
-use lib.ListN.{length}
 use Rattle.ring.specs.Row.{Row}
-use Rattle.ring.specs.Limits.{Limits, desk}
+use Rattle.ring.specs.Limits.{Limits}
 use Rattle.table.specs.Table.{accepted, tableOf, writeTable, InRange}
-use Rattle.table.proofs.Few.{few}
-use Rattle.table.proofs.TableText.{Spelled, desk-spelled, table-text}
+use Rattle.table.proofs.TableText.{Spelled, table-text}
 
 module _ (limits : Limits) (spelled : Spelled limits) where
-  pub accepted-in-range : (t : List ℕ) (n : ℕ) (rs : List Row) → tableOf limits t ≡ accepted n rs → InRange limits n rs
-  accepted-in-range t n rs e = table-text limits spelled t n rs .0 e .1
-
   -- writing what was read gives the same bytes
   pub write-read : (t : List ℕ) (n : ℕ) (rs : List Row) → tableOf limits t ≡ accepted n rs → writeTable n rs ≡ t
   write-read t n rs e = sym (table-text limits spelled t n rs .0 e .0)
@@ -27,13 +21,3 @@ module _ (limits : Limits) (spelled : Spelled limits) where
   same-table n m rs ss r s e =
       let f : accepted n rs ≡ accepted m ss = sym (read-written n rs r) ∙ ap (tableOf limits) e ∙ read-written m ss s in
       (cc, cc)
-
--- ---- a table of the desk
-
-module _ (t : List ℕ) (n : ℕ) (rs : List Row) (e : tableOf desk t ≡ accepted n rs) where
-  pub desk-in-range : InRange desk n rs
-  desk-in-range = accepted-in-range desk desk-spelled t n rs e
-
-  -- the working arrays have room for it
-  pub desk-count : length rs ≤ desk .rows
-  desk-count = few n rs desk-in-range

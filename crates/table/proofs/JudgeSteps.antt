@@ -4,35 +4,40 @@ use mathlib.Core.Bool.{Bool, true, false}
 use mathlib.Core.Path.{_≡_, sym, _∙_}
 use borrow.Author.Tests.{le-leb, lt-leb, lt-ltb, le-ltb}
 use Rattle.ring.specs.Limits.{desk}
-use Rattle.table.specs.Judge.{outside, notAbove, judgeRow}
-use Rattle.table.specs.declared.reason.Reason.the-variants.{NoSuchNode, NotBelow, NotAbove, TooMuch}
+use Rattle.table.specs.Judge.{outside, isBelow, judgeRow}
+use Rattle.table.specs.declared.reason.Reason.the-variants.{NoSuchNode, NotBelow, OutOfOrder, TooMany, TooMuch}
 use Rattle.table.specs.declared.judge.Verdict.the-variants.{Fine, Fault}
 
-module _ (n a b i j d : ℕ) (x : Bool) (ex : x ≡ outside n i) where
-  pub first-missing : x ≡ true → Fault NoSuchNode ≡ judgeRow desk n a b i j d
+module _ (n k a b i j d : ℕ) (x : Bool) (ex : x ≡ outside n i) where
+  pub first-missing : x ≡ true → Fault NoSuchNode ≡ judgeRow desk n k a b i j d
   unfolding judgeRow
   first-missing t = rw (sym ex ∙ t)
 
   module _ (fx : x ≡ false) (y : Bool) (ey : y ≡ outside n j) where
-    pub second-missing : y ≡ true → Fault NoSuchNode ≡ judgeRow desk n a b i j d
+    pub second-missing : y ≡ true → Fault NoSuchNode ≡ judgeRow desk n k a b i j d
     unfolding judgeRow
     second-missing t = rw (sym ex ∙ fx, sym ey ∙ t)
 
     module _ (fy : y ≡ false) where
-      pub backward : j ≤ i → Fault NotBelow ≡ judgeRow desk n a b i j d
+      pub backward : j ≤ i → Fault NotBelow ≡ judgeRow desk n k a b i j d
       unfolding judgeRow
       backward l = rw (sym ex ∙ fx, sym ey ∙ fy, le-leb j i l)
 
-      module _ (l : i < j) (z : Bool) (ez : z ≡ notAbove a b i j) where
-        pub fallen : z ≡ true → Fault NotAbove ≡ judgeRow desk n a b i j d
+      module _ (l : i < j) (z : Bool) (ez : z ≡ isBelow a b i j) where
+        pub fallen : z ≡ true → Fault OutOfOrder ≡ judgeRow desk n k a b i j d
         unfolding judgeRow
         fallen t = rw (sym ex ∙ fx, sym ey ∙ fy, lt-leb j i l, sym ez ∙ t)
 
         module _ (fz : z ≡ false) where
-          pub above-limit : desk .amount < d → Fault TooMuch ≡ judgeRow desk n a b i j d
+          pub one-too-many : desk .rows ≤ k → Fault TooMany ≡ judgeRow desk n k a b i j d
           unfolding judgeRow
-          above-limit m = rw (sym ex ∙ fx, sym ey ∙ fy, lt-leb j i l, sym ez ∙ fz, lt-ltb (desk .amount) d m)
+          one-too-many c = rw (sym ex ∙ fx, sym ey ∙ fy, lt-leb j i l, sym ez ∙ fz, le-leb (desk .rows) k c)
 
-          pub all-fine : d ≤ desk .amount → Fine ≡ judgeRow desk n a b i j d
-          unfolding judgeRow
-          all-fine m = rw (sym ex ∙ fx, sym ey ∙ fy, lt-leb j i l, sym ez ∙ fz, le-ltb (desk .amount) d m)
+          module _ (c : k < desk .rows) where
+            pub above-limit : desk .amount < d → Fault TooMuch ≡ judgeRow desk n k a b i j d
+            unfolding judgeRow
+            above-limit m = rw (sym ex ∙ fx, sym ey ∙ fy, lt-leb j i l, sym ez ∙ fz, lt-leb (desk .rows) k c, lt-ltb (desk .amount) d m)
+
+            pub all-fine : d ≤ desk .amount → Fine ≡ judgeRow desk n k a b i j d
+            unfolding judgeRow
+            all-fine m = rw (sym ex ∙ fx, sym ey ∙ fy, lt-leb j i l, sym ez ∙ fz, lt-leb (desk .rows) k c, le-ltb (desk .amount) d m)

@@ -5,13 +5,13 @@ use mathlib.Core.Logic.{_⊎_, inl, inr}
 use mathlib.Core.Path.{_≡_}
 use native.Mathlib.Omega.{arith}
 use native.Mathlib.Decide.{decLt, decLe, ℕ-discrete}
-use lib.Dec.{leb}
+use lib.Dec.{ltb}
 use borrow.Author.Tests.{lt-ltb, le-ltb, le-leb, lt-leb, eq-eqb, ne-eqb}
-use Rattle.ring.specs.Row.{row, OnRing, PairBefore}
+use Rattle.ring.specs.Row.{row, OnRing, PairBefore, PairUpTo}
 use Rattle.ring.specs.Limits.{Limits}
-use Rattle.table.specs.Says.{NoNode, NotAfter}
-use Rattle.table.specs.Judge.{judgeRing, outside, notAbove, judgeRow}
-use Rattle.table.specs.declared.reason.Reason.the-variants.{RingSize, NoSuchNode, NotBelow, NotAbove, TooMuch}
+use Rattle.table.specs.Says.{NoNode}
+use Rattle.table.specs.Judge.{judgeRing, outside, isBelow, judgeRow}
+use Rattle.table.specs.declared.reason.Reason.the-variants.{RingSize, NoSuchNode, NotBelow, OutOfOrder, TooMany, TooMuch}
 use Rattle.table.specs.declared.judge.Verdict.{Verdict}
 use Rattle.table.specs.declared.judge.Verdict.the-variants.{Fine, Fault}
 
@@ -62,43 +62,51 @@ node n i =
 -- ---- two rows' nodes
 
 data Order (a b i j : ℕ) : Type 0 where
-  falls : NotAfter a b i j → notAbove a b i j ≡ true → Order a b i j
-  rises : PairBefore a b i j → notAbove a b i j ≡ false → Order a b i j
+  falls : PairBefore i j a b → isBelow a b i j ≡ true → Order a b i j
+  keeps : PairUpTo a b i j → isBelow a b i j ≡ false → Order a b i j
 
 order : (a b i j : ℕ) → Order a b i j
-unfolding notAbove
+unfolding isBelow
 order a b i j =
     elim (decLt i a) [
       | yes l ↦ falls (inl l) (rw (lt-ltb i a l))
       | no l ↦ elim (ℕ-discrete i a) [
-        | yes e ↦ elim (decLe j b) [ yes m ↦ falls (inr (e, m)) (same (omega arith) e (le-leb j b m)) | no m ↦ rises (inr (omega arith, omega arith)) (same (omega arith) e (lt-leb j b (omega arith))) ]
-        | no n ↦ rises (inl (omega arith)) (let k : a ≤ i = omega arith in rw (le-ltb i a k, ne-eqb i a n))
+        | yes e ↦ elim (decLt j b) [ yes m ↦ falls (inr (e, m)) (same (omega arith) e (lt-ltb j b m)) | no m ↦ keeps (inr (omega arith, omega arith)) (same (omega arith) e (le-ltb j b (omega arith))) ]
+        | no n ↦ keeps (inl (omega arith)) (let k : a ≤ i = omega arith in rw (le-ltb i a k, ne-eqb i a n))
       ]
     ]
   where
-    same : {t : Bool} → a ≤ i → i ≡ a → leb j b ≡ t → notAbove a b i j ≡ t
+    same : {t : Bool} → a ≤ i → i ≡ a → ltb j b ≡ t → isBelow a b i j ≡ t
     same l e f = rw (le-ltb i a l, eq-eqb i a e) f
 
--- ---- a row
+-- ---- a row, behind k rows
 
-pub data RowJudged (limits : Limits) (n a b i j d : ℕ) : Verdict → Type 0 where
-  no-such-node : NoNode n i ⊎ NoNode n j → RowJudged limits n a b i j d (Fault NoSuchNode)
-  not-below : HasNode n i → HasNode n j → j ≤ i → RowJudged limits n a b i j d (Fault NotBelow)
-  not-above : HasNode n i → HasNode n j → i < j → NotAfter a b i j → RowJudged limits n a b i j d (Fault NotAbove)
-  too-much : HasNode n i → HasNode n j → i < j → PairBefore a b i j → limits .amount < d → RowJudged limits n a b i j d (Fault TooMuch)
-  row-fine : OnRing n (row i j d) → PairBefore a b i j → d ≤ limits .amount → RowJudged limits n a b i j d Fine
+pub data RowJudged (limits : Limits) (n k a b i j d : ℕ) : Verdict → Type 0 where
+  no-such-node : NoNode n i ⊎ NoNode n j → RowJudged limits n k a b i j d (Fault NoSuchNode)
+  not-below : HasNode n i → HasNode n j → j ≤ i → RowJudged limits n k a b i j d (Fault NotBelow)
+  out-of-order : HasNode n i → HasNode n j → i < j → PairBefore i j a b → RowJudged limits n k a b i j d (Fault OutOfOrder)
+  too-many : HasNode n i → HasNode n j → i < j → PairUpTo a b i j → limits .rows ≤ k → RowJudged limits n k a b i j d (Fault TooMany)
+  too-much : HasNode n i → HasNode n j → i < j → PairUpTo a b i j → k < limits .rows → limits .amount < d → RowJudged limits n k a b i j d (Fault TooMuch)
+  row-fine : OnRing n (row i j d) → PairUpTo a b i j → k < limits .rows → d ≤ limits .amount → RowJudged limits n k a b i j d Fine
 
-pub row-judged : (limits : Limits) (n a b i j d : ℕ) → RowJudged limits n a b i j d (judgeRow limits n a b i j d)
+pub row-judged : (limits : Limits) (n k a b i j d : ℕ) → RowJudged limits n k a b i j d (judgeRow limits n k a b i j d)
 unfolding judgeRow
-row-judged limits n a b i j d = go (node n i) (node n j) (decLe j i) (order a b i j) (decLt (limits .amount) d)
+row-judged limits n k a b i j d = go (node n i) (node n j) (decLe j i) (order a b i j) (decLe (limits .rows) k) (decLt (limits .amount) d)
   where
-    go : Node n i → Node n j → Dec (j ≤ i) → Order a b i j → Dec (limits .amount < d) → RowJudged limits n a b i j d (judgeRow limits n a b i j d)
-    go (no-node u e) s t o m = rw e (no-such-node (inl u))
-    go (has-node u e) (no-node v f) t o m = rw (e, f) (no-such-node (inr v))
-    go (has-node u e) (has-node v f) (yes l) o m = rw (e, f, le-leb j i l) (not-below u v l)
-    go (has-node u e) (has-node v f) (no l) (falls w g) m = let k : i < j = omega arith in rw (e, f, lt-leb j i k, g) (not-above u v k w)
-    go (has-node u e) (has-node v f) (no l) (rises w g) (yes m) = let k : i < j = omega arith in rw (e, f, lt-leb j i k, g, lt-ltb (limits .amount) d m) (too-much u v k w m)
-    go (has-node u e) (has-node v f) (no l) (rises w g) (no m) =
-        let k : i < j = omega arith in
+    go : Node n i → Node n j → Dec (j ≤ i) → Order a b i j → Dec (limits .rows ≤ k) → Dec (limits .amount < d)
+        → RowJudged limits n k a b i j d (judgeRow limits n k a b i j d)
+    go (no-node u e) s t o c m = rw e (no-such-node (inl u))
+    go (has-node u e) (no-node v f) t o c m = rw (e, f) (no-such-node (inr v))
+    go (has-node u e) (has-node v f) (yes l) o c m = rw (e, f, le-leb j i l) (not-below u v l)
+    go (has-node u e) (has-node v f) (no l) (falls w g) c m = let q : i < j = omega arith in rw (e, f, lt-leb j i q, g) (out-of-order u v q w)
+    go (has-node u e) (has-node v f) (no l) (keeps w g) (yes c) m =
+        let q : i < j = omega arith in rw (e, f, lt-leb j i q, g, le-leb (limits .rows) k c) (too-many u v q w c)
+    go (has-node u e) (has-node v f) (no l) (keeps w g) (no c) (yes m) =
+        let q : i < j = omega arith in
+        let r : k < limits .rows = omega arith in
+        rw (e, f, lt-leb j i q, g, lt-leb (limits .rows) k r, lt-ltb (limits .amount) d m) (too-much u v q w r m)
+    go (has-node u e) (has-node v f) (no l) (keeps w g) (no c) (no m) =
+        let q : i < j = omega arith in
+        let r : k < limits .rows = omega arith in
         let h : d ≤ limits .amount = omega arith in
-        rw (e, f, lt-leb j i k, g, le-ltb (limits .amount) d h) (row-fine (record { low = u .0; order = k; high = v .1 }) w h)
+        rw (e, f, lt-leb j i q, g, lt-leb (limits .rows) k r, le-ltb (limits .amount) d h) (row-fine (record { low = u .0; order = q; high = v .1 }) w r h)

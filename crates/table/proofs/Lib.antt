@@ -3,13 +3,11 @@
 -- the laws
 pub mod TableText
 pub mod ReasonsGiven
-pub mod Few
 pub mod Accepted
 pub mod Unique
 -- how they are shown
 pub mod Judged
 pub mod Against
-pub mod Rank
 pub mod FineRows
 pub mod LineRead
 pub mod LinesOf

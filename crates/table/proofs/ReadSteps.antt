@@ -6,7 +6,7 @@ use mathlib.Core.Path.{_≡_, refl, ap, _∙_, sym}
 use native.Mathlib.Omega.{arith}
 use lib.ListN.{length, replicate, set, take, drop, drop-of-length-le, length-append}
 use borrow.Author.Tests.{lt-ltb, le-ltb}
-use Rattle.ring.specs.Row.{Row, row, OnRing, PairBefore}
+use Rattle.ring.specs.Row.{Row, row}
 use Rattle.text.specs.ReadLine.{readLine}
 use Rattle.text.specs.Answers.{oneIn, threeIn}
 use Rattle.text.specs.Shapes.{ringShape, rowShape}
@@ -27,21 +27,16 @@ use Rattle.table.specs.declared.judge.Verdict.{Verdict}
 use Rattle.table.specs.declared.judge.Verdict.the-variants.{Fine, Fault}
 use Rattle.table.specs.declared.read.Table.{Table}
 use Rattle.table.specs.declared.read.Answer.the-variants.{Is}
-use Rattle.table.proofs.Judged.{RingJudged, right-size, ring-judged, RowJudged, row-fine, row-judged}
+use Rattle.table.proofs.Judged.{RowJudged, row-fine, row-judged}
 use Rattle.table.proofs.LineSteps.{line-at}
-use Rattle.table.proofs.Rank.{rank, rank-up, rank-most}
 use Rattle.table.proofs.Columns.{column-more}
 
--- what holds of a row that nothing is found against
-record FineRow (n a b i j d : ℕ) : Type 0 where
-  on : OnRing n (row i j d)
-  rises : PairBefore a b i j
-
-fine-row : (n a b i j d : ℕ) (v : Verdict) → v ≡ judgeRow desk n a b i j d → v ≡ Fine → FineRow n a b i j d
-fine-row n a b i j d v e f = let q = sym e ∙ f in go (rw q at (row-judged desk n a b i j d))
+-- where nothing is found against a row, there is room for it
+has-room : (n k a b i j d : ℕ) (v : Verdict) → v ≡ judgeRow desk n k a b i j d → v ≡ Fine → k < desk .rows
+has-room n k a b i j d v e f = let q = sym e ∙ f in go (rw q at (row-judged desk n k a b i j d))
   where
-    go : RowJudged desk n a b i j d Fine → FineRow n a b i j d
-    go (row-fine on rises most) = record { on = on; rises = rises }
+    go : RowJudged desk n k a b i j d Fine → k < desk .rows
+    go (row-fine on order room most) = room
 
 -- the rows of the lines from the place `from` on
 abbrev whole : List ℕ → ℕ → ℕ → Result
@@ -56,9 +51,7 @@ pub record Reading (s : List ℕ) (n from line a b count at : ℕ) (first second
   pub seconds : second ≡ column (λ (r : Row). r .j) (desk .rows) rows
   pub amounts : amount ≡ column (λ (r : Row). r .d) (desk .rows) rows
   pub lined : line ≡ count + 2
-  pub ranked : count ≤ rank a b
   pub most : count ≤ desk .rows
-  pub low : b ≤ desk .nodes
   pub within : at ≤ length s
 
 -- arrays that hold no row are zero
@@ -76,9 +69,7 @@ reading-starts s n from w =
       seconds = refl;
       amounts = refl;
       lined = refl;
-      ranked = omega arith;
       most = omega arith;
-      low = omega arith;
       within = w;
     }
 
@@ -94,39 +85,31 @@ module _ (s : List ℕ) (n from line a b count at : ℕ) (first second amount : 
     unfolding rowsOf
     no-row p t q e = e ∙ ap tableIn (rw (reading .rest, line-at s at end there ends, ← ex, q))
 
-    module _ (i j d : ℕ) (is : x ≡ AreThree i j d) (v : Verdict) (ev : v ≡ judgeRow desk n a b i j d) where
+    module _ (i j d : ℕ) (is : x ≡ AreThree i j d) (v : Verdict) (ev : v ≡ judgeRow desk n count a b i j d) where
+      found : judgeRow desk n (length (reading .rows)) a b i j d ≡ v
+      found = let e = reading .many in rw (← e) (sym ev)
+
       -- something is found against it
       pub row-fault : (reason : Reason) (t : Table) → v ≡ Fault reason → t ≡ tableIn (refused reason line) → t ≡ tableIn (whole s n from)
       unfolding rowsOf
-      row-fault reason t q e = e ∙ ap tableIn (rw (reading .rest, line-at s at end there ends, ← ex, is, ← ev, q))
+      row-fault reason t q e = e ∙ ap tableIn (rw (reading .rest, line-at s at end there ends, ← ex, is, found, q))
 
-      module _ (fine : v ≡ Fine) (few : n ≤ desk .nodes) where
-        up : count + 1 ≤ rank i j
-        up =
-            let r = fine-row n a b i j d v ev fine in
-            omega (arith, reading .ranked, rank-up a b i j (reading .low) (r .rises) (r .on .low) (r .on .order))
-
-        -- there is room for it
+      module _ (fine : v ≡ Fine) where
         pub room : count < desk .rows
-        room =
-            let r = fine-row n a b i j d v ev fine in
-            omega (arith, up, rank-most i j (r .on .low) (r .on .order) (omega (arith, r .on .high)))
+        room = has-room n count a b i j d v ev fine
 
         pub reads-row : Reading s n from (line + 1) i j (count + 1) end (set first count i) (set second count j) (set amount count d)
         unfolding rowsOf
         reads-row =
-            let r = fine-row n a b i j d v ev fine in
             record {
               rows = reading .rows ++ row i j d ∷ [];
-              rest = reading .rest ∙ rw (line-at s at end there ends, ← ex, is, ← ev, fine);
+              rest = reading .rest ∙ rw (line-at s at end there ends, ← ex, is, found, fine);
               many = omega (arith, reading .many, length-append (reading .rows) (row i j d ∷ []));
               firsts = rw (reading .firsts) (column-more (λ (r : Row). r .i) (desk .rows) (reading .rows) (row i j d) count (reading .many));
               seconds = rw (reading .seconds) (column-more (λ (r : Row). r .j) (desk .rows) (reading .rows) (row i j d) count (reading .many));
               amounts = rw (reading .amounts) (column-more (λ (r : Row). r .d) (desk .rows) (reading .rows) (row i j d) count (reading .many));
               lined = omega (arith, reading .lined);
-              ranked = up;
               most = omega (arith, room);
-              low = omega (arith, r .on .high);
               within = ends .within;
             }
 
@@ -161,9 +144,3 @@ module _ (s : List ℕ) (t : Table) where
       pub then-rows : v ≡ Fine → t ≡ tableIn (whole s n end) → t ≡ tableIn (tableOf desk s)
       unfolding tableOf
       then-rows q e = e ∙ ap tableIn (rw (le-ltb (desk .bytes) (length s) short, first-line, ← ex, is, ← ev, q))
-
-pub ring-fits : (n : ℕ) (v : Verdict) → v ≡ judgeRing desk n → v ≡ Fine → n ≤ desk .nodes
-ring-fits n v e f = let q = sym e ∙ f in go (rw q at (ring-judged desk n))
-  where
-    go : RingJudged desk n Fine → n ≤ desk .nodes
-    go (right-size l m) = m

@@ -6,7 +6,7 @@ use mathlib.Core.Logic.{inl, inr, _↔_}
 use mathlib.Core.Path.{_≡_, refl, sym, subst}
 use native.Mathlib.Omega.{arith}
 use native.Mathlib.Decide.{decLt}
-use lib.ListN.{length}
+use lib.ListN.{length, length-append}
 use borrow.Author.Tests.{ltb-true, ltb-false}
 use Rattle.ring.specs.Row.{Row, row}
 use Rattle.ring.proofs.Side.{cond-elim}
@@ -15,7 +15,7 @@ use Rattle.text.specs.declared.ThreeNumbers.{ThreeNumbers}
 use Rattle.ring.specs.Limits.{Limits}
 use Rattle.table.specs.Lines.{lines}
 use Rattle.table.specs.Judge.{judgeRing, judgeRow}
-use Rattle.table.specs.Reasons.{numberOf}
+use Rattle.table.specs.Reasons.{rankOf}
 use Rattle.table.specs.Table.{Result, accepted, refused, ringOr, rowOr, unless, rowsOf, tableLines, tableOf}
 use Rattle.table.specs.Says.{RingIs, RowIs, Says, Earlier, Given, Accepted}
 use Rattle.table.specs.declared.reason.Reason.{Reason}
@@ -25,7 +25,7 @@ use Rattle.table.specs.declared.judge.Verdict.the-variants.{Fine, Fault}
 use Rattle.table.proofs.Judged.{ring-judged, row-judged}
 use Rattle.table.proofs.LineRead.{RingRead, is-ring, no-ring, ring-read, RowRead, is-row, no-row, row-read}
 use Rattle.table.proofs.LineNumbers.{line-one, LinesFrom, from-first, from-next, line-here, no-line-left}
-use Rattle.table.proofs.ReasonNumbers.{same-reason}
+use Rattle.table.proofs.ReasonNumbers.{same-rank}
 use Rattle.table.proofs.Said.{said, Stands, on-none, on-first, on-later, stands}
 use Rattle.table.proofs.FirstOnLine.{FirstOnLine, no-ring-first, no-row-first, ring-judged-first, RowBefore, no-row-before, row-before, row-judged-first}
 
@@ -81,23 +81,23 @@ module _ {limits : Limits} {t : List ℕ} where
       go (on-first e two) = clean .none s other (omega arith) h
       go (on-later m is two) = clean .none s other (no-line-left from is) h
 
-  rows-right : {n : ℕ} → RingIs t n → (ls : List (List ℕ)) (line a b : ℕ) (rs : List Row) → LinesFrom (lines t) line ls → 2 ≤ line → Clean limits t line
+  rows-right : {n : ℕ} → RingIs t n → (ls : List (List ℕ)) (line a b : ℕ) (rs : List Row) → LinesFrom (lines t) line ls → line ≡ length rs + 2 → Clean limits t line
       → RowBefore t line a b → Right limits t (rowsOf limits n line a b rs ls)
   unfolding rowsOf rowOr
-  rows-right ring [] line a b rs from later clean before = none-holds (clean-end later from clean)
-  rows-right {n} ring (l ∷ ls) line a b rs from later clean before =
-      go (row-read l) (λ i j d. rows-right ring ls (line + 1) i j (rs ++ row i j d ∷ []) (from-next from) (omega arith))
+  rows-right ring [] line a b rs from place clean before = none-holds (clean-end (omega arith) from clean)
+  rows-right {n} ring (l ∷ ls) line a b rs from place clean before =
+      go (row-read l) (λ i j d. rows-right ring ls (line + 1) i j (rs ++ row i j d ∷ []) (from-next from) (omega (arith, length-append rs (row i j d ∷ []))))
     where
       next : ℕ → ℕ → ℕ → Result
       next i j d = rowsOf limits n (line + 1) i j (rs ++ row i j d ∷ []) ls
 
       go : {x : ThreeNumbers} → RowRead l x → ((i j d : ℕ) → Clean limits t (line + 1) → RowBefore t (line + 1) i j → Right limits t (next i j d))
-          → Right limits t (rowOr x line λ i j d. unless (judgeRow limits n a b i j d) line (next i j d))
+          → Right limits t (rowOr x line λ i j d. unless (judgeRow limits n (length rs) a b i j d) line (next i j d))
       go (is-row {i} {j} {d} e w) rest =
-          let now : RowIs t line i j d = record { later = later; text = rw e at (line-here from); spelled = w } in
-          unless-right _ clean (row-judged-first ring now before (row-judged limits n a b i j d)) (λ c. rest i j d c (row-before now))
+          let now : RowIs t line i j d = record { later = omega arith; text = rw e at (line-here from); spelled = w } in
+          unless-right _ clean (row-judged-first ring now place before (row-judged limits n (length rs) a b i j d)) (λ c. rest i j d c (row-before now))
       go (no-row none) rest =
-          first-holds (given-here clean (no-row-first later (line-here from) (λ i j d r. none i j d (line-one (line-here from) (r .text) refl) (r .spelled))))
+          first-holds (given-here clean (no-row-first (omega arith) (line-here from) (λ i j d r. none i j d (line-one (line-here from) (r .text) refl) (r .spelled))))
 
   lines-right : length t ≤ limits .bytes → (ls : List (List ℕ)) → LinesFrom (lines t) 1 ls → Right limits t (tableLines limits ls)
   unfolding tableLines ringOr
@@ -108,7 +108,7 @@ module _ {limits : Limits} {t : List ℕ} where
       go (is-ring {n} e w) =
           let ring : RingIs t n = record { text = rw e at (line-here from); spelled = w } in
           unless-right _ (clean-start short) (ring-judged-first ring (ring-judged limits n))
-          (λ c. rows-right ring ls 2 0 0 [] (from-next from) (omega arith) c no-row-before)
+          (λ c. rows-right ring ls 2 0 0 [] (from-next from) refl c no-row-before)
       go (no-ring none) =
           first-holds (given-here (clean-start short) (no-ring-first (λ n r. none n (line-one (line-here from) (r .text) refl) (r .spelled))))
 
@@ -137,9 +137,9 @@ one-given {r} {s} {line} {other} f g =
     let a : line < other → ⊥ = λ l. g .first r line (inl l) (f .holds) in
     let b : other < line → ⊥ = λ l. f .first s other (inl l) (g .holds) in
     let e : line ≡ other = omega arith in
-    let c : numberOf r < numberOf s → ⊥ = λ l. g .first r line (inr (e, l)) (f .holds) in
-    let d : numberOf s < numberOf r → ⊥ = λ l. f .first s other (inr (sym e, l)) (g .holds) in
-    (same-reason r s (omega arith), e)
+    let c : rankOf r < rankOf s → ⊥ = λ l. g .first r line (inr (e, l)) (f .holds) in
+    let d : rankOf s < rankOf r → ⊥ = λ l. f .first s other (inr (sym e, l)) (g .holds) in
+    (same-rank r s (omega arith), e)
 
 pub given : (limits : Limits) (t : List ℕ) (r : Reason) (line : ℕ) → (tableOf limits t ≡ refused r line) ↔ Given limits t r line
 given limits t r line = (λ e. there (subst (Right limits t) e (right limits t)), λ g. back g (right limits t))

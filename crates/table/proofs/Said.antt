@@ -1,16 +1,17 @@
--- What is said of a text, as one view: its seven reasons by cases, their numbers, and on which line each can stand.
+-- What is said of a text, as one view: its eight reasons by cases, their order, and on which line each can stand.
 use Prim.Native.Nat.{ℕ, _≤_, _<_}
 use mathlib.Core.List.{List}
 use mathlib.Core.Logic.{inl, inr}
-use mathlib.Core.Path.{_≡_}
+use mathlib.Core.Path.{_≡_, subst}
 use native.Mathlib.Omega.{arith}
 use lib.ListN.{length}
 use Rattle.ring.specs.Limits.{Limits}
 use Rattle.table.specs.Lines.{lines}
-use Rattle.table.specs.Reasons.{numberOf}
-use Rattle.table.specs.Says.{LineIs, NoRingLine, NoRowLine, WrongRing, WrongNode, WrongPair, WrongOrder, WrongAmount, Says}
+use Rattle.table.specs.Reasons.{numberOf, rankOf}
+use Rattle.table.specs.Says.{LineIs, NoRingLine, NoRowLine, WrongRing, WrongNode, WrongPair, WrongOrder, WrongCount, WrongAmount, Says}
 use Rattle.table.specs.declared.reason.Reason.{Reason}
-use Rattle.table.specs.declared.reason.Reason.the-variants.{TooLong, Misshapen, RingSize, NoSuchNode, NotBelow, NotAbove, TooMuch, WrongSum, WrongWay, WrongCut, WrongLink, WrongLast, NotTight, OverBound, NoRoom}
+use Rattle.table.specs.declared.reason.Reason.the-variants.{TooLong, Misshapen, RingSize, NoSuchNode, NotBelow, OutOfOrder, TooMany, TooMuch, WrongSum, WrongWay, WrongCut, WrongLink, WrongLast, NotTight, OverBound, NoRoom}
+use Rattle.table.proofs.ReasonNumbers.{same-reason}
 
 pub data Said (limits : Limits) (t : List ℕ) (line : ℕ) : Reason → Type 0 where
   too-long : line ≡ 0 → limits .bytes < length t → Said limits t line TooLong
@@ -19,7 +20,8 @@ pub data Said (limits : Limits) (t : List ℕ) (line : ℕ) : Reason → Type 0 
   wrong-ring : WrongRing limits t line → Said limits t line RingSize
   wrong-node : WrongNode t line → Said limits t line NoSuchNode
   wrong-pair : WrongPair t line → Said limits t line NotBelow
-  wrong-order : WrongOrder t line → Said limits t line NotAbove
+  wrong-order : WrongOrder t line → Said limits t line OutOfOrder
+  wrong-count : WrongCount limits t line → Said limits t line TooMany
   wrong-amount : WrongAmount limits t line → Said limits t line TooMuch
 
 module _ {limits : Limits} {t : List ℕ} {line : ℕ} where
@@ -31,7 +33,8 @@ module _ {limits : Limits} {t : List ℕ} {line : ℕ} where
   said RingSize h = wrong-ring h
   said NoSuchNode h = wrong-node h
   said NotBelow h = wrong-pair h
-  said NotAbove h = wrong-order h
+  said OutOfOrder h = wrong-order h
+  said TooMany h = wrong-count h
   said TooMuch h = wrong-amount h
   said WrongSum h = absurd h
   said WrongWay h = absurd h
@@ -44,9 +47,9 @@ module _ {limits : Limits} {t : List ℕ} {line : ℕ} where
 
 -- reason 1 stands on line 0, and every other on the first line or on a later one that is there
 pub data Stands (limits : Limits) (t : List ℕ) (line : ℕ) (r : Reason) : Type 0 where
-  on-none : line ≡ 0 → limits .bytes < length t → 1 ≤ numberOf r → Stands limits t line r
-  on-first : line ≡ 1 → 2 ≤ numberOf r → Stands limits t line r
-  on-later : {l : List ℕ} → 2 ≤ line → LineIs (lines t) line l → 2 ≤ numberOf r → Stands limits t line r
+  on-none : line ≡ 0 → limits .bytes < length t → 1 ≤ rankOf r → Stands limits t line r
+  on-first : line ≡ 1 → 2 ≤ rankOf r → Stands limits t line r
+  on-later : {l : List ℕ} → 2 ≤ line → LineIs (lines t) line l → 2 ≤ rankOf r → Stands limits t line r
 
 pub stands : {limits : Limits} {t : List ℕ} {line : ℕ} {r : Reason} → Said limits t line r → Stands limits t line r
 stands (too-long z h) = on-none z h (omega arith)
@@ -56,15 +59,10 @@ stands (wrong-ring h) = on-first (h .at) (omega arith)
 stands (wrong-node h) = on-later (h .row .later) (h .row .text) (omega arith)
 stands (wrong-pair h) = on-later (h .row .later) (h .row .text) (omega arith)
 stands (wrong-order h) = on-later (h .row .later) (h .row .text) (omega arith)
+stands (wrong-count h) = on-later (h .row .later) (h .row .text) (omega arith)
 stands (wrong-amount h) = on-later (h .row .later) (h .row .text) (omega arith)
 
--- what judges a table is one of the reasons 1 to 7
-pub up-to-7 : {limits : Limits} {t : List ℕ} {line : ℕ} {r : Reason} → Said limits t line r → numberOf r ≤ numberOf TooMuch
-up-to-7 (too-long z h) = omega arith
-up-to-7 (no-ring-line h) = omega arith
-up-to-7 (no-row-line h) = omega arith
-up-to-7 (wrong-ring h) = omega arith
-up-to-7 (wrong-node h) = omega arith
-up-to-7 (wrong-pair h) = omega arith
-up-to-7 (wrong-order h) = omega arith
-up-to-7 (wrong-amount h) = omega arith
+-- 15 judges no table
+pub not-15 : (limits : Limits) (t : List ℕ) (line : ℕ) (r : Reason) → Says limits t r line → numberOf r ≡ numberOf NoRoom → ⊥
+unfolding Says
+not-15 limits t line r h e = subst (λ s. Says limits t s line) (same-reason r NoRoom e) h

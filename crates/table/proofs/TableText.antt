@@ -5,7 +5,7 @@ use mathlib.Core.List.{List, [], _∷_, _++_, append-assoc, append-nil, flatten}
 use mathlib.Core.Logic.{_↔_}
 use mathlib.Core.Path.{_≡_, refl, ap, _∙_, sym, subst}
 use native.Mathlib.Omega.{arith}
-use lib.ListN.{length}
+use lib.ListN.{length, length-append}
 use borrow.Author.Tests.{le-ltb, ltb-false}
 use Rattle.ring.specs.Row.{Row, row}
 use Rattle.ring.proofs.Side.{cond-elim}
@@ -22,7 +22,7 @@ use Rattle.table.specs.declared.judge.Verdict.{Verdict}
 use Rattle.table.specs.declared.judge.Verdict.the-variants.{Fine, Fault}
 use Rattle.table.proofs.Judged.{RingJudged, right-size, ring-judged, RowJudged, row-fine, row-judged}
 use Rattle.table.proofs.Against.{fine-ring-judged, fine-row-judged}
-use Rattle.table.proofs.FineRows.{FineRows, no-row, fine-row, fine-rows, table-rows, amounts-fine}
+use Rattle.table.proofs.FineRows.{FineRows, no-row, fine-row, fine-rows, table-rows, amounts-fine, count-fine}
 use Rattle.table.proofs.LineRead.{ring-line-read, RingRead, is-ring, no-ring, ring-read, RowSpelled, row-line-read, RowRead, is-row, no-row as no-row-line, row-read}
 use Rattle.table.proofs.LinesOf.{join-lines, ring-first, row-first}
 
@@ -36,20 +36,21 @@ desk-spelled = record { nodes = omega arith; amount = omega arith }
 
 -- ---- read, so written
 
--- rows behind a, b and behind the rows rs, as the lines ls are read to them
+-- rows behind the rows rs, of which the last is a, b, as the lines ls are read to them
 data RowsRead (limits : Limits) (n a b : ℕ) (rs : List Row) (ls : List (List ℕ)) : Result → Type 0 where
-  rows-are : {all : List Row} (more : List Row) → all ≡ rs ++ more → flatten ls ≡ writeRows more → FineRows limits n a b more
+  rows-are : {all : List Row} (more : List Row) → all ≡ rs ++ more → flatten ls ≡ writeRows more → FineRows limits n (length rs) a b more
       → RowsRead limits n a b rs ls (accepted n all)
   rows-refused : {r : Reason} {line : ℕ} → RowsRead limits n a b rs ls (refused r line)
 
 module _ {limits : Limits} {n : ℕ} where
   -- one row more in front
   row-more : (line : ℕ) {a b i j d : ℕ} {rs : List Row} {l : List ℕ} {ls : List (List ℕ)} {v : Verdict} {x : Result} → l ≡ rowLine i j d
-      → RowJudged limits n a b i j d v → RowsRead limits n i j (rs ++ row i j d ∷ []) ls x → RowsRead limits n a b rs (l ∷ ls) (unless v line x)
+      → RowJudged limits n (length rs) a b i j d v → RowsRead limits n i j (rs ++ row i j d ∷ []) ls x → RowsRead limits n a b rs (l ∷ ls) (unless v line x)
   unfolding unless writeRows flatten
   row-more line {v = Fault r} e w rest = rows-refused
-  row-more line {i} {j} {d} {rs} {v = Fine} e (row-fine o up m) (rows-are more whole text fine) =
-      rows-are (row i j d ∷ more) (whole ∙ append-assoc rs (row i j d ∷ []) more) (rw (e, text)) (fine-row o up m fine)
+  row-more line {i} {j} {d} {rs} {v = Fine} e (row-fine o up c m) (rows-are more whole text fine) =
+      let one = length-append rs (row i j d ∷ []) in
+      rows-are (row i j d ∷ more) (whole ∙ append-assoc rs (row i j d ∷ []) more) (rw (e, text)) (fine-row o up c m (subst (λ k. FineRows limits n k i j more) one fine))
   row-more line {v = Fine} e w rows-refused = rows-refused
 
   rows-read : (ls : List (List ℕ)) (line a b : ℕ) (rs : List Row) → RowsRead limits n a b rs ls (rowsOf limits n line a b rs ls)
@@ -61,8 +62,8 @@ module _ {limits : Limits} {n : ℕ} where
       next i j d = rowsOf limits n (line + 1) i j (rs ++ row i j d ∷ []) ls
 
       go : {x : ThreeNumbers} → RowRead l x → ((i j d : ℕ) → RowsRead limits n i j (rs ++ row i j d ∷ []) ls (next i j d))
-          → RowsRead limits n a b rs (l ∷ ls) (rowOr x line λ i j d. unless (judgeRow limits n a b i j d) line (next i j d))
-      go (is-row {i} {j} {d} e w) rest = row-more line e (row-judged limits n a b i j d) (rest i j d)
+          → RowsRead limits n a b rs (l ∷ ls) (rowOr x line λ i j d. unless (judgeRow limits n (length rs) a b i j d) line (next i j d))
+      go (is-row {i} {j} {d} e w) rest = row-more line e (row-judged limits n (length rs) a b i j d) (rest i j d)
       go (no-row-line none) rest = rows-refused
 
 -- what a text is read to
@@ -81,6 +82,7 @@ module _ {limits : Limits} {t : List ℕ} (short : length t ≤ limits .bytes) w
         few = few;
         many = many;
         rows = rw is (table-rows fine);
+        count = omega (arith, count-fine fine (omega arith), ap length is);
         amounts = rw is (amounts-fine fine);
         short = omega (arith, ap length written);
       })
@@ -103,14 +105,14 @@ table-read limits t =
 -- ---- written, so read
 
 module _ (limits : Limits) (spelled : Spelled limits) (n : ℕ) (many : n ≤ limits .nodes) where
-  written-rows-read : (line : ℕ) (rs : List Row) {a b : ℕ} {more : List Row} → FineRows limits n a b more
+  written-rows-read : (line : ℕ) (rs : List Row) {k a b : ℕ} {more : List Row} → length rs ≡ k → FineRows limits n k a b more
       → rowsOf limits n line a b rs (lines (writeRows more)) ≡ accepted n (rs ++ more)
   unfolding rowsOf rowOr unless writeRows lines
-  written-rows-read line rs no-row = ap (accepted n) (sym (append-nil rs))
-  written-rows-read line rs {a} {b} (fine-row {r = r} {rs = more} o up m fine) =
+  written-rows-read line rs e no-row = ap (accepted n) (sym (append-nil rs))
+  written-rows-read line rs {k} {a} {b} e (fine-row {r = r} {rs = more} o up c m fine) =
       let w : RowSpelled (r .i) (r .j) (r .d) = (omega (arith, o .order, o .high), (omega (arith, o .high), omega arith)) in
-      rw (row-first (r .i) (r .j) (r .d) w (writeRows more), row-line-read (r .i) (r .j) (r .d) w, fine-row-judged limits n a b (r .i) (r .j) (r .d) o up m)
-      (written-rows-read (line + 1) (rs ++ r ∷ []) fine ∙ ap (accepted n) (append-assoc rs (r ∷ []) more))
+      rw (row-first (r .i) (r .j) (r .d) w (writeRows more), row-line-read (r .i) (r .j) (r .d) w, e, fine-row-judged limits n k a b (r .i) (r .j) (r .d) o up c m)
+      (written-rows-read (line + 1) (rs ++ r ∷ []) (omega (arith, length-append rs (r ∷ []))) fine ∙ ap (accepted n) (append-assoc rs (r ∷ []) more))
 
 written-read : (limits : Limits) → Spelled limits → (n : ℕ) (rs : List Row) → InRange limits n rs → tableOf limits (writeTable n rs) ≡ accepted n rs
 unfolding tableOf tableLines ringOr unless writeTable
@@ -121,7 +123,7 @@ written-read limits spelled n rs range =
       ring-first n w (writeRows rs),
       ring-line-read n w,
       fine-ring-judged limits n (range .few) (range .many),
-    ) (written-rows-read limits spelled n (range .many) 2 [] (fine-rows (range .rows) (range .amounts)))
+    ) (written-rows-read limits spelled n (range .many) 2 [] refl (fine-rows (range .rows) (range .count) (range .amounts)))
 
 -- ---- both
 

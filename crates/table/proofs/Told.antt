@@ -15,7 +15,6 @@ use Rattle.table.specs.declared.reason.Reason.{Reason}
 use Rattle.table.specs.declared.read.Table.{Table}
 use Rattle.table.specs.declared.read.Answer.the-variants.{Is, Refused}
 use Rattle.table.proofs.TableText.{desk-spelled, table-text}
-use Rattle.table.proofs.Few.{few}
 use Rattle.table.proofs.Columns.{rows-back}
 
 pub record Told (s : List ℕ) (n count : ℕ) (first second amount : List ℕ) : Type 0 where
@@ -29,7 +28,7 @@ module _ (s : List ℕ) (t : Table) where
       let p : Is n count ≡ Is m (length rs) = sym a ∙ ap (λ (x : Table). x .answer) e in
       let kn : n ≡ m = cc in
       let kc : count ≡ length rs = cc in
-      let h : length rs ≤ desk .rows = few m rs (table-text desk desk-spelled s m rs .0 q .1) in
+      let h : length rs ≤ desk .rows = table-text desk desk-spelled s m rs .0 q .1 .count in
       let ef : t .first ≡ column (λ (r : Row). r .i) (desk .rows) rs = ap (λ (x : Table). x .first) e in
       let es : t .second ≡ column (λ (r : Row). r .j) (desk .rows) rs = ap (λ (x : Table). x .second) e in
       let ea : t .amount ≡ column (λ (r : Row). r .d) (desk .rows) rs = ap (λ (x : Table). x .amount) e in

@@ -36,5 +36,5 @@ line-end-unique s at r q a b = same-result (a .is) (b .is)
 pub judge-ring-unique : (n : ℕ) (r q : Verdict) → r ≡ judgeRing desk n → q ≡ judgeRing desk n → r ≡ q
 judge-ring-unique n r q = same-result
 
-pub judge-row-unique : (n a b i j d : ℕ) (r q : Verdict) → r ≡ judgeRow desk n a b i j d → q ≡ judgeRow desk n a b i j d → r ≡ q
-judge-row-unique n a b i j d r q = same-result
+pub judge-row-unique : (n k a b i j d : ℕ) (r q : Verdict) → r ≡ judgeRow desk n k a b i j d → q ≡ judgeRow desk n k a b i j d → r ≡ q
+judge-row-unique n k a b i j d r q = same-result

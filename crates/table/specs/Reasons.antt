@@ -1,7 +1,7 @@
--- 01's numbers of the reasons (01, "Reasons and their order").
+-- 01's numbers of the reasons (01, "Reasons and their order"; 02, K1), and the order in which they are tried.
 use Prim.Native.Nat.{ℕ}
 use Rattle.table.specs.declared.reason.Reason.{Reason}
-use Rattle.table.specs.declared.reason.Reason.the-variants.{TooLong, Misshapen, RingSize, NoSuchNode, NotBelow, NotAbove, TooMuch, WrongSum, WrongWay, WrongCut, WrongLink, WrongLast, NotTight, OverBound, NoRoom}
+use Rattle.table.specs.declared.reason.Reason.the-variants.{TooLong, Misshapen, RingSize, NoSuchNode, NotBelow, OutOfOrder, TooMany, TooMuch, WrongSum, WrongWay, WrongCut, WrongLink, WrongLast, NotTight, OverBound, NoRoom}
 
 abbrev pub numberOf : Reason → ℕ
 -- text over 32,768 bytes
@@ -14,8 +14,10 @@ numberOf RingSize = 3
 numberOf NoSuchNode = 4
 -- first node not below second
 numberOf NotBelow = 5
--- row's nodes not above the row before, by first node, then second
-numberOf NotAbove = 6
+-- row's nodes below the row before, by first node, then second
+numberOf OutOfOrder = 6
+-- more than 496 rows
+numberOf TooMany = 16
 -- amount over 9,999
 numberOf TooMuch = 7
 -- front + back is not 2 x amount
@@ -34,3 +36,22 @@ numberOf NotTight = 13
 numberOf OverBound = 14
 -- lent buffer shorter than the text to be written
 numberOf NoRoom = 15
+
+-- their order: by rising number, but 16 stands between 6 and 7
+abbrev pub rankOf : Reason → ℕ
+rankOf TooLong = 1
+rankOf Misshapen = 2
+rankOf RingSize = 3
+rankOf NoSuchNode = 4
+rankOf NotBelow = 5
+rankOf OutOfOrder = 6
+rankOf TooMany = 7
+rankOf TooMuch = 8
+rankOf WrongSum = 9
+rankOf WrongWay = 10
+rankOf WrongCut = 11
+rankOf WrongLink = 12
+rankOf WrongLast = 13
+rankOf NotTight = 14
+rankOf OverBound = 15
+rankOf NoRoom = 16

@@ -7,10 +7,11 @@ use lib.ListN.{length}
 use Rattle.text.specs.Number.{limit}
 use Rattle.text.specs.Shapes.{ringLine, rowLine}
 use Rattle.ring.specs.Limits.{Limits}
+use Rattle.ring.specs.Row.{PairBefore}
 use Rattle.table.specs.Lines.{lines}
-use Rattle.table.specs.Reasons.{numberOf}
+use Rattle.table.specs.Reasons.{rankOf}
 use Rattle.table.specs.declared.reason.Reason.{Reason}
-use Rattle.table.specs.declared.reason.Reason.the-variants.{TooLong, Misshapen, RingSize, NoSuchNode, NotBelow, NotAbove, TooMuch, WrongSum, WrongWay, WrongCut, WrongLink, WrongLast, NotTight, OverBound, NoRoom}
+use Rattle.table.specs.declared.reason.Reason.the-variants.{TooLong, Misshapen, RingSize, NoSuchNode, NotBelow, OutOfOrder, TooMany, TooMuch, WrongSum, WrongWay, WrongCut, WrongLink, WrongLast, NotTight, OverBound, NoRoom}
 
 -- ---- lines
 
@@ -35,10 +36,6 @@ pub record RowIs (t : List ℕ) (line i j d : ℕ) : Type 0 where
 -- a node outside 1..n
 abbrev pub NoNode : ℕ → ℕ → Type 0
 NoNode n i = (i < 1) ⊎ (n < i)
-
--- the row i, j is not above the row a, b, by first node, then second
-abbrev pub NotAfter : ℕ → ℕ → ℕ → ℕ → Type 0
-NotAfter a b i j = (i < a) ⊎ ((i ≡ a) × (j ≤ b))
 
 -- 2: the first line is missing, or is no R line; a later line is no D line
 pub record NoRingLine (t : List ℕ) (line : ℕ) : Type 0 where
@@ -76,7 +73,7 @@ pub record WrongPair (t : List ℕ) (line : ℕ) : Type 0 where
   pub row : RowIs t line i j d
   pub wrong : j ≤ i
 
--- 6: row's nodes not above the row before
+-- 6: row's nodes below the row before, by first node, then second
 pub record WrongOrder (t : List ℕ) (line : ℕ) : Type 0 where
   pub before : ℕ
   pub next : line ≡ before + 1
@@ -88,7 +85,15 @@ pub record WrongOrder (t : List ℕ) (line : ℕ) : Type 0 where
   pub j : ℕ
   pub d : ℕ
   pub row : RowIs t line i j d
-  pub wrong : NotAfter a b i j
+  pub wrong : PairBefore i j a b
+
+-- 16: more than 496 rows; the first stands on line 2
+pub record WrongCount (limits : Limits) (t : List ℕ) (line : ℕ) : Type 0 where
+  pub i : ℕ
+  pub j : ℕ
+  pub d : ℕ
+  pub row : RowIs t line i j d
+  pub wrong : limits .rows + 1 < line
 
 -- 7: amount over 9,999
 pub record WrongAmount (limits : Limits) (t : List ℕ) (line : ℕ) : Type 0 where
@@ -105,7 +110,8 @@ Says limits t Misshapen line = NoRingLine t line ⊎ NoRowLine t line
 Says limits t RingSize line = WrongRing limits t line
 Says limits t NoSuchNode line = WrongNode t line
 Says limits t NotBelow line = WrongPair t line
-Says limits t NotAbove line = WrongOrder t line
+Says limits t OutOfOrder line = WrongOrder t line
+Says limits t TooMany line = WrongCount limits t line
 Says limits t TooMuch line = WrongAmount limits t line
 -- the others judge no table
 Says limits t WrongSum line = ⊥
@@ -119,9 +125,9 @@ Says limits t NoRoom line = ⊥
 
 -- ---- which is given
 
--- reason 1, with line 0, is tried first; then lines in order, and in a line the rising reason number
+-- reason 1, with line 0, is tried first; then lines in order, and in a line the reasons in their order
 abbrev pub Earlier : Reason → ℕ → Reason → ℕ → Type 0
-Earlier r line s other = (line < other) ⊎ ((line ≡ other) × (numberOf r < numberOf s))
+Earlier r line s other = (line < other) ⊎ ((line ≡ other) × (rankOf r < rankOf s))
 
 -- each reason is given exactly when it holds and nothing before it in the order does
 pub record Given (limits : Limits) (t : List ℕ) (r : Reason) (line : ℕ) : Type 0 where

@@ -1,4 +1,4 @@
--- Reading a table: reason 1 first, then lines in order, and in a line by rising reason; and writing one.
+-- Reading a table: reason 1 first, then lines in order, and in a line the reasons in their order; and writing one.
 use Prim.Native.Nat.{ℕ, _+_, _≤_}
 use mathlib.Core.Bool.{cond}
 use mathlib.Core.List.{List, [], _∷_, _++_}
@@ -48,7 +48,7 @@ unfolding rowOr unless
 rowsOf limits n line a b rs [] = accepted n rs
 rowsOf limits n line a b rs (l ∷ ls) =
     rowOr (threeIn (readLine rowShape l)) line λ i j d.
-    unless (judgeRow limits n a b i j d) line
+    unless (judgeRow limits n (length rs) a b i j d) line
     (rowsOf limits n (line + 1) i j (rs ++ row i j d ∷ []) ls)
 
 -- R n, then rows; a missing first line is line 1
@@ -76,5 +76,6 @@ pub record InRange (limits : Limits) (n : ℕ) (rs : List Row) : Type 0 where
   pub few : limits .fewest ≤ n
   pub many : n ≤ limits .nodes
   pub rows : TableRows n rs
+  pub count : length rs ≤ limits .rows
   pub amounts : Each (λ r. r .d ≤ limits .amount) rs
   pub short : length (writeTable n rs) ≤ limits .bytes

@@ -3,9 +3,10 @@ use crate::reason::Reason;
 use ring::AMOUNT;
 use ring::FEWEST;
 use ring::NODES;
+use ring::ROWS;
 ghost use mathlib.Core.Path.{_≡_};
 ghost use Rattle.ring.specs.Limits.{desk};
-ghost use Rattle.table.specs.Judge.{judgeRing, outside, notAbove, judgeRow};
+ghost use Rattle.table.specs.Judge.{judgeRing, outside, isBelow, judgeRow};
 
 pub enum Verdict {
     Fine,
@@ -32,16 +33,16 @@ fn no_node(n: u32, i: u32) -> bool
     i < 1 || n < i
 }
 
-// Whether the row i, j is not above the row a, b.
-fn not_above(a: u32, b: u32, i: u32, j: u32) -> bool
-    ensures { λ r. ⌜ r ≡ notAbove a b i j ⌝ }
+// Whether the row i, j is below the row a, b.
+fn is_below(a: u32, b: u32, i: u32, j: u32) -> bool
+    ensures { λ r. ⌜ r ≡ isBelow a b i j ⌝ }
 {
-    i < a || (i == a && j <= b)
+    i < a || (i == a && j < b)
 }
 
-// The row i, j of d, behind the row a, b (0, 0 where there is none), on a ring of n nodes.
-pub fn judge_row(n: u32, a: u32, b: u32, i: u32, j: u32, d: u32) -> Verdict
-    ensures { λ r. ⌜ r ≡ judgeRow desk n a b i j d ⌝ }
+// The row i, j of d on a ring of n nodes, behind k rows of which the last is a, b (0, 0 where there is none).
+pub fn judge_row(n: u32, k: usize, a: u32, b: u32, i: u32, j: u32, d: u32) -> Verdict
+    ensures { λ r. ⌜ r ≡ judgeRow desk n k a b i j d ⌝ }
 {
     let no_first = no_node(n, i);
     if no_first {
@@ -54,9 +55,12 @@ pub fn judge_row(n: u32, a: u32, b: u32, i: u32, j: u32, d: u32) -> Verdict
     if j <= i {
         return Verdict::Fault(Reason::NotBelow);
     }
-    let fallen = not_above(a, b, i, j);
+    let fallen = is_below(a, b, i, j);
     if fallen {
-        return Verdict::Fault(Reason::NotAbove);
+        return Verdict::Fault(Reason::OutOfOrder);
+    }
+    if ROWS <= k {
+        return Verdict::Fault(Reason::TooMany);
     }
     if AMOUNT < d {
         return Verdict::Fault(Reason::TooMuch);

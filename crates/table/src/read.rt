@@ -44,7 +44,7 @@ fn refusal(reason: Reason, line: u32) -> Table
 
 // The rows of a ring of n nodes, from the place `from` on.
 fn read_rows(s: &[u8], from: usize, n: u32) -> Table
-    requires { ⌜ (from ≤ length (now s)) × (n ≤ desk .nodes) ⌝ }
+    requires { ⌜ from ≤ length (now s) ⌝ }
     ensures { λ r. ⌜ r ≡ tableIn (rowsOf desk n 2 0 0 [] (lines (drop from (now (s .entry))))) ⌝ }
 {
     let mut first = [0u32; ROWS];
@@ -63,7 +63,7 @@ fn read_rows(s: &[u8], from: usize, n: u32) -> Table
                 return refusal(Reason::Misshapen, line);
             }
             ThreeNumbers::Are(i, j, d) => {
-                let verdict = judge_row(n, a, b, i, j, d);
+                let verdict = judge_row(n, count, a, b, i, j, d);
                 match verdict {
                     Verdict::Fault(reason) => {
                         return refusal(reason, line);

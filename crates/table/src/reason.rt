@@ -1,4 +1,4 @@
-// The reasons of 01's table, in its order. Tables use the first seven and, where a buffer is lent, the last.
+// The reasons of 01's table and of 02's K1, in their order. Tables use the first eight and, where a buffer is lent, the last.
 ghost use mathlib.Core.Path.{_≡_};
 ghost use Rattle.table.specs.Reasons.{numberOf};
 
@@ -8,7 +8,8 @@ pub enum Reason {
     RingSize,
     NoSuchNode,
     NotBelow,
-    NotAbove,
+    OutOfOrder,
+    TooMany,
     TooMuch,
     WrongSum,
     WrongWay,
@@ -21,7 +22,7 @@ pub enum Reason {
 }
 
 impl Reason {
-    // 01's number.
+    // Its number.
     pub fn number(self) -> u32
         ensures { λ r. ⌜ r ≡ numberOf self ⌝ }
     {
@@ -31,7 +32,8 @@ impl Reason {
             Reason::RingSize => 3,
             Reason::NoSuchNode => 4,
             Reason::NotBelow => 5,
-            Reason::NotAbove => 6,
+            Reason::OutOfOrder => 6,
+            Reason::TooMany => 16,
             Reason::TooMuch => 7,
             Reason::WrongSum => 8,
             Reason::WrongWay => 9,

@@ -1,5 +1,5 @@
 -- A row is judged by the definition's tests in their order: one law of `JudgeSteps` for each `return`.
-use Rattle.table.proofs.JudgeSteps.{first-missing, second-missing, backward, fallen, above-limit, all-fine}
+use Rattle.table.proofs.JudgeSteps.{first-missing, second-missing, backward, fallen, one-too-many, above-limit, all-fine}
 use borrow.Author.Needs.{needs}
 use Rattle.table.proofs.judge.judge_row.Statement.{statement}
 use Rattle.table.proofs.judge.judge_row.Tie as tie
@@ -19,17 +19,20 @@ returns-2 c = search second-missing
 returns-3 : tie.Need-returns-3
 returns-3 c = search backward
 
-not-above-requires : tie.Need-not-above-requires
-not-above-requires c κs = search needs
+is-below-requires : tie.Need-is-below-requires
+is-below-requires c κs = search needs
 
 returns-4 : tie.Need-returns-4
 returns-4 c = search fallen
 
 returns-5 : tie.Need-returns-5
-returns-5 c = search above-limit
+returns-5 c = search one-too-many
 
 returns-6 : tie.Need-returns-6
-returns-6 c = search all-fine
+returns-6 c = search above-limit
+
+returns-7 : tie.Need-returns-7
+returns-7 c = search all-fine
 
 pub judge-row-spec : {M : Type 1} → statement M
 judge-row-spec =
@@ -40,7 +43,8 @@ judge-row-spec =
     no-node-requires-2
     returns-2
     returns-3
-    not-above-requires
+    is-below-requires
     returns-4
     returns-5
-    returns-6)
+    returns-6
+    returns-7)

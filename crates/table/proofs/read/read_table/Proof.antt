@@ -1,5 +1,5 @@
 -- A table: its length, its first line and its rows, each way out by one law of `ReadSteps`.
-use Rattle.table.proofs.ReadSteps.{too-long, no-line, no-ring, ring-fault, then-rows, ring-fits}
+use Rattle.table.proofs.ReadSteps.{too-long, no-line, no-ring, ring-fault, then-rows}
 use borrow.Author.Needs.{needs}
 use Rattle.table.proofs.read.read_table.Statement.{statement}
 use Rattle.table.proofs.read.read_table.Tie as tie
@@ -59,7 +59,7 @@ enum-told-2 : tie.Need-enum-told-2
 enum-told-2 c = search needs
 
 read-rows-requires : tie.Need-read-rows-requires
-read-rows-requires c κs = search (ring-fits, needs)
+read-rows-requires c κs = search needs
 
 returns-5 : tie.Need-returns-5
 returns-5 c = search then-rows
