@@ -1,11 +1,13 @@
 #!/usr/bin/env python3
-"""Writes crates/cases/stdin and stdout: stored cases for the public calls, and the answers that document 01 gives them.
+"""Writes crates/cases/stdin and stdout: stored cases for the public calls, and the answers that document 01 and K1 of 02 give them.
 
-The answers come from the reading of 01 in reading.py and rules.py and from nothing else: no source of the project is used. Run it by hand after adding a case
-and look at the difference; the tests only compare what the program writes with what is stored."""
+The answers come from the reading of these in reading.py and rules.py and from nothing else: no source of the project is used. Run it by hand after adding a
+case and look at the difference; the tests only compare what the program writes with what is stored."""
 import functools
+import itertools
 import random
 
+import circuits
 import rules
 import sheets
 from reading import Sheet, fields, first_reason, first_reason_of_sheet, holding, lines_of, rewritten
@@ -80,23 +82,25 @@ def refusals():
 
 
 def single_faults():
-    """Rows with one fault alone, on the first, a middle and the last line of a longer table whose rows rise."""
+    """Rows with one fault alone or with none, on the first, a middle and the last line of a longer table whose rows rise."""
     n = 12
     good = [(k, k + 2, 100 * k) for k in range(1, n - 1)]
     for k in (1, 5, len(good)):
         faults = {
             4: [(k, n + 1, 1), (k, 9999999, 1)],
             5: [(k, k, 1), (k + 1, k, 1)],
-            6: [(k - 1, k + 1, 1), (k - 1, k, 1), (k - 2, n, 1)],
+            6: [(k - 1, k, 1), (k - 2, n, 1)],
             7: [(k, k + 2, 10000), (k, k + 2, 9999999)],
+            # the nodes of the row before
+            None: [(k - 1, k + 1, 1)],
         }
         if k == 1:
             faults[4] += [(0, 2, 1)]
-            faults[6] = []
+            faults[6] = faults[None] = []
         for reason, rows in faults.items():
             for row in rows:
                 text = write_table(n, good[:k - 1] + [row] + good[k:])
-                assert holding(lines_of(text), k + 1) == {reason}, text
+                assert holding(lines_of(text), k + 1) == {reason} - {None}, text
                 yield text
 
 
@@ -180,9 +184,20 @@ def all_cases():
         text = write_table(n, rows)
         if len(text) > 1500 and k % 8:
             text = b"".join(lines_of(text)[:40])
-        if k % 4:
-            text = damaged(rng, text)
-        yield text, rng.choice([0, max(0, len(text) - 1), len(text), len(text) + 1, ROOM])
+        yield by_chance(rng, k, text)
+    for text in circuits.tables():
+        yield text, ROOM
+    for text in [*(text for text, _ in circuits.routed_by_hand()), write_table(32, [(31, 32, 9999)] * 496)]:
+        yield from rooms(text)
+    for k, (n, rows) in enumerate(circuits.small_tables(rng)):
+        yield by_chance(rng, k, write_table(n, rows))
+
+
+def by_chance(rng, k, text):
+    """The text, damaged three times out of four, and a buffer of about its length."""
+    if k % 4:
+        text = damaged(rng, text)
+    return text, rng.choice([0, max(0, len(text) - 1), len(text), len(text) + 1, ROOM])
 
 
 def to_route():
@@ -197,7 +212,7 @@ def to_route():
         (t("R|2", "D|1|2|768"), t("Z|768|768")),
         (t("R|2", "D|1|2|769"), t("Z|769|0")),
     ]
-    for text, part in stated:
+    for text, part in stated + circuits.routed_by_hand():
         assert part in written("R", text), text
         for room in around(text):
             yield text, room
@@ -206,14 +221,22 @@ def to_route():
     yield b"", 200
     yield b"\n" * 32769, ROOM
     rng = random.Random(496)
-    for text in sheets.full_tables(rng):
+    for text in [*sheets.full_tables(rng), *(write_table(n, rows) for n, rows in circuits.tables_of_496())]:
         for room in around(text):
             yield text, room
-    for k in range(60):
-        n = rng.choice([2, 3, 4, 6, 9, 16, 20])
-        rows = [p + (rng.choice([0, 1, 2, rng.randrange(10000), 9999]),) for p in pairs(n) if rng.random() < rng.choice([0.1, 0.5])]
+    for n, rows in itertools.chain(thin_tables(rng), circuits.small_tables(rng)):
         text = write_table(n, rows)
         yield text, rng.choice([ROOM, *around(text)])
+    for n, rows in circuits.tables_of_496():
+        yield write_table(n, rows + rows[-1:]), ROOM
+    for text in itertools.islice(circuits.tables(), 0, None, 4):
+        yield text, ROOM
+
+
+def thin_tables(rng):
+    for _ in range(60):
+        n = rng.choice([2, 3, 4, 6, 9, 16, 20])
+        yield n, [p + (rng.choice([0, 1, 2, rng.randrange(10000), 9999]),) for p in pairs(n) if rng.random() < rng.choice([0.1, 0.5])]
 
 
 def around(text):
@@ -225,7 +248,7 @@ def around(text):
 def of_sheets():
     """Each sheet is checked. Those that pass the lines, the first of each reason and some others are asked for a pair and written afresh too."""
     met = set()
-    for k, text in enumerate(dict.fromkeys(sheets.all_texts())):
+    for k, text in enumerate(dict.fromkeys([*sheets.all_texts(), *circuits.sheets()])):
         reason = (refused("C", text) or (0, 0))[0]
         yield "C", text, 0
         if reason in (0, 13, 14) or reason not in met or k % 12 == 0:
@@ -233,7 +256,7 @@ def of_sheets():
             yield "P", text, 0
             yield "S", text, (need, need + 1, max(need - 1, 0), 0)[k % 4]
         met.add(reason)
-    for text in sheets.rewritten_often():
+    for text in [*sheets.rewritten_often(), *circuits.rewritten_often()]:
         for room in (0, 1, len(text) - 1, len(text), len(text) + 1, ROOM):
             yield "S", text, max(room, 0)
 

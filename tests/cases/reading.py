@@ -1,8 +1,10 @@
-"""Which refusal a table or a sheet gets, read from 01 alone: the reasons that hold of each line are collected, each judged by its own words, and
-the one that 01's order puts first is given."""
+"""Which refusal a table or a sheet gets, read from 01 and K1 of 02 alone: the reasons that hold of each line are collected, each judged by its own
+words, and the one that their order puts first is given."""
 import rules
 
-LONGEST = 32768
+LONGEST, MOST_ROWS = 32768, 496
+# by rising number, but K1's 16 stands between 6 and 7
+ORDER = (1, 2, 3, 4, 5, 6, 16, 7, 8, 9, 10, 11, 12, 13, 14)
 # what follows the letter of a sheet's line: numbers, and for a row its way
 SHEET = {"R": 1, "D": 5, "C": 3, "L": 3, "Z": 2}
 
@@ -33,12 +35,13 @@ def lines_of(text):
     return out
 
 
-def of_row(ring, before, row):
-    """4 to 7, which speak of a row's nodes and amount."""
+def of_row(ring, before, at, row):
+    """4 to 7 and 16, which speak of a row's nodes, place and amount. Line 2 has the first row."""
     return {
         4: ring and not all(1 <= node <= ring[0] for node in row[:2]),
         5: row[0] >= row[1],
-        6: before and row[:2] <= before[:2],
+        6: before and row[:2] < before[:2],
+        16: at - 1 > MOST_ROWS,
         7: row[2] > 9999,
     }
 
@@ -54,17 +57,22 @@ def holding(lines, at):
         return those({2: ring is None, 3: ring and not 2 <= ring[0] <= 32})
     row = fields(lines[at - 1], b"D", 3)
     before = fields(lines[at - 2], b"D", 3) if at > 2 else None
-    return {2} if row is None else those(of_row(ring, before, row))
+    return {2} if row is None else those(of_row(ring, before, at, row))
+
+
+def first_of(held):
+    """Of lines and reasons that hold there, what is given: on the least line the first in the order, and that line. None where nothing holds."""
+    line, reason = min(held, key=lambda one: (one[0], ORDER.index(one[1])), default=(None, None))
+    return reason and (reason, line)
 
 
 def first_reason(text):
-    """The reason that is given, and its line: the least line and in it the least reason; 1 stands on line 0. None where no reason holds."""
+    """The reason that a table gets, and its line; 1 stands on line 0."""
     lines = lines_of(text)
     held = {(0, 1)} if len(text) > LONGEST else set()
     for at in range(1, max(1, len(lines)) + 1):
         held |= {(at, reason) for reason in holding(lines, at)}
-    line, reason = min(held, default=(None, None))
-    return reason and (reason, line)
+    return first_of(held)
 
 
 def values(line, letter):
@@ -118,7 +126,7 @@ class Sheet:
         before = self.said(at - 1) if at > 2 else None
         whole = not (front > 0 and back > 0)
         own = {8: front + back != 2 * d, 9: whole and way != ("F" if back == 0 else "B")}
-        return {**of_row(self.ring, before, row), **own}
+        return {**of_row(self.ring, before, at, row), **own}
 
     def of_C(self, at, cut):
         g, h, across = cut
@@ -154,12 +162,7 @@ def first_reason_of_sheet(text):
     if len(text) > LONGEST:
         return 1, 0
     sheet = Sheet(text)
-    held = sheet.held()
-    if held:
-        line, reason = min(held)
-        return reason, line
-    last = those(sheet.of_all())
-    return (min(last), 0) if last else None
+    return first_of(sheet.held()) or first_of((0, reason) for reason in those(sheet.of_all()))
 
 
 def rewritten(text):

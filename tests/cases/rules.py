@@ -1,4 +1,5 @@
-"""Rules A to D of document 01, the figures of a sheet and its text, read from 01 alone: sums are taken afresh wherever a rule speaks of one."""
+"""Rules A to D of document 01, the figures of a sheet and its text, read from 01 and K1 of 02 alone: sums are taken afresh wherever a rule speaks
+of one."""
 
 import functools
 
@@ -37,6 +38,7 @@ def rule_b(n, rows, m):
 
 
 def rule_c(rows, sent):
+    """Of two rows with the same nodes the earlier is the outer (K1)."""
     for a in range(len(rows)):
         for b in range(a + 1, len(rows)):
             if not (all(sent[a]) and all(sent[b])):

@@ -80,12 +80,17 @@ def by_hand():
     ]
 
 
-def numbers_to_try():
-    for (reason, line, *pair), text in stated() + by_hand():
+def asserted(stated):
+    """Texts for which a reason, a line and a pair are stated: these are what our reading says."""
+    for (reason, line, *pair), text in stated:
         sheet = Sheet(text)
         assert (first_reason_of_sheet(text) or (0, 0)) == (reason, line), text
         assert reason or rules.first_parallel(sheet.rows, sheet.sent) == tuple(pair), text
         yield text
+
+
+def numbers_to_try():
+    return asserted(stated() + by_hand())
 
 
 # the table whose sheet is spoilt: rows whole either way, a row of 0, and two split rows that cross, one F and one B
@@ -154,15 +159,15 @@ def changed(lines, at, **new):
 
 
 def alone(reason, at, lines):
-    """A text of which this reason alone holds on this line, and none on a line before."""
+    """A text of which this reason alone holds on this line, 0 for no reason, and none on a line before."""
     text = t(*lines)
     held = {one for one in Sheet(text).held() if one[0] <= at + 1}
-    assert held == {(at + 1, reason)}, (text, held)
+    assert held == ({(at + 1, reason)} if reason else set()), (text, held)
     return text
 
 
 def rows_refused():
-    """3 to 9, each alone, on the first, a middle and the last row."""
+    """3 to 9, each alone, on the first, a middle and the last row; nodes of the row before are no reason."""
     lines = good()
     for n in (0, 1, 33, 9999999):
         yield alone(3, 0, changed(lines, 0, f1=n))
@@ -175,7 +180,7 @@ def rows_refused():
         yield alone(5, at, changed(lines, at, f1=j, f2=j - 1) if at > rows[0] else changed(lines, at, f1=j, f2=i))
         if at > rows[0]:
             before = lines[at - 1].split("|")
-            yield alone(6, at, changed(lines, at, f1=before[1], f2=before[2]))
+            yield alone(0, at, changed(lines, at, f1=before[1], f2=before[2]))
             yield alone(6, at, changed(lines, at, f1=1, f2=2))
         for amount, f, b in ((10000, 20000, 0), (10000, 1, 19999), (9999999, 9999999, 9999999), (10000, 10000, 10000)):
             yield alone(7, at, changed(lines, at, f3=amount, f4=f, f5=b, f6="F"))

@@ -1,8 +1,8 @@
 //! Checking a sheet: 01, "Table and sheet text" and "Reasons and their order",
-//! reasons 1 to 14, and the question for a parallel pair.
+//! reasons 1 to 14, 02's reason 16, and the question for a parallel pair.
 
 use crate::rules::{self, Cut, Plan, Sent, Way};
-use crate::table::{self, refuse, Line, Refusal, Table};
+use crate::table::{self, refuse, Line, Refusal, RowReason, Table, ROW_REASONS};
 
 /// What the lines of a sheet say, as far as they have been read.
 #[derive(Clone, Debug)]
@@ -17,9 +17,11 @@ pub struct Sheet {
 /// link in question is the last one. A no is the refusal.
 pub type Question = fn(&Sheet) -> bool;
 
-/// The questions behind the reasons 8 to 14.
+/// The reasons that a row has in a table too, and the questions behind the
+/// reasons 8 to 14.
 #[derive(Clone, Copy)]
 pub struct Questions {
+    pub rows: &'static [RowReason],
     pub sum: Question,
     pub way: Question,
     pub cut: Question,
@@ -30,6 +32,7 @@ pub struct Questions {
 }
 
 pub const QUESTIONS: Questions = Questions {
+    rows: &ROW_REASONS,
     sum,
     way,
     cut,
@@ -201,7 +204,7 @@ impl<'a> Reader<'a> {
         let Some((numbers, way)) = row_fields(&line) else {
             return refuse(2, number);
         };
-        let row = table::judge_row(&numbers, number, &self.sheet.table)?;
+        let row = table::judge_row(&numbers, number, &self.sheet.table, questions.rows)?;
         let (front, back) = (numbers[3], numbers[4]);
         self.sheet.table.rows.push(row);
         self.sheet.plan.sent.push(Sent { front, back });

@@ -3,6 +3,7 @@
 //! reader that reads another text.
 
 use crate::check::{self, Questions, Sheet, QUESTIONS};
+use crate::row_faults::{first_rows, too_many_lines, MANY_NEVER};
 use crate::rules::{self, Cut};
 use crate::table::{Refusal, Row};
 use crate::twin::{Pair, Reply, Said};
@@ -16,6 +17,7 @@ pub fn yes(_: &Sheet) -> bool {
 /// A sheet that nothing is known of.
 fn blank(text: &[u8]) -> Sheet {
     let accept = Questions {
+        rows: QUESTIONS.rows,
         sum: yes,
         way: yes,
         cut: yes,
@@ -128,6 +130,27 @@ pub fn missing_is_last(text: &[u8]) -> Result<Sheet, Refusal> {
         let line = refusal.line.min(lines);
         Refusal { line, ..refusal }
     })
+}
+
+pub fn sheet_many_first(text: &[u8]) -> Result<Sheet, Refusal> {
+    check::read(text).map_err(|refusal| too_many_lines(text, refusal))
+}
+
+/// The reasons of a row by rising number: 16 comes last.
+pub fn many_after_9(text: &[u8]) -> Result<Sheet, Refusal> {
+    let rows = &MANY_NEVER;
+    let never = Questions { rows, ..QUESTIONS };
+    check::read(text).map_err(|refusal| match check::read_asking(text, &never) {
+        Err(other) if refusal.reason == 16 && other.line == refusal.line => other,
+        _ => refusal,
+    })
+}
+
+pub fn sheet_without_many(text: &[u8]) -> Result<Sheet, Refusal> {
+    match check::read(text) {
+        Err(refusal) if refusal.reason == 16 => check::read(&first_rows(text)),
+        read => read,
+    }
 }
 
 // Faults of the reply where no buffer is lent.
@@ -341,6 +364,10 @@ fn both_split(sheet: &Sheet, first: usize, second: usize) -> bool {
     rules::is_split(&sent[first]) && rules::is_split(&sent[second])
 }
 
+pub fn same_nodes(one: &Row, two: &Row) -> bool {
+    (one.i, one.j) == (two.i, two.j)
+}
+
 fn are_parallel(sheet: &Sheet, first: usize, second: usize) -> bool {
     !rules::cross(&sheet.table.rows[first], &sheet.table.rows[second])
 }
@@ -396,6 +423,10 @@ pub fn pair_shared(sheet: &Sheet) -> Option<(usize, usize)> {
     pair_where(sheet, |one, two| {
         one.i != two.i && one.j != two.j && one.j != two.i
     })
+}
+
+pub fn pair_other_nodes(sheet: &Sheet) -> Option<(usize, usize)> {
+    pair_where(sheet, |one, two| !same_nodes(one, two))
 }
 
 pub fn pair_disjoint(sheet: &Sheet) -> Option<(usize, usize)> {

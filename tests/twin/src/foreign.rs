@@ -143,8 +143,9 @@ fn of_rows(n: i64, g: i64, h: i64, mut filled: Vec<Filled>) -> (Table, Plan) {
     (table, plan)
 }
 
-/// Rows that all cross one another, each halved: every load is the sum of all
-/// amounts. The more rows go the same way, the nearer is the bound.
+/// Rows that all cross one another but for circuits, each halved: every load is
+/// the sum of all amounts. The more rows go the same way, the nearer is the
+/// bound.
 pub fn crossing(rng: &mut Rng, n: i64) -> (Table, Plan) {
     let half = n / 2;
     let amounts = rng.pick(&[
@@ -157,6 +158,10 @@ pub fn crossing(rng: &mut Rng, n: i64) -> (Table, Plan) {
     table.rows.retain(|row| row.j - row.i == half);
     let kept = rng.between(2, 8) as usize;
     table.rows.retain(|_| rng.chance(kept, 8));
+    if !table.rows.is_empty() && rng.chance(1, 4) {
+        let count = table.rows.len() + rng.below(3);
+        gen::more_circuits(rng, &mut table, count);
+    }
     let mut filled = turned(rng, &table);
     if rng.chance(1, 2) {
         whole_rows(rng, n, &mut filled);
@@ -181,20 +186,15 @@ fn whole_rows(rng: &mut Rng, n: i64, filled: &mut Vec<Filled>) {
             d,
         },
     );
-    let all: Vec<Row> = filled.iter().map(|(row, _, _)| *row).collect();
-    let new = |one: &Row| all.iter().all(|row| (row.i, row.j) != (one.i, one.j));
-    if inner == outer || !new(&inner) || !new(&outer) {
-        return;
-    }
     let (front, back) = (2 * d, 0);
     filled.push((inner, Sent { front, back }, Way::F));
     let (front, back) = (0, 2 * d);
     filled.push((outer, Sent { front, back }, Way::B));
 }
 
-/// Rows that all have one end on either side of a cut, each halved; one row is
-/// large, so that the bound leaves room.
-pub fn all_across(rng: &mut Rng, n: i64) -> (Table, Plan) {
+/// Rows that all have one end on either side of a cut, each halved, so many at
+/// least; one row is large, so that the bound leaves room.
+pub fn all_across(rng: &mut Rng, n: i64, count: usize) -> (Table, Plan) {
     let cuts = gen::pairs(n);
     let (g, h) = rng.pick(&cuts);
     let amounts = rng.pick(&[Amounts::Always(1), Amounts::UpTo(9), Amounts::Mixed]);
@@ -203,10 +203,13 @@ pub fn all_across(rng: &mut Rng, n: i64) -> (Table, Plan) {
     table.rows.retain(holds_one);
     let kept = rng.between(1, 8) as usize;
     table.rows.retain(|_| rng.chance(kept, 8));
-    if !table.rows.is_empty() {
-        let at = rng.below(table.rows.len());
-        table.rows[at].d = rng.between(30, 9_999);
+    if table.rows.is_empty() {
+        let (i, j, d) = (g, g + 1, 1);
+        table.rows.push(Row { i, j, d });
     }
+    gen::more_circuits(rng, &mut table, count);
+    let at = rng.below(table.rows.len());
+    table.rows[at].d = rng.between(30, 9_999);
     let filled = turned(rng, &table);
     of_rows(n, g, h, filled)
 }
@@ -238,15 +241,16 @@ fn by_one(rng: &mut Rng, number: &mut i64) {
 /// so that one reason alone can tell.
 pub fn off_by_one(rng: &mut Rng, table: &mut Table, plan: &mut Plan) {
     if rng.chance(1, 2) && !table.rows.is_empty() {
-        row_off(rng, table, plan);
+        row_off(rng, 0, table, plan);
     } else {
         figure_off(rng, table, plan);
     }
 }
 
-/// A row's amount, front, back, both, or its way; then true figures.
-fn row_off(rng: &mut Rng, table: &mut Table, plan: &mut Plan) {
-    let at = rng.below(table.rows.len());
+/// A row's amount, front, back, both, or its way, in one of the rows from a
+/// place on; then true figures.
+pub fn row_off(rng: &mut Rng, from: usize, table: &mut Table, plan: &mut Plan) {
+    let at = from + rng.below(table.rows.len() - from);
     let row = &mut plan.sent[at];
     match rng.below(6) {
         0 => by_one(rng, &mut row.front),

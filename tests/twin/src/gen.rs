@@ -94,6 +94,52 @@ pub fn any(rng: &mut Rng, n: i64) -> Table {
     dense(rng, n, part, 100)
 }
 
+/// A table with more circuits put between offices that it joins, up to so many
+/// rows in all.
+pub fn more_circuits(rng: &mut Rng, table: &mut Table, count: usize) {
+    let amounts = any_amounts(rng);
+    while table.rows.len() < count {
+        let Row { i, j, .. } = rng.pick(&table.rows);
+        let d = amount(rng, amounts);
+        table.rows.push(Row { i, j, d });
+    }
+    table.rows.sort_by_key(|row| (row.i, row.j));
+}
+
+/// So many rows, most of the time between few pairs of offices.
+pub fn circuits(rng: &mut Rng, n: i64, count: usize) -> Table {
+    let all = pairs(n);
+    let mut rows = Vec::new();
+    for _ in 0..rng.pick(&[1, 2, 3, 6, 12, 60]).min(count) {
+        let (i, j) = rng.pick(&all);
+        let d = amount(rng, Amounts::Mixed);
+        rows.push(Row { i, j, d });
+    }
+    let mut table = Table { n, rows };
+    more_circuits(rng, &mut table, count);
+    table
+}
+
+/// All pairs of 20 offices or most of 32, with more circuits, up to 496 rows.
+pub fn full_with_circuits(rng: &mut Rng) -> Table {
+    let (n, part) = rng.pick(&[(20, 10), (32, 9)]);
+    let mut table = dense(rng, n, part, 10);
+    let count = rng.between(table.rows.len() as i64, 496);
+    more_circuits(rng, &mut table, count as usize);
+    table
+}
+
+/// A row that joins the first two offices, and so is below what stands before it
+/// if that joins others, or a row of too large an amount, or both.
+pub fn spoil_row(rng: &mut Rng, row: &mut Row) {
+    if rng.chance(1, 2) {
+        (row.i, row.j) = (1, 2);
+    }
+    if rng.chance(1, 2) {
+        row.d = 10_000;
+    }
+}
+
 /// Tables of one shape: rows that all cross, lie side by side, lie in one
 /// another, meet in one node, or join neighbours.
 pub fn shaped(rng: &mut Rng, n: i64) -> Table {
@@ -144,13 +190,22 @@ pub fn lines_of(text: &[u8]) -> Vec<Vec<u8>> {
     lines.map(|line| line.to_vec()).collect()
 }
 
+/// One of the lines; where they are about as many as a table of 496 rows has,
+/// half of the time one about the last of these.
+fn any_line(rng: &mut Rng, lines: &[Vec<u8>]) -> usize {
+    if lines.len() > 496 && rng.chance(1, 2) {
+        return rng.between(495, lines.len().min(500) as i64 - 1) as usize;
+    }
+    rng.below(lines.len())
+}
+
 /// Lines swapped, doubled, dropped, moved or cut short.
 pub fn damage_lines(rng: &mut Rng, text: &mut Vec<u8>) {
     let mut lines = lines_of(text);
     if lines.is_empty() {
         return;
     }
-    let (one, two) = (rng.below(lines.len()), rng.below(lines.len()));
+    let (one, two) = (any_line(rng, &lines), any_line(rng, &lines));
     match rng.below(7) {
         0 => lines.swap(one, two),
         1 if one + 1 < lines.len() => lines.swap(one, one + 1),
@@ -171,6 +226,19 @@ pub fn damage_lines(rng: &mut Rng, text: &mut Vec<u8>) {
     *text = lines.concat();
 }
 
+/// All sequences of one to `longest` of these, by number.
+pub fn sequence<'a>(choices: &[&'a str], longest: u32, mut number: u64) -> Option<Vec<&'a str>> {
+    let base = choices.len() as u64;
+    for length in 1..=longest {
+        if number < base.pow(length) {
+            let place = |at| choices[(number / base.pow(at) % base) as usize];
+            return Some((0..length).map(place).collect());
+        }
+        number -= base.pow(length);
+    }
+    None
+}
+
 /// Numbers at the boundaries of what 01 allows, good and bad spellings.
 pub const BOUNDARY: [&str; 11] = [
     "0", "1", "2", "32", "33", "9999", "10000", "19998", "9999999", "10000000", "00",
@@ -188,7 +256,7 @@ pub fn damage_fields(rng: &mut Rng, text: &mut Vec<u8>) {
         return;
     }
     let first = rng.chance(1, 12);
-    let at = if first { 0 } else { rng.below(lines.len()) };
+    let at = if first { 0 } else { any_line(rng, &lines) };
     let ended = lines[at].ends_with(b"\n");
     let body = lines[at].strip_suffix(b"\n").unwrap_or(&lines[at]);
     let split = body.split(|byte| *byte == b'\t');
@@ -227,7 +295,7 @@ pub fn damage_row(rng: &mut Rng, text: &mut Vec<u8>) {
     if lines.is_empty() {
         return;
     }
-    let at = rng.below(lines.len());
+    let at = any_line(rng, &lines);
     let (i, j) = drawn_nodes(rng);
     let d = rng.pick(&[0, 1, 9_999, 10_000, 10_000, 9_999_999]);
     lines[at] = format!("D\t{i}\t{j}\t{d}\n").into_bytes();
@@ -241,7 +309,7 @@ pub fn damage_sheet_row(rng: &mut Rng, text: &mut Vec<u8>) {
     if lines.is_empty() {
         return;
     }
-    let at = rng.below(lines.len());
+    let at = any_line(rng, &lines);
     let (i, j) = drawn_nodes(rng);
     let d = rng.pick(&[0, 1, 2, 9_999, 9_999, 10_000, 9_999_999]);
     let mut front = rng.pick(&[0, 1, d, 2 * d, 19_998]);

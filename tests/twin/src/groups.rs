@@ -22,22 +22,28 @@ const fn group(name: &'static str, share: u64, make: fn(&mut Rng, u64) -> Option
     Group { name, share, make }
 }
 
-pub const GROUPS: [Group; 40] = [
-    group("numbers to try of 01", 0, numbers_to_try),
+pub const GROUPS: [Group; 49] = [
+    group("numbers to try of 01 and K1", 0, numbers_to_try),
     group("all small tables", 0, all_small),
+    group("about 496 rows", 0, about_496),
     group("every byte of the square", 0, every_byte),
     group("boundary numbers in two fields", 0, two_fields),
     group("every buffer length", 0, every_length),
-    group("random tables, 2 to 15 offices", 480, small),
+    group("random tables, 2 to 15 offices", 430, small),
     group("random tables, 16 to 32 offices", 136, large),
-    group("thin tables, 16 to 32 offices", 1000, thin),
-    group("shaped tables", 600, shaped),
+    group("thin tables, 16 to 32 offices", 700, thin),
+    group("shaped tables", 500, shaped),
+    group("circuits, 2 to 15 offices", 200, circuits_small),
+    group("circuits, 16 to 32 offices", 160, circuits_large),
+    group("full tables with more circuits", 12, full_circuits),
+    group("tables of 496 rows", 20, most_rows),
+    group("tables of 497 rows and more", 108, too_many_rows),
     group("full tables, 20 offices", 96, full_20),
     group("full tables, 32 offices", 24, full_32),
     group("full tables of 0, 1, 9999", 24, full_ends),
     group("damaged bytes", 360, damaged_bytes),
     group("damaged lines", 360, damaged_lines),
-    group("damaged fields", 400, damaged_fields),
+    group("damaged fields", 350, damaged_fields),
     group("damaged rows", 120, damaged_rows),
     group("damaged several times", 240, damaged_often),
     group("padded texts", 104, padded),
@@ -50,6 +56,7 @@ pub const GROUPS: [Group; 40] = [
         0,
         sheets::every_field,
     ),
+    group("sheets: about 496 rows", 0, sheets::about_496),
     group("sheets: every buffer length", 0, sheets::every_length),
     group("sheets of ours", 700, sheets::ours),
     group("sheets of ours, full rings", 100, sheets::ours_full),
@@ -60,7 +67,7 @@ pub const GROUPS: [Group; 40] = [
     ),
     group(
         "foreign sheets, 16 to 32 offices",
-        1100,
+        1000,
         sheets::foreign_large,
     ),
     group("foreign sheets, full rings", 100, sheets::foreign_full),
@@ -70,7 +77,9 @@ pub const GROUPS: [Group; 40] = [
         400,
         sheets::all_across,
     ),
-    group("sheets with a figure off by one", 800, sheets::off_by_one),
+    group("sheets of 496 rows", 60, sheets::most_rows),
+    group("sheets of 497 rows and more", 140, sheets::too_many_rows),
+    group("sheets with a figure off by one", 700, sheets::off_by_one),
     group("sheets with two figures off", 250, sheets::two_off),
     group("damaged sheets: bytes", 400, sheets::damaged_bytes),
     group("damaged sheets: lines", 400, sheets::damaged_lines),
@@ -150,8 +159,8 @@ pub fn of_text(text: &str, trials: Vec<(Call, Lend)>) -> Option<Case> {
     })
 }
 
-/// Tables of 01's numbers to try, tabs shown as |.
-pub const NUMBERS: [&str; 30] = [
+/// Tables of 01's numbers to try, and circuits of 02's K1, tabs shown as |.
+pub const NUMBERS: [&str; 36] = [
     "R|4\nD|1|3|1\nD|2|4|1\n",
     "R|2\n",
     "R|2\nD|1|2|5\n",
@@ -182,6 +191,12 @@ pub const NUMBERS: [&str; 30] = [
     "R|4\nD|1|2|1\nD|1|2|1\n",
     "R|4\nD|2|2|1\n",
     "R|4\nD|1|3|1\nD|1|2|10000\n",
+    "R|2\nD|1|2|1\nD|1|2|1\nD|1|2|1\n",
+    "R|2\nD|1|2|3\nD|1|2|5\n",
+    "R|2\nD|1|2|5\nD|1|2|3\n",
+    "R|2\nD|1|2|0\nD|1|2|9999\nD|1|2|0\n",
+    "R|4\nD|1|3|1\nD|1|3|2\nD|1|2|1\n",
+    "R|4\nD|2|3|1\nD|2|3|1\nD|1|4|1\n",
 ];
 
 fn numbers_to_try(_: &mut Rng, case: u64) -> Option<Case> {
@@ -189,12 +204,46 @@ fn numbers_to_try(_: &mut Rng, case: u64) -> Option<Case> {
     of_text(text, all_trials())
 }
 
-/// All tables of 2, 3 and 4 offices whose pairs are left out or have 0, 1 or
-/// 2, then all of 5 offices whose pairs are left out or have 1.
+/// All tables of 2 to 5 offices, each pair of which has one of some lists of
+/// circuits, given by their amounts.
+const SMALL: [(i64, &[&[i64]]); 7] = [
+    (2, &[&[], &[0], &[1], &[2]]),
+    (3, &[&[], &[0], &[1], &[2]]),
+    (4, &[&[], &[0], &[1], &[2]]),
+    (5, &[&[], &[1]]),
+    (
+        2,
+        &[
+            &[1, 2],
+            &[2, 1],
+            &[0, 3, 0],
+            &[4, 1, 2],
+            &[1, 1, 1, 1],
+            &[2, 3, 1, 3, 2],
+        ],
+    ),
+    (
+        3,
+        &[
+            &[],
+            &[1],
+            &[1, 1],
+            &[0, 1],
+            &[1, 2],
+            &[2, 1],
+            &[1, 1, 1],
+            &[3, 0, 2],
+            &[1, 2, 3],
+        ],
+    ),
+    (4, &[&[], &[1], &[1, 1], &[2, 1]]),
+];
+
 fn all_small(_: &mut Rng, case: u64) -> Option<Case> {
     let mut code = case;
-    for (n, choices) in [(2, 4_u64), (3, 4), (4, 4), (5, 2)] {
+    for (n, lists) in SMALL {
         let pairs = gen::pairs(n);
+        let choices = lists.len() as u64;
         let tables = choices.pow(pairs.len() as u32);
         if code >= tables {
             code -= tables;
@@ -202,12 +251,9 @@ fn all_small(_: &mut Rng, case: u64) -> Option<Case> {
         }
         let mut rows = Vec::new();
         for (i, j) in pairs {
-            let choice = (code % choices) as i64;
+            let list = lists[(code % choices) as usize];
             code /= choices;
-            if choice > 0 {
-                let d = if choices == 2 { 1 } else { choice - 1 };
-                rows.push(Row { i, j, d });
-            }
+            rows.extend(list.iter().map(|d| Row { i, j, d: *d }));
         }
         let mut trials = vec![(Call::Route, Lend::Need(0))];
         if case % 8 == 0 {
@@ -216,6 +262,24 @@ fn all_small(_: &mut Rng, case: u64) -> Option<Case> {
         return of_table(&Table { n, rows }, trials);
     }
     None
+}
+
+/// Tables of 3 offices that end with one, two or three rows of every kind, the
+/// first of which is the 496th row.
+fn about_496(_: &mut Rng, case: u64) -> Option<Case> {
+    let ends = [
+        "D|2|3|1\n",
+        "D|2|3|10000\n",
+        "D|1|3|1\n",
+        "D|1|3|10000\n",
+        "D|3|3|1\n",
+        "D|2|4|1\n",
+        "D|2|3\n",
+    ];
+    let end = gen::sequence(&ends, 3, case)?.concat();
+    let rows = ["D|1|2|1\n".repeat(200), "D|2|3|1\n".repeat(295)].concat();
+    let trials = vec![(one_call(case), Lend::Need(1))];
+    of_text(&format!("R|3\n{rows}{end}"), trials)
 }
 
 /// The square with each byte given each value, then with bytes put in before
@@ -322,6 +386,44 @@ fn shaped(rng: &mut Rng, _: u64) -> Option<Case> {
     of_table(&table, trials)
 }
 
+fn circuits_small(rng: &mut Rng, _: u64) -> Option<Case> {
+    let (n, count) = (rng.between(2, 15), rng.between(2, 40));
+    of_table(&gen::circuits(rng, n, count as usize), all_trials())
+}
+
+fn circuits_large(rng: &mut Rng, _: u64) -> Option<Case> {
+    let (n, count) = (rng.between(16, 32), rng.between(2, 60));
+    let trials = some_trials(rng);
+    of_table(&gen::circuits(rng, n, count as usize), trials)
+}
+
+fn full_circuits(rng: &mut Rng, _: u64) -> Option<Case> {
+    let trials = some_trials(rng);
+    of_table(&gen::full_with_circuits(rng), trials)
+}
+
+fn most_rows(rng: &mut Rng, _: u64) -> Option<Case> {
+    let n = rng.pick(&[2, 3, 4, 7, 12, 16, 20, 32]);
+    let trials = some_trials(rng);
+    of_table(&gen::circuits(rng, n, 496), trials)
+}
+
+/// 497 rows and more; two times out of three a row has another reason, or
+/// several.
+fn too_many_rows(rng: &mut Rng, case: u64) -> Option<Case> {
+    let n = rng.between(2, 32);
+    let count = rng.pick(&[497, 497, 498, 500, 700, 2_000]);
+    let mut table = gen::circuits(rng, n, count);
+    if case % 3 == 0 {
+        gen::spoil_row(rng, &mut table.rows[496]);
+    }
+    let mut made = of_table(&table, two_trials(rng))?;
+    if case % 3 == 1 {
+        damage_any(rng, &mut made.text);
+    }
+    Some(made)
+}
+
 fn full_20(rng: &mut Rng, _: u64) -> Option<Case> {
     let amounts = gen::any_amounts(rng);
     let trials = some_trials(rng);
@@ -347,13 +449,13 @@ fn whole(rng: &mut Rng) -> Table {
     } else {
         rng.between(16, 32)
     };
+    let count = rng.between(0, 30) as usize;
     match rng.below(40) {
         0 => gen::full(rng, n, Amounts::UpTo(9_999)),
         1 => gen::any(rng, n),
-        _ => {
-            let count = rng.between(0, 30) as usize;
-            gen::sparse(rng, n, count)
-        }
+        2 => gen::circuits(rng, n, 496),
+        3..=12 => gen::circuits(rng, n, count),
+        _ => gen::sparse(rng, n, count),
     }
 }
 
@@ -389,15 +491,17 @@ fn damaged_rows(rng: &mut Rng, _: u64) -> Option<Case> {
 
 fn damaged_often(rng: &mut Rng, _: u64) -> Option<Case> {
     let times = rng.between(2, 4) as u64;
-    damaged(rng, times, |rng, text| {
-        let damages = [
-            gen::damage_bytes,
-            gen::damage_lines,
-            gen::damage_fields,
-            gen::damage_row,
-        ];
-        rng.pick(&damages)(rng, text);
-    })
+    damaged(rng, times, damage_any)
+}
+
+fn damage_any(rng: &mut Rng, text: &mut Vec<u8>) {
+    let damages = [
+        gen::damage_bytes,
+        gen::damage_lines,
+        gen::damage_fields,
+        gen::damage_row,
+    ];
+    rng.pick(&damages)(rng, text);
 }
 
 /// Texts of 32,768 bytes, one more, and lengths about as large.

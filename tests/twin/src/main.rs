@@ -1,6 +1,6 @@
-//! The twin: ring routing and the checking of sheets written once more from
-//! 01's sentences alone, and compared with the library call by call and byte by
-//! byte.
+//! The twin: ring routing and the checking of sheets written once more from the
+//! sentences of 01 and of 02's K1 alone, and compared with the library call by
+//! call and byte by byte.
 //!
 //! `twin [SEED [COUNT]]` compares: the lists in full and COUNT random
 //! comparisons. The exit status is 0 only when nothing failed.
@@ -11,8 +11,8 @@
 //! `--cfg mock` and no library, the twin stands in for the library.
 //!
 //! `twin --cases` answers the stored cases given on standard input by itself,
-//! without the library, so that its reading of 01 is compared with the one that
-//! wrote their answers.
+//! without the library, so that its reading is compared with the one that wrote
+//! their answers.
 
 mod check;
 mod checking_faults;
@@ -23,6 +23,7 @@ mod groups;
 mod kit;
 mod mutant;
 mod rng;
+mod row_faults;
 mod rules;
 mod selfcheck;
 mod sheet;
@@ -46,8 +47,9 @@ const COUNT: u64 = 100_000;
 const MUTANT_COUNT: u64 = 12_000;
 /// The run goes on up to so many mismatches, one in a group at most.
 const MISMATCHES: usize = 5;
-/// The reasons that must have been seen among the random cases.
-const REASONS: [usize; 16] = [0, 1, 2, 3, 4, 5, 6, 7, 8, 9, 10, 11, 12, 13, 14, 15];
+/// Reasons 0, which is success, to 16: all must have been seen among the random
+/// cases.
+const REASONS: usize = 17;
 /// The size classes of accepted tables and sheets, by offices.
 const CLASSES: [(i64, i64); 7] = [
     (2, 3),
@@ -65,6 +67,8 @@ struct Accepted {
     classes: [u64; CLASSES.len()],
     /// Those that hold every pair of 20, and of 32 offices.
     full: [u64; 2],
+    /// Those with rows of the same nodes, and of these those of 496 rows.
+    circuits: [u64; 2],
 }
 
 impl Accepted {
@@ -72,8 +76,13 @@ impl Accepted {
         for (at, (low, high)) in CLASSES.iter().enumerate() {
             self.classes[at] += u64::from(*low <= table.n && table.n <= *high);
         }
-        self.full[0] += u64::from(table.n == 20 && table.rows.len() == 190);
-        self.full[1] += u64::from(table.n == 32 && table.rows.len() == 496);
+        let mut pairs: Vec<_> = table.rows.iter().map(|row| (row.i, row.j)).collect();
+        pairs.dedup();
+        let circuits = pairs.len() < table.rows.len();
+        self.full[0] += u64::from(table.n == 20 && pairs.len() == 190);
+        self.full[1] += u64::from(table.n == 32 && pairs.len() == 496);
+        self.circuits[0] += u64::from(circuits);
+        self.circuits[1] += u64::from(circuits && table.rows.len() == 496);
     }
 
     fn print(&self, what: &str) {
@@ -82,6 +91,8 @@ impl Accepted {
         }
         let [of_20, of_32] = self.full;
         println!("full {what} of 20 offices: {of_20}, of 32 offices: {of_32}");
+        let [all, most] = self.circuits;
+        println!("{what} with rows of the same nodes: {all}, of these {most} of 496 rows");
     }
 }
 
@@ -92,8 +103,8 @@ struct Tally {
     /// Comparisons with a table or sheet of 16 offices and more.
     large: u64,
     calls: [u64; CALLS.len()],
-    reasons: [u64; 16],
-    random_reasons: [u64; 16],
+    reasons: [u64; REASONS],
+    random_reasons: [u64; REASONS],
     tables: Accepted,
     sheets: Accepted,
     /// Random accepted sheets with no parallel pair, with one, and with one
@@ -198,6 +209,7 @@ fn self_checks(seed: u64) -> (u64, u64) {
         ("self-check: small rings", selfcheck::small_rings()),
         ("self-check: refusals", selfcheck::refusals()),
         ("self-check: sheets", selfcheck::sheets()),
+        ("self-check: circuits", selfcheck::circuits()),
         ("self-check: theorems", selfcheck::random_theorems(seed)),
     ];
     let mut failed = 0;
@@ -246,14 +258,14 @@ fn all_groups(kit: Kit, seed: u64, count: u64, tally: &mut Tally) -> (u64, u64) 
     (passed, failed)
 }
 
-/// Prints the counts. How many of the two demands on them passed and failed.
+/// Prints the counts. How many of the demands on them passed and failed.
 fn print_counts(tally: &Tally) -> (u64, u64) {
     let (all, large) = (tally.comparisons, tally.large);
     println!("comparisons: {all}, of these {large} on 16 offices and more");
     for call in CALLS {
         println!("call {call:?}: {}", tally.calls[call as usize]);
     }
-    for reason in REASONS {
+    for reason in 0..REASONS {
         let (seen, random) = (tally.reasons[reason], tally.random_reasons[reason]);
         println!("reason {reason}: {seen}, of these {random} in random cases");
     }
@@ -262,11 +274,14 @@ fn print_counts(tally: &Tally) -> (u64, u64) {
     let [none, some, later] = tally.pairs;
     println!("random accepted sheets with no parallel pair: {none}");
     println!("with one: {some}, of these {later} with other than rows 1 and 2");
-    let seen = |reason: &usize| tally.random_reasons[*reason] > 0;
     let demands = [
         (
-            "every reason of 0 to 15 seen in random cases",
-            REASONS.iter().all(seen),
+            "every reason of 0 to 16 seen in random cases",
+            tally.random_reasons.iter().all(|seen| *seen > 0),
+        ),
+        (
+            "496 rows, some of the same nodes, seen in accepted tables and sheets",
+            tally.tables.circuits[1] > 0 && tally.sheets.circuits[1] > 0,
         ),
         (
             "a parallel pair, and none, seen in random accepted sheets",

@@ -4,9 +4,10 @@
 use crate::check::{self, Question, Questions, Sheet, QUESTIONS};
 use crate::checking_faults::*;
 use crate::foreign::cuts;
+use crate::row_faults::*;
 use crate::rules::{self, Cut, Plan, Sent, Way};
 use crate::sheet;
-use crate::table::{self, Refusal, Row, Table};
+use crate::table::{self, Refusal, Row, RowReason, Table};
 use crate::twin::{self, Answer, Call, Reply, Said};
 use std::ops::Range;
 
@@ -19,6 +20,7 @@ pub struct Mutant {
 enum How {
     Plan(fn(&Table) -> Plan),
     Read(fn(&[u8]) -> Result<Table, Refusal>),
+    Rows(&'static [RowReason]),
     Write(fn(&Answer, &mut [u8], Range<usize>) -> Reply),
     Rewrite(fn(Table) -> Table),
     Check(Questions),
@@ -46,6 +48,7 @@ impl Mutant {
     fn answer_table(&self, call: Call, text: &[u8]) -> Answer {
         let table = match self.how {
             How::Read(read) => read(text)?,
+            How::Rows(reasons) => table::read_judging(text, reasons)?,
             _ => table::read(text)?,
         };
         Ok(twin::written(match (call, &self.how) {
@@ -85,6 +88,11 @@ const fn read(name: &'static str, read: fn(&[u8]) -> Result<Table, Refusal>) -> 
     Mutant { name, how }
 }
 
+const fn rows(name: &'static str, reasons: &'static [RowReason]) -> Mutant {
+    let how = How::Rows(reasons);
+    Mutant { name, how }
+}
+
 const fn write(name: &'static str, write: fn(&Answer, &mut [u8], Range<usize>) -> Reply) -> Mutant {
     let how = How::Write(write);
     Mutant { name, how }
@@ -98,6 +106,11 @@ const fn rewrite(name: &'static str, change: fn(Table) -> Table) -> Mutant {
 const fn check(name: &'static str, questions: Questions) -> Mutant {
     let how = How::Check(questions);
     Mutant { name, how }
+}
+
+const fn sheet_rows(name: &'static str, rows: &'static [RowReason]) -> Mutant {
+    let questions = Questions { rows, ..QUESTIONS };
+    check(name, questions)
 }
 
 const fn on_sum(name: &'static str, sum: Question) -> Mutant {
@@ -156,7 +169,7 @@ const fn say(name: &'static str, change: fn(&[u8], Said) -> Said) -> Mutant {
 }
 
 /// Faults that change some sheet or reply: each must be caught.
-pub static FAULTS: [Mutant; 109] = [
+pub static FAULTS: [Mutant; 133] = [
     write("one byte after the text changed", after_text),
     write("one byte after the buffer changed", after_buffer),
     write("one byte before the buffer changed", before_buffer),
@@ -176,6 +189,7 @@ pub static FAULTS: [Mutant; 109] = [
     plan("B: whole units only", b_units),
     plan("B: M made even", b_even),
     plan("B: back takes no room", b_back),
+    plan("B: circuits of one pair by amount", b_by_amount),
     plan("C: skipped", c_skipped),
     plan("C: fronts inside skipped", c_inside),
     plan("C: split as at the start", c_at_start),
@@ -199,13 +213,23 @@ pub static FAULTS: [Mutant; 109] = [
     read("reading: 32,769 bytes read", limit_high),
     read("reading: 32 offices refused", ring_32),
     read("reading: 33 offices taken for 32", ring_33),
-    read("reading: 5 before 4", five_first),
-    read("reading: 7 before 6", seven_first),
-    read("reading: a doubled row taken", doubled),
-    read("reading: amount 9,999 refused", amount_low),
-    read("reading: amount 10,000 taken", amount_high),
+    rows("reading: 5 before 4", &FIVE_FIRST),
+    rows("reading: 7 before 6", &SEVEN_FIRST),
+    rows("reading: 16 before 6", &MANY_EARLY),
+    rows("reading: 16 after 7", &MANY_LATE),
+    rows("reading: 16 at 496 rows already", &MANY_AT_496),
+    rows("reading: 16 never", &MANY_NEVER),
+    rows("reading: nodes of the row before refused", &NOT_ABOVE),
+    rows("reading: a row like the one before refused", &NOT_OTHER),
+    rows("reading: 6 by first node alone", &BY_FIRST),
+    read("reading: 16 before any row is judged", many_first),
+    read("reading: rows beyond 496 left out", without_many),
+    read("reading: a doubled row taken once", doubled),
+    rows("reading: amount 9,999 refused", &MUCH_LOW),
+    rows("reading: amount 10,000 taken", &MUCH_HIGH),
     read("reading: 2 in any line first", shape_first),
     rewrite("rewriting: rows of amount 0 left out", without_zeros),
+    rewrite("rewriting: circuits of one pair by amount", by_amount),
     read_sheet("checking: says yes to all", yes_to_all),
     read_sheet("checking: refuses all", no_to_all),
     read_sheet("checking: only a sheet equal to ours", only_ours),
@@ -218,6 +242,18 @@ pub static FAULTS: [Mutant; 109] = [
     read_sheet("checking: lower case f and b taken", lower_case),
     read_sheet("checking: 2 in any line first", sheet_shape_first),
     read_sheet("checking: a missing line is the last", missing_is_last),
+    sheet_rows("checking: 5 before 4", &FIVE_FIRST),
+    sheet_rows("checking: 7 before 6", &SEVEN_FIRST),
+    sheet_rows("checking: 16 before 6", &MANY_EARLY),
+    sheet_rows("checking: 16 after 7", &MANY_LATE),
+    sheet_rows("checking: 16 at 496 rows already", &MANY_AT_496),
+    sheet_rows("checking: 16 never", &MANY_NEVER),
+    sheet_rows("checking: nodes of the row before refused", &NOT_ABOVE),
+    sheet_rows("checking: a row like the one before refused", &NOT_OTHER),
+    sheet_rows("checking: 6 by first node alone", &BY_FIRST),
+    read_sheet("checking: 16 after 8 and 9", many_after_9),
+    read_sheet("checking: 16 before any row is judged", sheet_many_first),
+    read_sheet("checking: rows beyond 496 left out", sheet_without_many),
     say("checking: a yes has the text's length", yes_with_length),
     say("parallel: a refused sheet has its pair", refused_with_pair),
     on_sum("8: sum not compared", yes),
@@ -260,6 +296,7 @@ pub static FAULTS: [Mutant; 109] = [
     parallel("parallel: second before first", pair_swapped),
     parallel("parallel: none ever", pair_never),
     parallel("parallel: a shared node crosses", pair_shared),
+    parallel("parallel: rows of the same nodes cross", pair_other_nodes),
     parallel("parallel: disjoint fronts only", pair_disjoint),
     parallel("parallel: fronts inside only", pair_inside),
     parallel("parallel: neighbours only", pair_next),
@@ -277,16 +314,19 @@ pub static FAULTS: [Mutant; 109] = [
 ///   front with no slack. A later row with both links in its back is then sent
 ///   wholly to the front, so no two split rows have disjoint fronts. One with
 ///   both links in its front is sent wholly to the back, so of two split rows
-///   one inside the other the outer is the first.
+///   one inside the other the outer is the first, and two rows with the same
+///   nodes are never both split.
 /// - Order: two orders of rule C's pairs that agree on all pairs with a row in
 ///   common move the same amounts.
 /// - 13: each row across the cut sends 2d over g and h together, so the split
 ///   peak is never below a true across number.
-pub static SAME: [Mutant; 6] = [
+pub static SAME: [Mutant; 8] = [
     plan("A: tie to the smallest h, then g", a_by_h),
     plan("C: disjoint fronts skipped", c_disjoint),
     plan("C: fronts that touch taken for crossing", c_touching),
     plan("C: the first taken for the outer", c_first_outer),
+    plan("C: of two circuits the later is the outer", c_later_outer),
+    plan("C: two circuits taken for crossing", c_other_nodes),
     plan("C: by second, then first", c_by_second),
     on_best("13: peak below the across number taken", best_most),
 ];
@@ -490,6 +530,19 @@ fn b_back(table: &Table) -> Plan {
     sending.plan(table)
 }
 
+fn b_by_amount(table: &Table) -> Plan {
+    let mut order: Vec<usize> = (0..table.rows.len()).collect();
+    order.sort_by_key(|at| (table.rows[*at].i, table.rows[*at].j, table.rows[*at].d));
+    let rows = order.iter().map(|at| table.rows[*at]).collect();
+    let plan = rules::plan(&Table { rows, ..*table });
+    let (mut sent, mut ways) = (plan.sent.clone(), plan.ways.clone());
+    for (place, at) in order.iter().enumerate() {
+        sent[*at] = plan.sent[place];
+        ways[*at] = plan.ways[place];
+    }
+    rules::figures(table, plan.cut, sent, ways)
+}
+
 // Faults of rule C.
 
 /// The plan with another rule C.
@@ -501,17 +554,25 @@ fn with_c(table: &Table, rule_c: impl Fn(&[Row], &mut [Sent])) -> Plan {
     rules::figures(table, cut, sent, ways)
 }
 
-/// Rule C over those of its pairs that are kept.
-fn c_kept(rows: &[Row], sent: &mut [Sent], kept: impl Fn(&Row, &Row) -> bool) {
+/// Rule C with another move for two split rows that are parallel.
+fn c_moving(rows: &[Row], sent: &mut [Sent], moving: impl Fn(&mut [Sent], usize, usize)) {
     for first in 0..rows.len() {
         for second in first + 1..rows.len() {
-            let (one, two) = (rows[first], rows[second]);
             let both = rules::is_split(&sent[first]) && rules::is_split(&sent[second]);
-            if both && !rules::cross(&one, &two) && kept(&one, &two) {
-                rules::move_pair(rows, sent, first, second);
+            if both && !rules::cross(&rows[first], &rows[second]) {
+                moving(sent, first, second);
             }
         }
     }
+}
+
+/// Rule C over those of its pairs that are kept.
+fn c_kept(rows: &[Row], sent: &mut [Sent], kept: impl Fn(&Row, &Row) -> bool) {
+    c_moving(rows, sent, |sent, first, second| {
+        if kept(&rows[first], &rows[second]) {
+            rules::move_pair(rows, sent, first, second);
+        }
+    })
 }
 
 fn c_skipped(table: &Table) -> Plan {
@@ -556,29 +617,29 @@ fn c_backwards(table: &Table) -> Plan {
     })
 }
 
-/// Rule C with outer and inner told by their places alone.
-fn c_by_place(rows: &[Row], sent: &mut [Sent], first_is_outer: bool) {
-    for first in 0..rows.len() {
-        for second in first + 1..rows.len() {
-            let both = rules::is_split(&sent[first]) && rules::is_split(&sent[second]);
-            if both && !rules::cross(&rows[first], &rows[second]) {
-                let (outer, inner) = if first_is_outer {
-                    (first, second)
-                } else {
-                    (second, first)
-                };
-                rules::exchange(sent, outer, inner);
-            }
-        }
-    }
+/// Outer and inner told by their places alone.
+fn c_first_outer(table: &Table) -> Plan {
+    with_c(table, |rows, sent| c_moving(rows, sent, rules::exchange))
 }
 
 fn c_changed_over(table: &Table) -> Plan {
-    with_c(table, |rows, sent| c_by_place(rows, sent, false))
+    with_c(table, |rows, sent| {
+        c_moving(rows, sent, |sent, first, second| {
+            rules::exchange(sent, second, first)
+        })
+    })
 }
 
-fn c_first_outer(table: &Table) -> Plan {
-    with_c(table, |rows, sent| c_by_place(rows, sent, true))
+fn c_later_outer(table: &Table) -> Plan {
+    with_c(table, |rows, sent| {
+        c_moving(rows, sent, |sent, first, second| {
+            if same_nodes(&rows[first], &rows[second]) {
+                rules::exchange(sent, second, first);
+            } else {
+                rules::move_pair(rows, sent, first, second);
+            }
+        })
+    })
 }
 
 fn c_at_start(table: &Table) -> Plan {
@@ -600,6 +661,12 @@ fn c_shared(table: &Table) -> Plan {
         c_kept(rows, sent, |one, two| {
             one.i != two.i && one.j != two.j && one.j != two.i
         })
+    })
+}
+
+fn c_other_nodes(table: &Table) -> Plan {
+    with_c(table, |rows, sent| {
+        c_kept(rows, sent, |one, two| !same_nodes(one, two))
     })
 }
 
@@ -759,56 +826,21 @@ fn ring_33(text: &[u8]) -> Result<Table, Refusal> {
     }
 }
 
-/// The line of a refusal, read alone on a ring of 32 with all rows before it
-/// forgotten.
-fn refused_alone(text: &[u8], refusal: Refusal) -> Option<Vec<i64>> {
-    let line = text
-        .split(|byte| *byte == b'\n')
-        .nth(refusal.line as usize - 1)?;
-    let fields = std::str::from_utf8(line).ok()?.split('\t').skip(1);
-    fields.map(|field| field.parse().ok()).collect()
+fn many_first(text: &[u8]) -> Result<Table, Refusal> {
+    table::read(text).map_err(|refusal| too_many_lines(text, refusal))
 }
 
-fn five_first(text: &[u8]) -> Result<Table, Refusal> {
-    table::read(text).map_err(|refusal| {
-        let numbers = (refusal.reason == 4).then(|| refused_alone(text, refusal));
-        let five = numbers.flatten().is_some_and(|row| row[0] >= row[1]);
-        let reason = if five { 5 } else { refusal.reason };
-        Refusal { reason, ..refusal }
-    })
-}
-
-fn seven_first(text: &[u8]) -> Result<Table, Refusal> {
-    table::read(text).map_err(|refusal| {
-        let numbers = (refusal.reason == 6).then(|| refused_alone(text, refusal));
-        let seven = numbers.flatten().is_some_and(|row| row[2] > 9_999);
-        let reason = if seven { 7 } else { refusal.reason };
-        Refusal { reason, ..refusal }
-    })
+fn without_many(text: &[u8]) -> Result<Table, Refusal> {
+    match table::read(text) {
+        Err(refusal) if refusal.reason == 16 => table::read(&first_rows(text)),
+        read => read,
+    }
 }
 
 fn doubled(text: &[u8]) -> Result<Table, Refusal> {
     let mut lines: Vec<&[u8]> = text.split_inclusive(|byte| *byte == b'\n').collect();
     lines.dedup();
     table::read(&lines.concat())
-}
-
-fn amount_low(text: &[u8]) -> Result<Table, Refusal> {
-    let table = table::read(text)?;
-    match table.rows.iter().position(|row| row.d == 9_999) {
-        Some(at) => Err(Refusal {
-            reason: 7,
-            line: at as u32 + 2,
-        }),
-        None => Ok(table),
-    }
-}
-
-fn amount_high(text: &[u8]) -> Result<Table, Refusal> {
-    read_fields(text, |field| {
-        let new = if field == "10000" { "9999" } else { field };
-        new.to_string()
-    })
 }
 
 fn shape_first(text: &[u8]) -> Result<Table, Refusal> {
@@ -827,5 +859,10 @@ fn shape_first(text: &[u8]) -> Result<Table, Refusal> {
 
 fn without_zeros(mut table: Table) -> Table {
     table.rows.retain(|row| row.d > 0);
+    table
+}
+
+fn by_amount(mut table: Table) -> Table {
+    table.rows.sort_by_key(|row| (row.i, row.j, row.d));
     table
 }

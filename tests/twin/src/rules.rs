@@ -1,4 +1,5 @@
-//! The four routing rules of 01, sentence by sentence, in the plainest way.
+//! The four routing rules of 01, and K1 of 02, sentence by sentence, in the
+//! plainest way.
 
 use crate::table::{Row, Table};
 
@@ -153,7 +154,8 @@ pub fn move_pair(rows: &[Row], sent: &mut [Sent], first: usize, second: usize) {
         }
         return;
     }
-    // One front lies inside the other.
+    // One front lies inside the other. Of two rows with the same nodes the
+    // earlier is the outer (02, K1).
     let (outer, inner) = if front_inside(&rows[second], &rows[first]) {
         (first, second)
     } else {

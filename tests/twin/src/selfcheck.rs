@@ -1,6 +1,7 @@
 //! The twin's own checks, run before any comparison. The figures are those of
-//! 01's "Numbers to try"; the theorems are those that 01 states of its rules.
-//! A failure here means that the twin misreads 01.
+//! 01's "Numbers to try" and, for 02's K1, worked out by hand; the theorems are
+//! those that 01 states of its rules. A failure here means that the twin
+//! misreads 01 or 02.
 
 use crate::check;
 use crate::foreign;
@@ -9,7 +10,7 @@ use crate::rng::Rng;
 use crate::rules::{self, Plan, Sent, Way};
 use crate::sheet;
 use crate::sheets;
-use crate::table::{self, Table};
+use crate::table::{self, Refusal, Table};
 use crate::twin::{self, Call, Pair};
 
 pub type Outcome = Result<(), String>;
@@ -18,7 +19,7 @@ fn same<T: PartialEq + std::fmt::Debug>(what: &str, got: T, wanted: T) -> Outcom
     if got == wanted {
         return Ok(());
     }
-    Err(format!("{what}: {got:?}, 01 has {wanted:?}"))
+    Err(format!("{what}: {got:?}, not {wanted:?}"))
 }
 
 fn holds(what: &str, true_here: bool) -> Outcome {
@@ -141,9 +142,9 @@ pub fn refusals() -> Outcome {
     Ok(())
 }
 
-/// The sheets of 01: reason, line, and the parallel pair.
+/// The sheets of 01 and of K1: reason, line, and the parallel pair.
 pub fn sheets() -> Outcome {
-    let accepted = [0, 1, 2, 3, 4, 5, 6, 7, 10, 14];
+    let accepted = [0, 1, 2, 3, 4, 5, 6, 7, 10, 14, 20];
     let refused = [
         (8, 13, 0),
         (9, 14, 0),
@@ -154,11 +155,13 @@ pub fn sheets() -> Outcome {
         (16, 4, 2),
         (17, 2, 1),
         (18, 2, 2),
+        (24, 6, 4),
     ];
     let yes = accepted.map(|at| (at, 0, 0, 0, 0));
     let no = refused.map(|(at, reason, line)| (at, reason, line, 0, 0));
-    let pair = [(19, 0, 0, 1, 2)];
-    for (at, reason, line, first, second) in [yes.as_slice(), &no, &pair].concat() {
+    let pairs = [(19, 1, 2), (21, 1, 2), (22, 2, 3), (23, 2, 3)];
+    let pairs = pairs.map(|(at, first, second)| (at, 0, 0, first, second));
+    for (at, reason, line, first, second) in [yes.as_slice(), &no, &pairs].concat() {
         let text = sheets::SHEETS[at].replace('|', "\t");
         let got = twin::pair(&twin::answer(Call::Parallel, text.as_bytes()));
         let wanted = Pair {
@@ -170,6 +173,71 @@ pub fn sheets() -> Outcome {
         same(sheets::SHEETS[at], got, wanted)?;
     }
     Ok(())
+}
+
+fn place(refusal: Refusal) -> (u32, u32) {
+    (refusal.reason, refusal.line)
+}
+
+/// The rows of a ring of 3, each with the same end.
+fn text_of(rows: &str, end: &str) -> Vec<u8> {
+    let rows = rows.replace(' ', &format!("{end}\nD|"));
+    format!("R|3\nD|{rows}{end}\n")
+        .replace('|', "\t")
+        .into_bytes()
+}
+
+/// K1 of 02: rows with the same nodes, the order of 6, 16 and 7, and 496 rows.
+pub fn circuits() -> Outcome {
+    let wanted = [
+        ("1|2|1 1|2|1 1|2|0", 0, None),
+        ("1|3|1 1|3|1 1|2|1", 0, Some((6, 4))),
+        ("2|3|1 1|3|1", 0, Some((6, 3))),
+        ("1|3|1 2|3|1", 494, None),
+        ("1|3|1 2|3|1", 495, Some((16, 498))),
+        ("2|3|1 2|3|1 1|2|1", 495, Some((16, 498))),
+        ("2|3|1 2|3|10000", 495, Some((16, 498))),
+        ("2|3|1 1|3|10000", 495, Some((6, 498))),
+        ("2|3|1 3|3|10000", 495, Some((5, 498))),
+        ("2|3|1 2|4|10000", 495, Some((4, 498))),
+        ("2|3|1 2|3", 495, Some((2, 498))),
+        ("2|3|10000 2|3|1", 495, Some((7, 497))),
+    ];
+    for (end, before, refusal) in wanted {
+        let rows = ["1|2|1 ".repeat(before).as_str(), end].concat();
+        let what = format!("{end} behind {before} rows");
+        let of_table = table::read(&text_of(&rows, "")).err();
+        same(&what, of_table.map(place), refusal)?;
+        // What a table is refused for comes before 8 and 9.
+        let of_sheet = check::read(&text_of(&rows, "|2|0|F")).err();
+        let of_sheet = of_sheet.map(place).filter(|_| refusal.is_some());
+        same(&format!("sheet: {what}"), of_sheet, refusal)?;
+    }
+    // Text order decides which circuit is split.
+    let routed = [
+        ("D|1|2|1\nD|1|2|1\n", vec![(2, 0), (0, 2)], "FB"),
+        ("D|1|2|3\nD|1|2|5\n", vec![(6, 0), (2, 8)], "FB"),
+        ("D|1|2|5\nD|1|2|3\n", vec![(8, 2), (0, 6)], "FB"),
+    ];
+    for (rows, sent, ways) in routed {
+        let table = table(&format!("R|2\n{rows}"))?;
+        let plan = rules::plan(&table);
+        same(
+            rows,
+            (splits(&plan.sent), letters(&plan.ways).as_str()),
+            (sent, ways),
+        )?;
+        theorems(&table)?;
+    }
+    // No table has rule B split both, so rule C is given them here.
+    let rows = table("R|3\nD|1|3|3\nD|1|3|2\n")?.rows;
+    let mut sent = [(2, 4), (3, 1)].map(|(front, back)| Sent { front, back });
+    rules::rule_c(&rows, &mut sent);
+    same(
+        "rule C on two circuits",
+        splits(&sent),
+        vec![(1, 5), (4, 0)],
+    )
 }
 
 /// A sheet of ours is accepted, says what was written, and has no parallel pair.
@@ -189,6 +257,7 @@ fn theorem_accepted(table: &Table, plan: &Plan) -> Outcome {
 }
 
 /// Rule B: s is always even, and never below 0; no link's room falls below 0.
+/// Of rows with the same nodes it splits one at most.
 fn theorem_b(table: &Table, sent: &[Sent], m: i64) -> Outcome {
     for (at, row) in table.rows.iter().enumerate() {
         let (rows, unsent) = (&table.rows[..at], &table.rows[at + 1..]);
@@ -201,6 +270,11 @@ fn theorem_b(table: &Table, sent: &[Sent], m: i64) -> Outcome {
         holds("s is at least 0", s >= 0)?;
         holds("room is at least 0", room.iter().all(|room| *room >= 0))?;
     }
+    let rows = table.rows.iter().zip(sent);
+    let split = rows.filter(|(_, sent)| rules::is_split(sent));
+    let nodes: Vec<_> = split.map(|(row, _)| (row.i, row.j)).collect();
+    let rising = nodes.windows(2).all(|two| two[0] < two[1]);
+    holds("one split row of two nodes", rising)?;
     holds("loads after rule B", within(table, sent, m))
 }
 
@@ -249,9 +323,10 @@ pub fn random_theorems(seed: u64) -> Outcome {
     for case in 0..600 {
         let mut rng = Rng::for_case(seed, 1_000, case);
         let n = rng.between(2, 32);
-        let table = match case % 3 {
+        let table = match case % 4 {
             0 => gen::shaped(&mut rng, n),
             1 => gen::any(&mut rng, n),
+            2 => gen::circuits(&mut rng, n, 40),
             _ => gen::sparse(&mut rng, n, 30),
         };
         let plan = foreign::plan(&mut rng, &table);

@@ -50,8 +50,10 @@ fn of_plan(table: &Table, plan: &Plan, trials: Vec<(Call, Lend)>) -> Option<Case
 
 /// 01's square, its ring with no rows, its ring of 5, its n = 4 with 1-2 of 1,
 /// document 002's ring and document 003's figure 4.1; sizes 768 and 0; 13 and
-/// 14; amount 0 with F and with B; rings of 1, 33 and 32; a parallel pair.
-pub const SHEETS: [&str; 20] = [
+/// 14; amount 0 with F and with B; rings of 1, 33 and 32; a parallel pair. Then
+/// 02's K1: two circuits whole, both split, split behind a whole one and behind
+/// a row that crosses them; and a row below them.
+pub const SHEETS: [&str; 25] = [
     "R|4\nD|1|3|1|1|1|F\nD|2|4|1|1|1|B\nC|1|3|2\nL|1|2|2\nL|2|2|1\nL|3|2|0\nL|4|2|1\nZ|2|3\n",
     "R|2\nC|1|2|0\nL|1|0|0\nL|2|0|0\nZ|0|3\n",
     "R|2\nD|1|2|5|5|5|F\nC|1|2|5\nL|1|5|5\nL|2|5|0\nZ|5|12\n",
@@ -75,6 +77,12 @@ pub const SHEETS: [&str; 20] = [
     "",
     "R|4\n",
     "R|3\nD|1|2|1|1|1|F\nD|1|3|1|1|1|B\nC|1|3|2\nL|1|2|1\nL|2|2|0\nL|3|2|1\nZ|1|3\n",
+    "R|2\nD|1|2|1|2|0|F\nD|1|2|1|0|2|B\nC|1|2|2\nL|1|2|1\nL|2|2|1\nZ|1|3\n",
+    "R|2\nD|1|2|1|1|1|F\nD|1|2|1|1|1|B\nC|1|2|2\nL|1|2|1\nL|2|2|1\nZ|1|3\n",
+    "R|2\nD|1|2|1|2|0|F\nD|1|2|2|1|3|B\nD|1|2|1|1|1|F\nC|1|2|4\nL|1|4|2\nL|2|4|2\nZ|2|3\n",
+    "R|4\nD|1|3|1|1|1|F\nD|2|4|1|1|1|F\nD|2|4|1|1|1|B\nC|1|3|3\nL|1|3|2\nL|2|3|2\nL|3|3|1\n\
+     L|4|3|1\nZ|2|3\n",
+    "R|3\nD|1|3|1|2|0|F\nD|1|3|1|0|2|B\nD|1|2|0|0|0|F\nC|1|3|2\nL|1|2|1\nL|2|2|1\nL|3|2|1\nZ|1|3\n",
 ];
 
 pub fn sheets_of_01(_: &mut Rng, case: u64) -> Option<Case> {
@@ -132,6 +140,37 @@ fn small_of_4(mut code: usize) -> Option<Case> {
     let cut = cuts.max_by_key(|cut| cut.across).expect("a cut");
     let plan = rules::figures(&table, cut, sent, ways);
     of_plan(&table, &plan, vec![(Call::Parallel, NONE)])
+}
+
+/// Our sheet of 496 rows on 3 offices, the last of which is replaced by one or
+/// two rows of every kind. The first kind is our own last row.
+pub fn about_496(_: &mut Rng, case: u64) -> Option<Case> {
+    let ends = [
+        "D|2|3|1|0|2|B\n",
+        "D|2|3|1|0|1|B\n",
+        "D|2|3|1|0|2|F\n",
+        "D|2|3|10000|0|20000|B\n",
+        "D|1|3|1|0|2|B\n",
+        "D|3|3|1|0|2|B\n",
+        "D|2|4|1|0|2|B\n",
+        "D|2|3|1|0|2\n",
+    ];
+    let end = gen::sequence(&ends, 2, case)?.concat();
+    let mut rows = vec![Row { i: 1, j: 2, d: 1 }; 200];
+    rows.resize(496, Row { i: 2, j: 3, d: 1 });
+    let table = Table { n: 3, rows };
+    let text = sheet_text(&table, &rules::plan(&table));
+    let mut lines = gen::lines_of(&text);
+    lines[496] = end.replace('|', "\t").into_bytes();
+    Some(Case {
+        offices: 3,
+        text: lines.concat(),
+        trials: vec![
+            (Call::Check, NONE),
+            (Call::Parallel, NONE),
+            (Call::RewriteSheet, Lend::Need(1)),
+        ],
+    })
 }
 
 /// The square's sheet with each byte replaced by others, bytes put in before
@@ -208,6 +247,9 @@ fn table(rng: &mut Rng, whole: usize) -> Table {
         return gen::any(rng, n);
     }
     let count = rng.between(0, 30) as usize;
+    if rng.chance(1, 3) {
+        return gen::circuits(rng, n, count);
+    }
     gen::sparse(rng, n, count)
 }
 
@@ -216,10 +258,18 @@ pub fn ours(rng: &mut Rng, _: u64) -> Option<Case> {
     of_plan(&table, &rules::plan(&table), some_trials(rng))
 }
 
-pub fn ours_full(rng: &mut Rng, case: u64) -> Option<Case> {
+/// All pairs of 20 offices or of 32, one time out of five with more circuits.
+fn full_ring(rng: &mut Rng, case: u64) -> Table {
+    if case % 5 == 4 {
+        return gen::full_with_circuits(rng);
+    }
     let n = if case % 4 == 3 { 32 } else { 20 };
     let amounts = gen::any_amounts(rng);
-    let table = gen::full(rng, n, amounts);
+    gen::full(rng, n, amounts)
+}
+
+pub fn ours_full(rng: &mut Rng, case: u64) -> Option<Case> {
+    let table = full_ring(rng, case);
     of_plan(&table, &rules::plan(&table), all_trials())
 }
 
@@ -234,9 +284,7 @@ pub fn foreign_large(rng: &mut Rng, _: u64) -> Option<Case> {
 }
 
 pub fn foreign_full(rng: &mut Rng, case: u64) -> Option<Case> {
-    let n = if case % 4 == 3 { 32 } else { 20 };
-    let amounts = gen::any_amounts(rng);
-    let table = gen::full(rng, n, amounts);
+    let table = full_ring(rng, case);
     of_plan(&table, &foreign::plan(rng, &table), all_trials())
 }
 
@@ -248,8 +296,43 @@ pub fn crossing(rng: &mut Rng, _: u64) -> Option<Case> {
 
 pub fn all_across(rng: &mut Rng, _: u64) -> Option<Case> {
     let n = offices(rng, 4);
-    let (table, plan) = foreign::all_across(rng, n);
+    let count = if rng.chance(1, 2) { rng.below(30) } else { 0 };
+    let (table, plan) = foreign::all_across(rng, n, count);
     of_plan(&table, &plan, some_trials(rng))
+}
+
+/// 496 rows: all halved, or sent by us or by another tool.
+pub fn most_rows(rng: &mut Rng, case: u64) -> Option<Case> {
+    let n = rng.pick(&[2, 3, 4, 7, 12, 20, 32]);
+    if case % 2 == 0 {
+        let (table, plan) = foreign::all_across(rng, n, 496);
+        return of_plan(&table, &plan, some_trials(rng));
+    }
+    let table = gen::circuits(rng, n, 496);
+    let plan = if case % 4 == 1 {
+        rules::plan(&table)
+    } else {
+        foreign::plan(rng, &table)
+    };
+    of_plan(&table, &plan, some_trials(rng))
+}
+
+/// 497 rows and more, halved; three times out of four a row has another reason,
+/// or several.
+pub fn too_many_rows(rng: &mut Rng, case: u64) -> Option<Case> {
+    let n = rng.between(2, 32);
+    let count = rng.pick(&[497, 497, 498, 500, 700]);
+    let (mut table, mut plan) = foreign::all_across(rng, n, count);
+    match case % 4 {
+        0 => gen::spoil_row(rng, &mut table.rows[496]),
+        1 => foreign::row_off(rng, 494, &mut table, &mut plan),
+        _ => (),
+    }
+    let mut made = of_plan(&table, &plan, some_trials(rng))?;
+    if case % 4 == 2 {
+        damage_any(rng, &mut made.text);
+    }
+    Some(made)
 }
 
 /// A sheet of ours, of another tool, or of rows that all cross.
@@ -314,15 +397,17 @@ pub fn damaged_rows(rng: &mut Rng, _: u64) -> Option<Case> {
 
 pub fn damaged_often(rng: &mut Rng, _: u64) -> Option<Case> {
     let times = rng.between(2, 4) as u64;
-    damaged(rng, times, |rng, text| {
-        let damages = [
-            gen::damage_bytes,
-            gen::damage_lines,
-            gen::damage_fields,
-            gen::damage_sheet_row,
-        ];
-        rng.pick(&damages)(rng, text);
-    })
+    damaged(rng, times, damage_any)
+}
+
+fn damage_any(rng: &mut Rng, text: &mut Vec<u8>) {
+    let damages = [
+        gen::damage_bytes,
+        gen::damage_lines,
+        gen::damage_fields,
+        gen::damage_sheet_row,
+    ];
+    rng.pick(&damages)(rng, text);
 }
 
 /// Texts of 32,768 bytes, one more, and lengths about as large.

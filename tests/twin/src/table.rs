@@ -1,5 +1,5 @@
 //! A table and its reading: 01, "Table and sheet text" and "Reasons and their
-//! order", reasons 1 to 7.
+//! order", reasons 1 to 7; 02, K1, reasons 6 and 16.
 
 /// A demand has nodes i < j and an amount d.
 #[derive(Clone, Copy, PartialEq, Eq, Debug)]
@@ -35,8 +35,36 @@ pub fn read_length(text: &[u8]) -> Result<(), Refusal> {
     Ok(())
 }
 
-/// The length first, then lines in order.
+/// A reason that a row may get: its number, and whether it holds of the row's
+/// numbers behind the rows above.
+pub type RowReason = (u32, fn(&[i64], &Table) -> bool);
+
+/// A node outside 1..n.
+pub const OFF_RING: RowReason = (4, |row, above| {
+    row[..2].iter().any(|node| *node < 1 || *node > above.n)
+});
+/// First node not below second.
+pub const NOT_BELOW: RowReason = (5, |row, _| row[0] >= row[1]);
+/// Row's nodes below the row before, by first node, then second (02, K1).
+pub const FALLEN: RowReason = (6, |row, above| {
+    let before = above.rows.last().map(|before| (before.i, before.j));
+    before.is_some_and(|before| (row[0], row[1]) < before)
+});
+/// More than 496 rows (02, K1).
+pub const TOO_MANY: RowReason = (16, |_, above| above.rows.len() + 1 > 496);
+/// Amount over 9,999.
+pub const TOO_MUCH: RowReason = (7, |row, _| row[2] > 9_999);
+
+/// In the order within a line: 16 stands between 6 and 7.
+pub const ROW_REASONS: [RowReason; 5] = [OFF_RING, NOT_BELOW, FALLEN, TOO_MANY, TOO_MUCH];
+
+/// The table's values, or the refusal.
 pub fn read(text: &[u8]) -> Result<Table, Refusal> {
+    read_judging(text, &ROW_REASONS)
+}
+
+/// The length first, then lines in order.
+pub fn read_judging(text: &[u8], reasons: &[RowReason]) -> Result<Table, Refusal> {
     read_length(text)?;
     let lines = lines(text);
     // A missing line is the one after the last.
@@ -48,7 +76,7 @@ pub fn read(text: &[u8]) -> Result<Table, Refusal> {
         rows: Vec::new(),
     };
     for (at, line) in lines.iter().enumerate().skip(1) {
-        let row = read_row(line, at as u32 + 1, &table)?;
+        let row = read_row(line, at as u32 + 1, &table, reasons)?;
         table.rows.push(row);
     }
     Ok(table)
@@ -114,35 +142,27 @@ pub fn read_ring(line: &Line) -> Result<i64, Refusal> {
     Ok(n)
 }
 
-/// `D i j amount`: in the line the rising reason number, first 2.
-fn read_row(line: &Line, at: u32, above: &Table) -> Result<Row, Refusal> {
+/// `D i j amount`: in the line first 2, then the row's own reasons.
+fn read_row(line: &Line, at: u32, above: &Table, reasons: &[RowReason]) -> Result<Row, Refusal> {
     let Some(numbers) = numbers(line, b"D", 3) else {
         return refuse(2, at);
     };
-    judge_row(&numbers, at, above)
+    judge_row(&numbers, at, above, reasons)
 }
 
-/// Then 4, 5, 6, 7, of a row's nodes and amount, which stand first in the row
-/// of a sheet too.
-pub fn judge_row(numbers: &[i64], at: u32, above: &Table) -> Result<Row, Refusal> {
-    let (i, j, d) = (numbers[0], numbers[1], numbers[2]);
-    // 4: a node outside 1..n.
-    if i < 1 || i > above.n || j < 1 || j > above.n {
-        return refuse(4, at);
-    }
-    // 5: first node not below second.
-    if i >= j {
-        return refuse(5, at);
-    }
-    // 6: row's nodes not above the row before, by first node, then second.
-    if let Some(before) = above.rows.last() {
-        if i < before.i || (i == before.i && j <= before.j) {
-            return refuse(6, at);
+/// The first reason that holds of a row's nodes, place and amount. Nodes and
+/// amount stand first in the row of a sheet too.
+pub fn judge_row(
+    numbers: &[i64],
+    at: u32,
+    above: &Table,
+    reasons: &[RowReason],
+) -> Result<Row, Refusal> {
+    for (reason, holds) in reasons {
+        if holds(numbers, above) {
+            return refuse(*reason, at);
         }
     }
-    // 7: amount over 9,999.
-    if d > 9_999 {
-        return refuse(7, at);
-    }
+    let (i, j, d) = (numbers[0], numbers[1], numbers[2]);
     Ok(Row { i, j, d })
 }
