@@ -11,7 +11,7 @@ import circuits
 import rules
 import sheets
 from reading import Sheet, fields, first_reason, first_reason_of_sheet, holding, lines_of, rewritten
-from sheets import full, pairs, t, write_table
+from sheets import damaged, full, pairs, t, write_table
 
 ROOM, PATTERN = 40000, 85
 
@@ -139,34 +139,6 @@ def rooms(text):
     """A text with buffers of length 0, one short, exact and longer."""
     need = len(text)
     return [(text, r) for r in sorted({0, 1, need - 1, need, need + 1, need + 100, ROOM}) if 0 <= r <= ROOM]
-
-
-def damaged(rng, text):
-    s = bytearray(text)
-    for _ in range(rng.choice([1, 1, 1, 2, 3])):
-        at = rng.randrange(len(s) + 1)
-        what = rng.randrange(6)
-        if what == 0 and at < len(s):
-            s[at] = rng.choice(b"\t\n 0123456789RDCLZFBx\0\r\xff")
-        elif what == 1:
-            s[at:at] = bytes([rng.choice(b"\t\n 0123456789RD")])
-        elif what == 2 and at < len(s):
-            del s[at]
-        elif what == 3:
-            del s[at:]
-        elif what == 4:
-            ls = lines_of(bytes(s))
-            if len(ls) > 1:
-                a, b = rng.randrange(len(ls)), rng.randrange(len(ls))
-                ls[a], ls[b] = ls[b], ls[a]
-            s = bytearray(b"".join(ls))
-        else:
-            ls = lines_of(bytes(s))
-            if ls:
-                a = rng.randrange(len(ls))
-                ls.insert(a, ls[a])
-            s = bytearray(b"".join(ls))
-    return bytes(s)
 
 
 def all_cases():

@@ -335,7 +335,7 @@ def damaged(rng, text):
     s = bytearray(text)
     for _ in range(rng.choice([1, 1, 1, 2, 3])):
         at = rng.randrange(len(s) + 1)
-        what = rng.randrange(6)
+        what = rng.randrange(7)
         ls = lines_of(bytes(s))
         if what == 0 and at < len(s):
             s[at] = rng.choice(b"\t\n 0123456789RDCLZFBx\0\r\xff")
@@ -349,6 +349,8 @@ def damaged(rng, text):
             a, b = rng.randrange(len(ls)), rng.randrange(len(ls))
             if what == 4:
                 ls[a], ls[b] = ls[b], ls[a]
+            elif what == 5:
+                ls.insert(a, ls[a])
             else:
                 parts = ls[a].rstrip(b"\n").split(b"\t")
                 parts[rng.randrange(len(parts))] = rng.choice((b"0", b"1", b"2", b"32", b"33", b"9999", b"10000", b"19998", b"9999999", b"10000000", b"F", b"B"))

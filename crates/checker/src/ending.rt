@@ -6,7 +6,7 @@ use crate::judge::judge_whole;
 use crate::next::next_end;
 use ring::LINKS;
 use ring::ROWS;
-use router::wide;
+use ring::wide;
 use sheet::Figures;
 use sonet::Sonet;
 use table::Reason;

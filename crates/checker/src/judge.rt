@@ -1,8 +1,8 @@
 // What is found against a sheet's rows, cut, links and figures. Sums are taken as usize, in which none is too large.
 use ring::FRONT;
 use ring::ROWS;
-use router::is_split;
-use router::wide;
+use ring::is_split;
+use ring::wide;
 use table::Reason;
 use table::Verdict;
 ghost use mathlib.Core.Path.{_≡_};

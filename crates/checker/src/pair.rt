@@ -1,6 +1,6 @@
 // The first pair of split rows that are parallel, in rule C's order.
 use ring::ROWS;
-use router::is_split;
+use ring::is_split;
 ghost use mathlib.Core.List.{List};
 ghost use mathlib.Core.Path.{_≡_};
 ghost use Prim.Native.Nat.{ℕ, _≤_};

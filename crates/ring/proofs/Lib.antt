@@ -21,3 +21,4 @@ pub mod Listed
 pub mod Laid
 pub mod Totals
 pub mod Figures
+pub mod Unique

@@ -2,7 +2,7 @@
 use crate::Figures;
 use ring::LINKS;
 use ring::ROWS;
-use router::wide;
+use ring::wide;
 ghost use mathlib.Core.Path.{_≡_};
 ghost use Prim.Native.Nat.{_+_, _≤_};
 ghost use lib.ListN.{length};

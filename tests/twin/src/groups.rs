@@ -419,7 +419,7 @@ fn too_many_rows(rng: &mut Rng, case: u64) -> Option<Case> {
     }
     let mut made = of_table(&table, two_trials(rng))?;
     if case % 3 == 1 {
-        damage_any(rng, &mut made.text);
+        gen::damage_any(rng, &mut made.text, gen::damage_row);
     }
     Some(made)
 }
@@ -491,17 +491,7 @@ fn damaged_rows(rng: &mut Rng, _: u64) -> Option<Case> {
 
 fn damaged_often(rng: &mut Rng, _: u64) -> Option<Case> {
     let times = rng.between(2, 4) as u64;
-    damaged(rng, times, damage_any)
-}
-
-fn damage_any(rng: &mut Rng, text: &mut Vec<u8>) {
-    let damages = [
-        gen::damage_bytes,
-        gen::damage_lines,
-        gen::damage_fields,
-        gen::damage_row,
-    ];
-    rng.pick(&damages)(rng, text);
+    damaged(rng, times, |rng, text| gen::damage_any(rng, text, gen::damage_row))
 }
 
 /// Texts of 32,768 bytes, one more, and lengths about as large.

@@ -330,7 +330,7 @@ pub fn too_many_rows(rng: &mut Rng, case: u64) -> Option<Case> {
     }
     let mut made = of_plan(&table, &plan, some_trials(rng))?;
     if case % 4 == 2 {
-        damage_any(rng, &mut made.text);
+        gen::damage_any(rng, &mut made.text, gen::damage_sheet_row);
     }
     Some(made)
 }
@@ -397,17 +397,7 @@ pub fn damaged_rows(rng: &mut Rng, _: u64) -> Option<Case> {
 
 pub fn damaged_often(rng: &mut Rng, _: u64) -> Option<Case> {
     let times = rng.between(2, 4) as u64;
-    damaged(rng, times, damage_any)
-}
-
-fn damage_any(rng: &mut Rng, text: &mut Vec<u8>) {
-    let damages = [
-        gen::damage_bytes,
-        gen::damage_lines,
-        gen::damage_fields,
-        gen::damage_sheet_row,
-    ];
-    rng.pick(&damages)(rng, text);
+    damaged(rng, times, |rng, text| gen::damage_any(rng, text, gen::damage_sheet_row))
 }
 
 /// Texts of 32,768 bytes, one more, and lengths about as large.

@@ -1,0 +1,148 @@
+#include "plan.h"
+
+/* What is left of a sheet. */
+struct rest {
+    const uint8_t *at, *end;
+};
+
+/* Goes past the letter of the line and its tab, where that is the letter. */
+static bool begins(struct rest *rest, char letter)
+{
+    if (rest->end - rest->at < 2 || rest->at[0] != letter) {
+        return false;
+    }
+    rest->at += 2;
+    return true;
+}
+
+/* Goes past a number and the byte behind it. */
+static unsigned number(struct rest *rest)
+{
+    unsigned n = 0;
+    while (rest->at < rest->end && rest->at[0] >= '0' && rest->at[0] <= '9') {
+        n = 10 * n + (unsigned)(*rest->at++ - '0');
+    }
+    if (rest->at < rest->end) {
+        rest->at++;
+    }
+    return n;
+}
+
+static struct circuit read_circuit(struct rest *rest)
+{
+    struct circuit c;
+    c.first = number(rest);
+    c.second = number(rest);
+    c.amount = number(rest);
+    c.front = number(rest);
+    c.back = number(rest);
+    c.goes_back = begins(rest, 'B');
+    if (!c.goes_back) {
+        begins(rest, 'F');
+    }
+    return c;
+}
+
+/* The loads of all links, in their order. */
+static bool read_loads(struct plan *plan, struct rest *rest)
+{
+    for (unsigned k = 1; k <= plan->offices; k++) {
+        if (!begins(rest, 'L') || number(rest) != k) {
+            return false;
+        }
+        plan->load[k - 1].split = number(rest);
+        plan->load[k - 1].unsplit = number(rest);
+    }
+    return true;
+}
+
+bool read_plan(struct plan *plan, const uint8_t *sheet, size_t length)
+{
+    struct rest rest = {sheet, sheet + length};
+    plan->offices = begins(&rest, 'R') ? number(&rest) : 0;
+    if (plan->offices < RINGKIT_MIN_OFFICES || plan->offices > RINGKIT_MAX_OFFICES) {
+        return false;
+    }
+    for (plan->circuits = 0; plan->circuits < RINGKIT_MAX_ROWS && begins(&rest, 'D'); plan->circuits++) {
+        plan->circuit[plan->circuits] = read_circuit(&rest);
+    }
+    if (!begins(&rest, 'C')) {
+        return false;
+    }
+    plan->g = number(&rest);
+    plan->h = number(&rest);
+    plan->across = number(&rest);
+    if (!read_loads(plan, &rest) || !begins(&rest, 'Z')) {
+        return false;
+    }
+    plan->peak = number(&rest);
+    plan->size = number(&rest);
+    return rest.at == rest.end;
+}
+
+/* Halves as units: 13 is 6.5. */
+struct units {
+    unsigned whole, tenths;
+};
+
+static struct units units(unsigned halves)
+{
+    return (struct units){halves / 2, halves % 2 * 5};
+}
+
+static void tell_circuits(FILE *out, const struct plan *plan)
+{
+    fprintf(out, "\nCircuit   offices  amount  split: front      back  unsplit, it goes\n");
+    for (unsigned k = 0; k < plan->circuits; k++) {
+        const struct circuit *c = &plan->circuit[k];
+        struct units front = units(c->front);
+        struct units back = units(c->back);
+        fprintf(out, "%7u   %2u - %2u  %6u  %10u.%u  %6u.%u  ", k + 1, c->first, c->second, c->amount, front.whole, front.tenths, back.whole, back.tenths);
+        if (c->goes_back) {
+            fprintf(out, "back, from %u round to %u\n", c->second, c->first);
+        } else {
+            fprintf(out, "front, from %u up to %u\n", c->first, c->second);
+        }
+    }
+}
+
+/* A cut parts offices g+1 to h from the others. */
+static void tell_cut(FILE *out, const struct plan *plan)
+{
+    struct units least = units(plan->across);
+    fprintf(out, "\nCut: links %u and %u, across %u.\n", plan->g, plan->h, plan->across);
+    fprintf(out, "They part office%s %u", plan->g + 1 < plan->h ? "s" : "", plan->g + 1);
+    if (plan->g + 1 < plan->h) {
+        fprintf(out, " to %u", plan->h);
+    }
+    fprintf(out, " from the rest of the ring.\n");
+    fprintf(out, "The circuits between the two parts add up to %u, all of it over these two links.\n", plan->across);
+    fprintf(out, "So in every routing, however finely circuits are divided, one of the two links\n");
+    fprintf(out, "carries at least %u.%u. The split peak is just that: no routing has a lower one.\n", least.whole, least.tenths);
+}
+
+static void tell_links(FILE *out, const struct plan *plan)
+{
+    struct units peak = units(plan->across);
+    fprintf(out, "\n   Link   offices     split  unsplit\n");
+    for (unsigned k = 1; k <= plan->offices; k++) {
+        struct units split = units(plan->load[k - 1].split);
+        fprintf(out, "%7u   %2u - %2u  %6u.%u  %7u\n", k, k, k % plan->offices + 1, split.whole, split.tenths, plan->load[k - 1].unsplit);
+    }
+    fprintf(out, "   Peak            %6u.%u  %7u\n", peak.whole, peak.tenths, plan->peak);
+}
+
+void tell_plan(FILE *out, const struct plan *plan)
+{
+    fprintf(out, "Ring of %u offices, %u circuit%s; amounts and loads in STS-1.\n", plan->offices, plan->circuits, plan->circuits == 1 ? "" : "s");
+    if (plan->circuits > 0) {
+        tell_circuits(out, plan);
+    }
+    tell_cut(out, plan);
+    tell_links(out, plan);
+    if (plan->size > 0) {
+        fprintf(out, "\nLine size to buy: %u, the smallest SONET size that carries the unsplit peak of %u.\n", plan->size, plan->peak);
+    } else {
+        fprintf(out, "\nNo line to buy: no SONET size is large enough for the unsplit peak of %u.\n", plan->peak);
+    }
+}

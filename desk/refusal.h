@@ -1,0 +1,10 @@
+/* Refusals, in sentences. */
+#ifndef DESK_REFUSAL_H
+#define DESK_REFUSAL_H
+
+#include "text.h"
+
+/* Says on standard error why the text was refused, and where: the line, and how it stands. */
+void tell_refusal(const struct text *text, uint32_t reason, uint32_t line);
+
+#endif

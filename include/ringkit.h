@@ -1,0 +1,111 @@
+/* ringkit: plans a ring of offices, and checks plans. For C11 and C++11, x86-64 Linux.
+ *
+ * A text is read as a table or as a sheet. Fields are parted by one tab, every line ends with LF, numbers are 1 to 7 digits with no leading
+ * zero but 0 itself.
+ *
+ *   table:  R n             n offices, 1 to n; link k joins k and k+1, link n joins n and 1
+ *           D i j amount    a row for each circuit, i < j, by rising i, then j; its front is links i to j-1, its back the other links
+ *   sheet:  R n             then the rows with what goes each way, in halves, and where the whole circuit goes (F or B),
+ *           D i j amount front back way
+ *           C g h across    a cut: two links, and the demand between the offices that they part,
+ *           L link split-load unsplit-load     the loads of links 1 to n, split ones in halves,
+ *           Z unsplit-peak size                and the line size to buy, 0 where no SONET size is large enough
+ *
+ * Each call accepts its text, or refuses it with a reason and a line. What it answers and what it writes is proved to be what the
+ * definitions say, for every text and every buffer on these terms:
+ *
+ *   - A pointer and the length behind it name bytes that may be read (a text) or written (a buffer) until the call returns, fewer than
+ *     2^63 of them. A length may be 0; its pointer is then not used, and may be NULL. No text needs a NUL at its end.
+ *   - Text and buffer do not overlap, and nobody else writes to either during the call.
+ *   - RINGKIT_STACK_BYTES of stack are free. That figure is measured and not proved.
+ *
+ * No call keeps anything from one call to the next, allocates, touches a file or errno, or changes the text. Calls may run in any number of
+ * threads at the same time.
+ *
+ * Later versions will add a field to the answers (the byte of the line at which a fault begins), calls (judging rows without a text) and
+ * reasons. So recompile with the header of the library that is linked, and take any reason but RINGKIT_OK for a refusal.
+ */
+#ifndef RINGKIT_H
+#define RINGKIT_H
+
+#include <stddef.h>
+#include <stdint.h>
+
+#ifdef __cplusplus
+extern "C" {
+#endif
+
+/* Grows by 1 whenever a call, an answer or a limit changes. */
+#define RINGKIT_VERSION 1
+
+/* The limits of what is accepted. */
+#define RINGKIT_MAX_TEXT_BYTES 32768
+#define RINGKIT_MIN_OFFICES 2
+#define RINGKIT_MAX_OFFICES 32
+#define RINGKIT_MAX_ROWS 496
+#define RINGKIT_MAX_AMOUNT 9999
+
+/* A buffer of so many bytes suffices for every sheet that ringkit_route writes; this is proved. For rewriting, the text's own length suffices. */
+#define RINGKIT_SHEET_BYTES 28872
+
+/* Enough stack for each call, with some to spare for binding memcpy and memset when they are first called. */
+#define RINGKIT_STACK_BYTES 73728
+
+/* Why a text is refused. Each is given exactly when it holds and nothing before it in this order does: RINGKIT_TOO_LONG; then line by line,
+ * and in a line by rising number, but RINGKIT_TOO_MANY_ROWS between 6 and 7; then 13, 14 and 15. */
+enum ringkit_reason {
+    RINGKIT_OK = 0,             /* accepted */
+    RINGKIT_TOO_LONG = 1,       /* text over 32,768 bytes */
+    RINGKIT_MISSHAPEN = 2,      /* line of the wrong shape, missing, or left over; a badly spelled number; no final LF */
+    RINGKIT_RING_SIZE = 3,      /* n outside 2..32 */
+    RINGKIT_NO_SUCH_NODE = 4,   /* a node outside 1..n */
+    RINGKIT_NOT_BELOW = 5,      /* first node not below second */
+    RINGKIT_OUT_OF_ORDER = 6,   /* row's nodes below the row before, by first node, then second */
+    RINGKIT_TOO_MUCH = 7,       /* amount over 9,999 */
+    RINGKIT_WRONG_SUM = 8,      /* front + back is not 2 x amount */
+    RINGKIT_WRONG_WAY = 9,      /* direction of an unsplit row differs from rule D: back 0 goes F, else front 0 goes B */
+    RINGKIT_WRONG_CUT = 10,     /* not 1 <= g < h <= n, or across number false */
+    RINGKIT_WRONG_LINK = 11,    /* link out of order, or either load false */
+    RINGKIT_WRONG_LAST = 12,    /* unsplit peak or size false */
+    RINGKIT_NOT_TIGHT = 13,     /* split peak (halves) is not the across number */
+    RINGKIT_OVER_BOUND = 14,    /* the bound of rule D broken: twice the unsplit peak over split peak (halves) + 3 x largest split amount */
+    RINGKIT_NO_ROOM = 15,       /* lent buffer shorter than the text to be written */
+    RINGKIT_TOO_MANY_ROWS = 16  /* more than 496 rows */
+};
+
+/* The answer of a call. The line counts from 1, a missing line being the one after the last; it is 0 for reasons 1, 13, 14 and 15. */
+typedef struct ringkit_reply {
+    uint32_t reason; /* an enum ringkit_reason */
+    uint32_t line;   /* 0 when accepted */
+    size_t length;   /* bytes written to the buffer's start; 0 when refused, and of ringkit_check */
+} ringkit_reply;
+
+/* The answer of ringkit_parallel. */
+typedef struct ringkit_pair_reply {
+    uint32_t reason; /* as above */
+    uint32_t line;
+    size_t first;    /* the two rows by their places among all rows, counted from 1, */
+    size_t second;   /* first < second; both 0 where there is no such pair, and when refused */
+} ringkit_pair_reply;
+
+/* Calls that lend a buffer write their text at its start and keep the bytes behind it; one that refuses changes no byte. */
+
+/* Routes a table and writes its sheet. */
+ringkit_reply ringkit_route(const uint8_t *table, size_t table_length, uint8_t *buffer, size_t buffer_length);
+
+/* Checks a sheet, whatever tool made it. Accepted means that every figure is true, that no division of the demands, however fine, has a lower
+ * peak than the split peak, and that the unsplit peak is within the bound of rule D. */
+ringkit_reply ringkit_check(const uint8_t *sheet, size_t sheet_length);
+
+/* The first pair of split rows of a sheet that are parallel, by first and then by second; the sheet is checked before. */
+ringkit_pair_reply ringkit_parallel(const uint8_t *sheet, size_t sheet_length);
+
+/* Reads a table, or checks a sheet, and writes its values afresh: the same bytes. */
+ringkit_reply ringkit_rewrite_table(const uint8_t *table, size_t table_length, uint8_t *buffer, size_t buffer_length);
+ringkit_reply ringkit_rewrite_sheet(const uint8_t *sheet, size_t sheet_length, uint8_t *buffer, size_t buffer_length);
+
+#ifdef __cplusplus
+}
+#endif
+
+#endif

@@ -1,0 +1,304 @@
+/* Calls the library as a C program does: on a small stack, in several threads, with texts that cannot be written to and buffers that end where
+ * memory does. Says what fails; the last line is 'N passed, M failed'. */
+#define _DEFAULT_SOURCE
+#include <pthread.h>
+#include <stdarg.h>
+#include <stdbool.h>
+#include <stdio.h>
+#include <stdlib.h>
+#include <string.h>
+#include <sys/mman.h>
+#include <unistd.h>
+
+#include "ringkit.h"
+
+_Static_assert(RINGKIT_SHEET_BYTES == 8 * (2 + 7 * RINGKIT_MAX_ROWS + 4 + 4 * RINGKIT_MAX_OFFICES + 3),
+               "8 bytes for each field of the longest sheet, as in crates/ringkit");
+
+static unsigned passed, failed;
+
+static void expect(bool good, const char *what, ...)
+{
+    va_list values;
+    if (good) {
+        passed++;
+        return;
+    }
+    failed++;
+    va_start(values, what);
+    fputs("error: ", stdout);
+    vprintf(what, values);
+    putchar('\n');
+    va_end(values);
+}
+
+/* What the tests themselves cannot do without. */
+static void need(bool good, const char *what)
+{
+    if (!good) {
+        perror(what);
+        exit(1);
+    }
+}
+
+/* ---- texts; none lies on a stack, since that is small */
+
+struct text {
+    size_t length;
+    uint8_t bytes[RINGKIT_MAX_TEXT_BYTES + 1];
+};
+
+static const struct text NOTHING;
+static struct text table, sheet;
+
+static void add(struct text *text, const char *line, ...)
+{
+    va_list values;
+    va_start(values, line);
+    text->length += (size_t)vsnprintf((char *)text->bytes + text->length, sizeof text->bytes - text->length, line, values);
+    va_end(values);
+}
+
+static void one_row(unsigned offices, unsigned amount)
+{
+    table.length = 0;
+    add(&table, "R\t%u\nD\t1\t2\t%u\n", offices, amount);
+}
+
+static void all_pairs(unsigned offices)
+{
+    table.length = 0;
+    add(&table, "R\t%u\n", offices);
+    for (unsigned i = 1; i < offices; i++) {
+        for (unsigned j = i + 1; j <= offices; j++) {
+            add(&table, "D\t%u\t%u\t%u\n", i, j, (i * 7919 + j * 3571) % (RINGKIT_MAX_AMOUNT + 1));
+        }
+    }
+}
+
+static void equal_rows(unsigned rows)
+{
+    table.length = 0;
+    add(&table, "R\t%u\n", RINGKIT_MAX_OFFICES);
+    for (unsigned k = 0; k < rows; k++) {
+        add(&table, "D\t15\t31\t%u\n", RINGKIT_MAX_AMOUNT);
+    }
+}
+
+/* ---- a text and a buffer, each with a page behind it that cannot be touched */
+
+enum { AREA = 64 * 1024, PATTERN = 0x55 };
+
+static uint8_t *text_area, *buffer_area;
+
+static uint8_t *fenced_area(void)
+{
+    size_t page = (size_t)sysconf(_SC_PAGESIZE);
+    uint8_t *area = mmap(NULL, AREA + page, PROT_READ | PROT_WRITE, MAP_PRIVATE | MAP_ANONYMOUS, -1, 0);
+    need(area != MAP_FAILED, "mmap");
+    need(mprotect(area + AREA, page, PROT_NONE) == 0, "mprotect");
+    return area;
+}
+
+/* Puts the text against its fence, where it can only be read. */
+static const uint8_t *fenced(const struct text *text)
+{
+    uint8_t *place = text_area + AREA - text->length;
+    need(mprotect(text_area, AREA, PROT_READ | PROT_WRITE) == 0, "mprotect");
+    memcpy(place, text->bytes, text->length);
+    need(mprotect(text_area, AREA, PROT_READ) == 0, "mprotect");
+    return place;
+}
+
+typedef ringkit_reply writing(const uint8_t *, size_t, uint8_t *, size_t);
+
+/* Calls with a buffer of so many bytes, the last before its fence. */
+static ringkit_reply lend(writing *call, const struct text *text, size_t room)
+{
+    memset(buffer_area, PATTERN, AREA);
+    return call(fenced(text), text->length, buffer_area + AREA - room, room);
+}
+
+static bool untouched(const uint8_t *from, const uint8_t *to)
+{
+    while (from < to && *from == PATTERN) {
+        from++;
+    }
+    return from == to;
+}
+
+/* Whether a buffer of so many bytes begins with that text, and every byte before and behind the text is as it was. */
+static bool holds(size_t room, const struct text *text)
+{
+    const uint8_t *start = buffer_area + AREA - room;
+    return untouched(buffer_area, start) && memcmp(start, text->bytes, text->length) == 0 &&
+           untouched(start + text->length, buffer_area + AREA);
+}
+
+/* ---- accepted texts */
+
+static bool says(ringkit_reply reply, uint32_t reason, uint32_t line, size_t length)
+{
+    return reply.reason == reason && reply.line == line && reply.length == length;
+}
+
+/* With just enough room the call writes that text; with a byte less, and with none, it refuses and touches nothing. */
+static void writes(const char *name, writing *call, const struct text *text, const struct text *written)
+{
+    size_t room = written->length;
+    expect(says(lend(call, text, room), RINGKIT_OK, 0, room), "%s: just enough room is refused", name);
+    expect(holds(room, written), "%s: what is written", name);
+    expect(says(lend(call, text, room - 1), RINGKIT_NO_ROOM, 0, 0), "%s: a byte less is enough", name);
+    expect(holds(room - 1, &NOTHING), "%s: too short a buffer is touched", name);
+    expect(says(call(fenced(text), text->length, NULL, 0), RINGKIT_NO_ROOM, 0, 0), "%s: no buffer is enough", name);
+}
+
+/* Routes the table with more than enough room. */
+static void route(const char *name)
+{
+    ringkit_reply reply = lend(ringkit_route, &table, RINGKIT_SHEET_BYTES);
+    expect(reply.reason == RINGKIT_OK && reply.line == 0, "%s: routing", name);
+    sheet.length = reply.length;
+    memcpy(sheet.bytes, buffer_area + AREA - RINGKIT_SHEET_BYTES, sheet.length);
+    expect(holds(RINGKIT_SHEET_BYTES, &sheet), "%s: routing touches more than its sheet", name);
+}
+
+static void test_table(const char *name)
+{
+    route(name);
+    ringkit_pair_reply pair = ringkit_parallel(fenced(&sheet), sheet.length);
+    expect(pair.reason == RINGKIT_OK && pair.line == 0 && pair.first == 0 && pair.second == 0, "%s: our sheet has a parallel pair", name);
+    expect(says(ringkit_check(fenced(&sheet), sheet.length), RINGKIT_OK, 0, 0), "%s: our sheet is refused", name);
+    writes(name, ringkit_route, &table, &sheet);
+    writes(name, ringkit_rewrite_table, &table, &table);
+    writes(name, ringkit_rewrite_sheet, &sheet, &sheet);
+}
+
+/* Rows 1 and 3, both 1-2 on a ring of 4, are split and parallel. */
+static void test_pair(void)
+{
+    sheet.length = 0;
+    add(&sheet, "R\t4\nD\t1\t2\t1\t1\t1\tF\nD\t1\t2\t0\t0\t0\tF\nD\t1\t2\t1\t1\t1\tB\nC\t1\t2\t2\n");
+    add(&sheet, "L\t1\t2\t1\nL\t2\t2\t1\nL\t3\t2\t1\nL\t4\t2\t1\nZ\t1\t3\n");
+    ringkit_pair_reply pair = ringkit_parallel(fenced(&sheet), sheet.length);
+    expect(pair.reason == RINGKIT_OK && pair.line == 0 && pair.first == 1 && pair.second == 3, "the parallel pair");
+    sheet.bytes[sheet.length - 2] = '4';
+    pair = ringkit_parallel(fenced(&sheet), sheet.length);
+    expect(pair.reason == RINGKIT_WRONG_LAST && pair.line == 10 && pair.first == 0 && pair.second == 0, "a pair of a refused sheet");
+}
+
+/* ---- what the header says of limits, and of no text at all */
+
+/* Both table calls give the table that reason and line; a refusal touches nothing. */
+static void judged(const char *name, uint32_t reason, uint32_t line)
+{
+    writing *calls[] = {ringkit_route, ringkit_rewrite_table};
+    for (unsigned k = 0; k < 2; k++) {
+        ringkit_reply reply = lend(calls[k], &table, RINGKIT_MAX_TEXT_BYTES);
+        expect(reply.reason == reason && reply.line == line, "%s: %u on line %u", name, (unsigned)reply.reason, (unsigned)reply.line);
+        expect(reason == RINGKIT_OK || holds(RINGKIT_MAX_TEXT_BYTES, &NOTHING), "%s: a refusal touches the buffer", name);
+    }
+}
+
+static void test_limits(void)
+{
+    one_row(RINGKIT_MIN_OFFICES, RINGKIT_MAX_AMOUNT);
+    judged("fewest offices, largest amount", RINGKIT_OK, 0);
+    one_row(RINGKIT_MIN_OFFICES - 1, 1);
+    judged("too few offices", RINGKIT_RING_SIZE, 1);
+    one_row(RINGKIT_MIN_OFFICES, RINGKIT_MAX_AMOUNT + 1);
+    judged("too large an amount", RINGKIT_TOO_MUCH, 2);
+    one_row(RINGKIT_MAX_OFFICES + 1, 1);
+    judged("too many offices", RINGKIT_RING_SIZE, 1);
+    equal_rows(RINGKIT_MAX_ROWS);
+    judged("most offices, most rows", RINGKIT_OK, 0);
+    equal_rows(RINGKIT_MAX_ROWS + 1);
+    judged("too many rows", RINGKIT_TOO_MANY_ROWS, RINGKIT_MAX_ROWS + 2);
+    table.length = RINGKIT_MAX_TEXT_BYTES;
+    table.bytes[0] = 'r';
+    judged("longest text", RINGKIT_MISSHAPEN, 1);
+    table.length++;
+    judged("too long a text", RINGKIT_TOO_LONG, 0);
+}
+
+static void test_no_text(void)
+{
+    ringkit_pair_reply pair = ringkit_parallel(NULL, 0);
+    expect(pair.reason == RINGKIT_MISSHAPEN && pair.line == 1, "parallel: no text");
+    expect(says(ringkit_check(NULL, 0), RINGKIT_MISSHAPEN, 1, 0), "check: no text");
+    expect(says(ringkit_route(NULL, 0, NULL, 0), RINGKIT_MISSHAPEN, 1, 0), "route: no text");
+    expect(says(ringkit_rewrite_table(NULL, 0, NULL, 0), RINGKIT_MISSHAPEN, 1, 0), "rewrite a table: no text");
+    expect(says(ringkit_rewrite_sheet(NULL, 0, NULL, 0), RINGKIT_MISSHAPEN, 1, 0), "rewrite a sheet: no text");
+}
+
+/* ---- threads */
+
+enum { SMALL_STACK = 128 * 1024, BESIDE = 4, TURNS = 25 };
+
+static void *test_texts(void *unused)
+{
+    test_no_text();
+    test_pair();
+    test_limits();
+    all_pairs(20);
+    test_table("all pairs of 20 offices");
+    all_pairs(RINGKIT_MAX_OFFICES);
+    test_table("all pairs of 32 offices");
+    equal_rows(RINGKIT_MAX_ROWS);
+    test_table("496 equal rows");
+    return unused;
+}
+
+static pthread_t start(void *(*job)(void *), void *with, pthread_attr_t *attributes)
+{
+    pthread_t thread;
+    need(pthread_create(&thread, attributes, job, with) == 0, "pthread_create");
+    return thread;
+}
+
+static void test_small_stack(void)
+{
+    pthread_attr_t attributes;
+    need(pthread_attr_init(&attributes) == 0, "pthread_attr_init");
+    need(pthread_attr_setstacksize(&attributes, SMALL_STACK) == 0, "pthread_attr_setstacksize");
+    pthread_join(start(test_texts, NULL, &attributes), NULL);
+    pthread_attr_destroy(&attributes);
+}
+
+/* Routes the shared table again and again into a buffer of its own; NULL where every sheet was the known one. */
+static void *route_often(void *buffer)
+{
+    for (unsigned turn = 0; turn < TURNS; turn++) {
+        ringkit_reply reply = ringkit_route(table.bytes, table.length, buffer, RINGKIT_SHEET_BYTES);
+        if (!says(reply, RINGKIT_OK, 0, sheet.length) || memcmp(buffer, sheet.bytes, sheet.length) != 0) {
+            return buffer;
+        }
+    }
+    return NULL;
+}
+
+static void test_side_by_side(void)
+{
+    static uint8_t buffers[BESIDE][RINGKIT_SHEET_BYTES];
+    pthread_t threads[BESIDE];
+    all_pairs(RINGKIT_MAX_OFFICES);
+    route("side by side");
+    for (unsigned k = 0; k < BESIDE; k++) {
+        threads[k] = start(route_often, buffers[k], NULL);
+    }
+    for (unsigned k = 0; k < BESIDE; k++) {
+        void *differs;
+        pthread_join(threads[k], &differs);
+        expect(differs == NULL, "side by side: thread %u got another sheet", k);
+    }
+}
+
+int main(void)
+{
+    text_area = fenced_area();
+    buffer_area = fenced_area();
+    test_small_stack();
+    test_side_by_side();
+    printf("%u passed, %u failed\n", passed, failed);
+    return failed == 0 ? 0 : 1;
+}
