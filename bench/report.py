@@ -40,6 +40,11 @@ TABLES_6_TO_8 = {
 }
 
 
+def ratio(ours, best):
+    """Where nothing is sent, ours is nothing too."""
+    return ours / best if best else 1
+
+
 @dataclass
 class Result:
     """A line of the raw data. Peaks are in units, across in halves; counts are given for some tables only."""
@@ -73,7 +78,7 @@ class Result:
     @property
     def over(self):
         """How far ours is above the best known peak, as a part of that."""
-        return self.ours / self.best - 1
+        return ratio(self.ours, self.best) - 1
 
 
 COLUMNS = [field.name for field in fields(Result)]
@@ -89,7 +94,7 @@ def share_of(results, holds):
 
 def above(peaks, bests):
     """How far the average of the peaks is above that of the best ones: so 002 prints it."""
-    return mean(peaks) / mean(bests) - 1
+    return ratio(mean(peaks), mean(bests)) - 1
 
 
 def grid(head, *rows):
@@ -172,7 +177,7 @@ def beside_8_1_row(n, some):
 
 
 def beside_6_to_8(results):
-    head = "chance", "offices", "best, 002", "best, here", "DENS over best, 002", "dual ascent over best, 002", "ours over best, here", "proved best"
+    head = "chance", "offices", "best, 002", "best, here", "DENS over best, 002", "dual ascent over best, 002", "ours over best, here", "at most", "ours = best", "proved best"
     return grid(head, *(beside_6_to_8_row(cell, some) for cell, some in cells(results).items()))
 
 
@@ -186,6 +191,8 @@ def beside_6_to_8_row(cell, some):
         percent(dens / best - 1),
         percent(ascent / best - 1),
         percent(ours_above(some)),
+        percent(max(r.over for r in some)),
+        share_of(some, lambda r: r.ours == r.best),
         f"{sum(r.proved for r in some)} of {len(some)}",
     )
 

@@ -22,7 +22,7 @@ static enum status refused(const struct text *text, uint32_t reason, uint32_t li
     return REFUSED;
 }
 
-static enum status plan(const struct text *table, bool as_sheet)
+static enum status plan_table(const struct text *table, bool as_sheet)
 {
     uint8_t sheet[RINGKIT_SHEET_BYTES];
     struct plan plan;
@@ -42,7 +42,7 @@ static enum status plan(const struct text *table, bool as_sheet)
     return FINE;
 }
 
-static enum status check(const struct text *sheet)
+static enum status check_sheet(const struct text *sheet)
 {
     ringkit_reply reply = ringkit_check(sheet->bytes, sheet->length);
     if (reply.reason != RINGKIT_OK) {
@@ -61,7 +61,7 @@ static void show_row(const struct text *sheet, size_t row)
     putchar('\n');
 }
 
-static enum status parallel(const struct text *sheet)
+static enum status ask_parallel(const struct text *sheet)
 {
     ringkit_pair_reply reply = ringkit_parallel(sheet->bytes, sheet->length);
     if (reply.reason != RINGKIT_OK) {
@@ -117,9 +117,9 @@ static enum status carry_out(const struct order *order)
         return TROUBLE;
     }
     if (is(order->command, "plan")) {
-        return plan(&text, order->as_sheet);
+        return plan_table(&text, order->as_sheet);
     }
-    return is(order->command, "check") ? check(&text) : parallel(&text);
+    return is(order->command, "check") ? check_sheet(&text) : ask_parallel(&text);
 }
 
 static const char USAGE[] = "usage: desk plan [--sheet] [TABLE]\n"

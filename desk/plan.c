@@ -85,7 +85,7 @@ struct units {
     unsigned whole, tenths;
 };
 
-static struct units units(unsigned halves)
+static struct units in_units(unsigned halves)
 {
     return (struct units){halves / 2, halves % 2 * 5};
 }
@@ -95,8 +95,8 @@ static void tell_circuits(FILE *out, const struct plan *plan)
     fprintf(out, "\nCircuit   offices  amount  split: front      back  unsplit, it goes\n");
     for (unsigned k = 0; k < plan->circuits; k++) {
         const struct circuit *c = &plan->circuit[k];
-        struct units front = units(c->front);
-        struct units back = units(c->back);
+        struct units front = in_units(c->front);
+        struct units back = in_units(c->back);
         fprintf(out, "%7u   %2u - %2u  %6u  %10u.%u  %6u.%u  ", k + 1, c->first, c->second, c->amount, front.whole, front.tenths, back.whole, back.tenths);
         if (c->goes_back) {
             fprintf(out, "back, from %u round to %u\n", c->second, c->first);
@@ -109,7 +109,7 @@ static void tell_circuits(FILE *out, const struct plan *plan)
 /* A cut parts offices g+1 to h from the others. */
 static void tell_cut(FILE *out, const struct plan *plan)
 {
-    struct units least = units(plan->across);
+    struct units least = in_units(plan->across);
     fprintf(out, "\nCut: links %u and %u, across %u.\n", plan->g, plan->h, plan->across);
     fprintf(out, "They part office%s %u", plan->g + 1 < plan->h ? "s" : "", plan->g + 1);
     if (plan->g + 1 < plan->h) {
@@ -123,13 +123,13 @@ static void tell_cut(FILE *out, const struct plan *plan)
 
 static void tell_links(FILE *out, const struct plan *plan)
 {
-    struct units peak = units(plan->across);
-    fprintf(out, "\n   Link   offices     split  unsplit\n");
+    struct units peak = in_units(plan->across);
+    fprintf(out, "\n   Link   offices      split  unsplit\n");
     for (unsigned k = 1; k <= plan->offices; k++) {
-        struct units split = units(plan->load[k - 1].split);
-        fprintf(out, "%7u   %2u - %2u  %6u.%u  %7u\n", k, k, k % plan->offices + 1, split.whole, split.tenths, plan->load[k - 1].unsplit);
+        struct units split = in_units(plan->load[k - 1].split);
+        fprintf(out, "%7u   %2u - %2u  %7u.%u  %7u\n", k, k, k % plan->offices + 1, split.whole, split.tenths, plan->load[k - 1].unsplit);
     }
-    fprintf(out, "   Peak            %6u.%u  %7u\n", peak.whole, peak.tenths, plan->peak);
+    fprintf(out, "   Peak            %7u.%u  %7u\n", peak.whole, peak.tenths, plan->peak);
 }
 
 void tell_plan(FILE *out, const struct plan *plan)

@@ -18,7 +18,7 @@ static const char *const SENTENCES[] = {
     [RINGKIT_WRONG_LINK] = "the link is out of order, or its split or unsplit load is false",
     [RINGKIT_WRONG_LAST] = "the unsplit peak or the line size is false",
     [RINGKIT_NOT_TIGHT] = "the split peak, in halves, is not the cut's across number: the cut does not prove that the peak is the lowest",
-    [RINGKIT_OVER_BOUND] = "the unsplit peak breaks its bound: twice that is more than the split peak, in halves, plus 3 times the largest split amount",
+    [RINGKIT_OVER_BOUND] = "the unsplit peak breaks its bound: twice the unsplit peak is more than the split peak, in halves, plus 3 times the largest split amount",
     [RINGKIT_NO_ROOM] = "the text to be written is longer than the room for it",
     [RINGKIT_TOO_MANY_ROWS] = "the text has more than " NUMBER(RINGKIT_MAX_ROWS) " rows",
 };

@@ -4,7 +4,8 @@
  * zero but 0 itself.
  *
  *   table:  R n             n offices, 1 to n; link k joins k and k+1, link n joins n and 1
- *           D i j amount    a row for each circuit, i < j, by rising i, then j; its front is links i to j-1, its back the other links
+ *           D i j amount    a row for each circuit, i < j; no row is below the one before, by i, then j, so circuits of the same
+ *                           two offices stand next to each other. Its front is links i to j-1, its back the other links
  *   sheet:  R n             then the rows with what goes each way, in halves, and where the whole circuit goes (F or B),
  *           D i j amount front back way
  *           C g h across    a cut: two links, and the demand between the offices that they part,

@@ -130,9 +130,9 @@ static bool untouched(const uint8_t *from, const uint8_t *to)
 /* Whether a buffer of so many bytes begins with that text, and every byte before and behind the text is as it was. */
 static bool holds(size_t room, const struct text *text)
 {
-    const uint8_t *start = buffer_area + AREA - room;
-    return untouched(buffer_area, start) && memcmp(start, text->bytes, text->length) == 0 &&
-           untouched(start + text->length, buffer_area + AREA);
+    const uint8_t *begin = buffer_area + AREA - room;
+    return untouched(buffer_area, begin) && memcmp(begin, text->bytes, text->length) == 0 &&
+           untouched(begin + text->length, buffer_area + AREA);
 }
 
 /* ---- accepted texts */

@@ -10,7 +10,7 @@
 
 enum { STACK = 256 * 1024, PAINT = 0xa5 };
 
-/* Frames do not grow with the text, so a small one shows all of them. */
+/* No frame grows with the text, so a small one shows all of them; only writing a number nests, once for each digit, far from the deepest place. */
 static const char TABLE[] = "R\t2\nD\t1\t2\t5\n";
 static const char SHEET[] = "R\t2\nD\t1\t2\t5\t5\t5\tF\nC\t1\t2\t5\nL\t1\t5\t5\nL\t2\t5\t0\nZ\t5\t12\n";
 static uint8_t buffer[sizeof SHEET];

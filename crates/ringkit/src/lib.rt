@@ -165,7 +165,7 @@ pub extern "C" fn ringkit_check(sheet: &[u8]) -> Reply
     let c = checker::check_sheet(sheet);
     let answer = c.answer;
     match answer {
-        Judged::Refused(reason, line) => refusal(reason, line),
+        Judged::Refused(why, at) => refusal(why, at),
         Judged::Is(_) => Reply {
             reason: 0,
             line: 0,
