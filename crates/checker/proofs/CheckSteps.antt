@@ -37,7 +37,8 @@ use Rattle.table.proofs.Judged.{RingJudged, right-size, ring-judged}
 use Rattle.sheet.specs.Arrays.{linkAt, linksIn}
 use Rattle.checker.specs.Arrays.{checkedIn}
 use Rattle.sheet.specs.Judge.{judgeCut}
-use Rattle.sheet.specs.Check.{Result, accepted, refused, start, rows, links, cutOf, when, unless, ringTurn, cutTurn, turn, after, checkFrom, check}
+use Rattle.sheet.specs.Check.{Result, accepted, refused, cutOf, when, unless, ringTurn, cutTurn, turn, after, checkFrom, check}
+use Rattle.sheet.specs.Says.{start, rows, links}
 use Rattle.sheet.specs.Verdicts.{cutVerdict}
 use Rattle.checker.specs.Parts.{NextEnds, cutFrom, Columns, RowsMean, rows-at, rows-refused, RowsRead, Weighed, StepMeans, steps-on, step-refused, TailRead, sheetWith, checkedWith, EndMeans, ends-with, end-refused, EndRead, WeighedRead}
 use Rattle.sheet.specs.declared.Figures.{Figures}
@@ -71,7 +72,7 @@ module _ (s : List ℕ) (at line n : ℕ) (rs : List Routed) (g h number : ℕ) 
       record {
         splits = ap (λ (v : Weight). v .split) ew;
         unsplits = ap (λ (v : Weight). v .unsplit) ew;
-        tights = ap (λ (v : Weight). v .«split_peak») ew;
+        split-peaks = ap (λ (v : Weight). v .«split_peak») ew;
         tops = ap (λ (v : Weight). v .peak) ew;
         largests = ap (λ (v : Weight). v .largest) ew;
       }
@@ -138,7 +139,7 @@ module _ (count : ℕ) (first second amount front back way : List ℕ) where
 
 -- checking behind the R line
 abbrev from-rows : List ℕ → ℕ → ℕ → Result
-from-rows s n from = checkFrom desk true (rows n 0 0 []) 2 (lines (drop from s))
+from-rows s n from = checkFrom desk true (rows n []) 2 (lines (drop from s))
 
 rows-stopped : {s : List ℕ} {n : ℕ} {result : Result} {first second amount front back way : List ℕ} {end : RowsEnd} {reason : Reason} {line : ℕ} →
     RowsMean s n result first second amount front back way end → end ≡ RowsRefused reason line → result ≡ refused reason line
@@ -186,7 +187,7 @@ same-checked p q e1 e2 e3 e4 e5 e6 e7 e8 = rw (p, q, e1, e2, e3, e4, e5, e6, e7,
 
 module _ (s : List ℕ) (from n : ℕ) (t : Rows) (read : RowsRead s from n t) where
   pub rows-stop : (reason : Reason) (line : ℕ) (r : Checked) → t .end ≡ RowsRefused reason line → r ≡ checkedIn (refused reason line) →
-      r ≡ checkedIn (checkFrom desk true (rows n 0 0 []) 2 (lines (drop from s)))
+      r ≡ checkedIn (checkFrom desk true (rows n []) 2 (lines (drop from s)))
   rows-stop reason line r q e = e ∙ ap checkedIn (sym (rows-stopped read q))
 
   module _ (count at line : ℕ) (q : t .end ≡ At count at line) where
@@ -210,7 +211,7 @@ module _ (s : List ℕ) (from n : ℕ) (t : Rows) (read : RowsRead s from n t) w
       is-result = known .is ∙ ap (λ rs. cutFrom n rs line (lines (drop at s))) (sym (known .columns .is))
 
       stops : (reason : Reason) (place : ℕ) (r : Checked) → e .step ≡ StepRefused reason place → r ≡ checkedIn (refused reason place) →
-          r ≡ checkedIn (checkFrom desk true (rows n 0 0 []) 2 (lines (drop from s)))
+          r ≡ checkedIn (checkFrom desk true (rows n []) 2 (lines (drop from s)))
       stops reason place r f er = er ∙ ap checkedIn (sym (is-result ∙ go end-read f))
         where
           go : {step : Step} → EndMeans n (routedIn count (t .first) (t .second) (t .amount) (t .front) (t .back) (t .way)) (cutFrom n (routedIn count (t .first) (t .second) (t .amount) (t .front) (t .back) (t .way)) line (lines (drop at s))) e step
@@ -221,7 +222,7 @@ module _ (s : List ℕ) (from n : ℕ) (t : Rows) (read : RowsRead s from n t) w
               let ey : y ≡ place = cc in
               a ∙ rw (ex, ey)
 
-      pub sheet-ends : (p : ℕ) (r : Checked) → e .step ≡ On p → r ≡ checkedWith count t e → r ≡ checkedIn (checkFrom desk true (rows n 0 0 []) 2 (lines (drop from s)))
+      pub sheet-ends : (p : ℕ) (r : Checked) → e .step ≡ On p → r ≡ checkedWith count t e → r ≡ checkedIn (checkFrom desk true (rows n []) 2 (lines (drop from s)))
       unfolding checkedIn
       sheet-ends p r f er = er ∙ go end-read f
         where
@@ -236,7 +237,7 @@ module _ (s : List ℕ) (from n : ℕ) (t : Rows) (read : RowsRead s from n t) w
 
   pub end-stops : (count at line : ℕ) (e : Ending) → EndRead s at line n (routedIn count (t .first) (t .second) (t .amount) (t .front) (t .back) (t .way)) e → t .end ≡ At count at line →
       (reason : Reason) (place : ℕ) (r : Checked) → e .step ≡ StepRefused reason place → r ≡ checkedIn (refused reason place) →
-      r ≡ checkedIn (checkFrom desk true (rows n 0 0 []) 2 (lines (drop from s)))
+      r ≡ checkedIn (checkFrom desk true (rows n []) 2 (lines (drop from s)))
   end-stops count at line e end-read q = stops count at line q e end-read
 
 -- ---- the whole sheet
@@ -260,7 +261,7 @@ module _ (s : List ℕ) (t : Checked) where
       unfolding ringTurn unless after
       ring-fault reason q e = e ∙ ap checkedIn (sym (ring-led ∙ rw (is, sym ev ∙ q)))
 
-      pub then-rows : v ≡ Fine → t ≡ checkedIn (checkFrom desk true (rows n 0 0 []) 2 (lines (drop to s))) → t ≡ checkedIn (check desk s)
+      pub then-rows : v ≡ Fine → t ≡ checkedIn (checkFrom desk true (rows n []) 2 (lines (drop to s))) → t ≡ checkedIn (check desk s)
       unfolding ringTurn unless after
       then-rows q e = e ∙ ap checkedIn (sym (ring-led ∙ rw (is, sym ev ∙ q)))
 

@@ -34,7 +34,8 @@ use Rattle.table.proofs.Columns.{column-at}
 use Rattle.table.proofs.LineSteps.{first-line}
 use Rattle.sheet.specs.Arrays.{linkAt, linksIn}
 use Rattle.sheet.specs.Judge.{judgeLink, judgeLast, judgeWhole}
-use Rattle.sheet.specs.Check.{Result, accepted, refused, links, end, cutOf, linkOf, when, unless, linkTurn, lastTurn, turn, after, atEnd, wholeResult, checkFrom}
+use Rattle.sheet.specs.Check.{Result, accepted, refused, cutOf, linkOf, when, unless, linkTurn, lastTurn, turn, after, atEnd, wholeResult, checkFrom}
+use Rattle.sheet.specs.Says.{links, end}
 use Rattle.sheet.specs.Verdicts.{linkVerdict, lastVerdict, wholeVerdict}
 use Rattle.checker.specs.Parts.{NextEnds, Weighed, StepMeans, steps-on, step-refused, Within, LinksRead, LastRead, WholeRead, TailRead, sheetWith}
 use Rattle.checker.specs.declared.ending.Step.{Step}
@@ -49,7 +50,7 @@ not-on = record { place = λ at q. clash (cc) }
 
 -- ---- the loads that are due
 
-module _ {n : ℕ} {rs : List Routed} {split unsplit : List ℕ} {tight top largest : ℕ} (many : n ≤ desk .nodes) (w : Weighed n rs split unsplit tight top largest) where
+module _ {n : ℕ} {rs : List Routed} {split unsplit : List ℕ} {split-peak top largest : ℕ} (many : n ≤ desk .nodes) (w : Weighed n rs split unsplit split-peak top largest) where
   load-at : (load : ℕ → ℕ) (array : List ℕ) → array ≡ column load (desk .nodes) (numbersFrom 1 n) → (k : ℕ) → k < n → getD array k 0 ≡ load (k + 1)
   load-at load array e k h =
       let m = numbers-length 1 n in
@@ -71,13 +72,13 @@ pub record LinksReading (s : List ℕ) (from n start : ℕ) (split unsplit : Lis
   pub lined : line ≡ start + k
   pub many : n ≤ desk .nodes
   pub low : start ≤ desk .bytes
-  pub rest : (rs : List Routed) (c : Cut) (tight top largest : ℕ) → Weighed n rs split unsplit tight top largest →
+  pub rest : (rs : List Routed) (c : Cut) (split-peak top largest : ℕ) → Weighed n rs split unsplit split-peak top largest →
       checkFrom desk true (links n rs c []) start (lines (drop from s)) ≡ checkFrom desk true (links n rs c (linksIn k split unsplit)) line (lines (drop at s))
 
 module _ (s : List ℕ) (from n start : ℕ) (split unsplit : List ℕ) where
   pub links-start : from ≤ length s → n ≤ desk .nodes → start ≤ desk .bytes → LinksReading s from n start split unsplit from start 0
   unfolding listed
-  links-start w m l = record { within = w; upto = omega arith; lined = omega arith; many = m; low = l; rest = λ rs c tight top largest q. refl }
+  links-start w m l = record { within = w; upto = omega arith; lined = omega arith; many = m; low = l; rest = λ rs c split-peak top largest q. refl }
 
   module _ (at line k : ℕ) (reading : LinksReading s from n start split unsplit at line k) where
     pub links-done : (m : ℕ) → m ≡ n → m ≤ k → LinksRead s from n start split unsplit (On at)
@@ -86,8 +87,8 @@ module _ (s : List ℕ) (from n start : ℕ) (split unsplit : List ℕ) where
         let q : line ≡ start + n = omega (arith, reading .lined) in
         record {
           within = record { place = λ p f. let g : p ≡ at = cc in rw g (reading .within) };
-          means = λ rs c tight top largest w. steps-on {at = at} (reading .within)
-              (reading .rest rs c tight top largest w ∙ ap (λ m. checkFrom desk true (links n rs c (linksIn m split unsplit)) line (lines (drop at s))) e
+          means = λ rs c split-peak top largest w. steps-on {at = at} (reading .within)
+              (reading .rest rs c split-peak top largest w ∙ ap (λ m. checkFrom desk true (links n rs c (linksIn m split unsplit)) line (lines (drop at s))) e
               ∙ ap (λ m. checkFrom desk true (links n rs c (linksIn n split unsplit)) m (lines (drop at s))) q);
         }
 
@@ -101,25 +102,25 @@ module _ (s : List ℕ) (from n start : ℕ) (split unsplit : List ℕ) where
     line-fits = omega (arith, reading .lined, reading .upto, reading .many, reading .low)
 
     module _ (m : ℕ) (em : m ≡ n) (below : k < m) (to : ℕ) (ends : NextEnds s at to) (x : ThreeNumbers) (ex : x ≡ threeIn (readLine linkShape (take (to - at) (drop at s)))) where
-      module _ (rs : List Routed) (c : Cut) (tight top largest : ℕ) (w : Weighed n rs split unsplit tight top largest) where
+      module _ (rs : List Routed) (c : Cut) (split-peak top largest : ℕ) (w : Weighed n rs split unsplit split-peak top largest) where
         led : checkFrom desk true (links n rs c []) start (lines (drop from s)) ≡ after (linkTurn true n rs c ks x) line (λ next. checkFrom desk true next (line + 1) (lines (drop to s)))
         unfolding turn
         led =
             let few : length ks < n = omega (arith, long) in
-            reading .rest rs c tight top largest w ∙ step-at desk true s at to ends (links n rs c ks) tt line ∙ rw (lt-ltb (length ks) n few, ← ex)
+            reading .rest rs c split-peak top largest w ∙ step-at desk true s at to ends (links n rs c ks) tt line ∙ rw (lt-ltb (length ks) n few, ← ex)
 
       pub no-link : (p : ℕ) → x ≡ NotThree p → LinksRead s from n start split unsplit (Refused Misshapen line)
       unfolding linkTurn after
       no-link p q =
           record {
             within = not-on;
-            means = λ rs c tight top largest w. step-refused {reason = Misshapen} {line = line} (led rs c tight top largest w ∙ rw q);
+            means = λ rs c split-peak top largest w. step-refused {reason = Misshapen} {line = line} (led rs c split-peak top largest w ∙ rw q);
           }
 
       module _ (a b d due : ℕ) (is : x ≡ AreThree a b d) (edue : due ≡ k + 1) (v : Verdict) (ev : v ≡ linkVerdict due (getD split k 0) (getD unsplit k 0) a b d) where
-        judged : (rs : List Routed) (tight top largest : ℕ) → Weighed n rs split unsplit tight top largest → judgeLink rs (length ks + 1) (linkOf a b d) ≡ v
+        judged : (rs : List Routed) (split-peak top largest : ℕ) → Weighed n rs split unsplit split-peak top largest → judgeLink rs (length ks + 1) (linkOf a b d) ≡ v
         unfolding judgeLink
-        judged rs tight top largest w =
+        judged rs split-peak top largest w =
             let e : length ks + 1 ≡ k + 1 = omega (arith, long) in
             let s1 = split-due (reading .many) w k (omega arith) in
             let u1 = unsplit-due (reading .many) w k (omega arith) in
@@ -130,13 +131,13 @@ module _ (s : List ℕ) (from n start : ℕ) (split unsplit : List ℕ) where
         link-fault reason q =
             record {
               within = not-on;
-              means = λ rs c tight top largest w. step-refused {reason = reason} {line = line} (led rs c tight top largest w ∙ rw (is, judged rs tight top largest w ∙ q));
+              means = λ rs c split-peak top largest w. step-refused {reason = reason} {line = line} (led rs c split-peak top largest w ∙ rw (is, judged rs split-peak top largest w ∙ q));
             }
 
-        same-link : (rs : List Routed) (tight top largest : ℕ) → Weighed n rs split unsplit tight top largest → v ≡ Fine → linkOf a b d ≡ linkAt split unsplit k
-        same-link rs tight top largest w q =
+        same-link : (rs : List Routed) (split-peak top largest : ℕ) → Weighed n rs split unsplit split-peak top largest → v ≡ Fine → linkOf a b d ≡ linkAt split unsplit k
+        same-link rs split-peak top largest w q =
             let e : length ks + 1 ≡ k + 1 = omega (arith, long) in
-            let t = link-true rs (length ks + 1) (linkOf a b d) (judged rs tight top largest w ∙ q) in
+            let t = link-true rs (length ks + 1) (linkOf a b d) (judged rs split-peak top largest w ∙ q) in
             let ea : a ≡ k + 1 = t .number ∙ e in
             let eb : b ≡ getD split k 0 = t .split ∙ ap (splitLoad (sents rs)) e ∙ sym (split-due (reading .many) w k (omega arith)) in
             let ed : d ≡ getD unsplit k 0 = t .unsplit ∙ ap (unsplitLoad rs) e ∙ sym (unsplit-due (reading .many) w k (omega arith)) in
@@ -151,13 +152,13 @@ module _ (s : List ℕ) (from n start : ℕ) (split unsplit : List ℕ) where
               lined = omega (arith, reading .lined);
               many = reading .many;
               low = reading .low;
-              rest = λ rs c tight top largest w.
+              rest = λ rs c split-peak top largest w.
                   let z : 0 + k ≡ k = omega arith in
                   let more : linksIn k split unsplit ++ linkOf a b d ∷ [] ≡ linksIn (k + 1) split unsplit =
-                  ap (λ l. linksIn k split unsplit ++ l ∷ []) (same-link rs tight top largest w q ∙ ap (linkAt split unsplit) (sym z)) ∙ sym (listed-snoc (linkAt split unsplit) 0 k) in
+                  ap (λ l. linksIn k split unsplit ++ l ∷ []) (same-link rs split-peak top largest w q ∙ ap (linkAt split unsplit) (sym z)) ∙ sym (listed-snoc (linkAt split unsplit) 0 k) in
                   let turned : after (linkTurn true n rs c ks x) line (λ next. checkFrom desk true next (line + 1) (lines (drop to s))) ≡ checkFrom desk true (links n rs c (ks ++ linkOf a b d ∷ [])) (line + 1) (lines (drop to s)) =
-                  rw (is, judged rs tight top largest w ∙ q) in
-                  led rs c tight top largest w ∙ turned ∙ ap (λ l. checkFrom desk true (links n rs c l) (line + 1) (lines (drop to s))) more;
+                  rw (is, judged rs split-peak top largest w ∙ q) in
+                  led rs c split-peak top largest w ∙ turned ∙ ap (λ l. checkFrom desk true (links n rs c l) (line + 1) (lines (drop to s))) more;
             }
 
 -- ---- the Z line
@@ -238,12 +239,12 @@ step-goes (step-refused e) q = clash (cc)
 
 -- ---- the whole
 
-module _ (s : List ℕ) (at line number tight top size largest : ℕ) (r : Step) (last : LastRead s at line top size r) where
-  pub whole-stops : (reason : Reason) (place : ℕ) → r ≡ Refused reason place → WholeRead s at line number tight top size largest (Refused reason place)
+module _ (s : List ℕ) (at line number split-peak top size largest : ℕ) (r : Step) (last : LastRead s at line top size r) where
+  pub whole-stops : (reason : Reason) (place : ℕ) → r ≡ Refused reason place → WholeRead s at line number split-peak top size largest (Refused reason place)
   whole-stops reason place q = record { means = λ n rs g h ks all es et el ez. step-stops (last .means n rs (cutOf g h number) ks all et ez) q }
 
-  module _ (to : ℕ) (q : r ≡ On to) (v : Verdict) (ev : v ≡ wholeVerdict tight number largest top) where
-    module _ (n : ℕ) (rs : List Routed) (g h : ℕ) (ks : List Link) (all : n ≤ length ks) (es : tight ≡ peak (splitLoad (sents rs)) n) (et : top ≡ peak (unsplitLoad rs) n)
+  module _ (to : ℕ) (q : r ≡ On to) (v : Verdict) (ev : v ≡ wholeVerdict split-peak number largest top) where
+    module _ (n : ℕ) (rs : List Routed) (g h : ℕ) (ks : List Link) (all : n ≤ length ks) (es : split-peak ≡ peak (splitLoad (sents rs)) n) (et : top ≡ peak (unsplitLoad rs) n)
         (el : largest ≡ largestSplit (sents rs)) (ez : size ≡ sonetSize top) where
       abbrev x : Sheet
       x = record { n = n; rows = rs; cut = cutOf g h number; links = ks; peak = top; size = size }
@@ -255,12 +256,12 @@ module _ (s : List ℕ) (at line number tight top size largest : ℕ) (r : Step)
       result : checkFrom desk true (links n rs (cutOf g h number) ks) line (lines (drop at s)) ≡ wholeResult x v
       result = step-goes (last .means n rs (cutOf g h number) ks all et ez) q ∙ ap (wholeResult x) whole-judged
 
-    pub whole-fault : (reason : Reason) → v ≡ Fault reason → WholeRead s at line number tight top size largest (Refused reason 0)
+    pub whole-fault : (reason : Reason) → v ≡ Fault reason → WholeRead s at line number split-peak top size largest (Refused reason 0)
     unfolding wholeResult
     whole-fault reason f =
         record { means = λ n rs g h ks all es et el ez. step-refused {reason = reason} {line = 0} (result n rs g h ks all es et el ez ∙ ap (wholeResult (x n rs g h ks all es et el ez)) f) }
 
-    pub whole-fine : v ≡ Fine → WholeRead s at line number tight top size largest (On to)
+    pub whole-fine : v ≡ Fine → WholeRead s at line number split-peak top size largest (On to)
     unfolding wholeResult
     whole-fine f =
         record {
@@ -269,20 +270,20 @@ module _ (s : List ℕ) (at line number tight top size largest : ℕ) (r : Step)
 
 -- ---- the L lines, the Z line and the whole
 
-module _ (s : List ℕ) (at line n number : ℕ) (split unsplit : List ℕ) (tight top size largest : ℕ) (r : Step) (read : LinksRead s at n line split unsplit r) where
-  pub tail-stops : (reason : Reason) (place : ℕ) → r ≡ Refused reason place → TailRead s at line n number split unsplit tight top size largest (Refused reason place)
-  tail-stops reason place q = record { means = λ rs g h w ez. step-stops (read .means rs (cutOf g h number) tight top largest w) q }
+module _ (s : List ℕ) (at line n number : ℕ) (split unsplit : List ℕ) (split-peak top size largest : ℕ) (r : Step) (read : LinksRead s at n line split unsplit r) where
+  pub tail-stops : (reason : Reason) (place : ℕ) → r ≡ Refused reason place → TailRead s at line n number split unsplit split-peak top size largest (Refused reason place)
+  tail-stops reason place q = record { means = λ rs g h w ez. step-stops (read .means rs (cutOf g h number) split-peak top largest w) q }
 
   module _ (behind : ℕ) (q : r ≡ On behind) where
     pub behind-within : behind ≤ length s
     behind-within = read .within .place behind q
 
-    pub tail-goes : (t : Step) → WholeRead s behind (line + n) number tight top size largest t → TailRead s at line n number split unsplit tight top size largest t
+    pub tail-goes : (t : Step) → WholeRead s behind (line + n) number split-peak top size largest t → TailRead s at line n number split unsplit split-peak top size largest t
     tail-goes t whole =
         record {
           means = λ rs g h w ez.
               let all : n ≤ length (linksIn n split unsplit) = omega (arith, listed-length (linkAt split unsplit) 0 n) in
-              let e = step-goes (read .means rs (cutOf g h number) tight top largest w) q in
+              let e = step-goes (read .means rs (cutOf g h number) split-peak top largest w) q in
               subst (λ z. StepMeans s z (λ p. accepted (sheetWith n rs (cutOf g h number) split unsplit top size)) t) (sym e)
-              (whole .means n rs g h (linksIn n split unsplit) all (w .tights) (w .tops) (w .largests) ez);
+              (whole .means n rs g h (linksIn n split unsplit) all (w .split-peaks) (w .tops) (w .largests) ez);
         }

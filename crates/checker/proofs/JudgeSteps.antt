@@ -10,11 +10,11 @@ use lib.ListN.{getD}
 use mir.Syntax.{w64}
 use mir.Val.{Fits}
 use borrow.Author.Tests.{eq-eqb, ne-eqb, lt-ltb, le-ltb}
-use Rattle.ring.specs.Columns.{listed, rowAt, rowsIn, wayNumber}
+use Rattle.ring.specs.Columns.{listed, rowAt, rowsIn}
+use Rattle.ring.specs.Routing.{wayNumber, F, B, sent, isSplit}
 use Rattle.ring.specs.Cut.{ifOne, part, across}
 use Rattle.ring.specs.Limits.{desk}
 use Rattle.ring.specs.Row.{row, inFront}
-use Rattle.ring.specs.Routing.{F, B, sent, isSplit}
 use Rattle.ring.specs.RuleD.{wholeWay}
 use Rattle.ring.proofs.Listed.{listed-none, listed-back, listed-all}
 use Rattle.ring.proofs.Totals.{part-small}
@@ -25,7 +25,8 @@ use Rattle.table.specs.declared.reason.Reason.the-variants.{WrongSum, WrongWay,
 use Rattle.table.specs.declared.judge.Verdict.{Verdict}
 use Rattle.table.specs.declared.judge.Verdict.the-variants.{Fine, Fault}
 use Rattle.sheet.specs.Judge.{wrongSum, wrongWay, judgeHalves}
-use Rattle.sheet.specs.Check.{routedOf, sentVerdict}
+use Rattle.sheet.specs.Check.{routedOf}
+use Rattle.checker.specs.Parts.{sentVerdict}
 use Rattle.sheet.specs.Verdicts.{noCut, cutVerdict, wholeVerdict}
 
 -- ---- 8 and 9

@@ -9,15 +9,15 @@ use lib.Dec.{ltb}
 use lib.ListN.{length, take, drop, drop-of-length-le}
 use lib.Seq.{drop-drop}
 use Rattle.ring.specs.Limits.{Limits}
-use Rattle.text.specs.Field.{fieldAt}
-use Rattle.text.specs.Mark.{markFrom, markAt}
+use Rattle.text.specs.ReadLine.{fieldAt, fieldThen, fieldsFrom, readLine}
+use Rattle.text.specs.ReadMark.{markFrom, markAt}
 use Rattle.text.specs.Answers.{oneIn, twoIn, threeIn, sentIn}
-use Rattle.text.specs.ReadLine.{fieldThen, fieldsFrom, readLine}
-use Rattle.table.specs.Lines.{lines, lineLength}
-use Rattle.table.specs.LineEnds.{LineEnds}
+use Rattle.table.specs.Lines.{lines}
+use Rattle.table.specs.LineEnds.{lineLength, LineEnds}
 use Rattle.table.specs.declared.reason.Reason.the-variants.{Misshapen}
 use Rattle.table.proofs.LineSteps.{first-line}
-use Rattle.sheet.specs.Check.{refused, State, start, rows, links, end, stop, ringTurn, rowTurn, cutTurn, linkTurn, lastTurn, turn, atEnd, after, checkFrom}
+use Rattle.sheet.specs.Check.{refused, stop, ringTurn, rowTurn, cutTurn, linkTurn, lastTurn, turn, atEnd, after, checkFrom}
+use Rattle.sheet.specs.Says.{State, start, rows, links, end}
 use Rattle.checker.specs.Parts.{NextEnds, firstOf, behindFirst}
 
 -- ---- where it ends
@@ -58,14 +58,14 @@ module _ (limits : Limits) (judging : Bool) where
   -- the end of a sheet is the one state that needs no line
   abbrev pub Goes : State → Type 0
   Goes start = Unit {0}
-  Goes (rows n a b rs) = Unit {0}
+  Goes (rows n rs) = Unit {0}
   Goes (links n rs c ks) = Unit {0}
   Goes (end x) = ⊥
 
   no-shape : (state : State) → Goes state → turn limits judging state [] ≡ stop Misshapen
   unfolding turn ringTurn rowTurn cutTurn linkTurn lastTurn oneIn twoIn threeIn sentIn readLine fieldsFrom fieldThen fieldAt markAt markFrom
   no-shape start g = refl
-  no-shape (rows n a b rs) g = refl
+  no-shape (rows n rs) g = refl
   no-shape (links n rs c ks) g = go (ltb (length ks) n)
     where
       go : (t : Bool) → cond t (stop Misshapen) (stop Misshapen) ≡ stop Misshapen
@@ -76,7 +76,7 @@ module _ (limits : Limits) (judging : Bool) where
   missing : (state : State) → Goes state → (line : ℕ) → atEnd judging state line ≡ refused Misshapen line
   unfolding atEnd
   missing start g line = refl
-  missing (rows n a b rs) g line = refl
+  missing (rows n rs) g line = refl
   missing (links n rs c ks) g line = refl
   missing (end x) g line = absurd g
 

@@ -8,9 +8,10 @@ use Rattle.ring.specs.Lists.{Each, more, Pairs, no-pair, and-pairs}
 use Rattle.ring.specs.Row.{Row, TableRows}
 use Rattle.ring.specs.Routing.{Sent}
 use Rattle.ring.specs.Sheet.{sents, plan}
-use Rattle.ring.proofs.Move.{Quiet}
+use Rattle.ring.specs.Rules.{Quiet}
 use Rattle.ring.proofs.OurPlan.{untangled, directed, table-order}
-use Rattle.checker.specs.Pair.{firstPair, RowFrom, at-first, behind, ParallelSplit, PairAt, NoneFrom, NoPair}
+use Rattle.checker.specs.Pair.{RowFrom, at-first, behind, ParallelSplit, PairAt, NoneFrom, NoPair}
+use Rattle.checker.specs.FindPair.{firstPair}
 use Rattle.checker.specs.declared.pair.Pair.the-variants.{None}
 use Rattle.checker.proofs.PairLaws.{PairIn, with-head, in-tail, no-row, pair-in, no-pair-is}
 

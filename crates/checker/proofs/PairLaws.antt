@@ -13,7 +13,8 @@ use Rattle.ring.specs.Routing.{Sent}
 use Rattle.ring.specs.Crossing.{parallel}
 use Rattle.ring.specs.RuleC.{clash}
 use Rattle.ring.proofs.Splits.{Splitting, split, whole, splitting}
-use Rattle.checker.specs.Pair.{pairWith, orNext, pairFrom, firstPair, RowFrom, at-first, behind, ParallelSplit, PairAt, FirstFrom, NoneFrom, FirstPair, NoPair}
+use Rattle.checker.specs.Pair.{RowFrom, at-first, behind, ParallelSplit, PairAt, FirstFrom, NoneFrom, FirstPair, NoPair}
+use Rattle.checker.specs.FindPair.{pairWith, orNext, pairFrom, firstPair}
 use Rattle.checker.specs.declared.pair.Pair.{Pair}
 use Rattle.checker.specs.declared.pair.Pair.the-variants.{Are, None}
 

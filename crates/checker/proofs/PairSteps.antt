@@ -11,7 +11,7 @@ use Rattle.ring.specs.Crossing.{parallel}
 use Rattle.ring.specs.RuleC.{clash}
 use Rattle.ring.specs.Columns.{listed, sentAt, sentsIn}
 use Rattle.ring.proofs.Listed.{listed-none, listed-cons, listed-all}
-use Rattle.checker.specs.Pair.{pairWith, orNext, pairFrom, firstPair}
+use Rattle.checker.specs.FindPair.{pairWith, orNext, pairFrom, firstPair}
 use Rattle.checker.specs.declared.pair.Pair.{Pair}
 use Rattle.checker.specs.declared.pair.Pair.the-variants.{Are, None}
 

@@ -10,11 +10,11 @@ use lib.ListN.{length, getD, replicate, set, take, drop, length-append, length-t
 use lib.Seq.{sets}
 use mir.Syntax.{w32}
 use mir.Val.{Fits}
-use Rattle.ring.specs.Columns.{column, wayNumber, wayOf, routedIn}
+use Rattle.ring.specs.Columns.{column, routedIn}
+use Rattle.ring.specs.Routing.{wayNumber, wayOf, Routed, sent, routed, F}
 use Rattle.ring.specs.Limits.{desk}
 use Rattle.ring.specs.Lists.{Each, none, more}
 use Rattle.ring.specs.Row.{Row, row, OnRing}
-use Rattle.ring.specs.Routing.{Routed, sent, routed, F}
 use Rattle.ring.specs.Sheet.{sents, demands}
 use Rattle.ring.specs.True.{SumsTo2d}
 use Rattle.ring.proofs.Figures.{demands-length}
@@ -36,12 +36,14 @@ use Rattle.table.specs.declared.judge.Verdict.the-variants.{Fine, Fault}
 use Rattle.table.proofs.Judged.{RowJudged, row-fine, row-judged}
 use Rattle.table.proofs.Columns.{column-length, column-more, column-at, column-behind, rows-back}
 use Rattle.sheet.specs.Judge.{judgeHalves}
-use Rattle.sheet.specs.Check.{Result, rows, routedOf, when, unless, rowTurn, turn, after, checkFrom, sentVerdict}
-use Rattle.checker.specs.Parts.{NextEnds, firstOf, cutFrom, RowsMean, rows-at, rows-refused, RowsRead}
+use Rattle.sheet.specs.Check.{Result, routedOf, lastOf, when, unless, rowTurn, turn, after, checkFrom}
+use Rattle.checker.specs.Parts.{sentVerdict, NextEnds, firstOf, cutFrom, RowsMean, rows-at, rows-refused, RowsRead}
+use Rattle.sheet.specs.Says.{rows}
 use Rattle.checker.specs.declared.rows.Rows.{Rows}
 use Rattle.checker.specs.declared.rows.RowsEnd.the-variants.{At, Refused}
 use Rattle.sheet.proofs.Back as back-law
 use Rattle.checker.proofs.NextLine.{next-line, step-from, step-at}
+use Rattle.sheet.proofs.Last.{last-more}
 use Rattle.sheet.proofs.Rest.{or-fine}
 use Rattle.sheet.proofs.SheetLines.{SentRead, is-sent, sent-read}
 use Rattle.sheet.proofs.Truth.{row-true}
@@ -155,12 +157,13 @@ module _ (n : ℕ) (rs : List Routed) (few : length rs ≤ desk .rows) (fine : E
 
 -- checking from the R line on
 abbrev whole : List ℕ → ℕ → ℕ → Result
-whole s n from = checkFrom desk true (rows n 0 0 []) 2 (lines (drop from s))
+whole s n from = checkFrom desk true (rows n []) 2 (lines (drop from s))
 
 -- `count` rows are read, of which the last is a, b; the line `line` begins at the place `at`
 pub record RowsReading (s : List ℕ) (n from line a b count at : ℕ) (first second amount front back way : List ℕ) : Type 0 where
   pub rs : List Routed
-  pub rest : whole s n from ≡ checkFrom desk true (rows n a b rs) line (lines (drop at s))
+  pub rest : whole s n from ≡ checkFrom desk true (rows n rs) line (lines (drop at s))
+  pub last : (lastOf rs .i ≡ a) × (lastOf rs .j ≡ b)
   pub many : count ≡ length rs
   pub firsts : first ≡ column (λ (r : Routed). r .sent .row .i) (desk .rows) rs
   pub seconds : second ≡ column (λ (r : Routed). r .sent .row .j) (desk .rows) rs
@@ -185,6 +188,7 @@ rows-start s n from w two size =
     record {
       rs = [];
       rest = refl;
+      last = (refl, refl);
       many = refl;
       firsts = refl;
       seconds = refl;
@@ -244,7 +248,7 @@ module _ (s : List ℕ) (n from line a b count at : ℕ) (first second amount fr
           ways = reading .ways;
           is = rw (e, c1, c2, c3, c4, c5, reading .ways) (columns-back (reading .rs) few);
         })
-        (reading .rest ∙ step-from desk true (rows n a b (reading .rs)) tt line (lines (drop at s)) ∙ rw no-row-here)
+        (reading .rest ∙ step-from desk true (rows n (reading .rs)) tt line (lines (drop at s)) ∙ rw no-row-here)
         (reading .within)
         (reading .lined)
         (rw (e, c1, c2, c3) (fine-table n (reading .rs) few (reading .fine) (reading .two) (reading .size)))
@@ -252,12 +256,14 @@ module _ (s : List ℕ) (n from line a b count at : ℕ) (first second amount fr
 
     module _ (i j d f k w : ℕ) (is : x ≡ IsSent i j d f k w) (v : Verdict) (ev : v ≡ sentVerdict desk n count a b (routedOf i j d f k w)) where
       -- what is found against it decides
-      led : whole s n from ≡ after (unless v (rows n i j (reading .rs ++ routedOf i j d f k w ∷ []))) line (λ next. checkFrom desk true next (line + 1) (lines (drop to s)))
+      led : whole s n from ≡ after (unless v (rows n (reading .rs ++ routedOf i j d f k w ∷ []))) line (λ next. checkFrom desk true next (line + 1) (lines (drop to s)))
       unfolding turn rowTurn sentVerdict when
       led =
           let e = reading .many in
-          let found : sentVerdict desk n (length (reading .rs)) a b (routedOf i j d f k w) ≡ v = rw (← e) (sym ev) in
-          reading .rest ∙ step-at desk true s at to ends (rows n a b (reading .rs)) tt line ∙ rw (← ex, is, found)
+          let u = reading .last .0 in
+          let w′ = reading .last .1 in
+          let found : sentVerdict desk n (length (reading .rs)) (lastOf (reading .rs) .i) (lastOf (reading .rs) .j) (routedOf i j d f k w) ≡ v = rw (← e, u, w′) (sym ev) in
+          reading .rest ∙ step-at desk true s at to ends (rows n (reading .rs)) tt line ∙ rw (← ex, is, found)
 
       pub row-stops : (reason : Reason) (t : Rows) → v ≡ Fault reason → t .end ≡ Refused reason line → RowsRead s from n t
       unfolding unless after
@@ -296,6 +302,7 @@ module _ (s : List ℕ) (n from line a b count at : ℕ) (first second amount fr
             record {
               rs = rs ++ r ∷ [];
               rest = led ∙ rw fine;
+              last = (ap (λ (q : Row). q .i) (last-more rs r), ap (λ (q : Row). q .j) (last-more rs r));
               many = omega (arith, e, length-append rs (r ∷ []));
               firsts = ap (λ l. set l count i) (reading .firsts) ∙ column-more (λ (r : Routed). r .sent .row .i) (desk .rows) rs r count e;
               seconds = ap (λ l. set l count j) (reading .seconds) ∙ column-more (λ (r : Routed). r .sent .row .j) (desk .rows) rs r count e;

@@ -5,9 +5,9 @@ use mathlib.Core.List.{List}
 use mathlib.Core.Path.{_≡_, refl, ap, _∙_, sym}
 use native.Mathlib.Omega.{arith}
 use lib.ListN.{length}
-use Rattle.ring.specs.Columns.{column, sentsIn, routedAt, routedIn, wayNumber}
+use Rattle.ring.specs.Columns.{column, sentsIn, routedAt, routedIn}
+use Rattle.ring.specs.Routing.{wayNumber, Routed}
 use Rattle.ring.specs.Limits.{desk}
-use Rattle.ring.specs.Routing.{Routed}
 use Rattle.ring.specs.Sheet.{Sheet, sents}
 use Rattle.ring.proofs.Listed.{listed-map}
 use Rattle.text.proofs.Apart.{clash}

@@ -7,7 +7,7 @@ use Rattle.ring.specs.Limits.{desk}
 use Rattle.text.proofs.Unique.{same-result}
 use Rattle.sheet.specs.Check.{check}
 use Rattle.checker.specs.Arrays.{checkedIn}
-use Rattle.checker.specs.Pair.{firstPair}
+use Rattle.checker.specs.FindPair.{firstPair}
 use Rattle.checker.specs.declared.check.Checked.{Checked}
 use Rattle.checker.specs.declared.pair.Pair.{Pair}
 

@@ -1,9 +1,9 @@
--- What checking a text gives: the sheet's values in arrays, zero behind them and zero after a refusal.
+-- Internal: what checking a text gives: the sheet's values in arrays, zero behind them and zero after a refusal.
 use mathlib.Core.List.{List, []}
 use lib.ListN.{length}
-use Rattle.ring.specs.Columns.{column, wayNumber}
+use Rattle.ring.specs.Columns.{column}
+use Rattle.ring.specs.Routing.{wayNumber, Routed}
 use Rattle.ring.specs.Limits.{desk}
-use Rattle.ring.specs.Routing.{Routed}
 use Rattle.ring.specs.Sheet.{Link}
 use Rattle.sheet.specs.WriteSheet.{figuresOf}
 use Rattle.sheet.specs.Check.{Result, accepted, refused}

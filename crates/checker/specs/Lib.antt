@@ -1,3 +1,4 @@
 pub mod Arrays
 pub mod Parts
 pub mod Pair
+pub mod FindPair

@@ -1,14 +1,14 @@
--- The parts of the checker's code: each reads some lines and says from where, and in which state, checking goes on.
+-- Internal: the parts of the checker's code: each reads some lines and says from where, and in which state, checking goes on.
 use Prim.Native.Nat.{ℕ, _+_, _≤_}
 use mathlib.Core.Bool.{true}
 use mathlib.Core.List.{List, [], _∷_}
 use mathlib.Core.Path.{_≡_}
 use lib.ListN.{length, drop}
 use Rattle.sonet.specs.Size.{sonetSize}
-use Rattle.ring.specs.Columns.{column, wayNumber, routedIn}
+use Rattle.ring.specs.Columns.{column, routedIn}
+use Rattle.ring.specs.Routing.{wayNumber, Routed, splitLoad, unsplitLoad, peak}
 use Rattle.ring.specs.Cut.{Cut}
-use Rattle.ring.specs.Limits.{desk}
-use Rattle.ring.specs.Routing.{Routed, splitLoad, unsplitLoad, peak}
+use Rattle.ring.specs.Limits.{Limits, desk}
 use Rattle.ring.specs.RuleD.{largestSplit}
 use Rattle.ring.specs.Sheet.{Link, Sheet, sents, numbersFrom}
 use Rattle.router.specs.Rows.{Table}
@@ -16,12 +16,17 @@ use Rattle.router.specs.Arrays.{Halves}
 use Rattle.text.specs.Answers.{threeIn}
 use Rattle.text.specs.ReadLine.{readLine}
 use Rattle.text.specs.Shapes.{cutShape}
-use Rattle.table.specs.Lines.{lines, lineLength}
+use Rattle.table.specs.Lines.{lines}
+use Rattle.table.specs.LineEnds.{lineLength}
 use Rattle.sheet.specs.Arrays.{linksIn}
-use Rattle.sheet.specs.Judge.{judgeWhole}
+use Rattle.sheet.specs.Judge.{judgeHalves, judgeWhole}
+use Rattle.sheet.specs.Verdicts.{orElse}
+use Rattle.table.specs.Judge.{judgeRow}
 use Rattle.table.specs.declared.reason.Reason.{Reason}
+use Rattle.table.specs.declared.judge.Verdict.{Verdict}
 use Rattle.sheet.specs.WriteSheet.{figuresOf}
-use Rattle.sheet.specs.Check.{Result, accepted, refused, rows, links, cutOf, cutTurn, after, wholeResult, checkFrom}
+use Rattle.sheet.specs.Check.{Result, accepted, refused, cutOf, cutTurn, after, wholeResult, checkFrom}
+use Rattle.sheet.specs.Says.{rows, links}
 use Rattle.checker.specs.declared.check.Checked.{Checked}
 use Rattle.checker.specs.declared.check.Answer.the-variants.{Is}
 use Rattle.checker.specs.declared.rows.Rows.{Rows}
@@ -49,6 +54,11 @@ behindFirst (l ∷ ls) = ls
 
 -- ---- the D lines
 
+-- 4 to 9 and 16 of a D line, behind k rows of which the last is a, b
+unfoldable pub sentVerdict : Limits → ℕ → ℕ → ℕ → ℕ → Routed → Verdict
+unfolding orElse
+sentVerdict limits n k a b r = orElse (judgeRow limits n k a b (r .sent .row .i) (r .sent .row .j) (r .sent .row .d)) (judgeHalves r)
+
 -- from the C line on
 unfoldable pub cutFrom : ℕ → List Routed → ℕ → List (List ℕ) → Result
 unfolding after cutTurn checkFrom firstOf behindFirst
@@ -73,15 +83,15 @@ pub data RowsMean (s : List ℕ) (n : ℕ) (result : Result) (first second amoun
 
 abbrev pub RowsRead : List ℕ → ℕ → ℕ → Rows → Type 0
 RowsRead s from n r =
-    RowsMean s n (checkFrom desk true (rows n 0 0 []) 2 (lines (drop from s))) (r .first) (r .second) (r .amount) (r .front) (r .back) (r .way) (r .end)
+    RowsMean s n (checkFrom desk true (rows n []) 2 (lines (drop from s))) (r .first) (r .second) (r .amount) (r .front) (r .back) (r .way) (r .end)
 
 -- ---- the lines behind them
 
 -- the figures that are true of rows
-pub record Weighed (n : ℕ) (rs : List Routed) (split unsplit : List ℕ) (tight top largest : ℕ) : Type 0 where
+pub record Weighed (n : ℕ) (rs : List Routed) (split unsplit : List ℕ) (split-peak top largest : ℕ) : Type 0 where
   pub splits : split ≡ column (λ k. splitLoad (sents rs) k) (desk .nodes) (numbersFrom 1 n)
   pub unsplits : unsplit ≡ column (λ k. unsplitLoad rs k) (desk .nodes) (numbersFrom 1 n)
-  pub tights : tight ≡ peak (splitLoad (sents rs)) n
+  pub split-peaks : split-peak ≡ peak (splitLoad (sents rs)) n
   pub tops : top ≡ peak (unsplitLoad rs) n
   pub largests : largest ≡ largestSplit (sents rs)
 
@@ -101,7 +111,7 @@ sheetWith n rs c split unsplit top size = record { n = n; rows = rs; cut = c; li
 -- the L lines: behind the cut and no link, to behind the last link
 pub record LinksRead (s : List ℕ) (from n line : ℕ) (split unsplit : List ℕ) (r : Step) : Type 0 where
   pub within : Within s r
-  pub means : (rs : List Routed) (c : Cut) (tight top largest : ℕ) → Weighed n rs split unsplit tight top largest →
+  pub means : (rs : List Routed) (c : Cut) (split-peak top largest : ℕ) → Weighed n rs split unsplit split-peak top largest →
       StepMeans s (checkFrom desk true (links n rs c []) line (lines (drop from s)))
       (λ at. checkFrom desk true (links n rs c (linksIn n split unsplit)) (line + n) (lines (drop at s))) r
 
@@ -113,15 +123,15 @@ pub record LastRead (s : List ℕ) (at line top size : ℕ) (r : Step) : Type 0 
       StepMeans s (checkFrom desk true (links n rs c ks) line (lines (drop at s))) (λ p. wholeResult x (judgeWhole x)) r
 
 -- the Z line, and then the whole sheet
-pub record WholeRead (s : List ℕ) (at line number tight top size largest : ℕ) (r : Step) : Type 0 where
-  pub means : (n : ℕ) (rs : List Routed) (g h : ℕ) (ks : List Link) → n ≤ length ks → tight ≡ peak (splitLoad (sents rs)) n → top ≡ peak (unsplitLoad rs) n →
+pub record WholeRead (s : List ℕ) (at line number split-peak top size largest : ℕ) (r : Step) : Type 0 where
+  pub means : (n : ℕ) (rs : List Routed) (g h : ℕ) (ks : List Link) → n ≤ length ks → split-peak ≡ peak (splitLoad (sents rs)) n → top ≡ peak (unsplitLoad rs) n →
       largest ≡ largestSplit (sents rs) → size ≡ sonetSize top →
       let x : Sheet = record { n = n; rows = rs; cut = cutOf g h number; links = ks; peak = top; size = size } in
       StepMeans s (checkFrom desk true (links n rs (cutOf g h number) ks) line (lines (drop at s))) (λ p. accepted x) r
 
 -- all of them
-pub record TailRead (s : List ℕ) (at line n number : ℕ) (split unsplit : List ℕ) (tight top size largest : ℕ) (r : Step) : Type 0 where
-  pub means : (rs : List Routed) (g h : ℕ) → Weighed n rs split unsplit tight top largest → size ≡ sonetSize top →
+pub record TailRead (s : List ℕ) (at line n number : ℕ) (split unsplit : List ℕ) (split-peak top size largest : ℕ) (r : Step) : Type 0 where
+  pub means : (rs : List Routed) (g h : ℕ) → Weighed n rs split unsplit split-peak top largest → size ≡ sonetSize top →
       StepMeans s (checkFrom desk true (links n rs (cutOf g h number) []) line (lines (drop at s)))
       (λ p. accepted (sheetWith n rs (cutOf g h number) split unsplit top size)) r
 

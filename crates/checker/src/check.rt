@@ -21,7 +21,8 @@ ghost use Prim.Native.Nat.{_≤_};
 ghost use lib.ListN.{length, drop};
 ghost use Rattle.ring.specs.Limits.{desk};
 ghost use Rattle.table.specs.Lines.{lines};
-ghost use Rattle.sheet.specs.Check.{refused, rows, checkFrom, check};
+ghost use Rattle.sheet.specs.Check.{refused, checkFrom, check};
+ghost use Rattle.sheet.specs.Says.{rows};
 ghost use Rattle.checker.specs.Arrays.{checkedIn};
 ghost use Rattle.checker.specs.Parts.{checkedWith};
 
@@ -99,7 +100,7 @@ fn sheet_of(count: usize, t: Rows, e: Ending) -> Checked
 // A sheet of a ring of n nodes, from the place `from` behind its R line on.
 fn check_rows(s: &[u8], from: usize, n: u32) -> Checked
     requires { ⌜ (from ≤ length (now s)) × ((desk .fewest ≤ n) × (n ≤ desk .nodes)) ⌝ }
-    ensures { λ r. ⌜ r ≡ checkedIn (checkFrom desk true (rows n 0 0 []) 2 (lines (drop from (now (s .entry))))) ⌝ }
+    ensures { λ r. ⌜ r ≡ checkedIn (checkFrom desk true (rows n []) 2 (lines (drop from (now (s .entry))))) ⌝ }
 {
     let t = read_rows(s, from, n);
     let end = t.end;

@@ -89,19 +89,19 @@ fn check_whole(
     at: usize,
     line: u32,
     number: u32,
-    tight: u32,
+    split_peak: u32,
     peak: u32,
     size: u32,
     largest: u32,
 ) -> Step
     requires { ⌜ (at ≤ length (now s)) × (line ≤ desk .bytes) ⌝ }
-    ensures { λ r. ⌜ WholeRead (now (s .entry)) at line number tight peak size largest r ⌝ }
+    ensures { λ r. ⌜ WholeRead (now (s .entry)) at line number «split_peak» peak size largest r ⌝ }
 {
     let last = check_last(s, at, line, peak, size);
     match last {
         Step::Refused(reason, place) => Step::Refused(reason, place),
         Step::On(end) => {
-            let verdict = judge_whole(tight, number, largest, peak);
+            let verdict = judge_whole(split_peak, number, largest, peak);
             match verdict {
                 Verdict::Fault(reason) => Step::Refused(reason, 0),
                 Verdict::Fine => Step::On(end),
@@ -119,18 +119,27 @@ fn check_tail<'a>(
     number: u32,
     split: &'a [u32; LINKS],
     unsplit: &'a [u32; LINKS],
-    tight: u32,
+    split_peak: u32,
     peak: u32,
     size: u32,
     largest: u32,
 ) -> Step
     requires { ⌜ (at ≤ length (now s)) × ((n ≤ desk .nodes) × (line + n ≤ desk .bytes)) ⌝ }
-    ensures { λ r. ⌜ TailRead (now (s .entry)) at line n number (now (split .entry)) (now (unsplit .entry)) tight peak size largest r ⌝ }
+    ensures { λ r. ⌜ TailRead (now (s .entry)) at line n number (now (split .entry)) (now (unsplit .entry)) «split_peak» peak size largest r ⌝ }
 {
     let links = check_links(s, at, n, line, split, unsplit);
     match links {
         Step::Refused(reason, place) => Step::Refused(reason, place),
-        Step::On(behind) => check_whole(s, behind, line + n, number, tight, peak, size, largest),
+        Step::On(behind) => check_whole(
+            s,
+            behind,
+            line + n,
+            number,
+            split_peak,
+            peak,
+            size,
+            largest,
+        ),
     }
 }
 

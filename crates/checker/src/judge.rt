@@ -12,7 +12,8 @@ ghost use Rattle.ring.specs.Limits.{desk};
 ghost use Rattle.ring.specs.Row.{row, inFront};
 ghost use Rattle.router.specs.Rows.{Table};
 ghost use Rattle.sheet.specs.Judge.{wrongSum, wrongWay, judgeHalves};
-ghost use Rattle.sheet.specs.Check.{routedOf, sentVerdict};
+ghost use Rattle.sheet.specs.Check.{routedOf};
+ghost use Rattle.checker.specs.Parts.{sentVerdict};
 ghost use Rattle.sheet.specs.Verdicts.{noCut, cutVerdict, linkVerdict, lastVerdict, wholeVerdict};
 
 // 8: front + back is not 2 x amount.
@@ -189,13 +190,13 @@ pub(crate) fn judge_last(peak: u32, size: u32, p: u32, z: u32) -> Verdict
 }
 
 // 13: split peak (halves) is not the across number; 14: the bound of rule D broken.
-pub(crate) fn judge_whole(tight: u32, number: u32, largest: u32, peak: u32) -> Verdict
-    ensures { λ r. ⌜ r ≡ wholeVerdict tight number largest peak ⌝ }
+pub(crate) fn judge_whole(split_peak: u32, number: u32, largest: u32, peak: u32) -> Verdict
+    ensures { λ r. ⌜ r ≡ wholeVerdict «split_peak» number largest peak ⌝ }
 {
-    if tight != number {
+    if split_peak != number {
         return Verdict::Fault(Reason::NotTight);
     }
-    if wide(tight) + 3 * wide(largest) < 2 * wide(peak) {
+    if wide(split_peak) + 3 * wide(largest) < 2 * wide(peak) {
         return Verdict::Fault(Reason::OverBound);
     }
     Verdict::Fine

@@ -10,7 +10,7 @@ ghost use Rattle.ring.specs.Routing.{sent};
 ghost use Rattle.ring.specs.Crossing.{distinct as distinctOf, between as betweenOf, parallel as parallelOf};
 ghost use Rattle.ring.specs.RuleC.{clash};
 ghost use Rattle.ring.specs.Columns.{sentsIn};
-ghost use Rattle.checker.specs.Pair.{firstPair};
+ghost use Rattle.checker.specs.FindPair.{firstPair};
 
 // Two rows by their places among all rows, counted from 1; or none.
 pub enum Pair {

@@ -1,5 +1,6 @@
 pub mod Lists
 pub mod Side
+pub mod Round
 pub mod Uncross
 pub mod Peaks
 pub mod Cuts

@@ -11,5 +11,6 @@ pub mod RuleD
 pub mod Sheet
 pub mod True
 pub mod Division
+pub mod Rules
 pub mod Paper
 pub mod Columns

@@ -2,17 +2,18 @@
 use Prim.Native.Nat.{ℕ, _≤_, _<_}
 use mathlib.Core.List.{List, _++_}
 use mathlib.Core.Logic.{_↔_}
-use mathlib.Core.Path.{_≡_, ap}
+use mathlib.Core.Path.{_≡_, ap, _∙_, sym}
 use native.Mathlib.Omega.{arith}
 use native.Mathlib.Decide.{decLt}
-use lib.ListN.{length, drop}
+use lib.ListN.{length, take, drop}
+use lib.Seq.{take-append-seam}
 use borrow.Author.Tests.{lt-ltb, le-ltb}
 use Rattle.table.specs.Reasons.{numberOf}
 use Rattle.table.specs.declared.reason.Reason.{Reason}
 use Rattle.table.specs.declared.reason.Reason.the-variants.{NoRoom}
 use Rattle.table.proofs.ReasonNumbers.{same-reason, no-reason-0}
 use Rattle.ringkit.specs.Outcome.{Outcome, write, refuse, within, replyOf, bufferAfter, Fills}
-use Rattle.ringkit.specs.Says.{Success, Refusal, CallSays, with-room, without-room, none-due, Fitting, TooLarge}
+use Rattle.ringkit.specs.Says.{Success, Refusal, CallSays, with-room, without-room, none-due, TooLarge, CallPromise}
 use Rattle.ringkit.specs.declared.Reply.{Reply}
 
 -- an outcome is a text that is due, or a refusal that is given
@@ -50,7 +51,7 @@ as-success e filled =
     }
 
 module _ {Due : List ℕ → Type 0} {Given : Reason → ℕ → Type 0} {old new : List ℕ} {r : Reply} where
-  pub every-call : {outcome : Outcome} → Decided Due Given outcome → Fills outcome old new r → CallSays Due Given old new r
+  every-call : {outcome : Outcome} → Decided Due Given outcome → Fills outcome old new r → CallSays Due Given old new r
   unfolding within bufferAfter
   every-call (is-due {text = t} due) f =
       elim (decLt (length old) (length t)) [
@@ -62,49 +63,44 @@ module _ {Due : List ℕ → Type 0} {Given : Reason → ℕ → Type 0} {old ne
       ]
   every-call (is-given given) f = none-due given (as-refusal (f .reply) (f .buffer))
 
--- ---- so each reason number says one thing
+-- ---- so each answer says one thing
+
+-- two texts that stand at the start of one buffer, as long as each other, are one
+same-start : (a b x y : List ℕ) → length a ≡ length b → a ++ x ≡ b ++ y → a ≡ b
+same-start a b x y long e = sym (take-append-seam a x) ∙ ap (λ k. take k (a ++ x)) long ∙ ap (take (length b)) e ∙ take-append-seam b y
 
 module _ {Due : List ℕ → Type 0} {Given : Reason → ℕ → Type 0} (one : One Due Given) {old new : List ℕ} {r : Reply} (call : CallSays Due Given old new r) where
-  -- 0 exactly when a text is due that fits
-  pub succeeds : (r .reason ≡ 0) ↔ Fitting Due old
-  succeeds = (λ e. there e call, λ h. back (h .text) (h .due) (h .fits) call)
+  succeeds : (text : List ℕ) → Success text old new r ↔ (Due text × (length text ≤ length old))
+  succeeds text = (λ s. there s call, λ h. back (h .0) (h .1) call)
     where
-      there : r .reason ≡ 0 → CallSays Due Given old new r → Fitting Due old
-      there e (with-room {text} due fits s) = record { text = text; due = due; fits = fits }
-      there e (without-room due l s) = absurd (omega (arith, s .number))
-      there e (none-due {reason = x} g s) = absurd (omega (arith, s .number, no-reason-0 x))
+      there : Success text old new r → CallSays Due Given old new r → Due text × (length text ≤ length old)
+      there s (with-room {text = other} due fits f) =
+          let long : length other ≡ length text = omega (arith, f .size, s .size) in
+          let e = same-start other text (drop (length other) old) (drop (length text) old) long (sym (f .buffer) ∙ s .buffer) in
+          rw (← e) (due, fits)
+      there s (without-room due l f) = absurd (omega (arith, s .reason, f .number))
+      there s (none-due {reason = x} g f) = absurd (omega (arith, s .reason, f .number, no-reason-0 x))
 
-      back : (text : List ℕ) → Due text → length text ≤ length old → CallSays Due Given old new r → r .reason ≡ 0
-      back text due fits (with-room a l s) = s .reason
-      back text due fits (without-room a l s) = absurd (omega (arith, ap length (one .text a due)))
-      back text due fits (none-due g s) = absurd (one .apart due g)
+      back : Due text → length text ≤ length old → CallSays Due Given old new r → Success text old new r
+      back due fits (with-room a l s) = let e = one .text a due in rw (← e) s
+      back due fits (without-room a l s) = absurd (omega (arith, ap length (one .text a due)))
+      back due fits (none-due g s) = absurd (one .apart due g)
 
-  -- and then that text is written
-  pub succeeds-with : (text : List ℕ) → Due text → length text ≤ length old → Success text old new r
-  succeeds-with text due fits = go call
+  no-room : Refusal NoRoom 0 old new r ↔ TooLarge Due old
+  no-room = (λ s. there s call, λ h. back (h .text) (h .due) (h .large) call)
     where
-      go : CallSays Due Given old new r → Success text old new r
-      go (with-room a l s) = let e = one .text a due in rw (← e) s
-      go (without-room a l s) = absurd (omega (arith, ap length (one .text a due)))
-      go (none-due g s) = absurd (one .apart due g)
+      there : Refusal NoRoom 0 old new r → CallSays Due Given old new r → TooLarge Due old
+      there s (with-room a l f) = absurd (omega (arith, s .number, f .reason))
+      there s (without-room {text} a l f) = record { text = text; due = a; large = l }
+      there s (none-due g f) = absurd (one .other g (omega (arith, s .number, f .number)))
 
-  -- 15 exactly when a text is due that does not fit
-  pub no-room : (r .reason ≡ numberOf NoRoom) ↔ TooLarge Due old
-  no-room = (λ e. there e call, λ h. back (h .text) (h .due) (h .large) call)
-    where
-      there : r .reason ≡ numberOf NoRoom → CallSays Due Given old new r → TooLarge Due old
-      there e (with-room a l s) = absurd (omega (arith, s .reason))
-      there e (without-room {text} a l s) = record { text = text; due = a; large = l }
-      there e (none-due g s) = absurd (one .other g (omega (arith, s .number)))
-
-      back : (text : List ℕ) → Due text → length old < length text → CallSays Due Given old new r → r .reason ≡ numberOf NoRoom
+      back : (text : List ℕ) → Due text → length old < length text → CallSays Due Given old new r → Refusal NoRoom 0 old new r
       back text due short (with-room a l s) = absurd (omega (arith, ap length (one .text a due)))
-      back text due short (without-room a l s) = s .number
+      back text due short (without-room a l s) = s
       back text due short (none-due g s) = absurd (one .apart due g)
 
-  -- every other reason exactly when it is given to the text, and with its line
-  pub refuses-text : (reason : Reason) (line : ℕ) → (numberOf reason ≡ numberOf NoRoom → ⊥) → Given reason line ↔ Refusal reason line old new r
-  refuses-text reason line other = (λ g. there g call, λ s. back s call)
+  refuses : (reason : Reason) (line : ℕ) → (numberOf reason ≡ numberOf NoRoom → ⊥) → Refusal reason line old new r ↔ Given reason line
+  refuses reason line other = (λ s. back s call, λ g. there g call)
     where
       there : Given reason line → CallSays Due Given old new r → Refusal reason line old new r
       there g (with-room a l s) = absurd (one .apart a g)
@@ -119,24 +115,9 @@ module _ {Due : List ℕ → Type 0} {Given : Reason → ℕ → Type 0} (one : 
           let l : m ≡ line = omega (arith, s .at, h .at) in
           rw (← e, ← l) g
 
--- ---- a call that writes an accepted text afresh: what is due is the text itself
-
-module _ {Due : List ℕ → Type 0} {Given : Reason → ℕ → Type 0} (one : One Due Given) (Accepted : Type 0) (t : List ℕ) (itself : Accepted → Due t)
-    (only : (text : List ℕ) → Due text → Accepted × (text ≡ t)) {old new : List ℕ} {r : Reply} (call : CallSays Due Given old new r) where
-  -- 0 exactly when the text is accepted and the buffer has room for it
-  pub afresh-succeeds : (r .reason ≡ 0) ↔ (Accepted × (length t ≤ length old))
-  afresh-succeeds = (
-    λ e. let f = succeeds one call .0 e in let o = only (f .text) (f .due) in (o .0, omega (arith, f .fits, ap length (o .1))),
-    λ h. succeeds one call .1 (record { text = t; due = itself (h .0); fits = h .1 }),
-  )
-
-  -- and then the same bytes are written
-  pub afresh-writes : Accepted → length t ≤ length old → Success t old new r
-  afresh-writes a fits = succeeds-with one call t (itself a) fits
-
-  -- 15 exactly when it is accepted and the buffer is too short for it
-  pub afresh-no-room : (r .reason ≡ numberOf NoRoom) ↔ (Accepted × (length old < length t))
-  afresh-no-room = (
-    λ e. let f = no-room one call .0 e in let o = only (f .text) (f .due) in (o .0, omega (arith, f .large, ap length (o .1))),
-    λ h. no-room one call .1 (record { text = t; due = itself (h .0); large = h .1 }),
-  )
+-- all that a call promises that fills a buffer
+pub call-promise : {Due : List ℕ → Type 0} {Given : Reason → ℕ → Type 0} {outcome : Outcome} {old new : List ℕ} {r : Reply} → One Due Given → Decided Due Given outcome
+    → Fills outcome old new r → CallPromise Due Given old new r
+call-promise one decided f =
+    let call = every-call decided f in
+    record { cases = call; succeeds = succeeds one call; no-room = no-room one call; refuses = refuses one call }

@@ -6,7 +6,8 @@ use native.Mathlib.Omega.{arith}
 use lib.ListN.{length}
 use Rattle.text.specs.Written.{Written}
 use Rattle.ring.specs.Limits.{desk}
-use Rattle.table.specs.Table.{tableOf, writeTable}
+use Rattle.table.specs.Table.{writeTable}
+use Rattle.table.specs.ReadTable.{tableOf}
 use Rattle.ring.specs.Columns.{rowsIn}
 use Rattle.table.specs.Arrays.{tableIn}
 use Rattle.table.specs.declared.reason.Reason.{Reason}

@@ -13,7 +13,8 @@ use Rattle.ring.specs.Columns.{listed, rowAt, rowsIn}
 use Rattle.ring.proofs.Listed.{listed-length}
 use Rattle.ring.proofs.Figures.{demands-length}
 use Rattle.ring.proofs.OurPlan.{plan-true, plan-demands}
-use Rattle.table.specs.Table.{tableOf, InRange}
+use Rattle.table.specs.Table.{InRange}
+use Rattle.table.specs.ReadTable.{tableOf}
 use Rattle.table.specs.Arrays.{tableIn}
 use Rattle.table.specs.declared.reason.Reason.{Reason}
 use Rattle.table.specs.declared.read.Table.{Table}

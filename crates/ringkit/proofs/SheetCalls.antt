@@ -1,16 +1,17 @@
 -- The calls that read a sheet do what 01 says (`Calls`), by the laws of checking a sheet; and what routing writes, the checker accepts and finds no parallel
 -- split pair in (demand 3's last sentence).
-use Prim.Native.Nat.{ℕ, _*_, _≤_, _<_}
+use Prim.Native.Nat.{ℕ, _≤_}
 use mathlib.Core.List.{List}
 use mathlib.Core.Logic.{_↔_}
 use mathlib.Core.Path.{_≡_, refl, ap, _∙_, sym, subst}
 use native.Mathlib.Omega.{arith}
 use lib.ListN.{length}
-use Rattle.ring.specs.Division.{Divides}
 use Rattle.ring.specs.Limits.{desk}
-use Rattle.ring.specs.Routing.{Sent, splitLoad, peak}
 use Rattle.ring.specs.Sheet.{Sheet, sents, demands, plan}
 use Rattle.ring.specs.True.{TrueSheet}
+use Rattle.ring.proofs.OurPlan.{plan-true, plan-demands}
+use Rattle.ring.proofs.Papers.{paper-figures}
+use Rattle.ring.proofs.NoLower.{no-lower}
 use Rattle.table.specs.Reasons.{numberOf}
 use Rattle.table.specs.Says as table
 use Rattle.table.specs.declared.reason.Reason.{Reason}
@@ -18,26 +19,29 @@ use Rattle.table.specs.declared.reason.Reason.the-variants.{NoRoom}
 use Rattle.table.proofs.ReasonNumbers.{same-reason, no-reason-0}
 use Rattle.table.proofs.TableText.{desk-spelled}
 use Rattle.sheet.specs.Check.{Result, accepted, refused, check, form}
-use Rattle.checker.specs.Pair.{firstPair, FirstPair, NoPair}
-use Rattle.sheet.specs.Range as sheet-range
 use Rattle.sheet.specs.Says.{Says, Given, Accepted, WellFormed}
 use Rattle.sheet.specs.WriteSheet.{writeSheet}
+use Rattle.sheet.proofs.Demands.{form-text, check-text, accepted-true, accepted-formed, plan-accepted}
+use Rattle.sheet.proofs.SheetReasons.{one-given, given, accepted-is, well-formed-is}
+use Rattle.sheet.proofs.Short.{plan-in-range}
+use Rattle.checker.specs.FindPair.{firstPair}
 use Rattle.checker.specs.declared.pair.Pair.{Pair}
 use Rattle.checker.specs.declared.pair.Pair.the-variants.{Are, None}
-use Rattle.sheet.proofs.Demands.{form-text, check-text, accepted-true, accepted-formed, no-lower-peak, plan-accepted}
 use Rattle.checker.proofs.OurPair.{plan-no-pair}
 use Rattle.checker.proofs.PairLaws.{low, first-pair-is, no-pair-is}
-use Rattle.sheet.proofs.SheetReasons.{one-given, given, accepted-is, well-formed-is}
 use Rattle.ringkit.specs.Outcome.{Fills}
-use Rattle.ringkit.specs.TableCalls.{sheetDue, tableRouted}
+use Rattle.ringkit.specs.TableCalls.{tableRouted}
 use Rattle.ringkit.specs.SheetCalls.{verdictReply, sheetChecked, pairReply, questionReply, sheetParallel, ofSheet, sheetAfresh}
-use Rattle.ringkit.specs.Says.{Success, Refusal, CallSays, TableDue, SheetDue}
+use Rattle.ringkit.specs.Says.{CallPromise}
+use Rattle.ringkit.specs.Texts.{SheetOf, TableDue, sheetDue, Itself}
+use Rattle.ringkit.specs.Answers.{yes, no, CheckSays, says-yes, says-no, CheckPromise, paired, not-asked, PairOf, NoPairOf, PairSays, a-pair, no-pair, refused as pair-refused, PairPromise}
+use Rattle.ringkit.specs.Demands.{FormedSheet, BestSheet, RoutedWell}
 use Rattle.ringkit.specs.declared.Reply.{Reply}
 use Rattle.ringkit.specs.declared.PairReply.{PairReply}
-use Rattle.ringkit.proofs.Calls.{Decided, is-due, is-given, One, every-call, refuses-text, afresh-succeeds, afresh-writes, afresh-no-room}
-use Rattle.ringkit.proofs.TableCalls.{due-accepted, route-writes}
+use Rattle.ringkit.proofs.Calls.{Decided, is-due, is-given, One, call-promise}
+use Rattle.ringkit.proofs.TableCalls.{due-accepted, route-promise}
 
--- ---- what is due to a sheet
+-- ---- what a sheet is read to
 
 -- 15 judges no sheet
 not-15 : (line : ℕ) (t : List ℕ) (r : Reason) → Says desk t r line → numberOf r ≡ numberOf NoRoom → ⊥
@@ -45,223 +49,197 @@ unfolding Says
 not-15 line t r h e = subst (λ s. Says desk t s line) (same-reason r NoRoom e) h
 
 module _ (t : List ℕ) where
-  due-of : (x : Sheet) → check desk t ≡ accepted x → SheetDue t (writeSheet x)
-  due-of x e = let w = check-text desk desk-spelled t x .0 e in record { x = x; sheet = w .0; range = w .1 .0; true-sheet = w .1 .1; is = refl }
+  -- a sheet is accepted as the values that it is the sheet of
+  checked-is : (x : Sheet) → (check desk t ≡ accepted x) ↔ SheetOf t x
+  checked-is x = (
+    λ e. let w = check-text desk desk-spelled t x .0 e in record { text = w .0; range = w .1 .0; true-sheet = w .1 .1 },
+    λ h. check-text desk desk-spelled t x .1 (h .text, (h .range, h .true-sheet)),
+  )
 
-  only-itself : (text : List ℕ) → SheetDue t text → Accepted desk t × (text ≡ t)
-  only-itself text d =
-      (accepted-is desk t .0 (record { x = d .x; is = check-text desk desk-spelled t (d .x) .1 (d .sheet, (d .range, d .true-sheet)) }), d .is ∙ sym (d .sheet))
-
-  itself-due : Accepted desk t → SheetDue t t
-  itself-due a =
-      let r = accepted-is desk t .1 a in
-      let w = check-text desk desk-spelled t (r .x) .0 (r .is) in
-      record { x = r .x; sheet = w .0; range = w .1 .0; true-sheet = w .1 .1; is = w .0 }
-
-  one-sheet : One (SheetDue t) (Given desk t)
-  one-sheet =
-      record {
-        text = λ {a} {b} d f. only-itself a d .1 ∙ sym (only-itself b f .1);
-        refusal = λ f g. one-given f g;
-        apart = λ {a} {r} {line} d g. only-itself a d .0 r line tt (g .holds);
-        other = λ {r} {line} g. not-15 line t r (g .holds);
-      }
-
-  decided : (x : Result) → check desk t ≡ x → Decided (SheetDue t) (Given desk t) (ofSheet x)
-  unfolding ofSheet
-  decided (accepted x) e = is-due (due-of x e)
-  decided (refused reason line) e = is-given (given desk t reason line .0 e)
+  accepted-as : (x : Sheet) → check desk t ≡ accepted x → Accepted desk t
+  accepted-as x e = accepted-is desk t .0 (record { x = x; is = e })
 
 -- ---- rewriting
 
-pub rewrite-sheet-says : (t old new : List ℕ) (r : Reply) → Fills (sheetAfresh t) old new r → CallSays (SheetDue t) (Given desk t) old new r
+afresh : (t : List ℕ) (x : Result) → check desk t ≡ x → Decided (Itself (Accepted desk t) t) (Given desk t) (ofSheet x)
+unfolding ofSheet
+afresh t (accepted x) e = is-due (record { accepted = accepted-as t x e; same = sym (checked-is t x .0 e .text) })
+afresh t (refused reason line) e = is-given (given desk t reason line .0 e)
+
+one-itself : (t : List ℕ) → One (Itself (Accepted desk t) t) (Given desk t)
+one-itself t =
+    record {
+      text = λ a b. a .same ∙ sym (b .same);
+      refusal = λ f g. one-given f g;
+      apart = λ {a} {r} {line} d g. d .accepted r line tt (g .holds);
+      other = λ {r} {line} g. not-15 line t r (g .holds);
+    }
+
+-- an accepted sheet is written as the same bytes, with room for them; else 15 or the sheet's first reason
+pub rewrite-sheet-promise : (t old new : List ℕ) (r : Reply) → Fills (sheetAfresh t) old new r → CallPromise (Itself (Accepted desk t) t) (Given desk t) old new r
 unfolding sheetAfresh
-rewrite-sheet-says t old new r f = every-call (decided t (check desk t) refl) f
-
-module _ (t old new : List ℕ) (r : Reply) (call : Fills (sheetAfresh t) old new r) where
-  -- 0 exactly when the sheet is accepted and the buffer has room for it
-  pub sheet-succeeds : (r .reason ≡ 0) ↔ (Accepted desk t × (length t ≤ length old))
-  sheet-succeeds = afresh-succeeds (one-sheet t) (Accepted desk t) t (itself-due t) (only-itself t) (rewrite-sheet-says t old new r call)
-
-  -- and then the same bytes are written
-  pub sheet-writes : Accepted desk t → length t ≤ length old → Success t old new r
-  sheet-writes = afresh-writes (one-sheet t) (Accepted desk t) t (itself-due t) (only-itself t) (rewrite-sheet-says t old new r call)
-
-  -- 15 exactly when the sheet is accepted and the buffer is too short for it
-  pub sheet-no-room : (r .reason ≡ numberOf NoRoom) ↔ (Accepted desk t × (length old < length t))
-  sheet-no-room = afresh-no-room (one-sheet t) (Accepted desk t) t (itself-due t) (only-itself t) (rewrite-sheet-says t old new r call)
-
-  -- every other reason exactly when it is the sheet's first, and with its line
-  pub sheet-refuses : (reason : Reason) (line : ℕ) → (numberOf reason ≡ numberOf NoRoom → ⊥) → Given desk t reason line ↔ Refusal reason line old new r
-  sheet-refuses = refuses-text (one-sheet t) (rewrite-sheet-says t old new r call)
+rewrite-sheet-promise t old new r f = call-promise (one-itself t) (afresh t (check desk t) refl) f
 
 -- ---- checking
 
--- the reply where a sheet is accepted
-abbrev pub yes : Reply
-yes = record { reason = 0; line = 0; length = 0 }
+checked : (t : List ℕ) → CheckSays t (sheetChecked t)
+unfolding sheetChecked verdictReply
+checked t = go (check desk t) refl
+  where
+    go : (x : Result) → check desk t ≡ x → CheckSays t (verdictReply x)
+    go (accepted x) e = says-yes (accepted-as t x e)
+    go (refused reason line) e = says-no (given desk t reason line .0 e)
 
-module _ (t : List ℕ) where
-  -- yes exactly where no reason holds of the sheet
-  pub check-says : (sheetChecked t ≡ yes) ↔ Accepted desk t
-  unfolding sheetChecked verdictReply
-  check-says = (λ e. there (check desk t) refl e, λ a. let r = accepted-is desk t .1 a in ap verdictReply (r .is))
-    where
-      there : (x : Result) → check desk t ≡ x → verdictReply (check desk t) ≡ yes → Accepted desk t
-      there (accepted x) q e = accepted-is desk t .0 (record { x = x; is = q })
-      there (refused reason line) q e =
-          let f : numberOf reason ≡ 0 = ap (λ (r : Reply). r .reason) (sym (ap verdictReply q) ∙ e) in
-          absurd (omega (arith, no-reason-0 reason))
+-- two refusals that reply alike are one, and none replies as yes does
+yes-not-no : (reason : Reason) (line : ℕ) → yes ≡ no reason line → ⊥
+yes-not-no reason line e = let z : 0 ≡ numberOf reason = ap (λ (r : Reply). r .reason) e in omega (arith, no-reason-0 reason)
 
-  -- and a refusal exactly where it is the first that holds
-  pub check-refuses : (reason : Reason) (line : ℕ) → Given desk t reason line ↔ (sheetChecked t ≡ record { reason = numberOf reason; line = line; length = 0 })
-  unfolding sheetChecked verdictReply
-  check-refuses reason line = (λ g. ap verdictReply (given desk t reason line .1 g), λ e. there (check desk t) refl e)
-    where
-      there : (x : Result) → check desk t ≡ x → verdictReply (check desk t) ≡ record { reason = numberOf reason; line = line; length = 0 } → Given desk t reason line
-      there (accepted x) q e =
-          let f : 0 ≡ numberOf reason = ap (λ (r : Reply). r .reason) (sym (ap verdictReply q) ∙ e) in
-          absurd (omega (arith, no-reason-0 reason))
-      there (refused why at) q e =
-          let same = sym (ap verdictReply q) ∙ e in
-          let ew : why ≡ reason = same-reason why reason (ap (λ (r : Reply). r .reason) same) in
-          let ea : at ≡ line = ap (λ (r : Reply). r .line) same in
-          given desk t reason line .0 (q ∙ rw (ew, ea))
+module _ {t : List ℕ} where
+  same-no : (reason : Reason) (line : ℕ) {why : Reason} {at : ℕ} → no why at ≡ no reason line → Given desk t why at → Given desk t reason line
+  same-no reason line {why} {at} e g =
+      let ew : why ≡ reason = same-reason why reason (ap (λ (r : Reply). r .reason) e) in
+      let ea : at ≡ line = ap (λ (r : Reply). r .line) e in
+      rw (← ew, ← ea) g
+
+  check-laws : {r : Reply} → CheckSays t r → CheckPromise t r
+  check-laws (says-yes a) =
+      record {
+        cases = says-yes a;
+        accepts = (λ e. a, λ b. refl);
+        refuses = λ reason line. (λ e. absurd (yes-not-no reason line e), λ g. absurd (a reason line tt (g .holds)));
+      }
+  check-laws (says-no {reason = why} {line = at} g) =
+      record {
+        cases = says-no g;
+        accepts = (λ e. absurd (yes-not-no why at (sym e)), λ a. absurd (a why at tt (g .holds)));
+        refuses = λ reason line. (λ e. same-no reason line e g, λ h. let o = one-given g h in rw (o .0, o .1));
+      }
+
+-- yes exactly where no reason holds of the sheet, and a refusal exactly where it is the first that holds
+pub check-promise : (t : List ℕ) (r : Reply) → r ≡ sheetChecked t → CheckPromise t r
+check-promise t r e = subst (CheckPromise t) (sym e) (check-laws (checked t))
 
 -- ---- demand 3 of a well-formed sheet, and of one that is accepted
 
--- the sheet that a well-formed text is; the checker says yes exactly when it is a true one
-pub record FormedSheet (t : List ℕ) : Type 0 where
-  pub x : Sheet
-  pub text : t ≡ writeSheet x
-  pub range : sheet-range.InRange desk x
-  pub says-yes : (sheetChecked t ≡ yes) ↔ TrueSheet x
-
-pub formed-checked : (t : List ℕ) → WellFormed desk t → FormedSheet t
+pub formed-checked : (t : List ℕ) (r : Reply) → r ≡ sheetChecked t → WellFormed desk t → FormedSheet t r
 unfolding sheetChecked verdictReply
-formed-checked t w =
+formed-checked t r e w =
     let f = well-formed-is desk t .1 w in
     let s = form-text desk desk-spelled t (f .x) .0 (f .is) in
     let law = accepted-true desk desk-spelled t (f .x) (f .is) in
-    record { x = f .x; text = s .0; range = s .1; says-yes = (λ e. law .0 (same-x (f .x) (f .is) e), λ true-sheet. ap verdictReply (law .1 true-sheet)) }
+    record { x = f .x; text = s .0; range = s .1; says-yes = (λ y. law .0 (same-x (f .x) (f .is) y), λ true-sheet. e ∙ ap verdictReply (law .1 true-sheet)) }
   where
-    same-x : (x : Sheet) → form desk t ≡ accepted x → verdictReply (check desk t) ≡ yes → check desk t ≡ accepted x
-    same-x x f e =
-        let r = accepted-is desk t .1 (check-says t .0 e) in
-        let g = accepted-formed desk desk-spelled t (r .x) (r .is) in
-        let h : accepted (r .x) ≡ accepted x = sym g ∙ f in
-        r .is ∙ h
+    same-x : (x : Sheet) → form desk t ≡ accepted x → r ≡ yes → check desk t ≡ accepted x
+    same-x x f y =
+        let a = accepted-is desk t .1 (check-promise t r e .accepts .0 y) in
+        let g = accepted-formed desk desk-spelled t (a .x) (a .is) in
+        let h : accepted (a .x) ≡ accepted x = sym g ∙ f in
+        a .is ∙ h
 
--- no division of the demands of a sheet, however fine, has a lower peak
-pub record BestSheet (t : List ℕ) : Type 0 where
-  pub x : Sheet
-  pub text : t ≡ writeSheet x
-  pub no-lower : (q : ℕ) (ss : List Sent) → Divides q (demands (sents (x .rows))) ss → q * x .cut .number ≤ 2 * peak (splitLoad ss) (x .n)
+-- the sheet of some values is the best there is
+best-of : (t : List ℕ) (x : Sheet) → SheetOf t x → BestSheet t
+best-of t x of = record { x = x; of = of; figures = paper-figures x (of .true-sheet); no-lower = no-lower x (of .true-sheet) }
 
-pub yes-best : (t : List ℕ) → sheetChecked t ≡ yes → BestSheet t
-yes-best t e =
-    let r = accepted-is desk t .1 (check-says t .0 e) in
-    record { x = r .x; text = check-text desk desk-spelled t (r .x) .0 (r .is) .0; no-lower = no-lower-peak desk desk-spelled t (r .x) (r .is) }
+pub yes-best : (t : List ℕ) (r : Reply) → r ≡ sheetChecked t → r ≡ yes → BestSheet t
+yes-best t r e y = let a = accepted-is desk t .1 (check-promise t r e .accepts .0 y) in best-of t (a .x) (checked-is t (a .x) .0 (a .is))
 
 -- ---- the question
 
--- the first pair of an accepted sheet
-pub record PairOf (t : List ℕ) (p q : ℕ) : Type 0 where
-  pub x : Sheet
-  pub is : check desk t ≡ accepted x
-  pub pair : FirstPair (sents (x .rows)) p q
-
--- an accepted sheet without one
-pub record NoPairOf (t : List ℕ) : Type 0 where
-  pub x : Sheet
-  pub is : check desk t ≡ accepted x
-  pub none : NoPair (sents (x .rows))
-
-abbrev paired : ℕ → ℕ → PairReply
-paired p q = record { reason = 0; line = 0; first = p; second = q }
-
--- what is replied to a text
-data Asked (t : List ℕ) : PairReply → Type 0 where
-  a-pair : {p q : ℕ} → PairOf t p q → 1 ≤ p → Asked t (paired p q)
-  no-pair : NoPairOf t → Asked t (paired 0 0)
-  not-asked : {reason : Reason} {line : ℕ} → Given desk t reason line → Asked t (record { reason = numberOf reason; line = line; first = 0; second = 0 })
-
-asked : (t : List ℕ) → Asked t (sheetParallel t)
+asked : (t : List ℕ) → PairSays t (sheetParallel t)
 unfolding sheetParallel questionReply pairReply
 asked t = go (check desk t) refl
   where
-    pair-of : (x : Sheet) → check desk t ≡ accepted x → (f : Pair) → firstPair (sents (x .rows)) ≡ f → Asked t (pairReply f)
-    pair-of x q (Are p r) e = let are = first-pair-is (sents (x .rows)) p r .0 e in a-pair (record { x = x; is = q; pair = are }) (low (are .are .first))
-    pair-of x q None e = no-pair (record { x = x; is = q; none = no-pair-is (sents (x .rows)) .0 e })
+    pair-of : (x : Sheet) → SheetOf t x → (f : Pair) → firstPair (sents (x .rows)) ≡ f → PairSays t (pairReply f)
+    pair-of x of (Are p r) e = let are = first-pair-is (sents (x .rows)) p r .0 e in a-pair (record { x = x; of = of; pair = are }) (low (are .are .first))
+    pair-of x of None e = no-pair (record { x = x; of = of; none = no-pair-is (sents (x .rows)) .0 e })
 
-    go : (y : Result) → check desk t ≡ y → Asked t (questionReply y)
-    go (accepted x) q = pair-of x q (firstPair (sents (x .rows))) refl
-    go (refused reason line) q = not-asked (given desk t reason line .0 q)
+    go : (y : Result) → check desk t ≡ y → PairSays t (questionReply y)
+    go (accepted x) q = pair-of x (checked-is t x .0 q) (firstPair (sents (x .rows))) refl
+    go (refused reason line) q = pair-refused (given desk t reason line .0 q)
 
 module _ (t : List ℕ) where
-  -- two places from 1 on exactly where they are the first pair of an accepted sheet
-  pub pair-said : (p q : ℕ) → ((sheetParallel t ≡ paired p q) × (1 ≤ p)) ↔ PairOf t p q
+  said-pair : (p q : ℕ) → PairOf t p q → sheetParallel t ≡ paired p q
   unfolding sheetParallel questionReply pairReply
-  pair-said p q = (λ h. there (asked t) (h .0) (h .1), back)
-    where
-      there : {r : PairReply} → Asked t r → r ≡ paired p q → 1 ≤ p → PairOf t p q
-      there (a-pair {p = a} {q = b} x low) e l =
-          let ea : a ≡ p = ap (λ (r : PairReply). r .first) e in
-          let eb : b ≡ q = ap (λ (r : PairReply). r .second) e in
-          rw (← ea, ← eb) x
-      there (no-pair x) e l = let z : 0 ≡ p = ap (λ (r : PairReply). r .first) e in absurd (omega arith)
-      there (not-asked {reason = reason} g) e l = let z : 0 ≡ p = ap (λ (r : PairReply). r .first) e in absurd (omega arith)
+  said-pair p q h = ap questionReply (checked-is t (h .x) .1 (h .of)) ∙ ap pairReply (first-pair-is (sents (h .x .rows)) p q .1 (h .pair))
 
-      back : PairOf t p q → (sheetParallel t ≡ paired p q) × (1 ≤ p)
-      back h = (ap questionReply (h .is) ∙ ap pairReply (first-pair-is (sents (h .x .rows)) p q .1 (h .pair)), low (h .pair .are .first))
-
-  -- 0 and 0, without a reason, exactly where an accepted sheet has none
-  pub no-pair-said : (sheetParallel t ≡ paired 0 0) ↔ NoPairOf t
+  said-none : NoPairOf t → sheetParallel t ≡ paired 0 0
   unfolding sheetParallel questionReply pairReply
-  no-pair-said = (λ e. there (asked t) e, λ h. ap questionReply (h .is) ∙ ap pairReply (no-pair-is (sents (h .x .rows)) .1 (h .none)))
-    where
-      there : {r : PairReply} → Asked t r → r ≡ paired 0 0 → NoPairOf t
-      there (a-pair {p = a} x low) e = let ea : a ≡ 0 = ap (λ (r : PairReply). r .first) e in absurd (omega arith)
-      there (no-pair x) e = x
-      there (not-asked {reason = reason} g) e = let z : numberOf reason ≡ 0 = ap (λ (r : PairReply). r .reason) e in absurd (omega (arith, no-reason-0 reason))
+  said-none h = ap questionReply (checked-is t (h .x) .1 (h .of)) ∙ ap pairReply (no-pair-is (sents (h .x .rows)) .1 (h .none))
 
-  -- any other text gets the checker's refusal
-  pub pair-refused : (reason : Reason) (line : ℕ) → Given desk t reason line → sheetParallel t ≡ record { reason = numberOf reason; line = line; first = 0; second = 0 }
+  said-refusal : (reason : Reason) (line : ℕ) → Given desk t reason line → sheetParallel t ≡ not-asked reason line
   unfolding sheetParallel questionReply
-  pair-refused reason line g = ap questionReply (given desk t reason line .1 g)
+  said-refusal reason line g = ap questionReply (given desk t reason line .1 g)
+
+  -- two places from 1 on
+  is-pair : (p q : ℕ) {r : PairReply} → PairSays t r → r ≡ paired p q → 1 ≤ p → PairOf t p q
+  is-pair p q (a-pair {p = a} {q = b} x l) e some =
+      let ea : a ≡ p = ap (λ (r : PairReply). r .first) e in
+      let eb : b ≡ q = ap (λ (r : PairReply). r .second) e in
+      rw (← ea, ← eb) x
+  is-pair p q (no-pair x) e some = let z : 0 ≡ p = ap (λ (r : PairReply). r .first) e in absurd (omega arith)
+  is-pair p q (pair-refused g) e some = let z : 0 ≡ p = ap (λ (r : PairReply). r .first) e in absurd (omega arith)
+
+  -- 0 and 0, without a reason
+  is-none : {r : PairReply} → PairSays t r → r ≡ paired 0 0 → NoPairOf t
+  is-none (a-pair {p = a} x l) e = let ea : a ≡ 0 = ap (λ (r : PairReply). r .first) e in absurd (omega arith)
+  is-none (no-pair x) e = x
+  is-none (pair-refused {reason} g) e = let z : numberOf reason ≡ 0 = ap (λ (r : PairReply). r .reason) e in absurd (omega (arith, no-reason-0 reason))
+
+  is-refusal : (reason : Reason) (line : ℕ) {r : PairReply} → PairSays t r → r ≡ not-asked reason line → Given desk t reason line
+  is-refusal reason line (a-pair x l) e = let z : 0 ≡ numberOf reason = ap (λ (r : PairReply). r .reason) e in absurd (omega (arith, no-reason-0 reason))
+  is-refusal reason line (no-pair x) e = let z : 0 ≡ numberOf reason = ap (λ (r : PairReply). r .reason) e in absurd (omega (arith, no-reason-0 reason))
+  is-refusal reason line (pair-refused {reason = why} {line = at} g) e =
+      let ew : why ≡ reason = same-reason why reason (ap (λ (r : PairReply). r .reason) e) in
+      let ea : at ≡ line = ap (λ (r : PairReply). r .line) e in
+      rw (← ew, ← ea) g
+
+-- two places exactly where they are the first pair of an accepted sheet, 0 and 0 exactly where it has none, and any other text gets the checker's refusal
+pub parallel-promise : (t : List ℕ) (r : PairReply) → r ≡ sheetParallel t → PairPromise t r
+parallel-promise t r e =
+    let says = subst (PairSays t) (sym e) (asked t) in
+    record {
+      cases = says;
+      pair = λ p q. (λ h. is-pair t p q says (h .0) (h .1), λ h. (e ∙ said-pair t p q h, low (h .pair .are .first)));
+      none = (λ y. is-none t says y, λ h. e ∙ said-none t h);
+      refuses = λ reason line. (λ y. is-refusal t reason line says y, λ g. e ∙ said-refusal t reason line g);
+    }
 
 -- ---- what routing writes
 
 module _ (t text : List ℕ) (due : TableDue sheetDue t text) where
+  routed-of : SheetOf text (plan (due .n) (due .rs))
+  routed-of =
+      record {
+        text = due .is;
+        range = plan-in-range (due .n) (due .rs) (due .of .range);
+        true-sheet = plan-true (due .n) (due .rs) (due .of .range .few) (due .of .range .rows);
+      }
+
   accepted-sheet : check desk text ≡ accepted (plan (due .n) (due .rs))
-  accepted-sheet = ap (check desk) (due .is) ∙ plan-accepted (due .n) (due .rs) (due .range)
+  accepted-sheet = checked-is text (plan (due .n) (due .rs)) .1 routed-of
 
   -- the checker accepts the sheet that is due
-  pub due-checked : sheetChecked text ≡ yes
-  unfolding sheetChecked
+  due-checked : sheetChecked text ≡ yes
+  unfolding sheetChecked verdictReply
   due-checked = ap verdictReply accepted-sheet
 
   -- and it has no parallel split pair
-  pub due-no-pair : sheetParallel text ≡ record { reason = 0; line = 0; first = 0; second = 0 }
+  due-no-pair : sheetParallel text ≡ paired 0 0
   unfolding sheetParallel questionReply pairReply
-  due-no-pair = ap questionReply accepted-sheet ∙ ap pairReply (plan-no-pair (due .n) (due .rs) (due .range .few) (due .range .rows))
+  due-no-pair = ap questionReply accepted-sheet ∙ ap pairReply (plan-no-pair (due .n) (due .rs) (due .of .range .few) (due .of .range .rows))
 
--- a table has a sheet; with room for it, it is written; and the checker accepts it
-pub record RoutedWell (t old new : List ℕ) (r : Reply) : Type 0 where
-  pub sheet : List ℕ
-  pub due : TableDue sheetDue t sheet
-  pub written : length sheet ≤ length old → Success sheet old new r
-  pub checked : sheetChecked sheet ≡ yes
-  pub no-pair : sheetParallel sheet ≡ record { reason = 0; line = 0; first = 0; second = 0 }
-
--- demand 3: that is so of each accepted table
+-- demands 2 and 3 of each accepted table
 pub demand-3 : (t old new : List ℕ) (r : Reply) → Fills (tableRouted t) old new r → table.Accepted desk t → RoutedWell t old new r
+unfolding best-of
 demand-3 t old new r call a =
-    let s = due-accepted sheetDue t .0 a in
+    let s = due-accepted t sheetDue .0 a in
+    let d = s .is in
     record {
       sheet = s .text;
-      due = s .is;
-      written = route-writes t old new r call (s .text) (s .is);
-      checked = due-checked t (s .text) (s .is);
-      no-pair = due-no-pair t (s .text) (s .is);
+      due = d;
+      written = λ fits. route-promise t old new r call .succeeds (s .text) .1 (d, fits);
+      best = best-of (s .text) (plan (d .n) (d .rs)) (routed-of t (s .text) d);
+      demands = plan-demands (d .n) (d .rs) (d .of .range .few) (d .of .range .rows);
+      checked = due-checked t (s .text) d;
+      no-pair = due-no-pair t (s .text) d;
     }

@@ -9,7 +9,7 @@ use Rattle.table.specs.declared.reason.Reason.{Reason}
 use Rattle.sheet.specs.Arrays.{sheetIn}
 use Rattle.checker.specs.Arrays.{checkedIn}
 use Rattle.sheet.specs.Check.{check}
-use Rattle.checker.specs.Pair.{firstPair}
+use Rattle.checker.specs.FindPair.{firstPair}
 use Rattle.sheet.specs.WriteSheet.{writeSheet}
 use Rattle.checker.specs.declared.check.Checked.{Checked}
 use Rattle.checker.specs.declared.check.Answer.the-variants.{Is, Refused}

@@ -1,4 +1,4 @@
--- What a call that fills a lent buffer does: its outcome, its reply, and the buffer after it.
+-- Internal: what a call that fills a lent buffer does: its outcome, its reply, and the buffer after it.
 use Prim.Native.Nat.{ℕ}
 use mathlib.Core.Bool.{cond}
 use mathlib.Core.List.{List, _++_}

@@ -1,16 +1,10 @@
--- What a call that fills a buffer says, in 01's words: success, 15, or a refusal of the text itself.
+-- To believe: what a call that fills a buffer says, in 01's words: success, 15, or a refusal of the text itself.
 use Prim.Native.Nat.{ℕ, _≤_, _<_}
 use mathlib.Core.List.{List, _++_}
+use mathlib.Core.Logic.{_↔_}
 use mathlib.Core.Path.{_≡_}
 use lib.ListN.{length, drop}
-use Rattle.ring.specs.Limits.{desk}
-use Rattle.ring.specs.Row.{Row}
-use Rattle.ring.specs.Sheet.{Sheet}
-use Rattle.ring.specs.True.{TrueSheet}
-use Rattle.sheet.specs.Range as sheet-range
-use Rattle.sheet.specs.WriteSheet.{writeSheet}
 use Rattle.table.specs.Reasons.{numberOf}
-use Rattle.table.specs.Table.{writeTable, InRange}
 use Rattle.table.specs.declared.reason.Reason.{Reason}
 use Rattle.table.specs.declared.reason.Reason.the-variants.{NoRoom}
 use Rattle.ringkit.specs.declared.Reply.{Reply}
@@ -35,30 +29,19 @@ pub data CallSays (Due : List ℕ → Type 0) (Given : Reason → ℕ → Type 0
   without-room : {text : List ℕ} → Due text → length old < length text → Refusal NoRoom 0 old new r → CallSays Due Given old new r
   none-due : {reason : Reason} {line : ℕ} → Given reason line → Refusal reason line old new r → CallSays Due Given old new r
 
--- the text that is due to a table: t is the table of these values, and they are in the desk's range
-pub record TableDue (due : ℕ → List Row → List ℕ) (t text : List ℕ) : Type 0 where
-  pub n : ℕ
-  pub rs : List Row
-  pub table : t ≡ writeTable n rs
-  pub range : InRange desk n rs
-  pub is : text ≡ due n rs
-
--- the text that is due to a sheet that is written afresh: t is the sheet of these values, they are in the desk's range, and the sheet is true
-pub record SheetDue (t text : List ℕ) : Type 0 where
-  pub x : Sheet
-  pub sheet : t ≡ writeSheet x
-  pub range : sheet-range.InRange desk x
-  pub true-sheet : TrueSheet x
-  pub is : text ≡ writeSheet x
-
--- a text is due that fits into the buffer
-pub record Fitting (Due : List ℕ → Type 0) (old : List ℕ) : Type 0 where
-  pub text : List ℕ
-  pub due : Due text
-  pub fits : length text ≤ length old
-
--- a text is due that does not
+-- a text is due that does not fit into the buffer
 pub record TooLarge (Due : List ℕ → Type 0) (old : List ℕ) : Type 0 where
   pub text : List ℕ
   pub due : Due text
   pub large : length old < length text
+
+-- all that such a call promises
+pub record CallPromise (Due : List ℕ → Type 0) (Given : Reason → ℕ → Type 0) (old new : List ℕ) (r : Reply) : Type 0 where
+  -- one of the three is the case:
+  pub cases : CallSays Due Given old new r
+  -- it succeeds with a text exactly when that text is due and the buffer has room for it;
+  pub succeeds : (text : List ℕ) → Success text old new r ↔ (Due text × (length text ≤ length old))
+  -- 15 is given exactly when a text is due that does not fit;
+  pub no-room : Refusal NoRoom 0 old new r ↔ TooLarge Due old
+  -- every other reason, with its line, exactly when it is given to the text
+  pub refuses : (reason : Reason) (line : ℕ) → (numberOf reason ≡ numberOf NoRoom → ⊥) → Refusal reason line old new r ↔ Given reason line

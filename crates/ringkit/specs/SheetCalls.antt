@@ -1,11 +1,11 @@
--- The calls that read a sheet: the checker's refusals, or what is due to an accepted sheet.
+-- Internal: what the calls that read a sheet answer: the checker's refusals, or what is due to an accepted sheet.
 use Prim.Native.Nat.{ℕ}
 use mathlib.Core.List.{List}
 use Rattle.ring.specs.Limits.{desk}
 use Rattle.ring.specs.Sheet.{sents}
 use Rattle.table.specs.Reasons.{numberOf}
 use Rattle.sheet.specs.Check.{Result, accepted, refused, check}
-use Rattle.checker.specs.Pair.{firstPair}
+use Rattle.checker.specs.FindPair.{firstPair}
 use Rattle.sheet.specs.WriteSheet.{writeSheet}
 use Rattle.checker.specs.declared.pair.Pair.{Pair}
 use Rattle.checker.specs.declared.pair.Pair.the-variants.{Are, None}

@@ -1,11 +1,11 @@
--- The calls that read a table: its refusals (then 15), or the text that is due to its values.
+-- Internal: the outcome of the calls that read a table: its refusals (then 15), or the text that is due to its values.
 use Prim.Native.Nat.{ℕ}
 use mathlib.Core.List.{List}
 use Rattle.ring.specs.Limits.{desk}
 use Rattle.ring.specs.Row.{Row}
-use Rattle.ring.specs.Sheet.{plan}
-use Rattle.table.specs.Table.{Result, accepted, refused, tableOf, writeTable}
-use Rattle.sheet.specs.WriteSheet.{writeSheet}
+use Rattle.table.specs.Table.{writeTable}
+use Rattle.table.specs.ReadTable.{Result, accepted, refused, tableOf}
+use Rattle.ringkit.specs.Texts.{sheetDue}
 use Rattle.ringkit.specs.Outcome.{Outcome, write, refuse}
 
 -- the outcome of a reading, by what is due to the values of an accepted table
@@ -17,10 +17,6 @@ ofTable due (refused reason line) = refuse reason line
 unfoldable pub tableAfresh : List ℕ → Outcome
 unfolding ofTable
 tableAfresh t = ofTable writeTable (tableOf desk t)
-
--- the sheet that the four rules give
-abbrev pub sheetDue : ℕ → List Row → List ℕ
-sheetDue n rs = writeSheet (plan n rs)
 
 -- routing a table
 unfoldable pub tableRouted : List ℕ → Outcome

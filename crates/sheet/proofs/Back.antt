@@ -6,9 +6,9 @@ use native.Mathlib.Omega.{arith}
 use lib.ListN.{length, getD, length-map}
 use Rattle.ring.specs.Limits.{desk}
 use Rattle.ring.specs.Row.{Row, row}
-use Rattle.ring.specs.Routing.{Sent, sent, Routed, routed, Way, F, B}
+use Rattle.ring.specs.Routing.{Sent, sent, Routed, routed, Way, F, B, wayNumber, wayOf}
 use Rattle.ring.specs.Sheet.{Link, Sheet, sents, demands, numbersFrom}
-use Rattle.ring.specs.Columns.{listed, column, rowAt, rowsIn, routedAt, routedIn, wayNumber, wayOf}
+use Rattle.ring.specs.Columns.{listed, column, rowAt, rowsIn, routedAt, routedIn}
 use Rattle.ring.proofs.Listed.{listed-same}
 use Rattle.table.proofs.Columns.{column-at, listed-members}
 use Rattle.sheet.specs.WriteSheet.{figuresOf}

@@ -1,11 +1,12 @@
 -- 01's cases marked P all hold: texts are read, routed, written and checked by computing the definitions, and what comes out is what is stated.
 use mathlib.Core.Path.{_≡_, refl}
 use Rattle.text.specs.Number.{digits, digitsIn}
-use Rattle.text.specs.Mark.{marks, markOf, markByte, markAt}
+use Rattle.text.specs.Mark.{marks, markByte}
+use Rattle.text.specs.ReadMark.{markOf, markAt}
 use Rattle.text.specs.ReadNumber.{digitOf, numberAt}
-use Rattle.text.specs.Field.{spell, fieldAt}
+use Rattle.text.specs.Field.{spell}
+use Rattle.text.specs.ReadLine.{fieldAt, readLine, fieldsFrom}
 use Rattle.text.specs.WriteLine.{endOf, writeLine}
-use Rattle.text.specs.ReadLine.{readLine, fieldsFrom}
 use Rattle.text.specs.Answers.{oneIn, twoIn, threeIn, sentIn}
 use Rattle.table.specs.Lines.{lines}
 use Rattle.table.specs.Judge.{judgeRing, judgeRow, outside, isBelow}

@@ -15,7 +15,7 @@ use Rattle.ring.proofs.NoLower.{no-lower}
 use Rattle.ring.proofs.OurPlan.{plan-true}
 use Rattle.table.specs.Table as table
 use Rattle.table.specs.declared.judge.Verdict.the-variants.{Fine}
-use Rattle.table.proofs.TableText.{Spelled, desk-spelled}
+use Rattle.table.proofs.TableText.{desk-spelled}
 use Rattle.sheet.specs.WriteSheet.{writeSheet}
 use Rattle.sheet.specs.Range.{InRange}
 use Rattle.sheet.specs.Judge.{judgeHalves}
@@ -41,7 +41,7 @@ free : (x : Sheet) → Judged false x
 unfolding when
 free x = record { halves = rows-free (x .rows); cut = refl; links = links-free (x .rows) 0 (x .links); last = refl; whole = refl }
 
-module _ (limits : Limits) (limited : Spelled limits) (t : List ℕ) (x : Sheet) where
+module _ (limits : Limits) (limited : table.LimitsSpelled limits) (t : List ℕ) (x : Sheet) where
   -- a text is well-formed, and is this sheet, exactly when it is the sheet written and the sheet is in range
   pub form-text : (form limits t ≡ accepted x) ↔ ((t ≡ writeSheet x) × InRange limits x)
   unfolding form
@@ -73,7 +73,7 @@ module _ (limits : Limits) (limited : Spelled limits) (t : List ℕ) (x : Sheet)
     pub no-lower-peak : (q : ℕ) (ss : List Sent) → Divides q (demands (sents (x .rows))) ss → q * x .cut .number ≤ 2 * peak (splitLoad ss) (x .n)
     no-lower-peak = no-lower x (check-text .0 e .1 .1)
 
-module _ (limits : Limits) (limited : Spelled limits) where
+module _ (limits : Limits) (limited : table.LimitsSpelled limits) where
   -- demand 2: read again, a sheet that was written has the same values
   pub read-written : (x : Sheet) → InRange limits x → TrueSheet x → check limits (writeSheet x) ≡ accepted x
   read-written x range true-sheet = check-text limits limited (writeSheet x) x .1 (refl, (range, true-sheet))

@@ -27,8 +27,8 @@ use Rattle.table.specs.declared.judge.Verdict.the-variants.{Fine, Fault}
 use Rattle.table.proofs.Judged.{RingJudged, wrong-size, right-size, ring-judged}
 use Rattle.table.proofs.LineRead.{RingRead, is-ring, no-ring, ring-read}
 use Rattle.table.proofs.LineNumbers.{line-one}
-use Rattle.sheet.specs.Check.{State, start, rows, links, end, Turn, on, stop, unless, cutOf, routedOf, linkOf, ringTurn, cutTurn, rowTurn, linkTurn, lastTurn, turn}
-use Rattle.sheet.specs.Says.{SentIs, CutIs, LinkIs, LastIs, At, at-start, behind-ring, behind-row, behind-cut, behind-link, behind-last, Says}
+use Rattle.sheet.specs.Check.{Turn, on, stop, unless, cutOf, routedOf, linkOf, ringTurn, cutTurn, rowTurn, linkTurn, lastTurn, turn}
+use Rattle.sheet.specs.Says.{State, start, rows, links, end, SentIs, CutIs, LinkIs, LastIs, At, at-start, behind-ring, behind-row, behind-cut, behind-link, behind-last, Says}
 use Rattle.sheet.proofs.LineAt.{way-spelled}
 use Rattle.sheet.proofs.SheetLines.{SentRead, is-sent, no-sent, sent-read, CutRead, is-cut, no-cut, cut-read, LinkRead, is-link, no-link, link-read, LastRead, is-last, no-last, last-read}
 use Rattle.sheet.proofs.Places.{sent-spelled}
@@ -89,20 +89,20 @@ module _ (limits : Limits) (judging : Bool) {t l : List ℕ} where
 
   module _ {line : ℕ} (here : LineIs (lines t) line l) where
     -- C g h across, where the line is no D line
-    cut-turned : {n a b : ℕ} {rs : List Routed} {x : ThreeNumbers} → At t line (rows n a b rs) → ((r : Routed) → SentIs t line r → ⊥) → CutRead l x
+    cut-turned : {n : ℕ} {rs : List Routed} {x : ThreeNumbers} → At t line (rows n rs) → ((r : Routed) → SentIs t line r → ⊥) → CutRead l x
         → Turned limits judging t line (cutTurn judging n rs x)
     unfolding cutTurn Says
-    cut-turned {n} {a} {b} {rs} at none (is-cut {g} {h} {m} e u v w) =
+    cut-turned {n} {rs} at none (is-cut {g} {h} {m} e u v w) =
         let is : CutIs t line (cutOf g h m) = record { text = subst (LineIs (lines t) line) e here; pair = (u, v); number = w } in
         values-turned limits judging (when-first judging (λ s o. omega (arith, only-rank o)) (cut-first n rs (cutOf g h m))) at (λ s. said-of-cut is)
-        (λ w. record { n = n; a = a; b = b; rs = rs; due = at; c = cutOf g h m; is = is; wrong = w })
+        (λ w. record { n = n; rs = rs; due = at; c = cutOf g h m; is = is; wrong = w })
         (behind-cut at is)
     cut-turned at none (no-cut none′) =
         stops (unfit-first limits judging at (none, λ c k. none′ (c .g) (c .h) (c .number) (line-one here (k .text) refl) (k .pair .0) (k .pair .1) (k .number)))
 
     -- D i j amount front back F-or-B, else C
-    row-turned : {n a b : ℕ} {rs : List Routed} {x : SentRow} {y : ThreeNumbers} → At t line (rows n a b rs) → SentRead l x → CutRead l y
-        → Turned limits judging t line (rowTurn limits judging n a b rs x y)
+    row-turned : {n : ℕ} {rs : List Routed} {x : SentRow} {y : ThreeNumbers} → At t line (rows n rs) → SentRead l x → CutRead l y
+        → Turned limits judging t line (rowTurn limits judging n rs x y)
     unfolding rowTurn
     row-turned at (is-sent {i} {j} {d} {f} {b = k} {w} e h) c =
         let is : SentIs t line (routedOf i j d f k w) =
@@ -144,7 +144,7 @@ module _ (limits : Limits) (judging : Bool) {t l : List ℕ} where
   pub turned : {state : State} {line : ℕ} → At t line state → LineIs (lines t) line l → Turned limits judging t line (turn limits judging state l)
   unfolding turn
   turned {state = start} at here = ring-turned at here (ring-read l)
-  turned {state = rows n a b rs} at here = row-turned here at (sent-read l) (cut-read l)
+  turned {state = rows n rs} at here = row-turned here at (sent-read l) (cut-read l)
   turned {state = links n rs c ks} {line} at here =
       cond-elim (Turned limits judging t line) _ _ _
       (λ e. link-turned here at (ltb-true (length ks) n e) (link-read l))

@@ -7,6 +7,7 @@ pub mod Short
 pub mod Tested
 pub mod FirstReason
 pub mod SheetJudged
+pub mod Last
 pub mod Places
 pub mod SheetSaid
 pub mod RowFirst

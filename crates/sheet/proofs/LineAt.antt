@@ -6,8 +6,8 @@ use mathlib.Core.Path.{_≡_, refl, ap, _∙_, sym}
 use native.Mathlib.Omega.{arith}
 use lib.Dec.{eqb}
 use lib.ListN.{getD}
-use Rattle.ring.specs.Routing.{F, B}
-use Rattle.ring.specs.Columns.{listed, routedAt, routedIn, wayNumber, wayOf}
+use Rattle.ring.specs.Routing.{F, B, wayNumber, wayOf}
+use Rattle.ring.specs.Columns.{listed, routedAt, routedIn}
 use Rattle.ring.proofs.Listed.{listed-snoc}
 use Rattle.text.specs.Bytes.{way}
 use Rattle.text.specs.Mark.{markByte}

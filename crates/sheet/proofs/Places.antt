@@ -5,9 +5,8 @@ use mathlib.Core.List.{List, [], _∷_, _++_}
 use mathlib.Core.Path.{_≡_, refl, ap, ap₂, _∙_, sym, subst, subst₂}
 use native.Mathlib.Omega.{arith}
 use lib.ListN.{length, getD}
-use Rattle.ring.specs.Columns.{wayNumber}
+use Rattle.ring.specs.Routing.{wayNumber, Routed, Way, F, B, routed, sent}
 use Rattle.ring.specs.Cut.{Cut}
-use Rattle.ring.specs.Routing.{Routed, Way, F, B, routed, sent}
 use Rattle.ring.specs.Sheet.{Link, Sheet}
 use Rattle.text.specs.Field.{spell}
 use Rattle.text.specs.Mark.{markByte}
@@ -23,8 +22,8 @@ use Rattle.text.specs.declared.SentRow.the-variants.{Is as IsSent, Bad as NotSe
 use Rattle.table.specs.Lines.{lines}
 use Rattle.table.specs.Says.{LineIs, RingIs}
 use Rattle.table.proofs.LineNumbers.{line-one, ring-one}
-use Rattle.sheet.specs.Check.{State, start, rows, links, end, cutOf, routedOf, linkOf}
-use Rattle.sheet.specs.Says.{SentIs, CutIs, LinkIs, LastIs, At, at-start, behind-ring, behind-row, behind-cut, behind-link, behind-last, WholeIs}
+use Rattle.sheet.specs.Check.{cutOf, routedOf, linkOf}
+use Rattle.sheet.specs.Says.{State, start, rows, links, end, SentIs, CutIs, LinkIs, LastIs, At, at-start, behind-ring, behind-row, behind-cut, behind-link, behind-last, WholeIs}
 use Rattle.sheet.proofs.Back.{way-back}
 use Rattle.sheet.proofs.SheetLines.{SentSpelled, sent-line-read, cut-line-read, link-line-read, last-line-read}
 
@@ -93,17 +92,17 @@ module _ {t : List ℕ} {line : ℕ} where
 
 -- the line leads from one place to the next
 data Leads (t : List ℕ) (line : ℕ) : State → State → Type 0 where
-  by-ring : {n : ℕ} → RingIs t n → Leads t line start (rows n 0 0 [])
-  by-row : {n a b : ℕ} {rs : List Routed} {r : Routed} → SentIs t line r → Leads t line (rows n a b rs) (rows n (r .sent .row .i) (r .sent .row .j) (rs ++ r ∷ []))
-  by-cut : {n a b : ℕ} {rs : List Routed} {c : Cut} → CutIs t line c → Leads t line (rows n a b rs) (links n rs c [])
+  by-ring : {n : ℕ} → RingIs t n → Leads t line start (rows n [])
+  by-row : {n : ℕ} {rs : List Routed} {r : Routed} → SentIs t line r → Leads t line (rows n rs) (rows n (rs ++ r ∷ []))
+  by-cut : {n : ℕ} {rs : List Routed} {c : Cut} → CutIs t line c → Leads t line (rows n rs) (links n rs c [])
   by-link : {n : ℕ} {rs : List Routed} {c : Cut} {ks : List Link} {l : Link} → length ks < n → LinkIs t line l
       → Leads t line (links n rs c ks) (links n rs c (ks ++ l ∷ []))
   by-last : {n : ℕ} {rs : List Routed} {c : Cut} {ks : List Link} {p z : ℕ} → n ≤ length ks → LastIs t line p z
       → Leads t line (links n rs c ks) (end (record { n = n; rows = rs; cut = c; links = ks; peak = p; size = z }))
 
 leads-one : {t : List ℕ} {line : ℕ} {q x y : State} → Leads t line q x → Leads t line q y → x ≡ y
-leads-one (by-ring a) (by-ring b) = ap (λ n. rows n 0 0 []) (ring-one a b)
-leads-one (by-row {n} {rs} a) (by-row b) = ap (λ (r : Routed). rows n (r .sent .row .i) (r .sent .row .j) (rs ++ r ∷ [])) (sent-one a b)
+leads-one (by-ring a) (by-ring b) = ap (λ n. rows n []) (ring-one a b)
+leads-one (by-row {n} {rs} a) (by-row b) = ap (λ (r : Routed). rows n (rs ++ r ∷ [])) (sent-one a b)
 leads-one (by-row a) (by-cut b) = absurd (sent-or-cut a b)
 leads-one (by-cut a) (by-row b) = absurd (sent-or-cut b a)
 leads-one (by-cut {n} {rs} a) (by-cut b) = ap (λ c. links n rs c []) (cut-one a b)

@@ -12,16 +12,17 @@ use Rattle.ring.specs.Routing.{Routed}
 use Rattle.ring.specs.Sheet.{Link, Sheet, sents, demands}
 use Rattle.text.specs.Number.{limit}
 use Rattle.text.specs.Shapes.{ringLine, sentLine, cutLine, linkLine, lastLine}
-use Rattle.table.specs.Judge.{judgeRow}
 use Rattle.table.specs.declared.judge.Verdict.the-variants.{Fine}
 use Rattle.table.proofs.Judged.{RingJudged, right-size, ring-judged, RowJudged, row-fine, row-judged}
 use Rattle.table.proofs.FineRows.{FineRows, no-row, fine-row}
 use Rattle.sheet.specs.WriteSheet.{routedLine, loadLine, linesOf, figuresOf, endText, writeSheet}
 use Rattle.sheet.specs.Range.{RowSpelled, LinkSpelled, Spelled}
 use Rattle.sheet.specs.Judge.{judgeHalves, judgeCut, judgeLink, judgeLast, judgeWhole}
-use Rattle.sheet.specs.Check.{start, rows, links, end, when, cutOf, routedOf, linkOf}
+use Rattle.sheet.specs.Check.{when, cutOf, routedOf, linkOf, lastOf, judgeNext}
+use Rattle.sheet.specs.Says.{start, rows, links, end}
 use Rattle.sheet.proofs.LineAt.{way-spelled}
 use Rattle.sheet.proofs.SheetLines.{SentSpelled}
+use Rattle.sheet.proofs.Last.{last-more}
 use Rattle.sheet.proofs.Rest.{Rest, rest-end, rest-last, rest-link, rest-cut, rest-row, rest-ring}
 
 -- ---- what `judging` asks
@@ -109,20 +110,20 @@ module _ (judging : Bool) (x : Sheet) where
 
   -- ---- behind the R line
 
-  -- the rows rs are read, and those of `later` follow, behind a, b
-  record FromRows (limits : Limits) (n a b : ℕ) (rs : List Routed) (text : List ℕ) : Type 0 where
+  -- the rows rs are read, and those of `later` follow
+  record FromRows (limits : Limits) (n : ℕ) (rs : List Routed) (text : List ℕ) : Type 0 where
     later : List Routed
     same : x .rows ≡ rs ++ later
     is-text : text ≡ linesOf routedLine later ++ endText (figuresOf x) (x .links)
-    fine : FineRows limits n (length rs) a b (demands (sents later))
+    fine : FineRows limits n (length rs) (lastOf rs .i) (lastOf rs .j) (demands (sents later))
     halves : Each RowSpelled later
     judged : Each (λ r. when judging (judgeHalves r) ≡ Fine) later
     cut : (x .cut .g < limit) × ((x .cut .h < limit) × (x .cut .number < limit))
     cut-judged : when judging (judgeCut n (x .rows) (x .cut)) ≡ Fine
     behind : FromLinks n (x .rows) (x .cut) [] (linesOf loadLine (x .links) ++ lastLine (x .peak) (x .size))
 
-  cut-from : {limits : Limits} {n a b : ℕ} {rs : List Routed} {g h m : ℕ} {text : List ℕ} → g < limit → h < limit → m < limit
-      → when judging (judgeCut n rs (cutOf g h m)) ≡ Fine → FromLinks n rs (cutOf g h m) [] text → FromRows limits n a b rs (cutLine g h m ++ text)
+  cut-from : {limits : Limits} {n : ℕ} {rs : List Routed} {g h m : ℕ} {text : List ℕ} → g < limit → h < limit → m < limit
+      → when judging (judgeCut n rs (cutOf g h m)) ≡ Fine → FromLinks n rs (cutOf g h m) [] text → FromRows limits n rs (cutLine g h m ++ text)
   unfolding linesOf endText
   cut-from {n = n} {rs = rs} {g = g} {h = h} {m = m} {text = text} p q r v f =
       let er : x .rows ≡ rs = ap (λ (y : Sheet). y .rows) (f .same) in
@@ -144,18 +145,18 @@ module _ (judging : Bool) (x : Sheet) where
       }
 
   -- what holds of a row that nothing is found against
-  row-from : {limits : Limits} {n a b : ℕ} {rs : List Routed} {i j d f k w : ℕ} {text : List ℕ} → SentSpelled i j d f k w → judgeRow limits n (length rs) a b i j d ≡ Fine
-      → when judging (judgeHalves (routedOf i j d f k w)) ≡ Fine → FromRows limits n i j (rs ++ routedOf i j d f k w ∷ []) text
-      → FromRows limits n a b rs (sentLine i j d f k w ++ text)
+  row-from : {limits : Limits} {n : ℕ} {rs : List Routed} {i j d f k w : ℕ} {text : List ℕ} → SentSpelled i j d f k w → judgeNext limits n rs i j d ≡ Fine
+      → when judging (judgeHalves (routedOf i j d f k w)) ≡ Fine → FromRows limits n (rs ++ routedOf i j d f k w ∷ []) text
+      → FromRows limits n rs (sentLine i j d f k w ++ text)
   unfolding linesOf
-  row-from {limits} {n} {a} {b} {rs} {i} {j} {d} {f} {k} {w} {text} spelled v u from =
+  row-from {limits} {n} {rs} {i} {j} {d} {f} {k} {w} {text} spelled v u from =
       record {
         later = r ∷ from .later;
         same = from .same ∙ append-assoc rs (r ∷ []) (from .later);
         is-text =
             ap (λ (t : List ℕ). sentLine i j d f k w ++ t) (from .is-text) ∙ ap (λ (t : List ℕ). t ++ (linesOf routedLine (from .later) ++ endText (figuresOf x) (x .links))) (sym (way-spelled i j d f k w))
             ∙ sym (append-assoc (routedLine r) (linesOf routedLine (from .later)) (endText (figuresOf x) (x .links)));
-        fine = fine (rw v at (row-judged limits n (length rs) a b i j d));
+        fine = fine (rw v at (row-judged limits n (length rs) (lastOf rs .i) (lastOf rs .j) i j d));
         halves = more (record { front = spelled .front; back = spelled .back }) (from .halves);
         judged = more u (from .judged);
         cut = from .cut;
@@ -166,11 +167,11 @@ module _ (judging : Bool) (x : Sheet) where
       r : Routed
       r = routedOf i j d f k w
 
-      fine : RowJudged limits n (length rs) a b i j d Fine → FineRows limits n (length rs) a b (demands (sents (r ∷ from .later)))
+      fine : RowJudged limits n (length rs) (lastOf rs .i) (lastOf rs .j) i j d Fine → FineRows limits n (length rs) (lastOf rs .i) (lastOf rs .j) (demands (sents (r ∷ from .later)))
       fine (row-fine on up room most) =
-          fine-row on up room most (subst (λ m. FineRows limits n m i j (demands (sents (from .later)))) (length-append rs (r ∷ [])) (from .fine))
+          fine-row on up room most (subst (λ m. FineRows limits n m i j (demands (sents (from .later)))) (length-append rs (r ∷ [])) (rw (last-more rs r) at (from .fine)))
 
-  from-rows : {limits : Limits} {n a b : ℕ} {rs : List Routed} {text : List ℕ} → Rest limits judging x (rows n a b rs) text → FromRows limits n a b rs text
+  from-rows : {limits : Limits} {n : ℕ} {rs : List Routed} {text : List ℕ} → Rest limits judging x (rows n rs) text → FromRows limits n rs text
   from-rows (rest-cut p q r v rest) = cut-from p q r v (from-links (omega arith) rest)
   from-rows (rest-row spelled v u rest) = row-from spelled v u (from-rows rest)
 
@@ -186,7 +187,7 @@ pub record IsSheet (limits : Limits) (judging : Bool) (t : List ℕ) (x : Sheet)
   pub links : length (x .links) ≡ x .n
   pub judged : Judged judging x
 
-sheet-from : (limits : Limits) (judging : Bool) (t : List ℕ) (x : Sheet) (n : ℕ) → RingJudged limits n Fine → FromRows judging x limits n 0 0 [] t → IsSheet limits judging (ringLine n ++ t) x
+sheet-from : (limits : Limits) (judging : Bool) (t : List ℕ) (x : Sheet) (n : ℕ) → RingJudged limits n Fine → FromRows judging x limits n [] t → IsSheet limits judging (ringLine n ++ t) x
 unfolding writeSheet
 sheet-from limits judging t x n (right-size few many) f =
     let b = f .behind in

@@ -27,14 +27,15 @@ use Rattle.text.specs.declared.ThreeNumbers.{ThreeNumbers}
 use Rattle.text.specs.declared.SentRow.{SentRow}
 use Rattle.text.proofs.Apart.{clash}
 use Rattle.table.specs.Lines.{lines}
-use Rattle.table.specs.Judge.{judgeRing, judgeRow}
+use Rattle.table.specs.Judge.{judgeRing}
 use Rattle.table.specs.declared.judge.Verdict.{Verdict}
 use Rattle.table.specs.declared.judge.Verdict.the-variants.{Fine, Fault}
 use Rattle.table.proofs.LineRead.{RingRead, is-ring, no-ring, ring-read, ring-line-read}
 use Rattle.table.proofs.LinesOf.{FirstLine, NoLf, written-first, ring-first}
 use Rattle.sheet.specs.Verdicts.{orElse}
 use Rattle.sheet.specs.Judge.{judgeHalves, judgeCut, judgeLink, judgeLast, judgeWhole}
-use Rattle.sheet.specs.Check.{accepted, State, start, rows, links, end, Turn, on, stop, unless, when, cutOf, routedOf, linkOf, ringTurn, cutTurn, rowTurn, linkTurn, lastTurn, turn, wholeResult, atEnd, after, checkFrom}
+use Rattle.sheet.specs.Check.{accepted, judgeNext, Turn, on, stop, unless, when, cutOf, routedOf, linkOf, ringTurn, cutTurn, rowTurn, linkTurn, lastTurn, turn, wholeResult, atEnd, after, checkFrom}
+use Rattle.sheet.specs.Says.{State, start, rows, links, end}
 use Rattle.sheet.proofs.SheetLines.{SentSpelled, SentRead, is-sent, no-sent, sent-read, CutRead, is-cut, no-cut, cut-read, LinkRead, is-link, no-link, link-read, LastRead, is-last, no-last, last-read, sent-line-read, cut-line-read, link-line-read, last-line-read, sent-in-range, cut-in-range, link-in-range, last-in-range}
 
 -- the rest `text` leads from a state to the sheet x; where `judging`, nothing is found against it
@@ -46,13 +47,13 @@ pub data Rest (limits : Limits) (judging : Bool) (x : Sheet) : State → List �
   rest-link : {n : ℕ} {rs : List Routed} {c : Cut} {ks : List Link} {k s u : ℕ} {text : List ℕ} → length ks < n → k < limit → s < limit → u < limit
       → when judging (judgeLink rs (length ks + 1) (linkOf k s u)) ≡ Fine → Rest limits judging x (links n rs c (ks ++ linkOf k s u ∷ [])) text
       → Rest limits judging x (links n rs c ks) (linkLine k s u ++ text)
-  rest-cut : {n a b : ℕ} {rs : List Routed} {g h m : ℕ} {text : List ℕ} → g < limit → h < limit → m < limit
+  rest-cut : {n : ℕ} {rs : List Routed} {g h m : ℕ} {text : List ℕ} → g < limit → h < limit → m < limit
       → when judging (judgeCut n rs (cutOf g h m)) ≡ Fine → Rest limits judging x (links n rs (cutOf g h m) []) text
-      → Rest limits judging x (rows n a b rs) (cutLine g h m ++ text)
-  rest-row : {n a b : ℕ} {rs : List Routed} {i j d f k w : ℕ} {text : List ℕ} → SentSpelled i j d f k w → judgeRow limits n (length rs) a b i j d ≡ Fine
-      → when judging (judgeHalves (routedOf i j d f k w)) ≡ Fine → Rest limits judging x (rows n i j (rs ++ routedOf i j d f k w ∷ [])) text
-      → Rest limits judging x (rows n a b rs) (sentLine i j d f k w ++ text)
-  rest-ring : {n : ℕ} {text : List ℕ} → n < limit → judgeRing limits n ≡ Fine → Rest limits judging x (rows n 0 0 []) text
+      → Rest limits judging x (rows n rs) (cutLine g h m ++ text)
+  rest-row : {n : ℕ} {rs : List Routed} {i j d f k w : ℕ} {text : List ℕ} → SentSpelled i j d f k w → judgeNext limits n rs i j d ≡ Fine
+      → when judging (judgeHalves (routedOf i j d f k w)) ≡ Fine → Rest limits judging x (rows n (rs ++ routedOf i j d f k w ∷ [])) text
+      → Rest limits judging x (rows n rs) (sentLine i j d f k w ++ text)
+  rest-ring : {n : ℕ} {text : List ℕ} → n < limit → judgeRing limits n ≡ Fine → Rest limits judging x (rows n []) text
       → Rest limits judging x start (ringLine n ++ text)
 
 -- ---- a line that leads on
@@ -75,25 +76,25 @@ module _ (limits : Limits) (judging : Bool) (x : Sheet) where
   ring-leads : (l : List ℕ) {y : OneNumber} → RingRead l y → Leads start l (ringTurn limits y)
   unfolding ringTurn
   ring-leads l (is-ring {n} e w) next q text rest =
-      let u = unless-on (judgeRing limits n) (rows n 0 0 []) next q in
+      let u = unless-on (judgeRing limits n) (rows n []) next q in
       rw e (rest-ring w (u .0) (subst (λ s. Rest limits judging x s text) (sym (u .1)) rest))
   ring-leads l (no-ring misread) next q text rest = clash (cc)
 
   module _ (n : ℕ) (rs : List Routed) where
-    cut-leads : (l : List ℕ) (a b : ℕ) {y : ThreeNumbers} → CutRead l y → Leads (rows n a b rs) l (cutTurn judging n rs y)
+    cut-leads : (l : List ℕ) {y : ThreeNumbers} → CutRead l y → Leads (rows n rs) l (cutTurn judging n rs y)
     unfolding cutTurn
-    cut-leads l a b (is-cut {g} {h} {m} e p q r) next t text rest =
+    cut-leads l (is-cut {g} {h} {m} e p q r) next t text rest =
         let u = unless-on (when judging (judgeCut n rs (cutOf g h m))) (links n rs (cutOf g h m) []) next t in
         rw e (rest-cut p q r (u .0) (subst (λ s. Rest limits judging x s text) (sym (u .1)) rest))
-    cut-leads l a b (no-cut misread) next t text rest = clash (cc)
+    cut-leads l (no-cut misread) next t text rest = clash (cc)
 
-    row-leads : (l : List ℕ) (a b : ℕ) {y : SentRow} {z : ThreeNumbers} → SentRead l y → CutRead l z → Leads (rows n a b rs) l (rowTurn limits judging n a b rs y z)
+    row-leads : (l : List ℕ) {y : SentRow} {z : ThreeNumbers} → SentRead l y → CutRead l z → Leads (rows n rs) l (rowTurn limits judging n rs y z)
     unfolding rowTurn
-    row-leads l a b (is-sent {i} {j} {d} {f} {b = k} {w} e spelled) other next t text rest =
-        let u = unless-on (orElse (judgeRow limits n (length rs) a b i j d) (when judging (judgeHalves (routedOf i j d f k w)))) (rows n i j (rs ++ routedOf i j d f k w ∷ [])) next t in
-        let v = or-fine (judgeRow limits n (length rs) a b i j d) (when judging (judgeHalves (routedOf i j d f k w))) (u .0) in
+    row-leads l (is-sent {i} {j} {d} {f} {b = k} {w} e spelled) other next t text rest =
+        let u = unless-on (orElse (judgeNext limits n rs i j d) (when judging (judgeHalves (routedOf i j d f k w)))) (rows n (rs ++ routedOf i j d f k w ∷ [])) next t in
+        let v = or-fine (judgeNext limits n rs i j d) (when judging (judgeHalves (routedOf i j d f k w))) (u .0) in
         rw e (rest-row spelled (v .0) (v .1) (subst (λ s. Rest limits judging x s text) (sym (u .1)) rest))
-    row-leads l a b (no-sent misread) other next t text rest = cut-leads l a b other next t text rest
+    row-leads l (no-sent misread) other next t text rest = cut-leads l other next t text rest
 
     module _ (c : Cut) (ks : List Link) where
       link-leads : (l : List ℕ) {y : ThreeNumbers} → length ks < n → LinkRead l y → Leads (links n rs c ks) l (linkTurn judging n rs c ks y)
@@ -113,7 +114,7 @@ module _ (limits : Limits) (judging : Bool) (x : Sheet) where
   turn-leads : (state : State) (l : List ℕ) → Leads state l (turn limits judging state l)
   unfolding turn
   turn-leads start l = ring-leads l (ring-read l)
-  turn-leads (rows n a b rs) l = row-leads n rs l a b (sent-read l) (cut-read l)
+  turn-leads (rows n rs) l = row-leads n rs l (sent-read l) (cut-read l)
   turn-leads (links n rs c ks) l =
       elim (decLt (length ks) n) [
         | yes h ↦ rw (lt-ltb (length ks) n h) (link-leads n rs c ks l h (link-read l))
@@ -126,7 +127,7 @@ module _ (limits : Limits) (judging : Bool) (x : Sheet) where
   ended : (state : State) (line : ℕ) → atEnd judging state line ≡ accepted x → Rest limits judging x state []
   unfolding atEnd wholeResult
   ended start line e = clash (cc)
-  ended (rows n a b rs) line e = clash (cc)
+  ended (rows n rs) line e = clash (cc)
   ended (links n rs c ks) line e = clash (cc)
   ended (end y) line e = go (when judging (judgeWhole y)) refl e
     where
@@ -152,11 +153,11 @@ cut-no-row : (g h m i j d f b w : ℕ) → cutLine g h m ≡ sentLine i j d f b 
 unfolding writeLine spell markByte
 cut-no-row g h m i j d f b w e = let q : letterC ≡ letterD = ap (λ l. getD l 0 0) e in omega arith
 
-cut-not-sent : (g h m : ℕ) {y : SentRow} → SentRead (cutLine g h m) y → (limits : Limits) (judging : Bool) (n a b : ℕ) (rs : List Routed) (z : ThreeNumbers)
-    → rowTurn limits judging n a b rs y z ≡ cutTurn judging n rs z
+cut-not-sent : (g h m : ℕ) {y : SentRow} → SentRead (cutLine g h m) y → (limits : Limits) (judging : Bool) (n : ℕ) (rs : List Routed) (z : ThreeNumbers)
+    → rowTurn limits judging n rs y z ≡ cutTurn judging n rs z
 unfolding rowTurn
-cut-not-sent g h m (is-sent e s) limits judging n a b rs z = absurd (cut-no-row g h m _ _ _ _ _ _ e)
-cut-not-sent g h m (no-sent misread) limits judging n a b rs z = refl
+cut-not-sent g h m (is-sent e s) limits judging n rs z = absurd (cut-no-row g h m _ _ _ _ _ _ e)
+cut-not-sent g h m (no-sent misread) limits judging n rs z = refl
 
 -- each line is the first of what it begins
 pub sent-first : (i j d f b w : ℕ) → SentSpelled i j d f b w → FirstLine (sentLine i j d f b w)
@@ -188,9 +189,9 @@ module _ (limits : Limits) (judging : Bool) (x : Sheet) where
       rw (last-first p z a b text, le-ltb (length ks) n all, last-line-read p z a b, v) (rest-read rest (line + 1))
   rest-read (rest-link {n} {rs} {c} {ks} {k} {s} {u} {text} few a b d v rest) line =
       rw (link-first k s u a b d text, lt-ltb (length ks) n few, link-line-read k s u a b d, v) (rest-read rest (line + 1))
-  rest-read (rest-cut {n} {a} {b} {rs} {g} {h} {m} {text} p q r v rest) line =
-      rw (cut-first g h m p q r text, cut-not-sent g h m (sent-read (cutLine g h m)) limits judging n a b rs (threeIn (readLine cutShape (cutLine g h m))), cut-line-read g h m p q r, v)
+  rest-read (rest-cut {n} {rs} {g} {h} {m} {text} p q r v rest) line =
+      rw (cut-first g h m p q r text, cut-not-sent g h m (sent-read (cutLine g h m)) limits judging n rs (threeIn (readLine cutShape (cutLine g h m))), cut-line-read g h m p q r, v)
       (rest-read rest (line + 1))
-  rest-read (rest-row {n} {a} {b} {rs} {i} {j} {d} {f} {k} {w} {text} spelled v u rest) line =
+  rest-read (rest-row {n} {rs} {i} {j} {d} {f} {k} {w} {text} spelled v u rest) line =
       rw (sent-first i j d f k w spelled text, sent-line-read i j d f k w spelled, v, u) (rest-read rest (line + 1))
   rest-read (rest-ring {n} {text} h v rest) line = rw (ring-first n h text, ring-line-read n h, v) (rest-read rest (line + 1))

@@ -11,7 +11,6 @@ use Rattle.ring.specs.Limits.{Limits}
 use Rattle.ring.specs.Row.{PairBefore}
 use Rattle.ring.specs.Routing.{Routed}
 use Rattle.table.specs.Reasons.{rankOf}
-use Rattle.table.specs.Judge.{judgeRow}
 use Rattle.table.specs.declared.reason.Reason.{Reason}
 use Rattle.table.specs.declared.reason.Reason.the-variants.{WrongSum}
 use Rattle.table.specs.declared.judge.Verdict.{Verdict}
@@ -19,8 +18,9 @@ use Rattle.table.proofs.Judged.{RowJudged, no-such-node, not-below, out-of-orde
 use Rattle.table.proofs.Against.{AgainstRow, by-nodes, by-pair, by-order, by-count, by-amount, row-least}
 use Rattle.sheet.specs.Verdicts.{orElse}
 use Rattle.sheet.specs.Judge.{judgeHalves}
-use Rattle.sheet.specs.Check.{rows, when}
-use Rattle.sheet.specs.Says.{SentIs, At, behind-ring, behind-row, RowAt, WrongOrder, Says}
+use Rattle.sheet.specs.Check.{when, lastOf, judgeNext}
+use Rattle.sheet.specs.Says.{rows, SentIs, At, behind-ring, behind-row, RowAt, WrongOrder, Says}
+use Rattle.sheet.proofs.Last.{last-more}
 use Rattle.sheet.proofs.FirstReason.{Holds, First, first-as, or-else-first, only-then, Counts, form-first, when-first}
 use Rattle.sheet.proofs.SheetJudged.{AgainstHalves, halves-late, halves-first}
 use Rattle.sheet.proofs.SheetSaid.{said-of-row, Counted, AgainstDemand, AgainstSent, said, said-here}
@@ -32,28 +32,28 @@ early (by-order w) = omega arith
 early (by-count w) = omega arith
 early (by-amount w) = omega arith
 
-row-at : {t : List ℕ} {line n a b : ℕ} {rs : List Routed} {r : Routed} → At t line (rows n a b rs) → SentIs t line r → RowAt t line r
-row-at {n} {a} {b} {rs} at is = record { n = n; a = a; b = b; rs = rs; due = at; is = is }
+row-at : {t : List ℕ} {line n : ℕ} {rs : List Routed} {r : Routed} → At t line (rows n rs) → SentIs t line r → RowAt t line r
+row-at {n} {rs} at is = record { n = n; rs = rs; due = at; is = is }
 
 -- a row that has a first node is not below the pair 0, 0, so there is a row before
-order-holds : {t : List ℕ} {line n a b : ℕ} {rs : List Routed} {r : Routed} → At t line (rows n a b rs) → RowAt t line r → 1 ≤ r .sent .row .i
-    → PairBefore (r .sent .row .i) (r .sent .row .j) a b → WrongOrder t line
+order-holds : {t : List ℕ} {line n : ℕ} {rs : List Routed} {r : Routed} → At t line (rows n rs) → RowAt t line r → 1 ≤ r .sent .row .i
+    → PairBefore (r .sent .row .i) (r .sent .row .j) (lastOf rs .i) (lastOf rs .j) → WrongOrder t line
 order-holds (behind-ring ring) row low (inl l) = absurd (omega arith)
 order-holds (behind-ring ring) row low (inr l) = absurd (omega (arith, l .0))
-order-holds {r} (behind-row {line} {r = q} at is) row low wrong =
-    record { before = line; next = refl; q = q; above = row-at at is; r = r; row = row; wrong = wrong }
+order-holds {r} (behind-row {line} {rs} {r = q} at is) row low wrong =
+    record { before = line; next = refl; q = q; above = row-at at is; r = r; row = row; wrong = rw (last-more rs q) at wrong }
 
-module _ (limits : Limits) {t : List ℕ} {line n a b : ℕ} {rs : List Routed} {r : Routed} (at : At t line (rows n a b rs)) (is : SentIs t line r) where
+module _ (limits : Limits) {t : List ℕ} {line n : ℕ} {rs : List Routed} {r : Routed} (at : At t line (rows n rs)) (is : SentIs t line r) where
   -- 4 to 7 and 16
-  demand-first : First (λ s. AgainstDemand limits n (length rs) a b (r .sent .row) s × Says limits t s line)
-      (judgeRow limits n (length rs) a b (r .sent .row .i) (r .sent .row .j) (r .sent .row .d))
+  demand-first : First (λ s. AgainstDemand limits n rs (r .sent .row) s × Says limits t s line)
+      (judgeNext limits n rs (r .sent .row .i) (r .sent .row .j) (r .sent .row .d))
   unfolding Says row-at
   demand-first =
-      let judged = row-judged limits n (length rs) a b (r .sent .row .i) (r .sent .row .j) (r .sent .row .d) in
+      let judged = row-judged limits n (length rs) (lastOf rs .i) (lastOf rs .j) (r .sent .row .i) (r .sent .row .j) (r .sent .row .d) in
       record { holds = go judged; least = λ s p. row-least judged (p .0) }
     where
-      go : {v : Verdict} → RowJudged limits n (length rs) a b (r .sent .row .i) (r .sent .row .j) (r .sent .row .d) v
-          → Holds (λ s. AgainstDemand limits n (length rs) a b (r .sent .row) s × Says limits t s line) v
+      go : {v : Verdict} → RowJudged limits n (length rs) (lastOf rs .i) (lastOf rs .j) (r .sent .row .i) (r .sent .row .j) (r .sent .row .d) v
+          → Holds (λ s. AgainstDemand limits n rs (r .sent .row) s × Says limits t s line) v
       go (no-such-node w) = (by-nodes w, record { r = r; row = row-at at is; wrong = w })
       go (not-below h k w) = (by-pair w, record { r = r; row = row-at at is; wrong = w })
       go (out-of-order h k l w) = (by-order w, order-holds at (row-at at is) (h .0) w)
@@ -68,14 +68,14 @@ module _ (limits : Limits) {t : List ℕ} {line n a b : ℕ} {rs : List Routed} 
   halves-said s (inr o) = only-then (λ s. Says limits t s line) (λ w. record { r = r; row = row-at at is; wrong = w }) s o
 
   pub sent-first : (judging : Bool) → First (Counted limits judging t line)
-      (orElse (judgeRow limits n (length rs) a b (r .sent .row .i) (r .sent .row .j) (r .sent .row .d)) (when judging (judgeHalves r)))
+      (orElse (judgeNext limits n rs (r .sent .row .i) (r .sent .row .j) (r .sent .row .d)) (when judging (judgeHalves r)))
   sent-first judging =
       first-as (λ s. ⊎-elim (λ p. (p .0, p .1 .1)) (λ p. (p .0, halves-said s (p .1)))) (λ s c. go c (said-of-row is (said-here at (said s (c .1)))))
       (or-else-first (λ x y p q. omega (arith, early (p .1 .0), halves-late r y (q .1)))
       (form-first judging (λ s p. early (p .0)) demand-first)
       (when-first judging (halves-late r) (halves-first r)))
     where
-      go : {s : Reason} → Counted limits judging t line s → AgainstSent limits n (length rs) a b r s
-          → (Counts judging s × (AgainstDemand limits n (length rs) a b (r .sent .row) s × Says limits t s line)) ⊎ (Counts judging s × AgainstHalves r s)
+      go : {s : Reason} → Counted limits judging t line s → AgainstSent limits n rs r s
+          → (Counts judging s × (AgainstDemand limits n rs (r .sent .row) s × Says limits t s line)) ⊎ (Counts judging s × AgainstHalves r s)
       go c (inl p) = inl (c .0, (p, c .1))
       go c (inr p) = inr (c .0, p)

@@ -8,9 +8,8 @@ use native.Mathlib.Omega.{arith}
 use native.Mathlib.Decide.{ℕ-discrete}
 use borrow.Author.Tests.{eq-eqb, ne-eqb}
 use Rattle.sonet.specs.Size.{sonetSize}
-use Rattle.ring.specs.Columns.{wayNumber, wayOf}
+use Rattle.ring.specs.Routing.{wayNumber, wayOf, Sent, Routed, Way, F, B, isSplit, splitLoad, unsplitLoad, peak}
 use Rattle.ring.specs.Cut.{Cut, IsCut, across}
-use Rattle.ring.specs.Routing.{Sent, Routed, Way, F, B, isSplit, splitLoad, unsplitLoad, peak}
 use Rattle.ring.specs.RuleD.{wholeWay}
 use Rattle.ring.specs.Sheet.{Link, Sheet, sents, demands, splitPeak, unsplitPeak, largestSplitOf}
 use Rattle.ring.specs.True.{SumsTo2d, Kept}

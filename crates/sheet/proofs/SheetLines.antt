@@ -6,7 +6,7 @@ use native.Mathlib.Omega.{arith}
 use Rattle.text.specs.Number.{limit}
 use Rattle.text.specs.Mark.{marks}
 use Rattle.text.specs.Field.{top}
-use Rattle.text.specs.WriteLine.{InRange}
+use Rattle.text.specs.WriteLine.{FitsShape}
 use Rattle.text.specs.ReadLine.{readLine}
 use Rattle.text.specs.Answers.{twoIn, threeIn, sentIn}
 use Rattle.text.specs.Shapes.{sentShape, cutShape, linkShape, lastShape, sentLine, cutLine, linkLine, lastLine}
@@ -28,20 +28,20 @@ pub record SentSpelled (i j d f b w : ℕ) : Type 0 where
   pub back : b < limit
   pub way : w < 2
 
-pub sent-in-range : (i j d f b w : ℕ) → SentSpelled i j d f b w → InRange sentShape (0 ∷ i ∷ j ∷ d ∷ f ∷ b ∷ w ∷ [])
-unfolding InRange top marks
+pub sent-in-range : (i j d f b w : ℕ) → SentSpelled i j d f b w → FitsShape sentShape (0 ∷ i ∷ j ∷ d ∷ f ∷ b ∷ w ∷ [])
+unfolding FitsShape top marks
 sent-in-range i j d f b w h = (omega arith, (h .first, (h .second, (h .amount, (h .front, (h .back, (h .way, tt)))))))
 
-pub cut-in-range : (g h m : ℕ) → g < limit → h < limit → m < limit → InRange cutShape (0 ∷ g ∷ h ∷ m ∷ [])
-unfolding InRange top marks
+pub cut-in-range : (g h m : ℕ) → g < limit → h < limit → m < limit → FitsShape cutShape (0 ∷ g ∷ h ∷ m ∷ [])
+unfolding FitsShape top marks
 cut-in-range g h m a b c = (omega arith, (a, (b, (c, tt))))
 
-pub link-in-range : (k s u : ℕ) → k < limit → s < limit → u < limit → InRange linkShape (0 ∷ k ∷ s ∷ u ∷ [])
-unfolding InRange top marks
+pub link-in-range : (k s u : ℕ) → k < limit → s < limit → u < limit → FitsShape linkShape (0 ∷ k ∷ s ∷ u ∷ [])
+unfolding FitsShape top marks
 link-in-range k s u a b c = (omega arith, (a, (b, (c, tt))))
 
-pub last-in-range : (p z : ℕ) → p < limit → z < limit → InRange lastShape (0 ∷ p ∷ z ∷ [])
-unfolding InRange top marks
+pub last-in-range : (p z : ℕ) → p < limit → z < limit → FitsShape lastShape (0 ∷ p ∷ z ∷ [])
+unfolding FitsShape top marks
 last-in-range p z a b = (omega arith, (a, (b, tt)))
 
 -- ---- each line is read to values exactly where it is their line and they can be spelled: one view for each
@@ -52,7 +52,7 @@ module _ (l : List ℕ) where
     no-sent : {p : ℕ} → ((i j d f b w : ℕ) → l ≡ sentLine i j d f b w → SentSpelled i j d f b w → ⊥) → SentRead (NotSent p)
 
   pub sent-read : SentRead (sentIn (readLine sentShape l))
-  unfolding InRange top marks
+  unfolding FitsShape top marks
   sent-read = go (sentIn (readLine sentShape l)) refl
     where
       go : (x : SentRow) → sentIn (readLine sentShape l) ≡ x → SentRead x
@@ -67,7 +67,7 @@ module _ (l : List ℕ) where
     no-cut : {p : ℕ} → ((g h m : ℕ) → l ≡ cutLine g h m → g < limit → h < limit → m < limit → ⊥) → CutRead (NotThree p)
 
   pub cut-read : CutRead (threeIn (readLine cutShape l))
-  unfolding InRange top marks
+  unfolding FitsShape top marks
   cut-read = go (threeIn (readLine cutShape l)) refl
     where
       go : (x : ThreeNumbers) → threeIn (readLine cutShape l) ≡ x → CutRead x
@@ -79,7 +79,7 @@ module _ (l : List ℕ) where
     no-link : {p : ℕ} → ((k s u : ℕ) → l ≡ linkLine k s u → k < limit → s < limit → u < limit → ⊥) → LinkRead (NotThree p)
 
   pub link-read : LinkRead (threeIn (readLine linkShape l))
-  unfolding InRange top marks
+  unfolding FitsShape top marks
   link-read = go (threeIn (readLine linkShape l)) refl
     where
       go : (x : ThreeNumbers) → threeIn (readLine linkShape l) ≡ x → LinkRead x
@@ -91,7 +91,7 @@ module _ (l : List ℕ) where
     no-last : {q : ℕ} → ((p z : ℕ) → l ≡ lastLine p z → p < limit → z < limit → ⊥) → LastRead (NotTwo q)
 
   pub last-read : LastRead (twoIn (readLine lastShape l))
-  unfolding InRange top marks
+  unfolding FitsShape top marks
   last-read = go (twoIn (readLine lastShape l)) refl
     where
       go : (x : TwoNumbers) → twoIn (readLine lastShape l) ≡ x → LastRead x

@@ -2,7 +2,7 @@
 -- is one, so all that is said of a line is said of the place that the checker has come to.
 use Prim.Native.Nat.{ℕ, _+_, _≤_, _<_}
 use mathlib.Core.Bool.{Bool}
-use mathlib.Core.List.{List}
+use mathlib.Core.List.{List, [], _∷_, _++_}
 use mathlib.Core.Logic.{_⊎_, inl, inr}
 use mathlib.Core.Path.{_≡_, refl, subst}
 use native.Mathlib.Omega.{arith}
@@ -21,8 +21,9 @@ use Rattle.table.specs.declared.reason.Reason.the-variants.{TooLong, Misshapen,
 use Rattle.table.proofs.Against.{AgainstRow, by-nodes, by-pair, by-order, by-count, by-amount}
 use Rattle.table.proofs.LineNumbers.{ring-one}
 use Rattle.table.proofs.ReasonNumbers.{same-rank, no-rank-0}
-use Rattle.sheet.specs.Check.{State, start, rows, links, end}
-use Rattle.sheet.specs.Says.{SentIs, CutIs, LinkIs, LastIs, At, at-start, behind-row, WrongLine, no-ring, no-row-no-cut, no-link, no-last, left-over, WholeIs, Says, stage}
+use Rattle.sheet.specs.Says.{State, start, rows, links, end, SentIs, CutIs, LinkIs, LastIs, At, at-start, behind-row, WrongLine, no-ring, no-row-no-cut, no-link, no-last, left-over, WholeIs, Says, stage}
+use Rattle.sheet.specs.Check.{lastOf}
+use Rattle.sheet.proofs.Last.{last-more}
 use Rattle.sheet.proofs.Places.{sent-one, cut-one, link-one, last-one, sent-or-cut, place-low, place-one}
 use Rattle.sheet.proofs.FirstReason.{Only, only, Counts}
 use Rattle.sheet.proofs.SheetJudged.{AgainstHalves, CutWrong, LinkWrong, LastWrong, AgainstWhole}
@@ -32,14 +33,14 @@ use Rattle.sheet.proofs.SheetJudged.{AgainstHalves, CutWrong, LinkWrong
 -- 2: the line does not have the shape that is due
 abbrev pub Unfit : List ℕ → ℕ → State → Type 0
 Unfit t line start = (n : ℕ) → RingIs t n → ⊥
-Unfit t line (rows n a b rs) = ((r : Routed) → SentIs t line r → ⊥) × ((c : Cut) → CutIs t line c → ⊥)
+Unfit t line (rows n rs) = ((r : Routed) → SentIs t line r → ⊥) × ((c : Cut) → CutIs t line c → ⊥)
 Unfit t line (links n rs c ks) =
     ((length ks < n) × ((l : Link) → LinkIs t line l → ⊥)) ⊎ ((n ≤ length ks) × ((p z : ℕ) → LastIs t line p z → ⊥))
 Unfit t line (end x) = (l : List ℕ) × LineIs (lines t) line l
 
 pub unfit-wrong : {t : List ℕ} {line : ℕ} {state : State} → At t line state → Unfit t line state → WrongLine t line
 unfit-wrong {state = start} at none = no-ring at none
-unfit-wrong {state = rows n a b rs} at none = no-row-no-cut at (none .0) (none .1)
+unfit-wrong {state = rows n rs} at none = no-row-no-cut at (none .0) (none .1)
 unfit-wrong {state = links n rs c ks} at (inl none) = no-link at (none .0) (none .1)
 unfit-wrong {state = links n rs c ks} at (inr none) = no-last at (none .0) (none .1)
 unfit-wrong {state = end x} at left = left-over at (left .1)
@@ -48,19 +49,19 @@ unfit-wrong {state = end x} at left = left-over at (left .1)
 abbrev pub SizeWrong : Limits → ℕ → Type 0
 SizeWrong limits n = (n < limits .fewest) ⊎ (limits .nodes < n)
 
--- 4 to 7 and 16, of a demand behind k rows of which the last is a, b
-abbrev pub AgainstDemand : Limits → ℕ → ℕ → ℕ → ℕ → Row → Reason → Type 0
-AgainstDemand limits n k a b q = AgainstRow limits n k a b (q .i) (q .j) (q .d)
+-- 4 to 7 and 16, of a demand behind the rows rs
+abbrev pub AgainstDemand : Limits → ℕ → List Routed → Row → Reason → Type 0
+AgainstDemand limits n rs q = AgainstRow limits n (length rs) (lastOf rs .i) (lastOf rs .j) (q .i) (q .j) (q .d)
 
 -- and 8 and 9, of what is sent
-abbrev pub AgainstSent : Limits → ℕ → ℕ → ℕ → ℕ → Routed → Reason → Type 0
-AgainstSent limits n k a b r s = AgainstDemand limits n k a b (r .sent .row) s ⊎ AgainstHalves r s
+abbrev pub AgainstSent : Limits → ℕ → List Routed → Routed → Reason → Type 0
+AgainstSent limits n rs r s = AgainstDemand limits n rs (r .sent .row) s ⊎ AgainstHalves r s
 
 pub data SaidAt (limits : Limits) (t : List ℕ) (line : ℕ) : State → Reason → Type 0 where
   of-shape : {state : State} → Unfit t line state → SaidAt limits t line state Misshapen
   of-ring : {n : ℕ} {s : Reason} → RingIs t n → Only RingSize (SizeWrong limits n) s → SaidAt limits t line start s
-  of-row : {n a b : ℕ} {rs : List Routed} {r : Routed} {s : Reason} → SentIs t line r → AgainstSent limits n (length rs) a b r s → SaidAt limits t line (rows n a b rs) s
-  of-cut : {n a b : ℕ} {rs : List Routed} {c : Cut} {s : Reason} → CutIs t line c → Only WrongCut (CutWrong n rs c) s → SaidAt limits t line (rows n a b rs) s
+  of-row : {n : ℕ} {rs : List Routed} {r : Routed} {s : Reason} → SentIs t line r → AgainstSent limits n rs r s → SaidAt limits t line (rows n rs) s
+  of-cut : {n : ℕ} {rs : List Routed} {c : Cut} {s : Reason} → CutIs t line c → Only WrongCut (CutWrong n rs c) s → SaidAt limits t line (rows n rs) s
   of-link : {n : ℕ} {rs : List Routed} {c : Cut} {ks : List Link} {l : Link} {s : Reason} → length ks < n → LinkIs t line l
       → Only WrongLink (LinkWrong rs (length ks + 1) l) s → SaidAt limits t line (links n rs c ks) s
   of-last : {n : ℕ} {rs : List Routed} {c : Cut} {ks : List Link} {p z : ℕ} {s : Reason} → n ≤ length ks → LastIs t line p z
@@ -79,7 +80,7 @@ pub data Said (limits : Limits) (t : List ℕ) (line : ℕ) : Reason → Type 0 
 module _ {limits : Limits} {t : List ℕ} {line : ℕ} where
   said-shape : WrongLine t line → Said limits t line Misshapen
   said-shape (no-ring at none) = of-line at (of-shape none) refl
-  said-shape (no-row-no-cut {n} {a} {b} {rs} at none none′) = of-line at (of-shape {state = rows n a b rs} (none, none′)) refl
+  said-shape (no-row-no-cut {n} {rs} at none none′) = of-line at (of-shape {state = rows n rs} (none, none′)) refl
   said-shape (no-link {n} {rs} {c} {ks} at few none) = of-line at (of-shape {state = links n rs c ks} (inl (few, none))) refl
   said-shape (no-last {n} {rs} {c} {ks} at all none) = of-line at (of-shape {state = links n rs c ks} (inr (all, none))) refl
   said-shape (left-over {x} {l} at is) = of-line at (of-shape {state = end x} (l, is)) refl
@@ -92,7 +93,8 @@ module _ {limits : Limits} {t : List ℕ} {line : ℕ} where
   said NoSuchNode h = of-line (h .row .due) (of-row (h .row .is) (inl (by-nodes (h .wrong)))) refl
   said NotBelow h = of-line (h .row .due) (of-row (h .row .is) (inl (by-pair (h .wrong)))) refl
   said OutOfOrder h =
-      of-line (at-line (h .next) (behind-row (h .above .due) (h .above .is))) (of-row (h .row .is) (inl (by-order (h .wrong)))) refl
+      of-line (at-line (h .next) (behind-row (h .above .due) (h .above .is)))
+      (of-row {rs = h .above .rs ++ h .q ∷ []} (h .row .is) (inl (by-order (rw (last-more (h .above .rs) (h .q)) (h .wrong))))) refl
   said TooMany h = of-line (h .row .due) (of-row {rs = h .row .rs} (h .row .is) (inl (by-count (omega (arith, h .wrong))))) refl
   said TooMuch h = of-line (h .row .due) (of-row (h .row .is) (inl (by-amount (h .wrong)))) refl
   said WrongSum h = of-line (h .row .due) (of-row (h .row .is) (inr (inl (only (h .wrong))))) refl
@@ -138,13 +140,13 @@ module _ {limits : Limits} {t : List ℕ} {line : ℕ} where
   said-of-ring {n} is (of-shape none) = absurd (none n is)
   said-of-ring {s} is (of-ring r o) = subst (λ m. Only RingSize (SizeWrong limits m) s) (ring-one r is) o
 
-  module _ {n a b : ℕ} {rs : List Routed} where
-    pub said-of-row : {r : Routed} {s : Reason} → SentIs t line r → SaidAt limits t line (rows n a b rs) s → AgainstSent limits n (length rs) a b r s
+  module _ {n : ℕ} {rs : List Routed} where
+    pub said-of-row : {r : Routed} {s : Reason} → SentIs t line r → SaidAt limits t line (rows n rs) s → AgainstSent limits n rs r s
     said-of-row {r} is (of-shape none) = absurd (none .0 r is)
-    said-of-row {s} is (of-row q o) = subst (λ r. AgainstSent limits n (length rs) a b r s) (sent-one q is) o
+    said-of-row {s} is (of-row q o) = subst (λ r. AgainstSent limits n rs r s) (sent-one q is) o
     said-of-row is (of-cut c o) = absurd (sent-or-cut is c)
 
-    pub said-of-cut : {c : Cut} {s : Reason} → CutIs t line c → SaidAt limits t line (rows n a b rs) s → Only WrongCut (CutWrong n rs c) s
+    pub said-of-cut : {c : Cut} {s : Reason} → CutIs t line c → SaidAt limits t line (rows n rs) s → Only WrongCut (CutWrong n rs c) s
     said-of-cut {c} is (of-shape none) = absurd (none .1 c is)
     said-of-cut is (of-row r o) = absurd (sent-or-cut r is)
     said-of-cut {s} is (of-cut b o) = subst (λ c. Only WrongCut (CutWrong n rs c) s) (cut-one b is) o

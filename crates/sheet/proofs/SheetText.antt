@@ -10,10 +10,10 @@ use lib.ListN.{length, length-append}
 use borrow.Author.Tests.{le-ltb, ltb-false}
 use Rattle.ring.proofs.Figures.{demands-length}
 use Rattle.ring.proofs.Side.{cond-elim}
-use Rattle.ring.specs.Columns.{wayNumber, wayOf}
+use Rattle.ring.specs.Routing.{wayNumber, wayOf, Routed}
 use Rattle.ring.specs.Limits.{Limits}
+use Rattle.ring.specs.Row.{Row}
 use Rattle.ring.specs.Lists.{Each, none, more}
-use Rattle.ring.specs.Routing.{Routed}
 use Rattle.ring.specs.Sheet.{Link, Sheet, sents, demands}
 use Rattle.text.specs.Shapes.{lastLine}
 use Rattle.text.proofs.Apart.{clash}
@@ -22,14 +22,16 @@ use Rattle.table.specs.declared.judge.Verdict.the-variants.{Fine}
 use Rattle.table.proofs.Against.{fine-ring-judged, fine-row-judged}
 use Rattle.table.proofs.FineRows.{FineRows, no-row, fine-row, fine-rows, table-rows, amounts-fine, count-fine}
 use Rattle.table.proofs.LinesOf.{join-lines}
-use Rattle.table.proofs.TableText as table
+use Rattle.table.specs.Table.{LimitsSpelled}
 use Rattle.sheet.specs.WriteSheet.{routedLine, loadLine, linesOf, figuresOf, endText, writeSheet}
 use Rattle.sheet.specs.Range.{RowSpelled, LinkSpelled, Spelled, InRange}
 use Rattle.sheet.specs.Judge.{judgeHalves}
-use Rattle.sheet.specs.Check.{Result, accepted, start, rows, links, when, checkBy}
+use Rattle.sheet.specs.Check.{Result, accepted, when, lastOf, checkBy}
+use Rattle.sheet.specs.Says.{start, rows, links}
 use Rattle.sheet.proofs.Back.{way-back}
 use Rattle.sheet.proofs.Short.{way-small}
 use Rattle.sheet.proofs.SheetLines.{SentSpelled}
+use Rattle.sheet.proofs.Last.{last-more}
 use Rattle.sheet.proofs.Rest.{Rest, rest-end, rest-last, rest-link, rest-cut, rest-row, rest-ring, read-rest, rest-read}
 use Rattle.sheet.proofs.Read.{LinksJudged, no-links, and-link, Judged, IsSheet, from-start}
 
@@ -53,18 +55,18 @@ module _ (limits : Limits) (judging : Bool) (x : Sheet) (judged : Judged judging
       subst (λ t. Rest limits judging x (links (x .n) (x .rows) (x .cut) ks) t) (sym (append-assoc (loadLine l) (linesOf loadLine later) (lastLine (x .peak) (x .size))))
       (rest-link few (s .link) (s .split) (s .unsplit) v (to-links later (ks ++ l ∷ []) f ss (subst (λ m. LinksJudged judging (x .rows) m later) (sym long) vs)))
 
-  module _ (limited : table.Spelled limits) (many : x .n ≤ limits .nodes) where
-    to-rows : (later rs : List Routed) {a b : ℕ} → x .rows ≡ rs ++ later → FineRows limits (x .n) (length rs) a b (demands (sents later)) → Each RowSpelled later
-        → Each (λ r. when judging (judgeHalves r) ≡ Fine) later → Rest limits judging x (rows (x .n) a b rs) (linesOf routedLine later ++ endText (figuresOf x) (x .links))
+  module _ (limited : LimitsSpelled limits) (many : x .n ≤ limits .nodes) where
+    to-rows : (later rs : List Routed) → x .rows ≡ rs ++ later → FineRows limits (x .n) (length rs) (lastOf rs .i) (lastOf rs .j) (demands (sents later)) → Each RowSpelled later
+        → Each (λ r. when judging (judgeHalves r) ≡ Fine) later → Rest limits judging x (rows (x .n) rs) (linesOf routedLine later ++ endText (figuresOf x) (x .links))
     unfolding linesOf endText
-    to-rows [] rs {a} {b} e no-row none none =
+    to-rows [] rs e no-row none none =
         let k : x .rows ≡ rs = e ∙ append-nil rs in
-        subst (λ l. Rest limits judging x (rows (x .n) a b l) (endText (figuresOf x) (x .links))) k
+        subst (λ l. Rest limits judging x (rows (x .n) l) (endText (figuresOf x) (x .links))) k
         (rest-cut (spelled .cut .0) (spelled .cut .1 .0) (spelled .cut .1 .1) (judged .cut) (to-links (x .links) [] refl (spelled .loads) (judged .links)))
-    to-rows (r ∷ later) rs {a} {b} e (fine-row on up room most fine) (more h hs) (more v vs) =
+    to-rows (r ∷ later) rs e (fine-row on up room most fine) (more h hs) (more v vs) =
         let f : x .rows ≡ (rs ++ r ∷ []) ++ later = e ∙ sym (append-assoc rs (r ∷ []) later) in
         let one : length (rs ++ r ∷ []) ≡ length rs + 1 = length-append rs (r ∷ []) in
-        let behind = subst (λ m. FineRows limits (x .n) m (r .sent .row .i) (r .sent .row .j) (demands (sents later))) (sym one) fine in
+        let behind = subst (λ (q : Row). FineRows limits (x .n) (length (rs ++ r ∷ [])) (q .i) (q .j) (demands (sents later))) (sym (last-more rs r)) (rw one fine) in
         let same : wayOf (wayNumber (r .way)) ≡ r .way = way-back (r .way) in
         let s : SentSpelled (r .sent .row .i) (r .sent .row .j) (r .sent .row .d) (r .sent .front) (r .sent .back) (wayNumber (r .way)) =
         record {
@@ -75,8 +77,8 @@ module _ (limits : Limits) (judging : Bool) (x : Sheet) (judged : Judged judging
           back = h .back;
           way = way-small (r .way);
         } in
-        subst (λ t. Rest limits judging x (rows (x .n) a b rs) t) (sym (append-assoc (routedLine r) (linesOf routedLine later) (endText (figuresOf x) (x .links))))
-        (rest-row s (fine-row-judged limits (x .n) (length rs) a b (r .sent .row .i) (r .sent .row .j) (r .sent .row .d) on up room most) (rw same v) (rw same (to-rows later (rs ++ r ∷ []) f behind hs vs)))
+        subst (λ t. Rest limits judging x (rows (x .n) rs) t) (sym (append-assoc (routedLine r) (linesOf routedLine later) (endText (figuresOf x) (x .links))))
+        (rest-row s (fine-row-judged limits (x .n) (length rs) (lastOf rs .i) (lastOf rs .j) (r .sent .row .i) (r .sent .row .j) (r .sent .row .d) on up room most) (rw same v) (rw same (to-rows later (rs ++ r ∷ []) f behind hs vs)))
 
     to-start : limits .fewest ≤ x .n → FineRows limits (x .n) 0 0 0 (demands (sents (x .rows))) → Rest limits judging x start (writeSheet x)
     unfolding writeSheet
@@ -85,7 +87,7 @@ module _ (limits : Limits) (judging : Bool) (x : Sheet) (judged : Judged judging
 
 -- ---- both
 
-module _ (limits : Limits) (limited : table.Spelled limits) (judging : Bool) (t : List ℕ) (x : Sheet) where
+module _ (limits : Limits) (limited : LimitsSpelled limits) (judging : Bool) (t : List ℕ) (x : Sheet) where
   read-written : checkBy limits judging t ≡ accepted x → (t ≡ writeSheet x) × (InRange limits x × Judged judging x)
   unfolding checkBy
   read-written =

@@ -20,8 +20,8 @@ use Rattle.table.specs.declared.judge.Verdict.{Verdict}
 use Rattle.table.specs.declared.judge.Verdict.the-variants.{Fine, Fault}
 use Rattle.table.proofs.LineNumbers.{LinesFrom, from-first, from-next, line-here, no-line-left}
 use Rattle.table.proofs.ReasonNumbers.{no-rank-0}
-use Rattle.sheet.specs.Check.{Result, accepted, refused, State, start, rows, links, end, Turn, wholeResult, atEnd, after, checkFrom, checkBy}
-use Rattle.sheet.specs.Says.{At, at-start, WholeIs, Says, stage, Earlier, GivenAmong, NoneAmong}
+use Rattle.sheet.specs.Check.{Result, accepted, refused, Turn, wholeResult, atEnd, after, checkFrom, checkBy}
+use Rattle.sheet.specs.Says.{State, start, rows, links, end, At, at-start, WholeIs, Says, stage, Earlier, GivenAmong, NoneAmong}
 use Rattle.sheet.proofs.Places.{place-low, place-within, whole-one}
 use Rattle.sheet.proofs.FirstReason.{First, only-then, Counts, counts-form, when-first}
 use Rattle.sheet.proofs.SheetJudged.{AgainstWhole, whole-late, whole-first}
@@ -132,7 +132,7 @@ module _ (limits : Limits) (judging : Bool) {t : List ℕ} where
       → Right limits judging t (atEnd judging state line)
   unfolding atEnd
   end-right {state = start} at-start missing clean = missing-right at-start clean (λ n r. missing _ (r .text))
-  end-right {state = rows n a b rs} at missing clean = missing-right at clean (λ r s. missing _ (s .text), λ c k. missing _ (k .text))
+  end-right {state = rows n rs} at missing clean = missing-right at clean (λ r s. missing _ (s .text), λ c k. missing _ (k .text))
   end-right {state = links n rs c ks} at missing clean =
       missing-right at clean
       (elim (decLt (length ks) n) [ yes few ↦ inl (few, λ l k. missing _ (k .text)) | no many ↦ inr (omega arith, λ p z k. missing _ (k .text)) ])

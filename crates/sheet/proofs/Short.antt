@@ -11,8 +11,7 @@ use Rattle.sonet.proofs.Sizes.{largestOf}
 use Rattle.ring.specs.Limits.{desk}
 use Rattle.ring.specs.Lists.{Each, none, more}
 use Rattle.ring.specs.Row.{Row, OnRing, TableRows}
-use Rattle.ring.specs.Routing.{Sent, Routed, Way, F, B}
-use Rattle.ring.specs.Columns.{wayNumber}
+use Rattle.ring.specs.Routing.{Sent, Routed, Way, F, B, wayNumber}
 use Rattle.ring.specs.Sheet.{Link, Sheet, sents, demands, numbersFrom, plan}
 use Rattle.ring.specs.True.{TrueSheet}
 use Rattle.ring.proofs.Lists.{each, each-both, each-of-map}

@@ -1,4 +1,4 @@
--- A sheet's values in arrays.
+-- Internal: a sheet's values in arrays.
 use Prim.Native.Nat.{ℕ, _+_}
 use mathlib.Core.List.{List}
 use lib.ListN.{getD}

@@ -1,4 +1,4 @@
--- 01's "Numbers to try" that are marked P, and two cases of 02's K1: one list, each case by its texts and what is said besides; and the answers to them all, as
+-- Examples: 01's "Numbers to try" that are marked P, and two cases of 02's K1: one list, each case by its texts and what is said besides; and the answers to them all, as
 -- they are stated and as the definitions have them.
 use Prim.Native.Nat.{ℕ, _+_, _*_, min}
 use Prim.Native.String.{String}
@@ -12,15 +12,15 @@ use Rattle.ring.specs.RuleA.{ruleA}
 use Rattle.ring.specs.RuleB.{ruleB}
 use Rattle.ring.specs.Sheet.{Sheet, sents, demands, plan, splitPeak, unsplitPeak, largestSplitOf}
 use Rattle.table.specs.Reasons.{numberOf}
-use Rattle.table.specs.Table.{Result as TableResult, accepted as a-table, refused as no-table, tableOf}
+use Rattle.table.specs.ReadTable.{Result as TableResult, accepted as a-table, refused as no-table, tableOf}
 use Rattle.sheet.specs.WriteSheet.{writeSheet}
 use Rattle.sheet.specs.Check.{Result, accepted, refused, check, form}
 use Rattle.sheet.specs.Printed.{printed}
 
 infixl 70 _&_
 -- front & back, in halves
-pub data Halves : Type 0 where
-  _&_ : ℕ → ℕ → Halves
+pub data FrontBack : Type 0 where
+  _&_ : ℕ → ℕ → FrontBack
 
 infix 70 _at-most_plus_
 infix 70 _above_plus_
@@ -29,7 +29,7 @@ pub data Claim : Type 0 where
   -- the largest across number of its demands
   M-is : ℕ → Claim
   -- fronts and backs as rule B sends its demands, before rule C
-  sent-by-B : List Halves → Claim
+  sent-by-B : List FrontBack → Claim
   -- the split peak and the demand across the cut are the same, or (13) are not
   tight : ℕ → ℕ → Claim
   not-tight : ℕ → ℕ → Claim
@@ -110,7 +110,7 @@ cases =
 -- ---- what is true of a sheet, in place of a claim
 
 -- the fronts and backs of a split routing
-abbrev halves : List Sent → List Halves
+abbrev halves : List Sent → List FrontBack
 halves ss = map (λ (s : Sent). s .front & s .back) ss
 
 -- is the split peak the across number?

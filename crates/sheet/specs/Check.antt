@@ -1,13 +1,13 @@
--- Checking a sheet: reason 1 first, then lines in order, and in a line the reasons in their order; then 13, then 14.
+-- Internal: checking a sheet: reason 1 first, then lines in order, and in a line the reasons in their order; then 13, then 14.
 use Prim.Native.Nat.{ℕ, _+_}
 use mathlib.Core.Bool.{Bool, true, false, cond}
 use mathlib.Core.List.{List, [], _∷_, _++_}
 use lib.ListN.{length}
 use lib.Dec.{ltb}
-use Rattle.ring.specs.Columns.{wayOf}
+use Rattle.ring.specs.Routing.{wayOf, Routed, routed, sent}
 use Rattle.ring.specs.Cut.{Cut}
 use Rattle.ring.specs.Limits.{Limits}
-use Rattle.ring.specs.Routing.{Routed, routed, sent}
+use Rattle.ring.specs.Row.{Row, row}
 use Rattle.ring.specs.Sheet.{Link, Sheet}
 use Rattle.text.specs.ReadLine.{readLine}
 use Rattle.text.specs.Answers.{oneIn, twoIn, threeIn, sentIn}
@@ -27,22 +27,13 @@ use Rattle.table.specs.declared.reason.Reason.the-variants.{TooLong, Misshapen}
 use Rattle.table.specs.declared.judge.Verdict.{Verdict}
 use Rattle.table.specs.declared.judge.Verdict.the-variants.{Fine, Fault}
 use Rattle.sheet.specs.Judge.{judgeHalves, judgeCut, judgeLink, judgeLast, judgeWhole}
+use Rattle.sheet.specs.Says.{State, start, rows, links, end}
 use Rattle.sheet.specs.Verdicts.{orElse}
 
 -- a sheet; or a reason and a line
 pub data Result : Type 0 where
   accepted : Sheet → Result
   refused : Reason → ℕ → Result
-
--- what has been read, and so what is due: the R line; a D line or the C line; behind the C line an L line for each link, and then the Z line;
--- behind that nothing
-pub data State : Type 0 where
-  start : State
-  -- behind R n and rows, of which the last is a, b (0, 0 where there is none)
-  rows : ℕ → ℕ → ℕ → List Routed → State
-  -- behind the cut and links
-  links : ℕ → List Routed → Cut → List Link → State
-  end : Sheet → State
 
 -- a line leads on to another state, or to a reason
 pub data Turn : Type 0 where
@@ -68,10 +59,15 @@ cutOf g h m = record { g = g; h = h; number = m }
 abbrev pub routedOf : ℕ → ℕ → ℕ → ℕ → ℕ → ℕ → Routed
 routedOf i j d f k w = routed (sent i j d f k) (wayOf w)
 
--- 4 to 9 and 16 of a D line, behind k rows of which the last is a, b
-unfoldable pub sentVerdict : Limits → ℕ → ℕ → ℕ → ℕ → Routed → Verdict
-unfolding orElse
-sentVerdict limits n k a b r = orElse (judgeRow limits n k a b (r .sent .row .i) (r .sent .row .j) (r .sent .row .d)) (judgeHalves r)
+-- the demand of the last of some rows; its nodes are 0, 0 where there is none
+abbrev pub lastOf : List Routed → Row
+lastOf [] = row 0 0 0
+lastOf (r ∷ []) = r .sent .row
+lastOf (r ∷ q ∷ rs) = lastOf (q ∷ rs)
+
+-- 4 to 7 and 16 of a D line, behind the rows rs
+abbrev pub judgeNext : Limits → ℕ → List Routed → ℕ → ℕ → ℕ → Verdict
+judgeNext limits n rs i j d = judgeRow limits n (length rs) (lastOf rs .i) (lastOf rs .j) i j d
 
 -- L link split-load unsplit-load
 abbrev pub linkOf : ℕ → ℕ → ℕ → Link
@@ -82,7 +78,7 @@ linkOf k s u = record { link = k; split = s; unsplit = u }
 -- R n
 unfoldable pub ringTurn : Limits → OneNumber → Turn
 unfolding unless
-ringTurn limits (IsOne n) = unless (judgeRing limits n) (rows n 0 0 [])
+ringTurn limits (IsOne n) = unless (judgeRing limits n) (rows n [])
 ringTurn limits (NotOne p) = stop Misshapen
 
 -- C g h across
@@ -92,11 +88,11 @@ cutTurn judging n rs (AreThree g h m) = unless (when judging (judgeCut n rs (cut
 cutTurn judging n rs (NotThree p) = stop Misshapen
 
 -- D i j amount front back F-or-B, else C
-unfoldable pub rowTurn : Limits → Bool → ℕ → ℕ → ℕ → List Routed → SentRow → ThreeNumbers → Turn
+unfoldable pub rowTurn : Limits → Bool → ℕ → List Routed → SentRow → ThreeNumbers → Turn
 unfolding unless when cutTurn orElse
-rowTurn limits judging n a b rs (IsSent i j d f k w) other =
-    unless (orElse (judgeRow limits n (length rs) a b i j d) (when judging (judgeHalves (routedOf i j d f k w)))) (rows n i j (rs ++ routedOf i j d f k w ∷ []))
-rowTurn limits judging n a b rs (NotSent p) other = cutTurn judging n rs other
+rowTurn limits judging n rs (IsSent i j d f k w) other =
+    unless (orElse (judgeNext limits n rs i j d) (when judging (judgeHalves (routedOf i j d f k w)))) (rows n (rs ++ routedOf i j d f k w ∷ []))
+rowTurn limits judging n rs (NotSent p) other = cutTurn judging n rs other
 
 -- L link split-load unsplit-load
 unfoldable pub linkTurn : Bool → ℕ → List Routed → Cut → List Link → ThreeNumbers → Turn
@@ -115,7 +111,7 @@ lastTurn judging n rs c ks (NotTwo p) = stop Misshapen
 unfoldable pub turn : Limits → Bool → State → List ℕ → Turn
 unfolding ringTurn rowTurn linkTurn lastTurn
 turn limits judging start l = ringTurn limits (oneIn (readLine ringShape l))
-turn limits judging (rows n a b rs) l = rowTurn limits judging n a b rs (sentIn (readLine sentShape l)) (threeIn (readLine cutShape l))
+turn limits judging (rows n rs) l = rowTurn limits judging n rs (sentIn (readLine sentShape l)) (threeIn (readLine cutShape l))
 turn limits judging (links n rs c ks) l =
     cond (ltb (length ks) n) (linkTurn judging n rs c ks (threeIn (readLine linkShape l))) (lastTurn judging n rs c ks (twoIn (readLine lastShape l)))
 turn limits judging (end x) l = stop Misshapen
@@ -132,7 +128,7 @@ unfoldable pub atEnd : Bool → State → ℕ → Result
 unfolding wholeResult when
 atEnd judging (end x) line = wholeResult x (when judging (judgeWhole x))
 atEnd judging start line = refused Misshapen line
-atEnd judging (rows n a b rs) line = refused Misshapen line
+atEnd judging (rows n rs) line = refused Misshapen line
 atEnd judging (links n rs c ks) line = refused Misshapen line
 
 unfoldable pub after : Turn → ℕ → (State → Result) → Result

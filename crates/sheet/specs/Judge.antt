@@ -1,12 +1,11 @@
--- What is found against a sheet's rows, cut, links and figures, over any numbers, judged by its own rows. 4 to 7 and 16 of a row are a table's (`judgeRow`).
+-- Internal: what is found against a sheet's rows, cut, links and figures, over any numbers, judged by its own rows. 4 to 7 and 16 of a row are a table's (`judgeRow`).
 use Prim.Native.Nat.{ℕ, _+_, _*_}
 use mathlib.Core.Bool.{Bool, not, _&&_}
 use mathlib.Core.List.{List}
 use lib.Dec.{eqb}
 use Rattle.sonet.specs.Size.{sonetSize}
-use Rattle.ring.specs.Columns.{wayNumber}
+use Rattle.ring.specs.Routing.{wayNumber, Sent, Routed, isSplit, splitLoad, unsplitLoad, peak}
 use Rattle.ring.specs.Cut.{Cut, across}
-use Rattle.ring.specs.Routing.{Sent, Routed, isSplit, splitLoad, unsplitLoad, peak}
 use Rattle.ring.specs.RuleD.{wholeWay}
 use Rattle.ring.specs.Sheet.{Link, Sheet, sents, demands, splitPeak, unsplitPeak, largestSplitOf}
 use Rattle.table.specs.declared.reason.Reason.the-variants.{WrongSum, WrongWay}

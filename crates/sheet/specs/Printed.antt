@@ -1,4 +1,4 @@
--- A text as 01 prints it: its lines, with tabs shown as |.
+-- Examples: a text as 01 prints it: its lines, with tabs shown as |.
 use Prim.Native.Nat.{ℕ}
 use Prim.Native.Char.{Char, code}
 use Prim.Native.String.{String, [] as []ᵗ, _∷_ as _∷ᵗ_}

@@ -1,4 +1,4 @@
--- The values that a sheet's lines can hold: the numbers of a table, every other figure of at most 7 digits, and an L line for each link.
+-- To believe: the values that a sheet's lines can hold: the numbers of a table, every other figure of at most 7 digits, and an L line for each link.
 use Prim.Native.Nat.{ℕ, _+_, _*_, _≤_, _<_}
 use mathlib.Core.Path.{_≡_}
 use lib.ListN.{length}

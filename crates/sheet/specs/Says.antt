@@ -1,4 +1,4 @@
--- What each reason says of a sheet's text, by its lines and the writer alone; which reason is given; and what accepted and well-formed sheets are.
+-- To believe: what each reason says of a sheet's text, by its lines and the writer alone; which reason is given; and what accepted and well-formed sheets are.
 use Prim.Native.Nat.{ℕ, _+_, _*_, _≤_, _<_}
 use mathlib.Core.List.{List, [], _∷_, _++_}
 use mathlib.Core.Logic.{_⊎_}
@@ -19,7 +19,6 @@ use Rattle.table.specs.Says.{LineIs, RingIs, WrongRing, NoNode}
 use Rattle.table.specs.declared.reason.Reason.{Reason}
 use Rattle.table.specs.declared.reason.Reason.the-variants.{TooLong, Misshapen, RingSize, NoSuchNode, NotBelow, OutOfOrder, TooMany, TooMuch, WrongSum, WrongWay, WrongCut, WrongLink, WrongLast, NotTight, OverBound, NoRoom}
 use Rattle.sheet.specs.WriteSheet.{routedLine, loadLine}
-use Rattle.sheet.specs.Check.{State, start, rows, links, end}
 
 -- ---- lines
 
@@ -47,13 +46,22 @@ pub record LastIs (t : List ℕ) (line p z : ℕ) : Type 0 where
   pub text : LineIs (lines t) line (lastLine p z)
   pub spelled : (p < limit) × (z < limit)
 
--- what the lines before this one are, and so what is due on it
+-- what lines have said, and so what is due behind them: the R line; a D line or the C line; behind the C line an L line for each link, and then the Z line;
+-- behind that nothing
+pub data State : Type 0 where
+  start : State
+  -- behind R n and rows
+  rows : ℕ → List Routed → State
+  -- behind the cut and links
+  links : ℕ → List Routed → Cut → List Link → State
+  end : Sheet → State
+
+-- what the lines before this one have said
 pub data At (t : List ℕ) : ℕ → State → Type 0 where
   at-start : At t 1 start
-  behind-ring : {n : ℕ} → RingIs t n → At t 2 (rows n 0 0 [])
-  behind-row : {line n a b : ℕ} {rs : List Routed} {r : Routed} → At t line (rows n a b rs) → SentIs t line r
-      → At t (line + 1) (rows n (r .sent .row .i) (r .sent .row .j) (rs ++ r ∷ []))
-  behind-cut : {line n a b : ℕ} {rs : List Routed} {c : Cut} → At t line (rows n a b rs) → CutIs t line c → At t (line + 1) (links n rs c [])
+  behind-ring : {n : ℕ} → RingIs t n → At t 2 (rows n [])
+  behind-row : {line n : ℕ} {rs : List Routed} {r : Routed} → At t line (rows n rs) → SentIs t line r → At t (line + 1) (rows n (rs ++ r ∷ []))
+  behind-cut : {line n : ℕ} {rs : List Routed} {c : Cut} → At t line (rows n rs) → CutIs t line c → At t (line + 1) (links n rs c [])
   behind-link : {line n : ℕ} {rs : List Routed} {c : Cut} {ks : List Link} {l : Link} → At t line (links n rs c ks) → length ks < n → LinkIs t line l
       → At t (line + 1) (links n rs c (ks ++ l ∷ []))
   behind-last : {line n : ℕ} {rs : List Routed} {c : Cut} {ks : List Link} {p z : ℕ} → At t line (links n rs c ks) → n ≤ length ks → LastIs t line p z
@@ -62,10 +70,8 @@ pub data At (t : List ℕ) : ℕ → State → Type 0 where
 -- a D line that is due
 pub record RowAt (t : List ℕ) (line : ℕ) (r : Routed) : Type 0 where
   pub n : ℕ
-  pub a : ℕ
-  pub b : ℕ
   pub rs : List Routed
-  pub due : At t line (rows n a b rs)
+  pub due : At t line (rows n rs)
   pub is : SentIs t line r
 
 -- ---- the reasons
@@ -73,7 +79,7 @@ pub record RowAt (t : List ℕ) (line : ℕ) (r : Routed) : Type 0 where
 -- 2: line of the wrong shape, missing, or left over
 pub data WrongLine (t : List ℕ) (line : ℕ) : Type 0 where
   no-ring : At t line start → ((n : ℕ) → RingIs t n → ⊥) → WrongLine t line
-  no-row-no-cut : {n a b : ℕ} {rs : List Routed} → At t line (rows n a b rs) → ((r : Routed) → SentIs t line r → ⊥) → ((c : Cut) → CutIs t line c → ⊥)
+  no-row-no-cut : {n : ℕ} {rs : List Routed} → At t line (rows n rs) → ((r : Routed) → SentIs t line r → ⊥) → ((c : Cut) → CutIs t line c → ⊥)
       → WrongLine t line
   no-link : {n : ℕ} {rs : List Routed} {c : Cut} {ks : List Link} → At t line (links n rs c ks) → length ks < n → ((l : Link) → LinkIs t line l → ⊥)
       → WrongLine t line
@@ -130,10 +136,8 @@ pub record WrongDirection (t : List ℕ) (line : ℕ) : Type 0 where
 -- 10: not 1 <= g < h <= n, or across number false
 pub record WrongCutLine (t : List ℕ) (line : ℕ) : Type 0 where
   pub n : ℕ
-  pub a : ℕ
-  pub b : ℕ
   pub rs : List Routed
-  pub due : At t line (rows n a b rs)
+  pub due : At t line (rows n rs)
   pub c : Cut
   pub is : CutIs t line c
   pub wrong : (IsCut n c → ⊥) ⊎ (c .number ≡ across (demands (sents rs)) (c .g) (c .h) → ⊥)

@@ -1,4 +1,4 @@
--- What is found against a line's figures, where those that are true of the rows are known: nothing, or the first reason that holds, in their order.
+-- Internal: what is found against a line's figures, where those that are true of the rows are known: nothing, or the first reason that holds, in their order.
 use Prim.Native.Nat.{ℕ, _+_, _*_}
 use mathlib.Core.Bool.{Bool, true, false, not, _||_}
 use lib.Dec.{ltb, leb, eqb}

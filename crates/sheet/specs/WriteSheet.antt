@@ -1,8 +1,7 @@
--- A sheet as text: R n; D lines; the C line; L lines; Z unsplit-peak size (01, "Table and sheet text").
+-- To believe: a sheet as text: R n; D lines; the C line; L lines; Z unsplit-peak size (01, "Table and sheet text").
 use Prim.Native.Nat.{ℕ}
 use mathlib.Core.List.{List, [], _∷_, _++_}
-use Rattle.ring.specs.Columns.{wayNumber}
-use Rattle.ring.specs.Routing.{Routed}
+use Rattle.ring.specs.Routing.{wayNumber, Routed}
 use Rattle.ring.specs.Sheet.{Link, Sheet}
 use Rattle.text.specs.Shapes.{ringLine, sentLine, cutLine, linkLine, lastLine}
 use Rattle.sheet.specs.declared.Figures.{Figures}

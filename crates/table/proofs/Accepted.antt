@@ -4,10 +4,11 @@ use mathlib.Core.List.{List}
 use mathlib.Core.Path.{_≡_, refl, ap, _∙_, sym}
 use Rattle.ring.specs.Row.{Row}
 use Rattle.ring.specs.Limits.{Limits}
-use Rattle.table.specs.Table.{accepted, tableOf, writeTable, InRange}
-use Rattle.table.proofs.TableText.{Spelled, table-text}
+use Rattle.table.specs.Table.{writeTable, LimitsSpelled, InRange}
+use Rattle.table.specs.ReadTable.{accepted, tableOf}
+use Rattle.table.proofs.TableText.{table-text}
 
-module _ (limits : Limits) (spelled : Spelled limits) where
+module _ (limits : Limits) (spelled : LimitsSpelled limits) where
   -- writing what was read gives the same bytes
   pub write-read : (t : List ℕ) (n : ℕ) (rs : List Row) → tableOf limits t ≡ accepted n rs → writeTable n rs ≡ t
   write-read t n rs e = sym (table-text limits spelled t n rs .0 e .0)

@@ -6,7 +6,7 @@ use native.Mathlib.Omega.{arith}
 use Rattle.text.specs.Number.{limit}
 use Rattle.text.specs.Mark.{marks}
 use Rattle.text.specs.Field.{top}
-use Rattle.text.specs.WriteLine.{InRange}
+use Rattle.text.specs.WriteLine.{FitsShape}
 use Rattle.text.specs.ReadLine.{readLine}
 use Rattle.text.specs.Shapes.{ringShape, rowShape, ringLine, rowLine}
 use Rattle.text.specs.Answers.{oneIn, threeIn}
@@ -19,8 +19,8 @@ use Rattle.text.proofs.AnswerLaws.{ring-good, row-good}
 
 -- ---- R n
 
-pub ring-in-range : (n : ℕ) → n < limit → InRange ringShape (0 ∷ n ∷ [])
-unfolding InRange top marks
+pub ring-in-range : (n : ℕ) → n < limit → FitsShape ringShape (0 ∷ n ∷ [])
+unfolding FitsShape top marks
 ring-in-range n h = (omega arith, (h, tt))
 
 pub ring-line-read : (n : ℕ) → n < limit → oneIn (readLine ringShape (ringLine n)) ≡ IsOne n
@@ -31,7 +31,7 @@ pub data RingRead (l : List ℕ) : OneNumber → Type 0 where
   no-ring : {p : ℕ} → ((n : ℕ) → l ≡ ringLine n → n < limit → ⊥) → RingRead l (NotOne p)
 
 pub ring-read : (l : List ℕ) → RingRead l (oneIn (readLine ringShape l))
-unfolding InRange top marks
+unfolding FitsShape top marks
 ring-read l = go (oneIn (readLine ringShape l)) refl
   where
     go : (x : OneNumber) → oneIn (readLine ringShape l) ≡ x → RingRead l x
@@ -44,8 +44,8 @@ ring-read l = go (oneIn (readLine ringShape l)) refl
 abbrev pub RowSpelled : ℕ → ℕ → ℕ → Type 0
 RowSpelled i j d = (i < limit) × ((j < limit) × (d < limit))
 
-pub row-in-range : (i j d : ℕ) → RowSpelled i j d → InRange rowShape (0 ∷ i ∷ j ∷ d ∷ [])
-unfolding InRange top marks
+pub row-in-range : (i j d : ℕ) → RowSpelled i j d → FitsShape rowShape (0 ∷ i ∷ j ∷ d ∷ [])
+unfolding FitsShape top marks
 row-in-range i j d h = (omega arith, (h .0, (h .1 .0, (h .1 .1, tt))))
 
 pub row-line-read : (i j d : ℕ) → RowSpelled i j d → threeIn (readLine rowShape (rowLine i j d)) ≡ AreThree i j d
@@ -56,7 +56,7 @@ pub data RowRead (l : List ℕ) : ThreeNumbers → Type 0 where
   no-row : {p : ℕ} → ((i j d : ℕ) → l ≡ rowLine i j d → RowSpelled i j d → ⊥) → RowRead l (NotThree p)
 
 pub row-read : (l : List ℕ) → RowRead l (threeIn (readLine rowShape l))
-unfolding InRange top marks
+unfolding FitsShape top marks
 row-read l = go (threeIn (readLine rowShape l)) refl
   where
     go : (x : ThreeNumbers) → threeIn (readLine rowShape l) ≡ x → RowRead l x

@@ -10,8 +10,8 @@ use lib.Seq.{drop-drop}
 use borrow.Author.Tests.{eq-eqb, ne-eqb}
 use Rattle.text.specs.Bytes.{lf}
 use Rattle.text.proofs.Lists.{here}
-use Rattle.table.specs.Lines.{withByte, lines, lineLength}
-use Rattle.table.specs.LineEnds.{LineEnds}
+use Rattle.table.specs.Lines.{withByte, lines}
+use Rattle.table.specs.LineEnds.{lineLength, LineEnds}
 
 -- the scan stands at p, and no byte from `at` to before p is LF
 pub record Scanning (s : List ℕ) (at p : ℕ) : Type 0 where

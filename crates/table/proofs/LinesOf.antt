@@ -13,7 +13,7 @@ use Rattle.text.specs.Bytes.{tab, lf, digit0, letterF, letterB, number, way}
 use Rattle.text.specs.Number.{limit, digits}
 use Rattle.text.specs.Mark.{marks, markByte}
 use Rattle.text.specs.Field.{top, spell}
-use Rattle.text.specs.WriteLine.{endOf, writeLine, InRange}
+use Rattle.text.specs.WriteLine.{endOf, writeLine, FitsShape}
 use Rattle.text.specs.Shapes.{ringLine, rowLine}
 use Rattle.text.proofs.Digits.{by-digits, digits-one, digits-more}
 use Rattle.table.specs.Lines.{withByte, lines}
@@ -67,8 +67,8 @@ spelled-first f v l h = go (eqb f number) (eqb f way) (eqb v 0)
     go false false x k first = byte-first f l h first
 
 -- a line of any shape whose letters are not LF
-pub written-first : (f : ℕ) (fs vs : List ℕ) → Each NoLf (f ∷ fs) → InRange (f ∷ fs) vs → FirstLine (writeLine (f ∷ fs) vs)
-unfolding writeLine InRange endOf
+pub written-first : (f : ℕ) (fs vs : List ℕ) → Each NoLf (f ∷ fs) → FitsShape (f ∷ fs) vs → FirstLine (writeLine (f ∷ fs) vs)
+unfolding writeLine FitsShape endOf
 written-first f fs [] hs r = absurd r
 written-first f [] (v ∷ vs) (more h hs) r = spelled-first f v (lf ∷ []) h (r .0) lf-first
 written-first f (g ∷ fs) (v ∷ vs) (more h hs) r =

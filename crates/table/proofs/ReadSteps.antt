@@ -18,7 +18,7 @@ use Rattle.ring.specs.Limits.{desk}
 use Rattle.table.specs.Lines.{lines}
 use Rattle.table.specs.LineEnds.{LineEnds}
 use Rattle.table.specs.Judge.{judgeRing, judgeRow}
-use Rattle.table.specs.Table.{Result, refused, rowsOf, tableOf}
+use Rattle.table.specs.ReadTable.{Result, refused, rowsOf, tableOf}
 use Rattle.ring.specs.Columns.{column}
 use Rattle.table.specs.Arrays.{tableIn}
 use Rattle.table.specs.declared.reason.Reason.{Reason}

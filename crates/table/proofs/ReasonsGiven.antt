@@ -16,7 +16,7 @@ use Rattle.ring.specs.Limits.{Limits}
 use Rattle.table.specs.Lines.{lines}
 use Rattle.table.specs.Judge.{judgeRing, judgeRow}
 use Rattle.table.specs.Reasons.{rankOf}
-use Rattle.table.specs.Table.{Result, accepted, refused, ringOr, rowOr, unless, rowsOf, tableLines, tableOf}
+use Rattle.table.specs.ReadTable.{Result, accepted, refused, ringOr, rowOr, unless, rowsOf, tableLines, tableOf}
 use Rattle.table.specs.Says.{RingIs, RowIs, Says, Earlier, Given, Accepted}
 use Rattle.table.specs.declared.reason.Reason.{Reason}
 use Rattle.table.specs.declared.reason.Reason.the-variants.{TooLong}

@@ -16,7 +16,8 @@ use Rattle.text.specs.declared.ThreeNumbers.{ThreeNumbers}
 use Rattle.ring.specs.Limits.{Limits, desk}
 use Rattle.table.specs.Lines.{lines}
 use Rattle.table.specs.Judge.{judgeRing, judgeRow}
-use Rattle.table.specs.Table.{Result, accepted, refused, ringOr, rowOr, unless, rowsOf, tableLines, tableOf, writeRows, writeTable, InRange}
+use Rattle.table.specs.Table.{writeRows, writeTable, LimitsSpelled, InRange}
+use Rattle.table.specs.ReadTable.{Result, accepted, refused, ringOr, rowOr, unless, rowsOf, tableLines, tableOf}
 use Rattle.table.specs.declared.reason.Reason.{Reason}
 use Rattle.table.specs.declared.judge.Verdict.{Verdict}
 use Rattle.table.specs.declared.judge.Verdict.the-variants.{Fine, Fault}
@@ -26,12 +27,7 @@ use Rattle.table.proofs.FineRows.{FineRows, no-row, fine-row, fine-rows
 use Rattle.table.proofs.LineRead.{ring-line-read, RingRead, is-ring, no-ring, ring-read, RowSpelled, row-line-read, RowRead, is-row, no-row as no-row-line, row-read}
 use Rattle.table.proofs.LinesOf.{join-lines, ring-first, row-first}
 
--- limits whose numbers can be spelled
-pub record Spelled (limits : Limits) : Type 0 where
-  pub nodes : limits .nodes < limit
-  pub amount : limits .amount < limit
-
-pub desk-spelled : Spelled desk
+pub desk-spelled : LimitsSpelled desk
 desk-spelled = record { nodes = omega arith; amount = omega arith }
 
 -- ---- read, so written
@@ -104,7 +100,7 @@ table-read limits t =
 
 -- ---- written, so read
 
-module _ (limits : Limits) (spelled : Spelled limits) (n : ℕ) (many : n ≤ limits .nodes) where
+module _ (limits : Limits) (spelled : LimitsSpelled limits) (n : ℕ) (many : n ≤ limits .nodes) where
   written-rows-read : (line : ℕ) (rs : List Row) {k a b : ℕ} {more : List Row} → length rs ≡ k → FineRows limits n k a b more
       → rowsOf limits n line a b rs (lines (writeRows more)) ≡ accepted n (rs ++ more)
   unfolding rowsOf rowOr unless writeRows lines
@@ -114,7 +110,7 @@ module _ (limits : Limits) (spelled : Spelled limits) (n : ℕ) (many : n ≤ li
       rw (row-first (r .i) (r .j) (r .d) w (writeRows more), row-line-read (r .i) (r .j) (r .d) w, e, fine-row-judged limits n k a b (r .i) (r .j) (r .d) o up c m)
       (written-rows-read (line + 1) (rs ++ r ∷ []) (omega (arith, length-append rs (r ∷ []))) fine ∙ ap (accepted n) (append-assoc rs (r ∷ []) more))
 
-written-read : (limits : Limits) → Spelled limits → (n : ℕ) (rs : List Row) → InRange limits n rs → tableOf limits (writeTable n rs) ≡ accepted n rs
+written-read : (limits : Limits) → LimitsSpelled limits → (n : ℕ) (rs : List Row) → InRange limits n rs → tableOf limits (writeTable n rs) ≡ accepted n rs
 unfolding tableOf tableLines ringOr unless writeTable
 written-read limits spelled n rs range =
     let w : n < limit = omega (arith, range .many, spelled .nodes) in
@@ -127,7 +123,7 @@ written-read limits spelled n rs range =
 
 -- ---- both
 
-pub table-text : (limits : Limits) → Spelled limits → (t : List ℕ) (n : ℕ) (rs : List Row)
+pub table-text : (limits : Limits) → LimitsSpelled limits → (t : List ℕ) (n : ℕ) (rs : List Row)
     → (tableOf limits t ≡ accepted n rs) ↔ ((t ≡ writeTable n rs) × InRange limits n rs)
 table-text limits spelled t n rs = (λ e. go (subst (TableRead limits t) e (table-read limits t)), λ h. rw (h .0) (written-read limits spelled n rs (h .1)))
   where

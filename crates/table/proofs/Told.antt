@@ -7,7 +7,7 @@ use native.Mathlib.Omega.{arith}
 use lib.ListN.{length}
 use Rattle.text.proofs.Apart.{clash}
 use Rattle.ring.specs.Limits.{desk}
-use Rattle.table.specs.Table.{Result, accepted, refused, tableOf}
+use Rattle.table.specs.ReadTable.{Result, accepted, refused, tableOf}
 use Rattle.ring.specs.Row.{Row}
 use Rattle.ring.specs.Columns.{column, rowsIn}
 use Rattle.table.specs.Arrays.{tableIn}

@@ -9,7 +9,8 @@ use Rattle.ring.specs.Limits.{desk}
 use Rattle.table.specs.Judge.{judgeRing, judgeRow}
 use Rattle.table.specs.LineEnds.{LineEnds}
 use Rattle.table.specs.Reasons.{numberOf}
-use Rattle.table.specs.Table.{tableOf, writeTable}
+use Rattle.table.specs.Table.{writeTable}
+use Rattle.table.specs.ReadTable.{tableOf}
 use Rattle.ring.specs.Columns.{rowsIn}
 use Rattle.table.specs.Arrays.{tableIn}
 use Rattle.table.specs.declared.reason.Reason.{Reason}

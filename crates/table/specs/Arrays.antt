@@ -1,10 +1,10 @@
--- A table's rows in arrays with room for 496, zero behind the rows and zero after a refusal.
+-- Internal: a table's rows in arrays with room for 496, zero behind the rows and zero after a refusal.
 use mathlib.Core.List.{List, []}
 use lib.ListN.{length}
 use Rattle.ring.specs.Limits.{desk}
 use Rattle.ring.specs.Row.{Row}
 use Rattle.ring.specs.Columns.{column}
-use Rattle.table.specs.Table.{Result, accepted, refused}
+use Rattle.table.specs.ReadTable.{Result, accepted, refused}
 use Rattle.table.specs.declared.read.Table.{Table}
 use Rattle.table.specs.declared.read.Answer.{Answer}
 use Rattle.table.specs.declared.read.Answer.the-variants.{Is, Refused}

@@ -1,4 +1,4 @@
--- What is found against a ring's size and against a row, over any numbers: nothing, or the first reason that holds, in their order.
+-- Internal: what is found against a ring's size and against a row, over any numbers: nothing, or the first reason that holds, in their order.
 use Prim.Native.Nat.{ℕ}
 use mathlib.Core.Bool.{Bool, cond, _&&_, _||_}
 use lib.Dec.{ltb, leb, eqb}

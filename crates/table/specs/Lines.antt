@@ -1,5 +1,5 @@
--- The lines of a text: each ends with LF and keeps it, and what is behind the last LF is a line that lacks it.
-use Prim.Native.Nat.{ℕ, suc}
+-- To believe: the lines of a text: each ends with LF and keeps it, and what is behind the last LF is a line that lacks it.
+use Prim.Native.Nat.{ℕ}
 use mathlib.Core.Bool.{Bool, true, false, cond}
 use mathlib.Core.List.{List, [], _∷_}
 use lib.Dec.{eqb}
@@ -15,8 +15,3 @@ unfoldable pub lines : List ℕ → List (List ℕ)
 unfolding withByte
 lines [] = []
 lines (b ∷ t) = withByte (eqb b lf) b (lines t)
-
--- how many bytes the first line has
-unfoldable pub lineLength : List ℕ → ℕ
-lineLength [] = 0
-lineLength (b ∷ t) = cond (eqb b lf) 1 (suc (lineLength t))

@@ -1,4 +1,4 @@
--- 01's numbers of the reasons (01, "Reasons and their order"; 02, K1), and the order in which they are tried.
+-- To believe: 01's numbers of the reasons (01, "Reasons and their order"; 02, K1), and the order in which they are tried.
 use Prim.Native.Nat.{ℕ}
 use Rattle.table.specs.declared.reason.Reason.{Reason}
 use Rattle.table.specs.declared.reason.Reason.the-variants.{TooLong, Misshapen, RingSize, NoSuchNode, NotBelow, OutOfOrder, TooMany, TooMuch, WrongSum, WrongWay, WrongCut, WrongLink, WrongLast, NotTight, OverBound, NoRoom}

@@ -1,4 +1,4 @@
--- What each reason says of a table's text, by its lines and the writer alone; which reason is given; and what an accepted table is.
+-- To believe: what each reason says of a table's text, by its lines and the writer alone; which reason is given; and what an accepted table is.
 use Prim.Native.Nat.{ℕ, _+_, _≤_, _<_}
 use mathlib.Core.List.{List, _∷_}
 use mathlib.Core.Logic.{_⊎_}

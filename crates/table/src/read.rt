@@ -14,7 +14,7 @@ ghost use Prim.Native.Nat.{_≤_};
 ghost use lib.ListN.{length, drop};
 ghost use Rattle.ring.specs.Limits.{desk};
 ghost use Rattle.table.specs.Lines.{lines};
-ghost use Rattle.table.specs.Table.{refused, rowsOf, tableOf};
+ghost use Rattle.table.specs.ReadTable.{refused, rowsOf, tableOf};
 ghost use Rattle.table.specs.Arrays.{tableIn};
 
 // How many nodes the ring has and how many rows there are; or the reason and the line.

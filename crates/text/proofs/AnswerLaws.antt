@@ -9,7 +9,7 @@ use lib.ListN.{length, getD}
 use Rattle.text.specs.Bytes.{letterR, letterD, letterC, letterL, letterZ, number, way}
 use Rattle.text.specs.Mark.{marks}
 use Rattle.text.specs.Field.{top}
-use Rattle.text.specs.WriteLine.{writeLine, InRange}
+use Rattle.text.specs.WriteLine.{writeLine, FitsShape}
 use Rattle.text.specs.ReadLine.{Reading, good, bad, readLine}
 use Rattle.text.specs.FirstFault.{FirstFault}
 use Rattle.text.specs.Shapes.{ringShape, rowShape, sentShape, cutShape, linkShape, lastShape}
@@ -23,7 +23,7 @@ use Rattle.text.proofs.LineLaws.{line-good, line-bad}
 
 -- the text s is read to the answer x exactly when it is the line of the values vs, and they are in range
 abbrev pub AnswerIs : {A : Type 0} → (Reading → A) → List ℕ → List ℕ → A → List ℕ → Type 0
-AnswerIs answer shape s x vs = (answer (readLine shape s) ≡ x) ↔ ((s ≡ writeLine shape vs) × InRange shape vs)
+AnswerIs answer shape s x vs = (answer (readLine shape s) ≡ x) ↔ ((s ≡ writeLine shape vs) × FitsShape shape vs)
 
 -- the text s is read to the answer x exactly when p is the place of its first faulty byte
 abbrev pub Refuses : {A : Type 0} → (Reading → A) → List ℕ → List ℕ → A → ℕ → Type 0
@@ -33,11 +33,11 @@ Refuses answer shape s x p = (answer (readLine shape s) ≡ x) ↔ FirstFault sh
 
 module _ {A : Type 0} (answer : Reading → A) (shape s : List ℕ) (x : A) where
   -- one that only the values vs give
-  answer-good : (vs : List ℕ) → answer (good vs) ≡ x → ((us : List ℕ) → InRange shape us → answer (good us) ≡ x → us ≡ vs)
+  answer-good : (vs : List ℕ) → answer (good vs) ≡ x → ((us : List ℕ) → FitsShape shape us → answer (good us) ≡ x → us ≡ vs)
       → ((p : ℕ) → answer (bad p) ≡ x → ⊥) → AnswerIs answer shape s x vs
   answer-good vs is only no-fault = (λ e. there (readLine shape s) refl e, λ h. ap answer (line-good shape s vs .1 h) ∙ is)
     where
-      there : (y : Reading) → readLine shape s ≡ y → answer (readLine shape s) ≡ x → (s ≡ writeLine shape vs) × InRange shape vs
+      there : (y : Reading) → readLine shape s ≡ y → answer (readLine shape s) ≡ x → (s ≡ writeLine shape vs) × FitsShape shape vs
       there (good us) i e =
           let u : us ≡ vs = only us (line-good shape s us .0 i .1) (sym (ap answer i) ∙ e) in
           line-good shape s vs .0 (i ∙ ap good u)
@@ -59,16 +59,16 @@ abbrev listed : ℕ → (ℕ → ℕ) → List ℕ
 listed zero f = []
 listed (suc n) f = f 0 ∷ listed n (λ i. f (suc i))
 
-values-listed : (fs vs : List ℕ) → InRange fs vs → vs ≡ listed (length fs) (λ i. getD vs i 0)
-unfolding InRange
+values-listed : (fs vs : List ℕ) → FitsShape fs vs → vs ≡ listed (length fs) (λ i. getD vs i 0)
+unfolding FitsShape
 values-listed [] [] r = refl
 values-listed [] (v ∷ vs) r = absurd r
 values-listed (f ∷ fs) [] r = absurd r
 values-listed (f ∷ fs) (v ∷ vs) r = ap (λ (l : List ℕ). v ∷ l) (values-listed fs vs (r .1))
 
 -- a letter's value is 0, and the others stand at their places
-behind-letter : (f : ℕ) (fs vs : List ℕ) → top f ≡ 1 → InRange (f ∷ fs) vs → vs ≡ 0 ∷ listed (length fs) (λ i. getD vs (suc i) 0)
-unfolding InRange
+behind-letter : (f : ℕ) (fs vs : List ℕ) → top f ≡ 1 → FitsShape (f ∷ fs) vs → vs ≡ 0 ∷ listed (length fs) (λ i. getD vs (suc i) 0)
+unfolding FitsShape
 behind-letter f fs [] e r = absurd r
 behind-letter f fs (v ∷ vs) e r =
     let z : v ≡ 0 = omega (arith, r .0) in

@@ -10,10 +10,11 @@ use lib.Dec.{eqb}
 use Rattle.text.specs.Bytes.{number, way}
 use Rattle.text.specs.Number.{base, limit, digits}
 use Rattle.text.specs.ReadNumber.{digitOf, digitsFrom, numberFrom, numberAt}
-use Rattle.text.specs.Mark.{marks, markOf, endFrom, markFrom, markAt}
-use Rattle.text.specs.Field.{top, spell, fieldAt}
-use Rattle.text.specs.WriteLine.{endOf, writeLine, InRange}
-use Rattle.text.specs.ReadLine.{good, bad, fieldThen, fieldsFrom}
+use Rattle.text.specs.Mark.{marks}
+use Rattle.text.specs.ReadMark.{markOf, endFrom, markFrom, markAt}
+use Rattle.text.specs.Field.{top, spell}
+use Rattle.text.specs.ReadLine.{fieldAt, good, bad, fieldThen, fieldsFrom}
+use Rattle.text.specs.WriteLine.{endOf, writeLine, FitsShape}
 use Rattle.text.specs.declared.field.Field.{Field}
 use Rattle.text.specs.declared.field.Field.the-variants.{Is, Bad}
 use Rattle.text.proofs.Apart.{clash}
@@ -130,21 +131,21 @@ zeros : List ℕ → List ℕ
 zeros [] = []
 zeros (f ∷ fs) = 0 ∷ zeros fs
 
-zeros-range : (fs : List ℕ) → InRange fs (zeros fs)
-unfolding InRange zeros
+zeros-range : (fs : List ℕ) → FitsShape fs (zeros fs)
+unfolding FitsShape zeros
 zeros-range [] = tt
 zeros-range (f ∷ fs) = (some-value f, zeros-range fs)
 
 -- the k bytes of xs from p on to the fault at q begin the fields fs of some line
 pub record Started (fs xs : List ℕ) (p q : ℕ) : Type 0 where
   pub vs : List ℕ
-  pub range : InRange fs vs
+  pub range : FitsShape fs vs
   pub k : ℕ
   pub place : q ≡ p + k
   pub text : take k (writeLine fs vs) ≡ take k xs
 
 pub fields-started : (fs s : List ℕ) (p : ℕ) (acc : List ℕ) (q : ℕ) → p ≤ length s → fieldsFrom fs s p acc ≡ bad q → Started fs (drop p s) p q
-unfolding fieldsFrom writeLine InRange
+unfolding fieldsFrom writeLine FitsShape
 fields-started [] s p acc q h e = go (eqb p (length s)) e
   where
     go : (t : Bool) → cond t (good acc) (bad p) ≡ bad q → Started [] (drop p s) p q

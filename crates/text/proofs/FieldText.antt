@@ -10,8 +10,10 @@ use borrow.Author.Tests.{eqb-true, lt-ltb, eq-eqb}
 use Rattle.text.specs.Bytes.{letterF, letterB, number, way}
 use Rattle.text.specs.Number.{base, limit, digits}
 use Rattle.text.specs.ReadNumber.{digitOf, numberAt}
-use Rattle.text.specs.Mark.{marks, markOf, markByte, endFrom, markFrom, markAt}
-use Rattle.text.specs.Field.{top, spell, fieldAt}
+use Rattle.text.specs.Mark.{marks, markByte}
+use Rattle.text.specs.ReadMark.{markOf, endFrom, markFrom, markAt}
+use Rattle.text.specs.Field.{top, spell}
+use Rattle.text.specs.ReadLine.{fieldAt}
 use Rattle.text.specs.declared.field.Field.the-variants.{Is}
 use Rattle.text.proofs.Apart.{clash}
 use Rattle.text.proofs.Lists.{behind}
@@ -96,16 +98,16 @@ mark-marked f end (b ∷ xs) p v q e = go (mark-byte f end p b)
     go (no-mark s) = clash (cc (s xs))
 
 -- at the place p of s: the value v, then `end`, then what stands from q on
-pub record Spelled (f end : ℕ) (s : List ℕ) (p v q : ℕ) : Type 0 where
+pub record FieldSpelled (f end : ℕ) (s : List ℕ) (p v q : ℕ) : Type 0 where
   pub small : v < top f
   pub text : drop p s ≡ spell f v ++ end ∷ drop q s
   pub next : q ≡ p + length (spell f v) + 1
 
-pub field-read-write : (f : ℕ) (s : List ℕ) (p v q end : ℕ) → fieldAt f s p end ≡ Is v q → Spelled f end s p v q
+pub field-read-write : (f : ℕ) (s : List ℕ) (p v q end : ℕ) → fieldAt f s p end ≡ Is v q → FieldSpelled f end s p v q
 unfolding fieldAt top spell markAt
 field-read-write f s p v q end e = go (eqb f number) refl e
   where
-    go : (n : Bool) → eqb f number ≡ n → cond n (numberAt s p end) (markFrom f end p (drop p s)) ≡ Is v q → Spelled f end s p v q
+    go : (n : Bool) → eqb f number ≡ n → cond n (numberAt s p end) (markFrom f end p (drop p s)) ≡ Is v q → FieldSpelled f end s p v q
     go true i e =
         let w = number-read-write s p v q end e in
         record { small = rw i (w .0); text = rw i (w .1); next = rw i (w .2) }

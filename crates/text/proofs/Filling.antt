@@ -7,9 +7,8 @@ use native.Mathlib.Numerals.{add-one}
 use lib.ListN.{length, getD, take, drop, set, drop-of-length-le, length-set}
 use lib.Seq.{take-all, take-suc-set}
 use borrow.Author.Tests.{eq-eqb, ne-eqb}
-use Rattle.text.specs.Field.{fieldAt}
+use Rattle.text.specs.ReadLine.{fieldAt, Reading, good, bad, fieldsFrom, readLine}
 use Rattle.text.specs.WriteLine.{endOf}
-use Rattle.text.specs.ReadLine.{Reading, good, bad, fieldsFrom, readLine}
 use Rattle.text.specs.Filled.{filled}
 use Rattle.text.specs.declared.field.Field.{Field}
 use Rattle.text.specs.declared.field.Field.the-variants.{Is, Bad}

@@ -13,7 +13,7 @@ use Rattle.text.specs.Bytes.{digit0, number}
 use Rattle.text.specs.Number.{base, limit, digitsIn, digits}
 use Rattle.text.specs.Mark.{marks, markByte}
 use Rattle.text.specs.Field.{top, spell}
-use Rattle.text.specs.WriteLine.{endOf, writeLine, InRange}
+use Rattle.text.specs.WriteLine.{endOf, writeLine, FitsShape}
 use Rattle.text.proofs.Lists.{here, left-behind}
 use Rattle.text.proofs.Digits.{u32-limit, enough, digits-one, digits-split}
 
@@ -112,8 +112,8 @@ line-short (f ∷ fs) [] = omega arith
 line-short (f ∷ fs) (v ∷ vs) = omega (arith, line-short fs vs, spell-short f v, length-append (spell f v) (endOf (length fs) ∷ writeLine fs vs))
 
 -- values in range: 7 digits and an end for each field
-pub line-in-range-short : (fs vs : List ℕ) → InRange fs vs → length (writeLine fs vs) ≤ 8 * length fs
-unfolding writeLine InRange
+pub line-in-range-short : (fs vs : List ℕ) → FitsShape fs vs → length (writeLine fs vs) ≤ 8 * length fs
+unfolding writeLine FitsShape
 line-in-range-short [] vs r = omega arith
 line-in-range-short (f ∷ fs) [] r = omega arith
 line-in-range-short (f ∷ fs) (v ∷ vs) r =

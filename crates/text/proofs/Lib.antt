@@ -3,6 +3,7 @@
 -- the laws
 pub mod LineLaws
 pub mod AnswerLaws
+pub mod Spellings
 pub mod Unique
 -- how they are shown
 pub mod Lists

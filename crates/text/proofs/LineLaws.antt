@@ -8,7 +8,7 @@ use native.Mathlib.Omega.{arith}
 use native.Mathlib.Decide.{decLt}
 use lib.ListN.{length, take}
 use lib.Seq.{take-take}
-use Rattle.text.specs.WriteLine.{writeLine, InRange}
+use Rattle.text.specs.WriteLine.{writeLine, FitsShape}
 use Rattle.text.specs.ReadLine.{Reading, good, bad, readLine}
 use Rattle.text.specs.FirstFault.{Agrees, FirstFault}
 use Rattle.text.proofs.Apart.{clash}
@@ -19,18 +19,18 @@ use Rattle.text.proofs.Begun.{fields-started}
 module _ (shape s : List ℕ) where
   -- ---- a good line
 
-  written : (vs : List ℕ) → readLine shape s ≡ good vs → (s ≡ writeLine shape vs) × InRange shape vs
+  written : (vs : List ℕ) → readLine shape s ≡ good vs → (s ≡ writeLine shape vs) × FitsShape shape vs
   unfolding readLine
   written vs e =
       let r = fields-read-write shape s 0 [] vs e in
-      (r .text ∙ ap (writeLine shape) (sym (r .whole)), subst (InRange shape) (sym (r .whole)) (r .range))
+      (r .text ∙ ap (writeLine shape) (sym (r .whole)), subst (FitsShape shape) (sym (r .whole)) (r .range))
 
-  read : (vs : List ℕ) → (s ≡ writeLine shape vs) × InRange shape vs → readLine shape s ≡ good vs
+  read : (vs : List ℕ) → (s ≡ writeLine shape vs) × FitsShape shape vs → readLine shape s ≡ good vs
   unfolding readLine
   read vs h = fields-write-read shape vs s 0 [] (h .1) (h .0) (omega (arith, ap length (h .0)))
 
 -- a text is read to the values vs exactly when it is vs written, and they are in range
-pub line-good : (shape s vs : List ℕ) → (readLine shape s ≡ good vs) ↔ ((s ≡ writeLine shape vs) × InRange shape vs)
+pub line-good : (shape s vs : List ℕ) → (readLine shape s ≡ good vs) ↔ ((s ≡ writeLine shape vs) × FitsShape shape vs)
 line-good shape s vs = (written shape s vs, read shape s vs)
 
 -- ---- a faulty one

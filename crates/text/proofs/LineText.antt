@@ -11,9 +11,9 @@ use borrow.Author.Tests.{eq-eqb, eqb-true}
 use Rattle.text.specs.Bytes.{tab, lf}
 use Rattle.text.specs.Number.{base}
 use Rattle.text.specs.ReadNumber.{digitOf}
-use Rattle.text.specs.Field.{spell, fieldAt}
-use Rattle.text.specs.WriteLine.{endOf, writeLine, InRange}
-use Rattle.text.specs.ReadLine.{good, bad, fieldThen, fieldsFrom}
+use Rattle.text.specs.Field.{spell}
+use Rattle.text.specs.ReadLine.{fieldAt, good, bad, fieldThen, fieldsFrom}
+use Rattle.text.specs.WriteLine.{endOf, writeLine, FitsShape}
 use Rattle.text.specs.declared.field.Field.{Field}
 use Rattle.text.specs.declared.field.Field.the-variants.{Is, Bad}
 use Rattle.text.proofs.Apart.{clash}
@@ -31,9 +31,9 @@ end-ends left = go (eqb left 0)
 
 -- ---- what is written is read
 
-pub fields-write-read : (fs vs s : List ℕ) (p : ℕ) (acc : List ℕ) → InRange fs vs → drop p s ≡ writeLine fs vs → p + length (writeLine fs vs) ≡ length s
+pub fields-write-read : (fs vs s : List ℕ) (p : ℕ) (acc : List ℕ) → FitsShape fs vs → drop p s ≡ writeLine fs vs → p + length (writeLine fs vs) ≡ length s
     → fieldsFrom fs s p acc ≡ good (acc ++ vs)
-unfolding fieldsFrom writeLine InRange
+unfolding fieldsFrom writeLine FitsShape
 fields-write-read [] [] s p acc h d e = rw (eq-eqb p (length s) (omega arith), append-nil)
 fields-write-read [] (v ∷ vs) s p acc h d e = absurd h
 fields-write-read (f ∷ fs) [] s p acc h d e = absurd h
@@ -50,10 +50,10 @@ pub record Wrote (fs rest before all : List ℕ) : Type 0 where
   pub vs : List ℕ
   pub whole : all ≡ before ++ vs
   pub text : rest ≡ writeLine fs vs
-  pub range : InRange fs vs
+  pub range : FitsShape fs vs
 
 pub fields-read-write : (fs s : List ℕ) (p : ℕ) (acc all : List ℕ) → fieldsFrom fs s p acc ≡ good all → Wrote fs (drop p s) acc all
-unfolding fieldsFrom writeLine InRange
+unfolding fieldsFrom writeLine FitsShape
 fields-read-write [] s p acc all e = go (eqb p (length s)) refl e
   where
     go : (t : Bool) → eqb p (length s) ≡ t → cond t (good acc) (bad p) ≡ good all → Wrote [] (drop p s) acc all

@@ -10,10 +10,9 @@ use borrow.Author.Tests.{eqb-false, ne-eqb}
 use Rattle.text.specs.Bytes.{number}
 use Rattle.text.specs.Number.{base}
 use Rattle.text.specs.ReadNumber.{digitOf, digitsFrom, numberFrom, numberAt}
-use Rattle.text.specs.Mark.{markOf, endFrom, markFrom, markAt}
-use Rattle.text.specs.Field.{fieldAt}
+use Rattle.text.specs.ReadMark.{markOf, endFrom, markFrom, markAt}
+use Rattle.text.specs.ReadLine.{fieldAt, good, bad, fieldThen, fieldsFrom}
 use Rattle.text.specs.WriteLine.{endOf}
-use Rattle.text.specs.ReadLine.{good, bad, fieldThen, fieldsFrom}
 use Rattle.text.specs.declared.field.Field.{Field}
 use Rattle.text.specs.declared.field.Field.the-variants.{Is, Bad}
 use Rattle.text.proofs.Apart.{clash}

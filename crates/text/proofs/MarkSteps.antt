@@ -6,8 +6,9 @@ use lib.ListN.{length, getD, drop, drop-of-length-le}
 use borrow.Author.Tests.{le-ltb, lt-ltb, eq-eqb, ne-eqb}
 use Rattle.text.specs.Bytes.{number}
 use Rattle.text.specs.ReadNumber.{numberAt}
-use Rattle.text.specs.Mark.{marks, markOf, endFrom, markAt}
-use Rattle.text.specs.Field.{fieldAt}
+use Rattle.text.specs.Mark.{marks}
+use Rattle.text.specs.ReadMark.{markOf, endFrom, markAt}
+use Rattle.text.specs.ReadLine.{fieldAt}
 use Rattle.text.specs.declared.field.Field.{Field}
 use Rattle.text.specs.declared.field.Field.the-variants.{Is, Bad}
 use Rattle.text.proofs.Lists.{here}

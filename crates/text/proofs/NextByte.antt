@@ -8,7 +8,8 @@ use lib.Dec.{ltb, leb, eqb}
 use borrow.Author.Tests.{ltb-true, leb-false, eqb-true, eqb-false}
 use Rattle.text.specs.Number.{base, full}
 use Rattle.text.specs.ReadNumber.{digitOf, digitsFrom, numberFrom}
-use Rattle.text.specs.Mark.{marks, markOf, endFrom, markFrom}
+use Rattle.text.specs.Mark.{marks}
+use Rattle.text.specs.ReadMark.{markOf, endFrom, markFrom}
 use Rattle.text.specs.declared.field.Field.the-variants.{Is, Bad}
 
 -- the byte b behind the number v: one more digit, the end, or a fault

@@ -1,4 +1,4 @@
--- What a caller is told of a line: the values behind its letter, which is field 0; or the place of its first faulty byte.
+-- Internal: what a caller is told of a line: the values behind its letter, which is field 0; or the place of its first faulty byte.
 use lib.ListN.{getD}
 use Rattle.text.specs.ReadLine.{Reading, good, bad}
 use Rattle.text.specs.declared.OneNumber.{OneNumber}

@@ -1,4 +1,4 @@
--- The bytes that a table or a sheet is spelled with, each named once.
+-- To believe: the bytes that a table or a sheet is spelled with, each named once.
 use Prim.Native.Nat.{ℕ}
 
 -- fields are parted by one tab

@@ -1,4 +1,4 @@
--- What the general reader leaves behind: a verdict, and in a buffer the values, which count where the line is good.
+-- Internal: what the general reader leaves behind: a verdict, and in a buffer the values, which count where the line is good.
 use Prim.Native.Nat.{ℕ}
 use mathlib.Core.List.{List}
 use Rattle.text.specs.ReadLine.{Reading, good, bad}

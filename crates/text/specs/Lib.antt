@@ -3,6 +3,7 @@ pub mod Bytes
 pub mod Number
 pub mod ReadNumber
 pub mod Mark
+pub mod ReadMark
 pub mod Field
 pub mod WriteLine
 pub mod ReadLine

@@ -1,19 +1,25 @@
--- Numbers are 1 to 7 digits with no leading zero but 0 itself: how a number is spelled.
-use Prim.Native.Nat.{ℕ, zero, suc, _+_, _/_, _%_}
+-- To believe: how a number is spelled. `Spelling` says what 01 says of it, and `spelling-is` (text/Spellings) that it leaves one spelling, `digits`.
+use Prim.Native.Nat.{ℕ, zero, suc, _+_, _-_, _*_, _/_, _%_, _^_, _≤_, _<_}
 use mathlib.Core.List.{List, [], _∷_, _++_}
 use mathlib.Core.Bool.{cond}
+use mathlib.Core.Path.{_≡_}
+use lib.ListN.{length, getD}
 use lib.Dec.{ltb}
-use Rattle.text.specs.Bytes.{digit0}
+use Rattle.text.specs.Bytes.{digit0, digit9}
 
 -- a digit is below this
 abbrev pub base : ℕ
 base = 10
 
--- a number has at most 7 digits: it is below this
-abbrev pub limit : ℕ
-limit = 10000000
+-- a number has at most so many digits
+abbrev pub most : ℕ
+most = 7
 
--- from here on a number has 7 digits, and no further digit may follow
+-- and so is below this
+abbrev pub limit : ℕ
+limit = base ^ most
+
+-- from here on a number has all its digits, and no further digit may follow
 abbrev pub full : ℕ
 full = limit / base
 
@@ -25,3 +31,17 @@ digitsIn (suc k) n = cond (ltb n base) ((digit0 + n) ∷ []) (digitsIn k (n / ba
 -- the digits of n, the highest first (10 are enough for a u32)
 unfoldable pub digits : ℕ → List ℕ
 digits n = digitsIn 9 n
+
+-- the value of digits by their places: each times as many tens as digits follow it
+unfoldable pub byPlace : List ℕ → ℕ
+byPlace [] = 0
+byPlace (b ∷ t) = (b - digit0) * base ^ length t + byPlace t
+
+-- numbers are 1 to 7 digits with no leading zero but 0 itself: s spells n
+pub record Spelling (n : ℕ) (s : List ℕ) : Type 0 where
+  pub some : 1 ≤ length s
+  pub few : length s ≤ most
+  pub low : (k : ℕ) → k < length s → digit0 ≤ getD s k 0
+  pub high : (k : ℕ) → k < length s → getD s k 0 ≤ digit9
+  pub lead : getD s 0 0 ≡ digit0 → s ≡ digit0 ∷ []
+  pub value : byPlace s ≡ n

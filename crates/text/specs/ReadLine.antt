@@ -1,10 +1,12 @@
--- Reading a line by its shape, from left to right.
+-- Internal: reading a line by its shape, from left to right.
 use Prim.Native.Nat.{ℕ}
 use mathlib.Core.List.{List, [], _∷_, _++_}
 use mathlib.Core.Bool.{cond}
 use lib.ListN.{length}
 use lib.Dec.{eqb}
-use Rattle.text.specs.Field.{fieldAt}
+use Rattle.text.specs.Bytes.{number}
+use Rattle.text.specs.ReadMark.{markAt}
+use Rattle.text.specs.ReadNumber.{numberAt}
 use Rattle.text.specs.WriteLine.{endOf}
 use Rattle.text.specs.declared.field.Field.{Field}
 use Rattle.text.specs.declared.field.Field.the-variants.{Is, Bad}
@@ -13,6 +15,10 @@ use Rattle.text.specs.declared.field.Field.the-variants.{Is, Bad}
 pub data Reading : Type 0 where
   good : List ℕ → Reading
   bad : ℕ → Reading
+
+-- what is read as the field f at the place p of the text s, with the byte `end` behind it
+unfoldable pub fieldAt : ℕ → List ℕ → ℕ → ℕ → Field
+fieldAt f s p end = cond (eqb f number) (numberAt s p end) (markAt f s p end)
 
 -- a field that was read, then what `next` makes of its value and the place behind it
 unfoldable pub fieldThen : Field → (ℕ → ℕ → Reading) → Reading

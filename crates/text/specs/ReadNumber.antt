@@ -1,4 +1,4 @@
--- Reading a number with the byte `end` behind it: its value and the place behind that byte, or the place of the first faulty byte.
+-- Internal: reading a number with the byte `end` behind it: its value and the place behind that byte, or the place of the first faulty byte.
 use Prim.Native.Nat.{ℕ, _+_, _-_, _*_}
 use mathlib.Core.List.{List, [], _∷_}
 use mathlib.Core.Bool.{cond}

@@ -1,4 +1,4 @@
--- The six lines of a table and a sheet: the shape of each, and its text.
+-- To believe: the six lines of a table and a sheet: the shape of each, and its text.
 use Prim.Native.Nat.{ℕ}
 use mathlib.Core.List.{List, [], _∷_}
 use Rattle.text.specs.Bytes.{letterR, letterD, letterC, letterL, letterZ, number, way}

@@ -1,4 +1,4 @@
--- A line's shape is a list of bytes, one for each field: n a number, w a way, any other byte that letter itself. A line of the shape has a
+-- To believe: a line's shape is a list of bytes, one for each field: n a number, w a way, any other byte that letter itself. A line of the shape has a
 -- value for each field, spelled in order; fields are parted by one tab, and the line ends with LF.
 use Prim.Native.Nat.{ℕ, _<_}
 use mathlib.Core.List.{List, [], _∷_, _++_}
@@ -19,8 +19,8 @@ writeLine (f ∷ fs) [] = []
 writeLine (f ∷ fs) (v ∷ vs) = spell f v ++ endOf (length fs) ∷ writeLine fs vs
 
 -- there is one value for each field, and the field has it
-unfoldable pub InRange : List ℕ → List ℕ → Type 0
-InRange [] [] = Unit {0}
-InRange [] (v ∷ vs) = ⊥
-InRange (f ∷ fs) [] = ⊥
-InRange (f ∷ fs) (v ∷ vs) = (v < top f) × InRange fs vs
+unfoldable pub FitsShape : List ℕ → List ℕ → Type 0
+FitsShape [] [] = Unit {0}
+FitsShape [] (v ∷ vs) = ⊥
+FitsShape (f ∷ fs) [] = ⊥
+FitsShape (f ∷ fs) (v ∷ vs) = (v < top f) × FitsShape fs vs

@@ -1,4 +1,4 @@
--- What a writer does to a buffer.
+-- Internal: what a writer does to a buffer.
 use Prim.Native.Nat.{ℕ, _+_}
 use mathlib.Core.Path.{_≡_}
 use mathlib.Core.List.{List}

@@ -8,7 +8,8 @@ ghost use mathlib.Core.Path.{_≡_};
 ghost use mathlib.Core.List.{[], _∷_, _++_};
 ghost use Prim.Native.Nat.{_+_, _≤_};
 ghost use lib.ListN.{length};
-ghost use Rattle.text.specs.Field.{fieldAt, spell};
+ghost use Rattle.text.specs.Field.{spell};
+ghost use Rattle.text.specs.ReadLine.{fieldAt};
 ghost use Rattle.text.specs.Written.{Written};
 
 // What a shape names a field by, where it is no letter.

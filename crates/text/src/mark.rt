@@ -4,7 +4,8 @@ use crate::WAY_F;
 use crate::field::Field;
 use crate::field::WAY;
 ghost use mathlib.Core.Path.{_≡_};
-ghost use Rattle.text.specs.Mark.{marks, markOf, markByte, markAt};
+ghost use Rattle.text.specs.Mark.{marks, markByte};
+ghost use Rattle.text.specs.ReadMark.{markOf, markAt};
 
 // How many marks the field f has: a way two, a letter one.
 fn marks_of(f: u8) -> u32

@@ -1,5 +1,5 @@
 -- `text::mark::mark_of` meets its contract: its tests are those of the definition.
-use Rattle.text.specs.Mark.{markOf}
+use Rattle.text.specs.ReadMark.{markOf}
 use Rattle.text.proofs.Tests.{tests}
 use Rattle.text.proofs.mark.mark_of.Statement.{statement}
 use Rattle.text.proofs.mark.mark_of.Tie as tie

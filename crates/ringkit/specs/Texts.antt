@@ -1,0 +1,45 @@
+-- To believe: which values a text is the table or the sheet of, and which text is due to it.
+use Prim.Native.Nat.{ℕ}
+use mathlib.Core.List.{List}
+use mathlib.Core.Path.{_≡_}
+use Rattle.ring.specs.Limits.{desk}
+use Rattle.ring.specs.Row.{Row}
+use Rattle.ring.specs.Sheet.{Sheet, plan}
+use Rattle.ring.specs.True.{TrueSheet}
+use Rattle.sheet.specs.Range as sheet-range
+use Rattle.sheet.specs.WriteSheet.{writeSheet}
+use Rattle.table.specs.Table.{writeTable, InRange}
+
+-- t is the table of these values, and they are in the desk's range
+pub record TableOf (t : List ℕ) (n : ℕ) (rs : List Row) : Type 0 where
+  pub text : t ≡ writeTable n rs
+  pub range : InRange desk n rs
+
+-- t is the sheet of these values, they are in the desk's range, and the sheet is true
+pub record SheetOf (t : List ℕ) (x : Sheet) : Type 0 where
+  pub text : t ≡ writeSheet x
+  pub range : sheet-range.InRange desk x
+  pub true-sheet : TrueSheet x
+
+-- ---- what is due
+
+-- the text that is due to a table
+pub record TableDue (due : ℕ → List Row → List ℕ) (t text : List ℕ) : Type 0 where
+  pub n : ℕ
+  pub rs : List Row
+  pub of : TableOf t n rs
+  pub is : text ≡ due n rs
+
+-- something is due
+pub record SomeDue (due : ℕ → List Row → List ℕ) (t : List ℕ) : Type 0 where
+  pub text : List ℕ
+  pub is : TableDue due t text
+
+-- the sheet that the four rules give
+abbrev pub sheetDue : ℕ → List Row → List ℕ
+sheetDue n rs = writeSheet (plan n rs)
+
+-- the text that is due where an accepted text is read and written again: the same bytes
+pub record Itself (Accepted : Type 0) (t text : List ℕ) : Type 0 where
+  pub accepted : Accepted
+  pub same : text ≡ t
