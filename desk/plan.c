@@ -134,7 +134,7 @@ static void tell_links(FILE *out, const struct plan *plan)
 
 void tell_plan(FILE *out, const struct plan *plan)
 {
-    fprintf(out, "Ring of %u offices, %u circuit%s; amounts and loads in STS-1.\n", plan->offices, plan->circuits, plan->circuits == 1 ? "" : "s");
+    fprintf(out, "Ring of %u offices, %u circuit%s; amounts and loads in %s.\n", plan->offices, plan->circuits, plan->circuits == 1 ? "" : "s", RINGKIT_UNIT);
     if (plan->circuits > 0) {
         tell_circuits(out, plan);
     }

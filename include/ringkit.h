@@ -46,6 +46,9 @@ extern "C" {
 #define RINGKIT_MAX_ROWS 496
 #define RINGKIT_MAX_AMOUNT 9999
 
+/* One unit of an amount, a load or a line size. */
+#define RINGKIT_UNIT "STS-1"
+
 /* A buffer of so many bytes suffices for every sheet that ringkit_route writes; this is proved. For rewriting, the text's own length suffices. */
 #define RINGKIT_SHEET_BYTES 28872
 
