@@ -1,5 +1,5 @@
--- To believe: what each of the rules A to D gives, in 01's words and apart from the definitions that say how it is found.
-use Prim.Native.Nat.{ℕ, _+_, _*_, _%_, _≤_, _<_, min}
+-- To believe: what each of the rules A to D gives, in 01's words, stated of its result.
+use Prim.Native.Nat.{ℕ, _+_, _*_, _/_, _%_, _≤_, _<_, min}
 use mathlib.Core.Bool.{false}
 use mathlib.Core.List.{List, [], _∷_}
 use mathlib.Core.Logic.{_⊎_}
@@ -9,7 +9,7 @@ use Rattle.ring.specs.Row.{Row}
 use Rattle.ring.specs.Cut.{Cut, Before, across}
 use Rattle.ring.specs.Routing.{Sent, Split, sentOver, splitLoad, Routed, F, B, routed, unsplitLoad}
 use Rattle.ring.specs.Crossing.{parallel, Disjoint, Holds}
-use Rattle.ring.specs.RuleB.{Room, slack, leastSlack, send, roomAfter}
+use Rattle.ring.specs.RuleB.{Room, slack, roomAfter}
 use Rattle.ring.specs.RuleC.{Two, both, toFront, toBack, inward}
 use Rattle.ring.specs.RuleD.{largestSplit}
 use Rattle.ring.specs.Sheet.{sents}
@@ -41,23 +41,35 @@ pub record LeastOf (room : Room) (number : ℕ → ℕ → ℕ) (r : Row) (s : �
   pub below : (g h : ℕ) → r .i ≤ g → g ≤ h → h < r .j → s ≤ slack room number g h
   pub one : InFront r (λ x y. s ≡ slack room number x y)
 
--- row r is sent, `rest` behind it: no difference in it is cut off at 0, s is the least slack and even, and no link gets above its room
-pub record RowSent (n : ℕ) (room : Room) (r : Row) (rest : List Row) : Type 0 where
-  pub slacks : (g h : ℕ) → r .i ≤ g → g ≤ h → h < r .j → 2 * across (r ∷ rest) g h ≤ room g + room h
-  pub least : LeastOf room (across (r ∷ rest)) r (leastSlack room (across (r ∷ rest)) r)
-  pub even : leastSlack room (across (r ∷ rest)) r % 2 ≡ 0
-  pub back : send room r rest .front ≤ 2 * r .d
-  pub rooms : (k : ℕ) → 1 ≤ k → k ≤ n → sentOver (send room r rest) k ≤ room k
+-- each two links, or one taken twice, have room for twice what lies across them
+abbrev pub Enough : ℕ → Room → List Row → Type 0
+Enough n room rs = (g h : ℕ) → 1 ≤ g → g ≤ h → h ≤ n → 2 * across rs g h ≤ room g + room h
 
--- each row in table order, with the rooms that it finds
-pub data RowsSent (n : ℕ) : Room → List Row → Type 0 where
-  all-sent : {room : Room} → RowsSent n room []
-  sent-then : {room : Room} {r : Row} {rest : List Row} → RowSent n room r rest → RowsSent n (roomAfter room (send room r rest)) rest → RowsSent n room (r ∷ rest)
+-- all rooms have one parity
+abbrev pub OneParity : ℕ → Room → Type 0
+OneParity n room = (g h : ℕ) → 1 ≤ g → g ≤ n → 1 ≤ h → h ≤ n → (room g + room h) % 2 ≡ 0
+
+-- row r is sent as t, with `rest` behind it: no slack of its front is cut off at 0; of them let s be the least, which is even; front is the smaller of 2d and s/2,
+-- back is 2d less front; and no link gets more than its room
+pub record RowSent (n : ℕ) (room : Room) (r : Row) (rest : List Row) (t : Sent) : Type 0 where
+  pub row : t .row ≡ r
+  pub slacks : (g h : ℕ) → r .i ≤ g → g ≤ h → h < r .j → 2 * across (r ∷ rest) g h ≤ room g + room h
+  pub s : ℕ
+  pub least : LeastOf room (across (r ∷ rest)) r s
+  pub even : s % 2 ≡ 0
+  pub front : t .front ≡ min (2 * r .d) (s / 2)
+  pub back : t .front + t .back ≡ 2 * r .d
+  pub rooms : (k : ℕ) → 1 ≤ k → k ≤ n → sentOver t k ≤ room k
+
+-- each row in table order, with the rooms that it finds: each link's room has fallen by what was sent over it
+pub data RowsSent (n : ℕ) : Room → List Row → List Sent → Type 0 where
+  all-sent : {room : Room} → RowsSent n room [] []
+  sent-then : {room : Room} {r : Row} {rest : List Row} {t : Sent} {ts : List Sent} → RowSent n room r rest t → RowsSent n (roomAfter room t) rest ts → RowsSent n room (r ∷ rest) (t ∷ ts)
 
 -- what rule B gives from rooms `room`: the demands with sums 2d, each sent as 01 says, and no link above its room
 pub record Sends (n : ℕ) (room : Room) (rs : List Row) (ss : List Sent) : Type 0 where
   pub divides : Divides 2 rs ss
-  pub each : RowsSent n room rs
+  pub each : RowsSent n room rs ss
   pub fits : (k : ℕ) → 1 ≤ k → k ≤ n → splitLoad ss k ≤ room k
 
 -- ---- C, parallel pairs
@@ -79,6 +91,13 @@ pub record Keeps (new old : Sent) : Type 0 where
   pub sum : new .front + new .back ≡ old .front + old .back
   pub split : Split new → Split old
 
+-- what one move does: no load rises, both rows are kept, and the pair is quiet
+pub record Moves (a b : Sent) (m : Two) : Type 0 where
+  pub loads : (k : ℕ) → sentOver (m .one) k + sentOver (m .two) k ≤ sentOver a k + sentOver b k
+  pub one : Keeps (m .one) a
+  pub two : Keeps (m .two) b
+  pub quiet : Quiet (m .one) (m .two)
+
 -- row by row
 abbrev pub KeepsAll : List Sent → List Sent → Type 0
 KeepsAll = Alike Keeps
@@ -89,7 +108,28 @@ pub record Untangled (old new : List Sent) : Type 0 where
   pub keeps : KeepsAll new old
   pub quiet : Pairs Quiet new
 
+-- ---- C and rows of the same two nodes (02, K1)
+
+-- the two nodes of one are those of the other
+pub record SameNodes (a b : Row) : Type 0 where
+  pub first : a .i ≡ b .i
+  pub second : a .j ≡ b .j
+
+-- two rows of the same nodes are not both split
+abbrev pub NotBoth : Sent → Sent → Type 0
+NotBoth a b = SameNodes (a .row) (b .row) → Split a → Split b → ⊥
+
 -- ---- D, unsplit directions
+
+-- of two rows that cross the later one begins later, inside the front of the earlier, and ends later
+pub record Crossed (a b : Row) : Type 0 where
+  pub begins : a .i < b .i
+  pub meets : b .i < a .j
+  pub ends : a .j < b .j
+
+-- two rows that are both split do so: then split rows are taken by rising first node
+abbrev pub Staggered : Sent → Sent → Type 0
+Staggered a b = Split a → Split b → Crossed (a .row) (b .row)
 
 -- D: no split row has a larger amount, and it is the amount of one, or 0
 pub record Largest (ss : List Sent) (most : ℕ) : Type 0 where

@@ -33,7 +33,7 @@ use Rattle.ringkit.specs.Outcome.{Fills}
 use Rattle.ringkit.specs.TableCalls.{tableRouted}
 use Rattle.ringkit.specs.SheetCalls.{verdictReply, sheetChecked, pairReply, questionReply, sheetParallel, ofSheet, sheetAfresh}
 use Rattle.ringkit.specs.Says.{CallPromise}
-use Rattle.ringkit.specs.Texts.{SheetOf, TableDue, sheetDue, Itself}
+use Rattle.ringkit.specs.Texts.{SheetOf, SomeSheet, SomeForm, TableDue, sheetDue, Itself}
 use Rattle.ringkit.specs.Answers.{yes, no, CheckSays, says-yes, says-no, CheckPromise, paired, not-asked, PairOf, NoPairOf, PairSays, a-pair, no-pair, refused as pair-refused, PairPromise}
 use Rattle.ringkit.specs.Demands.{FormedSheet, BestSheet, RoutedWell}
 use Rattle.ringkit.specs.declared.Reply.{Reply}
@@ -101,17 +101,22 @@ module _ {t : List ℕ} where
       let ea : at ≡ line = ap (λ (r : Reply). r .line) e in
       rw (← ew, ← ea) g
 
+  some-sheet : Accepted desk t ↔ SomeSheet t
+  some-sheet = (λ a. let r = accepted-is desk t .1 a in record { x = r .x; of = checked-is t (r .x) .0 (r .is) }, λ h. accepted-as t (h .x) (checked-is t (h .x) .1 (h .of)))
+
   check-laws : {r : Reply} → CheckSays t r → CheckPromise t r
   check-laws (says-yes a) =
       record {
         cases = says-yes a;
         accepts = (λ e. a, λ b. refl);
+        sheet = (λ e. some-sheet .0 a, λ h. refl);
         refuses = λ reason line. (λ e. absurd (yes-not-no reason line e), λ g. absurd (a reason line tt (g .holds)));
       }
   check-laws (says-no {reason = why} {line = at} g) =
       record {
         cases = says-no g;
         accepts = (λ e. absurd (yes-not-no why at (sym e)), λ a. absurd (a why at tt (g .holds)));
+        sheet = (λ e. absurd (yes-not-no why at (sym e)), λ h. absurd (some-sheet .1 h why at tt (g .holds)));
         refuses = λ reason line. (λ e. same-no reason line e g, λ h. let o = one-given g h in rw (o .0, o .1));
       }
 
@@ -120,6 +125,13 @@ pub check-promise : (t : List ℕ) (r : Reply) → r ≡ sheetChecked t → Chec
 check-promise t r e = subst (CheckPromise t) (sym e) (check-laws (checked t))
 
 -- ---- demand 3 of a well-formed sheet, and of one that is accepted
+
+-- a text is well-formed exactly when it is a sheet of some values in range, written
+pub well-formed-sheet : (t : List ℕ) → WellFormed desk t ↔ SomeForm t
+well-formed-sheet t = (
+  λ w. let f = well-formed-is desk t .1 w in let s = form-text desk desk-spelled t (f .x) .0 (f .is) in record { x = f .x; text = s .0; range = s .1 },
+  λ h. well-formed-is desk t .0 (record { x = h .x; is = form-text desk desk-spelled t (h .x) .1 (h .text, h .range) }),
+)
 
 pub formed-checked : (t : List ℕ) (r : Reply) → r ≡ sheetChecked t → WellFormed desk t → FormedSheet t r
 unfolding sheetChecked verdictReply
@@ -218,15 +230,17 @@ module _ (t text : List ℕ) (due : TableDue sheetDue t text) where
   accepted-sheet : check desk text ≡ accepted (plan (due .n) (due .rs))
   accepted-sheet = checked-is text (plan (due .n) (due .rs)) .1 routed-of
 
-  -- the checker accepts the sheet that is due
-  due-checked : sheetChecked text ≡ yes
-  unfolding sheetChecked verdictReply
-  due-checked = ap verdictReply accepted-sheet
+  -- the checker accepts the sheet that is due, and it has no parallel split pair
+  due-accepted-sheet : Accepted desk text
+  due-accepted-sheet = accepted-as text (plan (due .n) (due .rs)) accepted-sheet
 
-  -- and it has no parallel split pair
-  due-no-pair : sheetParallel text ≡ paired 0 0
-  unfolding sheetParallel questionReply pairReply
-  due-no-pair = ap questionReply accepted-sheet ∙ ap pairReply (plan-no-pair (due .n) (due .rs) (due .of .range .few) (due .of .range .rows))
+  due-no-pair : NoPairOf text
+  due-no-pair =
+      record {
+        x = plan (due .n) (due .rs);
+        of = routed-of;
+        none = no-pair-is (sents (plan (due .n) (due .rs) .rows)) .0 (plan-no-pair (due .n) (due .rs) (due .of .range .few) (due .of .range .rows));
+      }
 
 -- demands 2 and 3 of each accepted table
 pub demand-3 : (t old new : List ℕ) (r : Reply) → Fills (tableRouted t) old new r → table.Accepted desk t → RoutedWell t old new r
@@ -240,6 +254,6 @@ demand-3 t old new r call a =
       written = λ fits. route-promise t old new r call .succeeds (s .text) .1 (d, fits);
       best = best-of (s .text) (plan (d .n) (d .rs)) (routed-of t (s .text) d);
       demands = plan-demands (d .n) (d .rs) (d .of .range .few) (d .of .range .rows);
-      checked = due-checked t (s .text) d;
+      checked = due-accepted-sheet t (s .text) d;
       no-pair = due-no-pair t (s .text) d;
     }

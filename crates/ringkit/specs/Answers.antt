@@ -9,7 +9,7 @@ use Rattle.table.specs.Reasons.{numberOf}
 use Rattle.table.specs.declared.reason.Reason.{Reason}
 use Rattle.sheet.specs.Says.{Given, Accepted}
 use Rattle.checker.specs.Pair.{FirstPair, NoPair}
-use Rattle.ringkit.specs.Texts.{SheetOf}
+use Rattle.ringkit.specs.Texts.{SheetOf, SomeSheet}
 use Rattle.ringkit.specs.declared.Reply.{Reply}
 use Rattle.ringkit.specs.declared.PairReply.{PairReply}
 
@@ -31,6 +31,7 @@ pub data CheckSays (t : List ℕ) : Reply → Type 0 where
 pub record CheckPromise (t : List ℕ) (r : Reply) : Type 0 where
   pub cases : CheckSays t r
   pub accepts : (r ≡ yes) ↔ Accepted desk t
+  pub sheet : (r ≡ yes) ↔ SomeSheet t
   pub refuses : (reason : Reason) (line : ℕ) → (r ≡ no reason line) ↔ Given desk t reason line
 
 -- ---- the question: the first pair of split rows that are parallel

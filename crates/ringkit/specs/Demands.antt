@@ -11,10 +11,10 @@ use Rattle.ring.specs.Routing.{Sent, splitLoad, peak}
 use Rattle.ring.specs.Sheet.{Sheet, sents, demands}
 use Rattle.ring.specs.True.{TrueSheet}
 use Rattle.sheet.specs.Range as sheet-range
+use Rattle.sheet.specs.Says.{Accepted}
 use Rattle.sheet.specs.WriteSheet.{writeSheet}
-use Rattle.ringkit.specs.Answers.{yes, paired}
+use Rattle.ringkit.specs.Answers.{yes, NoPairOf}
 use Rattle.ringkit.specs.Says.{Success}
-use Rattle.ringkit.specs.SheetCalls.{sheetChecked, sheetParallel}
 use Rattle.ringkit.specs.Texts.{SheetOf, TableDue, sheetDue}
 use Rattle.ringkit.specs.declared.Reply.{Reply}
 
@@ -40,5 +40,5 @@ pub record RoutedWell (t old new : List ℕ) (r : Reply) : Type 0 where
   pub written : length sheet ≤ length old → Success sheet old new r
   pub best : BestSheet sheet
   pub demands : demands (sents (best .x .rows)) ≡ due .rs
-  pub checked : sheetChecked sheet ≡ yes
-  pub no-pair : sheetParallel sheet ≡ paired 0 0
+  pub checked : Accepted desk sheet
+  pub no-pair : NoPairOf sheet

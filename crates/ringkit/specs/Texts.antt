@@ -21,6 +21,17 @@ pub record SheetOf (t : List ℕ) (x : Sheet) : Type 0 where
   pub range : sheet-range.InRange desk x
   pub true-sheet : TrueSheet x
 
+-- it is one of some values
+pub record SomeSheet (t : List ℕ) : Type 0 where
+  pub x : Sheet
+  pub of : SheetOf t x
+
+-- t is the sheet of some values in the desk's range, true or not
+pub record SomeForm (t : List ℕ) : Type 0 where
+  pub x : Sheet
+  pub text : t ≡ writeSheet x
+  pub range : sheet-range.InRange desk x
+
 -- ---- what is due
 
 -- the text that is due to a table

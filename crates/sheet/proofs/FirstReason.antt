@@ -20,16 +20,16 @@ use Rattle.sheet.proofs.Tested.{Tested, is-so, not-so}
 -- ---- the first of the reasons that hold
 
 -- the reason of a verdict holds
-abbrev pub Holds : (Reason → Type 0) → Verdict → Type 0
-Holds P Fine = Unit {0}
-Holds P (Fault r) = P r
+abbrev pub HoldsAs : (Reason → Type 0) → Verdict → Type 0
+HoldsAs P Fine = Unit {0}
+HoldsAs P (Fault r) = P r
 
 pub record First (P : Reason → Type 0) (v : Verdict) : Type 0 where
-  pub holds : Holds P v
+  pub holds : HoldsAs P v
   pub least : (s : Reason) → P s → NoLater v s
 
 module _ {P Q : Reason → Type 0} where
-  also-holds : (v : Verdict) → ((s : Reason) → P s → Q s) → Holds P v → Holds Q v
+  also-holds : (v : Verdict) → ((s : Reason) → P s → Q s) → HoldsAs P v → HoldsAs Q v
   also-holds Fine f h = tt
   also-holds (Fault r) f h = f r h
 
@@ -43,7 +43,7 @@ module _ {P Q : Reason → Type 0} where
   or-else-first {v = Fine} {w} late f g =
       record { holds = go w (g .holds); least = λ s. ⊎-elim (λ p. absurd (f .least s p)) (g .least s) }
     where
-      go : (w : Verdict) → Holds Q w → Holds (λ s. P s ⊎ Q s) w
+      go : (w : Verdict) → HoldsAs Q w → HoldsAs (λ s. P s ⊎ Q s) w
       go Fine h = tt
       go (Fault r) h = inr h
   or-else-first {v = Fault r} late f g = record { holds = inl (f .holds); least = λ s. ⊎-elim (f .least s) (late r s (f .holds)) }

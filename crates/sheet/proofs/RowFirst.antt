@@ -21,7 +21,7 @@ use Rattle.sheet.specs.Judge.{judgeHalves}
 use Rattle.sheet.specs.Check.{when, lastOf, judgeNext}
 use Rattle.sheet.specs.Says.{rows, SentIs, At, behind-ring, behind-row, RowAt, WrongOrder, Says}
 use Rattle.sheet.proofs.Last.{last-more}
-use Rattle.sheet.proofs.FirstReason.{Holds, First, first-as, or-else-first, only-then, Counts, form-first, when-first}
+use Rattle.sheet.proofs.FirstReason.{HoldsAs, First, first-as, or-else-first, only-then, Counts, form-first, when-first}
 use Rattle.sheet.proofs.SheetJudged.{AgainstHalves, halves-late, halves-first}
 use Rattle.sheet.proofs.SheetSaid.{said-of-row, Counted, AgainstDemand, AgainstSent, said, said-here}
 
@@ -53,7 +53,7 @@ module _ (limits : Limits) {t : List ℕ} {line n : ℕ} {rs : List Routed} {r :
       record { holds = go judged; least = λ s p. row-least judged (p .0) }
     where
       go : {v : Verdict} → RowJudged limits n (length rs) (lastOf rs .i) (lastOf rs .j) (r .sent .row .i) (r .sent .row .j) (r .sent .row .d) v
-          → Holds (λ s. AgainstDemand limits n rs (r .sent .row) s × Says limits t s line) v
+          → HoldsAs (λ s. AgainstDemand limits n rs (r .sent .row) s × Says limits t s line) v
       go (no-such-node w) = (by-nodes w, record { r = r; row = row-at at is; wrong = w })
       go (not-below h k w) = (by-pair w, record { r = r; row = row-at at is; wrong = w })
       go (out-of-order h k l w) = (by-order w, order-holds at (row-at at is) (h .0) w)

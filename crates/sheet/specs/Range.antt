@@ -7,7 +7,7 @@ use Rattle.ring.specs.Lists.{Each}
 use Rattle.ring.specs.Row.{Row, TableRows}
 use Rattle.ring.specs.Routing.{Routed}
 use Rattle.ring.specs.Sheet.{Link, Sheet, sents, demands}
-use Rattle.text.specs.Number.{limit}
+use Rattle.text.specs.Number.{mostDigits, limit}
 use Rattle.text.specs.Shapes.{ringShape, sentShape, cutShape, linkShape, lastShape}
 use Rattle.sheet.specs.WriteSheet.{writeSheet}
 
@@ -43,4 +43,4 @@ pub record InRange (limits : Limits) (x : Sheet) : Type 0 where
 
 -- no sheet of so many rows and nodes is longer: a field has at most 7 digits and the byte behind them
 abbrev pub longest : Limits → ℕ
-longest limits = 8 * (length ringShape + length sentShape * limits .rows + length cutShape + length linkShape * limits .nodes + length lastShape)
+longest limits = (mostDigits + 1) * (length ringShape + length sentShape * limits .rows + length cutShape + length linkShape * limits .nodes + length lastShape)

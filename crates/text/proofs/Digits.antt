@@ -9,7 +9,8 @@ use native.Mathlib.Decide.{decLt}
 use lib.Dec.{ltb}
 use borrow.Author.Tests.{le-ltb, lt-ltb}
 use Rattle.text.specs.Bytes.{digit0}
-use Rattle.text.specs.Number.{base, full, limit, digitsIn, digits}
+use Rattle.text.specs.Number.{base, limit, digitsIn, digits}
+use Rattle.text.specs.ReadNumber.{full}
 
 in-suc : (k n : ℕ) → digitsIn (suc k) n ≡ cond (ltb n base) ((digit0 + n) ∷ []) (digitsIn k (n / base) ++ (digit0 + n % base) ∷ [])
 unfolding digitsIn

@@ -6,8 +6,8 @@ use mathlib.Core.Bool.{Bool, true, false}
 use native.Mathlib.Omega.{arith}
 use lib.Dec.{ltb, leb, eqb}
 use borrow.Author.Tests.{ltb-true, leb-false, eqb-true, eqb-false}
-use Rattle.text.specs.Number.{base, full}
-use Rattle.text.specs.ReadNumber.{digitOf, digitsFrom, numberFrom}
+use Rattle.text.specs.Number.{base}
+use Rattle.text.specs.ReadNumber.{full, digitOf, digitsFrom, numberFrom}
 use Rattle.text.specs.Mark.{marks}
 use Rattle.text.specs.ReadMark.{markOf, endFrom, markFrom}
 use Rattle.text.specs.declared.field.Field.the-variants.{Is, Bad}

@@ -4,8 +4,8 @@ use mathlib.Core.Path.{_≡_}
 use mathlib.Core.List.{List}
 use lib.ListN.{length, getD, drop, drop-of-length-le}
 use borrow.Author.Tests.{le-ltb, lt-ltb, le-leb, lt-leb, eq-eqb, ne-eqb}
-use Rattle.text.specs.Number.{base, full}
-use Rattle.text.specs.ReadNumber.{digitOf, digitsFrom, numberAt}
+use Rattle.text.specs.Number.{base}
+use Rattle.text.specs.ReadNumber.{full, digitOf, digitsFrom, numberAt}
 use Rattle.text.specs.declared.field.Field.the-variants.{Is, Bad}
 use Rattle.text.proofs.Lists.{here}
 

@@ -8,8 +8,8 @@ use lib.ListN.{length, drop, length-append}
 use lib.Dec.{ltb, leb}
 use borrow.Author.Tests.{ltb-false, le-ltb, lt-ltb, le-leb, lt-leb, eq-eqb, ne-eqb}
 use Rattle.text.specs.Bytes.{digit0, digit9}
-use Rattle.text.specs.Number.{base, full, limit, digits}
-use Rattle.text.specs.ReadNumber.{digitOf, digitsFrom, numberFrom, numberAt}
+use Rattle.text.specs.Number.{base, limit, digits}
+use Rattle.text.specs.ReadNumber.{full, digitOf, digitsFrom, numberFrom, numberAt}
 use Rattle.text.specs.declared.field.Field.the-variants.{Is}
 use Rattle.text.proofs.Apart.{clash}
 use Rattle.text.proofs.Lists.{behind, byte-over}
@@ -41,14 +41,14 @@ more-spelled v b hd hv hf = digits-more v (digitOf b) hv (omega arith) hd ∙ rw
 
 -- ---- what is spelled is read
 
-abbrev Reads : ℕ → Type 0
-Reads n = (end p : ℕ) (ys : List ℕ) → numberFrom end p (digits n ++ ys) ≡ digitsFrom end n (p + length (digits n)) ys
+abbrev ReadsOn : ℕ → Type 0
+ReadsOn n = (end p : ℕ) (ys : List ℕ) → numberFrom end p (digits n ++ ys) ≡ digitsFrom end n (p + length (digits n)) ys
 
-reads-one : (n : ℕ) → n < base → Reads n
+reads-one : (n : ℕ) → n < base → ReadsOn n
 unfolding numberFrom
 reads-one n h end p ys = rw (digits-one n h, byte-digit n h, lt-ltb n base h)
 
-reads-more : (v d : ℕ) → 0 < v → v < full → d < base → Reads v → Reads (v * base + d)
+reads-more : (v d : ℕ) → 0 < v → v < full → d < base → ReadsOn v → ReadsOn (v * base + d)
 unfolding digitsFrom
 reads-more v d hv hf hd ih end p ys =
     rw (digits-more v d hv (omega arith) hd, append-assoc, length-append)
@@ -60,7 +60,7 @@ pub number-write-read : (s ys : List ℕ) (at n end : ℕ) → n < limit → bas
     → numberAt s at end ≡ Is n (at + length (digits n) + 1)
 unfolding numberAt digitsFrom
 number-write-read s ys at n end h k e =
-    ap (numberFrom end at) e ∙ by-digits Reads reads-one reads-more n h end at (end ∷ ys) ∙ rw (le-ltb (digitOf end) base k, eq-eqb end end refl)
+    ap (numberFrom end at) e ∙ by-digits ReadsOn reads-one reads-more n h end at (end ∷ ys) ∙ rw (le-ltb (digitOf end) base k, eq-eqb end end refl)
 
 -- ---- what is read was spelled
 

@@ -9,7 +9,8 @@ use native.Mathlib.Nat.{pow-suc, pow-le-pow-right, one-le-pow, mul-assoc, add-mu
 use native.Mathlib.Decide.{ℕ-discrete}
 use lib.ListN.{length, getD, length-append}
 use Rattle.text.specs.Bytes.{digit0, digit9}
-use Rattle.text.specs.Number.{base, most, full, limit, digits, byPlace, Spelling}
+use Rattle.text.specs.Number.{base, limit, digits, byPlace, Spelling}
+use Rattle.text.specs.ReadNumber.{full}
 use Rattle.text.proofs.Digits.{digits-one, digits-more, by-digits}
 use Rattle.text.proofs.Lengths.{digits-seven}
 

@@ -1,4 +1,4 @@
--- What a line of a table or a sheet is, as text and as values. `WriteLine` and `FirstFault` are what to believe: `proofs/LineLaws.antt` fixes the reader by them.
+-- What a line of a table or a sheet is, as text and as values. `proofs/LineLaws.antt` fixes the reader by `WriteLine` and `FirstFault`.
 pub mod Bytes
 pub mod Number
 pub mod ReadNumber

@@ -12,16 +12,12 @@ abbrev pub base : ℕ
 base = 10
 
 -- a number has at most so many digits
-abbrev pub most : ℕ
-most = 7
+abbrev pub mostDigits : ℕ
+mostDigits = 7
 
 -- and so is below this
 abbrev pub limit : ℕ
-limit = base ^ most
-
--- from here on a number has all its digits, and no further digit may follow
-abbrev pub full : ℕ
-full = limit / base
+limit = base ^ mostDigits
 
 -- the digits of n, the highest first, where it has at most k + 1 of them
 unfoldable pub digitsIn : ℕ → ℕ → List ℕ
@@ -40,7 +36,7 @@ byPlace (b ∷ t) = (b - digit0) * base ^ length t + byPlace t
 -- numbers are 1 to 7 digits with no leading zero but 0 itself: s spells n
 pub record Spelling (n : ℕ) (s : List ℕ) : Type 0 where
   pub some : 1 ≤ length s
-  pub few : length s ≤ most
+  pub few : length s ≤ mostDigits
   pub low : (k : ℕ) → k < length s → digit0 ≤ getD s k 0
   pub high : (k : ℕ) → k < length s → getD s k 0 ≤ digit9
   pub lead : getD s 0 0 ≡ digit0 → s ≡ digit0 ∷ []

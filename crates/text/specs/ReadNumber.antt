@@ -1,13 +1,17 @@
 -- Internal: reading a number with the byte `end` behind it: its value and the place behind that byte, or the place of the first faulty byte.
-use Prim.Native.Nat.{ℕ, _+_, _-_, _*_}
+use Prim.Native.Nat.{ℕ, _+_, _-_, _*_, _/_}
 use mathlib.Core.List.{List, [], _∷_}
 use mathlib.Core.Bool.{cond}
 use lib.ListN.{drop}
 use lib.Dec.{ltb, leb, eqb}
 use Rattle.text.specs.Bytes.{digit0, digit9}
-use Rattle.text.specs.Number.{base, full}
+use Rattle.text.specs.Number.{base, limit}
 use Rattle.text.specs.declared.field.Field.{Field}
 use Rattle.text.specs.declared.field.Field.the-variants.{Is, Bad}
+
+-- from here on a number has all its digits, and no further digit may follow
+abbrev pub full : ℕ
+full = limit / base
 
 -- the value of a digit, `base` for any other byte
 unfoldable pub digitOf : ℕ → ℕ
