@@ -17,7 +17,7 @@ use Rattle.table.specs.Lines.{lines}
 use Rattle.table.specs.Reasons.{rankOf}
 use Rattle.table.specs.Says.{LineIs, RingIs}
 use Rattle.table.specs.declared.reason.Reason.{Reason}
-use Rattle.table.specs.declared.reason.Reason.the-variants.{TooLong, Misshapen, RingSize, NoSuchNode, NotBelow, OutOfOrder, TooMany, TooMuch, WrongSum, WrongWay, WrongCut, WrongLink, WrongLast, NotTight, OverBound, NoRoom}
+use Rattle.table.specs.declared.reason.Reason.the-variants.{TooLong, Misshapen, RingSize, NoSuchNode, NotBelow, OutOfOrder, TooMany, TooMuch, WrongSum, WrongWay, WrongCut, WrongLink, WrongLast, NotTight, OverBound, NotZero, NotSymmetric, SumTooMuch, NoRoom}
 use Rattle.table.proofs.Against.{AgainstRow, by-nodes, by-pair, by-order, by-count, by-amount}
 use Rattle.table.proofs.LineNumbers.{ring-one}
 use Rattle.table.proofs.ReasonNumbers.{same-rank, no-rank-0}
@@ -104,6 +104,9 @@ module _ {limits : Limits} {t : List ℕ} {line : ℕ} where
   said WrongLast h = of-line (h .due) (of-last (h .all) (h .is) (only (h .wrong))) refl
   said NotTight h = of-whole (h .0) (h .1 .whole) (inl (only (h .1 .wrong))) refl
   said OverBound h = of-whole (h .0) (h .1 .whole) (inr (only (h .1 .wrong))) refl
+  said NotZero h = absurd h
+  said NotSymmetric h = absurd h
+  said SumTooMuch h = absurd h
   said NoRoom h = absurd h
 
   -- of a line with a place

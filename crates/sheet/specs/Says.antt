@@ -17,7 +17,7 @@ use Rattle.table.specs.Lines.{lines}
 use Rattle.table.specs.Reasons.{rankOf}
 use Rattle.table.specs.Says.{LineIs, RingIs, WrongRing, NoNode}
 use Rattle.table.specs.declared.reason.Reason.{Reason}
-use Rattle.table.specs.declared.reason.Reason.the-variants.{TooLong, Misshapen, RingSize, NoSuchNode, NotBelow, OutOfOrder, TooMany, TooMuch, WrongSum, WrongWay, WrongCut, WrongLink, WrongLast, NotTight, OverBound, NoRoom}
+use Rattle.table.specs.declared.reason.Reason.the-variants.{TooLong, Misshapen, RingSize, NoSuchNode, NotBelow, OutOfOrder, TooMany, TooMuch, WrongSum, WrongWay, WrongCut, WrongLink, WrongLast, NotTight, OverBound, NotZero, NotSymmetric, SumTooMuch, NoRoom}
 use Rattle.sheet.specs.WriteSheet.{routedLine, loadLine}
 
 -- ---- lines
@@ -202,7 +202,10 @@ Says limits t WrongLink line = WrongLinkLine t line
 Says limits t WrongLast line = WrongLastLine t line
 Says limits t NotTight line = (line ≡ 0) × WrongPeak t
 Says limits t OverBound line = (line ≡ 0) × WrongBound t
--- this one judges no sheet
+-- the others judge no sheet
+Says limits t NotZero line = ⊥
+Says limits t NotSymmetric line = ⊥
+Says limits t SumTooMuch line = ⊥
 Says limits t NoRoom line = ⊥
 
 -- ---- which is given
@@ -224,6 +227,9 @@ stage WrongWay = 0
 stage WrongCut = 0
 stage WrongLink = 0
 stage WrongLast = 0
+stage NotZero = 0
+stage NotSymmetric = 0
+stage SumTooMuch = 0
 stage NoRoom = 0
 
 -- reason 1, with line 0, is tried first; then lines in order, and in a line the reasons in their order; then 13, then 14

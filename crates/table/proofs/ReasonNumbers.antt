@@ -8,18 +8,18 @@ use native.Mathlib.Decide.{decLt}
 use lib.ListN.{getD}
 use Rattle.table.specs.Reasons.{numberOf, rankOf}
 use Rattle.table.specs.declared.reason.Reason.{Reason}
-use Rattle.table.specs.declared.reason.Reason.the-variants.{TooLong, Misshapen, RingSize, NoSuchNode, NotBelow, OutOfOrder, TooMany, TooMuch, WrongSum, WrongWay, WrongCut, WrongLink, WrongLast, NotTight, OverBound, NoRoom}
+use Rattle.table.specs.declared.reason.Reason.the-variants.{TooLong, Misshapen, RingSize, NoSuchNode, NotBelow, OutOfOrder, TooMany, TooMuch, WrongSum, WrongWay, WrongCut, WrongLink, WrongLast, NotTight, OverBound, NotZero, NotSymmetric, SumTooMuch, NoRoom}
 
 -- from place 1 on
 abbrev byNumber : List Reason
 byNumber =
     NoRoom ∷ TooLong ∷ Misshapen ∷ RingSize ∷ NoSuchNode ∷ NotBelow ∷ OutOfOrder ∷ TooMuch ∷ WrongSum ∷ WrongWay ∷ WrongCut ∷ WrongLink ∷ WrongLast
-    ∷ NotTight ∷ OverBound ∷ NoRoom ∷ TooMany ∷ []
+    ∷ NotTight ∷ OverBound ∷ NoRoom ∷ TooMany ∷ NotZero ∷ NotSymmetric ∷ SumTooMuch ∷ []
 
 abbrev byRank : List Reason
 byRank =
     NoRoom ∷ TooLong ∷ Misshapen ∷ RingSize ∷ NoSuchNode ∷ NotBelow ∷ OutOfOrder ∷ TooMany ∷ TooMuch ∷ WrongSum ∷ WrongWay ∷ WrongCut ∷ WrongLink
-    ∷ WrongLast ∷ NotTight ∷ OverBound ∷ NoRoom ∷ []
+    ∷ WrongLast ∷ NotTight ∷ OverBound ∷ NotZero ∷ NotSymmetric ∷ SumTooMuch ∷ NoRoom ∷ []
 
 record InItsPlaces (r : Reason) : Type 0 where
   number : getD byNumber (numberOf r) NoRoom ≡ r
@@ -41,6 +41,9 @@ in-its-places WrongLink = record { number = refl; rank = refl }
 in-its-places WrongLast = record { number = refl; rank = refl }
 in-its-places NotTight = record { number = refl; rank = refl }
 in-its-places OverBound = record { number = refl; rank = refl }
+in-its-places NotZero = record { number = refl; rank = refl }
+in-its-places NotSymmetric = record { number = refl; rank = refl }
+in-its-places SumTooMuch = record { number = refl; rank = refl }
 in-its-places NoRoom = record { number = refl; rank = refl }
 
 -- a key under which each reason stands in a list, from place 1 on; 15 stands at place 0

@@ -10,7 +10,7 @@ use Rattle.table.specs.Judge.{judgeRing, judgeRow}
 use Rattle.table.specs.LineEnds.{LineEnds}
 use Rattle.table.specs.Reasons.{numberOf}
 use Rattle.table.specs.Table.{writeTable}
-use Rattle.table.specs.ReadTable.{tableOf}
+use Rattle.table.specs.ReadTable.{refused, tableOf}
 use Rattle.ring.specs.Columns.{rowsIn}
 use Rattle.table.specs.Arrays.{tableIn}
 use Rattle.table.specs.declared.reason.Reason.{Reason}
@@ -22,6 +22,9 @@ number-unique reason r q = same-result
 
 pub read-table-unique : (s : List ℕ) (r q : Table) → r ≡ tableIn (tableOf desk s) → q ≡ tableIn (tableOf desk s) → r ≡ q
 read-table-unique s r q = same-result
+
+pub refusal-unique : (reason : Reason) (line : ℕ) (r q : Table) → r ≡ tableIn (refused reason line) → q ≡ tableIn (refused reason line) → r ≡ q
+refusal-unique reason line r q = same-result
 
 module _ (n count : ℕ) (first second amount : List ℕ) where
   pub table-length-unique : (r q : ℕ) → r ≡ length (writeTable n (rowsIn count first second amount)) → q ≡ length (writeTable n (rowsIn count first second amount)) → r ≡ q

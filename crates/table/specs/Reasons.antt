@@ -1,7 +1,7 @@
--- To believe: 01's numbers of the reasons (01, "Reasons and their order"; 02, K1), and the order in which they are tried.
+-- To believe: 01's numbers of the reasons (01, "Reasons and their order"; 02, K1 and K2), and the order in which they are tried.
 use Prim.Native.Nat.{ℕ}
 use Rattle.table.specs.declared.reason.Reason.{Reason}
-use Rattle.table.specs.declared.reason.Reason.the-variants.{TooLong, Misshapen, RingSize, NoSuchNode, NotBelow, OutOfOrder, TooMany, TooMuch, WrongSum, WrongWay, WrongCut, WrongLink, WrongLast, NotTight, OverBound, NoRoom}
+use Rattle.table.specs.declared.reason.Reason.the-variants.{TooLong, Misshapen, RingSize, NoSuchNode, NotBelow, OutOfOrder, TooMany, TooMuch, WrongSum, WrongWay, WrongCut, WrongLink, WrongLast, NotTight, OverBound, NotZero, NotSymmetric, SumTooMuch, NoRoom}
 
 abbrev pub numberOf : Reason → ℕ
 -- text over 32,768 bytes
@@ -34,10 +34,16 @@ numberOf WrongLast = 12
 numberOf NotTight = 13
 -- the bound of rule D broken
 numberOf OverBound = 14
+-- a matrix's entry on the diagonal is not 0
+numberOf NotZero = 17
+-- a matrix's entry differs from its mirror entry
+numberOf NotSymmetric = 18
+-- a pair's sum passes 9,999
+numberOf SumTooMuch = 19
 -- lent buffer shorter than the text to be written
 numberOf NoRoom = 15
 
--- their order: by rising number, but 16 stands between 6 and 7
+-- their order: by rising number, but 16 stands between 6 and 7, and 15 behind all
 abbrev pub rankOf : Reason → ℕ
 rankOf TooLong = 1
 rankOf Misshapen = 2
@@ -54,4 +60,7 @@ rankOf WrongLink = 12
 rankOf WrongLast = 13
 rankOf NotTight = 14
 rankOf OverBound = 15
-rankOf NoRoom = 16
+rankOf NotZero = 16
+rankOf NotSymmetric = 17
+rankOf SumTooMuch = 18
+rankOf NoRoom = 19

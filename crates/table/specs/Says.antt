@@ -11,7 +11,7 @@ use Rattle.ring.specs.Row.{PairBefore}
 use Rattle.table.specs.Lines.{lines}
 use Rattle.table.specs.Reasons.{rankOf}
 use Rattle.table.specs.declared.reason.Reason.{Reason}
-use Rattle.table.specs.declared.reason.Reason.the-variants.{TooLong, Misshapen, RingSize, NoSuchNode, NotBelow, OutOfOrder, TooMany, TooMuch, WrongSum, WrongWay, WrongCut, WrongLink, WrongLast, NotTight, OverBound, NoRoom}
+use Rattle.table.specs.declared.reason.Reason.the-variants.{TooLong, Misshapen, RingSize, NoSuchNode, NotBelow, OutOfOrder, TooMany, TooMuch, WrongSum, WrongWay, WrongCut, WrongLink, WrongLast, NotTight, OverBound, NotZero, NotSymmetric, SumTooMuch, NoRoom}
 
 -- ---- lines
 
@@ -121,6 +121,9 @@ Says limits t WrongLink line = ⊥
 Says limits t WrongLast line = ⊥
 Says limits t NotTight line = ⊥
 Says limits t OverBound line = ⊥
+Says limits t NotZero line = ⊥
+Says limits t NotSymmetric line = ⊥
+Says limits t SumTooMuch line = ⊥
 Says limits t NoRoom line = ⊥
 
 -- ---- which is given

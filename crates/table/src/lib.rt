@@ -12,6 +12,7 @@ pub use lines::line_end;
 pub use read::Answer;
 pub use read::Table;
 pub use read::read_table;
+pub use read::refusal;
 pub use reason::Reason;
 pub use write::table_length;
 pub use write::write_table;

@@ -31,7 +31,8 @@ pub struct Table {
     pub amount: [u32; ROWS],
 }
 
-fn refusal(reason: Reason, line: u32) -> Table
+// A refusal beside arrays that hold no row.
+pub fn refusal(reason: Reason, line: u32) -> Table
     ensures { λ r. ⌜ r ≡ tableIn (refused reason line) ⌝ }
 {
     Table {

@@ -1,4 +1,4 @@
-// The reasons of 01's table and of 02's K1, in their order. Tables use the first eight and, where a buffer is lent, the last.
+// The reasons of 01's table and of 02's K1 and K2, in their order. Tables use the first eight and, where a buffer is lent, the last.
 ghost use mathlib.Core.Path.{_≡_};
 ghost use Rattle.table.specs.Reasons.{numberOf};
 
@@ -18,6 +18,9 @@ pub enum Reason {
     WrongLast,
     NotTight,
     OverBound,
+    NotZero,
+    NotSymmetric,
+    SumTooMuch,
     NoRoom,
 }
 
@@ -42,6 +45,9 @@ impl Reason {
             Reason::WrongLast => 12,
             Reason::NotTight => 13,
             Reason::OverBound => 14,
+            Reason::NotZero => 17,
+            Reason::NotSymmetric => 18,
+            Reason::SumTooMuch => 19,
             Reason::NoRoom => 15,
         }
     }

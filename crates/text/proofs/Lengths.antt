@@ -154,10 +154,10 @@ module _ (fs vs : List ℕ) (t sum : ℕ) (inv : Counting fs vs t sum) where
     pub counting-turn : Counting fs vs (t + 1) (sum + w + 1)
     counting-turn = record { bytes = omega (arith, rest-length fs vs t h l); within = omega arith }
 
-    pub sum-fits : length fs ≤ 7 → Fits w64 (sum + w)
+    pub sum-fits : length fs ≤ 1000 → Fits w64 (sum + w)
     sum-fits k = omega (arith, rest-length fs vs t h l, line-short fs vs)
 
-    pub sum-fits-one : length fs ≤ 7 → Fits w64 (sum + w + 1)
+    pub sum-fits-one : length fs ≤ 1000 → Fits w64 (sum + w + 1)
     sum-fits-one k = omega (arith, rest-length fs vs t h l, line-short fs vs)
 
   pub counting-done : length fs ≤ t → sum ≡ length (writeLine fs vs)

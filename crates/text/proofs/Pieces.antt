@@ -10,11 +10,11 @@ use mir.Val.{Fits}
 use Rattle.text.specs.Written.{Written}
 use Rattle.text.proofs.Writing.{written-behind, written-length}
 
--- `text k` is the lines at the places before k, each of at most 100 bytes
+-- `text k` is the lines at the places before k, each of at most 1,000 bytes
 pub record Pieces (line text : ℕ → List ℕ) : Type 0 where
   pub none : text 0 ≡ []
   pub more : (k : ℕ) → text (k + 1) ≡ text k ++ line k
-  pub short : (k : ℕ) → length (line k) ≤ 100
+  pub short : (k : ℕ) → length (line k) ≤ 1000
 
 module _ (line text : ℕ → List ℕ) (pieces : Pieces line text) where
   more-long : (k : ℕ) → length (text (k + 1)) ≡ length (text k) + length (line k)
@@ -36,7 +36,7 @@ pub record Measuring (line text : ℕ → List ℕ) (start count k size : ℕ) :
   pub pieces : Pieces line text
   pub is : size ≡ start + length (text k)
   pub within : k ≤ count
-  pub small : size ≤ start + 100 * k
+  pub small : size ≤ start + 1000 * k
 
 pub measuring-starts : (line text : ℕ → List ℕ) → Pieces line text → (start count : ℕ) → Measuring line text start count 0 start
 measuring-starts line text pieces start count = record { pieces = pieces; is = omega (arith, ap length (pieces .none)); within = omega arith; small = omega arith }
@@ -63,7 +63,7 @@ pub measured-all : (line text : ℕ → List ℕ) (count k size : ℕ) → Measu
 measured-all line text count k size measuring h = omega (arith, measured line text 0 count k size measuring h)
 
 -- so many lines have at most so many bytes
-pub text-short : (line text : ℕ → List ℕ) → Pieces line text → (count : ℕ) → length (text count) ≤ 100 * count
+pub text-short : (line text : ℕ → List ℕ) → Pieces line text → (count : ℕ) → length (text count) ≤ 1000 * count
 text-short line text pieces zero = omega (arith, ap length (pieces .none))
 text-short line text pieces (suc k) =
     let e : suc k ≡ k + 1 = omega arith in

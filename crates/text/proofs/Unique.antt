@@ -7,6 +7,10 @@ use Rattle.text.specs.ReadLine.{readLine}
 use Rattle.text.specs.Answers.{oneIn, twoIn, threeIn, sentIn}
 use Rattle.text.specs.Shapes.{ringShape, rowShape, sentShape, cutShape, linkShape, lastShape, ringLine, rowLine, sentLine, cutLine, linkLine, lastLine}
 use Rattle.text.specs.Written.{Written}
+use Rattle.text.specs.Bytes.{number}
+use Rattle.text.specs.ReadLine.{fieldAt}
+use Rattle.text.specs.WriteLine.{endOf, writeLine}
+use Rattle.text.specs.declared.field.Field.{Field}
 use Rattle.text.specs.declared.OneNumber.{OneNumber}
 use Rattle.text.specs.declared.TwoNumbers.{TwoNumbers}
 use Rattle.text.specs.declared.ThreeNumbers.{ThreeNumbers}
@@ -41,7 +45,13 @@ module _ (s : List ℕ) where
   pub read-last-unique : (r q : TwoNumbers) → r ≡ twoIn (readLine lastShape s) → q ≡ twoIn (readLine lastShape s) → r ≡ q
   read-last-unique r q = same-result
 
+  pub read-entry-unique : (at left : ℕ) (r q : Field) → r ≡ fieldAt number s at (endOf left) → q ≡ fieldAt number s at (endOf left) → r ≡ q
+  read-entry-unique at left r q = same-result
+
 -- ---- lengths
+
+pub line-length-unique : (shape vs : List ℕ) (r q : ℕ) → r ≡ length (writeLine shape vs) → q ≡ length (writeLine shape vs) → r ≡ q
+line-length-unique _ _ r q = same-result
 
 pub ring-length-unique : (n r q : ℕ) → r ≡ length (ringLine n) → q ≡ length (ringLine n) → r ≡ q
 ring-length-unique _ r q = same-result
@@ -64,6 +74,10 @@ last-length-unique _ _ r q = same-result
 -- ---- writers
 
 module _ (old : List ℕ) (at : ℕ) where
+  pub write-line-unique : (shape vs : List ℕ) (r q : ℕ) (new buf : List ℕ) → Written old at (writeLine shape vs) new r → Written old at (writeLine shape vs) buf q
+      → (r ≡ q) × (new ≡ buf)
+  write-line-unique _ _ r q new buf = same-written
+
   pub write-ring-unique : (n r q : ℕ) (new buf : List ℕ) → Written old at (ringLine n) new r → Written old at (ringLine n) buf q
       → (r ≡ q) × (new ≡ buf)
   write-ring-unique _ r q new buf = same-written

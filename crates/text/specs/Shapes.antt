@@ -1,6 +1,7 @@
--- To believe: the six lines of a table and a sheet: the shape of each, and its text.
+-- To believe: the six lines of a table and a sheet, and a line of numbers alone: the shape of each, and its text.
 use Prim.Native.Nat.{ℕ}
 use mathlib.Core.List.{List, [], _∷_}
+use lib.ListN.{length, replicate}
 use Rattle.text.specs.Bytes.{letterR, letterD, letterC, letterL, letterZ, number, way}
 use Rattle.text.specs.WriteLine.{writeLine}
 
@@ -28,6 +29,10 @@ linkShape = letterL ∷ number ∷ number ∷ number ∷ []
 abbrev pub lastShape : List ℕ
 lastShape = letterZ ∷ number ∷ number ∷ []
 
+-- a line of n numbers and no letter, in a matrix
+abbrev pub numbers : ℕ → List ℕ
+numbers n = replicate n number
+
 -- ---- their texts: the letter is the first field, and its value is 0
 
 -- R n
@@ -53,3 +58,7 @@ linkLine link split unsplit = writeLine linkShape (0 ∷ link ∷ split ∷ unsp
 -- Z unsplit-peak size
 abbrev pub lastLine : ℕ → ℕ → List ℕ
 lastLine peak size = writeLine lastShape (0 ∷ peak ∷ size ∷ [])
+
+-- a line of numbers, one for each value
+abbrev pub numbersLine : List ℕ → List ℕ
+numbersLine vs = writeLine (numbers (length vs)) vs

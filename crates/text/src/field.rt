@@ -18,7 +18,7 @@ pub(crate) const NUMBER: u8 = b'n';
 pub(crate) const WAY: u8 = b'w';
 
 // A field that was read: its value and the place behind it and its end; or the place of the faulty byte.
-pub(crate) enum Field {
+pub enum Field {
     Is(u32, usize),
     Bad(usize),
 }

@@ -13,13 +13,20 @@ mod answer; // what a line of so many numbers says
 use answer::read_one;
 use answer::read_three;
 use answer::read_two;
+pub use field::Field;
+use field::NUMBER;
+use field::read_field;
 use line::Line;
-use line::line_length;
+use line::end_of;
+pub use line::line_length;
 use line::read_line;
-use line::write_line;
+pub use line::write_line;
 ghost use mathlib.Core.Path.{_≡_};
 ghost use Prim.Native.Nat.{_+_, _≤_};
 ghost use lib.ListN.{length};
+ghost use Rattle.text.specs.Bytes.{number};
+ghost use Rattle.text.specs.ReadLine.{fieldAt};
+ghost use Rattle.text.specs.WriteLine.{endOf};
 ghost use Rattle.text.specs.ReadLine.{readLine};
 ghost use Rattle.text.specs.Written.{Written};
 ghost use Rattle.text.specs.Answers.{oneIn, twoIn, threeIn, sentIn};
@@ -72,6 +79,16 @@ pub enum SentRow {
         way: u32,
     },
     Bad(usize),
+}
+
+// ---- one number of a line, where the line is too long for an array of its values
+
+// Reads the number at `at`, which `left` numbers follow, and the byte behind it.
+pub fn read_entry(s: &[u8], at: usize, left: usize) -> Field
+    ensures { λ r. ⌜ r ≡ fieldAt number (now (s .entry)) at (endOf left) ⌝ }
+{
+    let end = end_of(left);
+    read_field(s, at, NUMBER, end)
 }
 
 // ---- R n

@@ -18,7 +18,7 @@ pub(crate) enum Line {
 }
 
 // The byte behind a field that `left` fields follow.
-fn end_of(left: usize) -> u8
+pub(crate) fn end_of(left: usize) -> u8
     ensures { λ r. ⌜ r ≡ endOf left ⌝ }
 {
     if left == 0 {
@@ -55,7 +55,7 @@ pub(crate) fn read_line(s: &[u8], shape: &[u8], values: &mut [u32]) -> Line
 }
 
 // Writes the line of a shape and its values from `at` on, and answers the place behind it.
-pub(crate) fn write_line(buf: &mut [u8], at: usize, shape: &[u8], values: &[u32]) -> usize
+pub fn write_line(buf: &mut [u8], at: usize, shape: &[u8], values: &[u32]) -> usize
     requires { ⌜ (length (now shape) ≤ length (now values)) × (at + length (writeLine (now shape) (now values)) ≤ length (now buf)) ⌝ }
     ensures { λ r. ⌜ Written (now (buf .entry)) at (writeLine (now (shape .entry)) (now (values .entry))) (now (buf .exit)) r ⌝ }
 {
@@ -70,8 +70,8 @@ pub(crate) fn write_line(buf: &mut [u8], at: usize, shape: &[u8], values: &[u32]
 }
 
 // How many bytes the line of a shape and its values has. The sum fits since no shape is long.
-pub(crate) fn line_length(shape: &[u8], values: &[u32]) -> usize
-    requires { ⌜ (length (now shape) ≤ 7) × (length (now shape) ≤ length (now values)) ⌝ }
+pub fn line_length(shape: &[u8], values: &[u32]) -> usize
+    requires { ⌜ (length (now shape) ≤ 1000) × (length (now shape) ≤ length (now values)) ⌝ }
     ensures { λ r. ⌜ r ≡ length (writeLine (now (shape .entry)) (now (values .entry))) ⌝ }
 {
     let mut sum: usize = 0;
