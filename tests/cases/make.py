@@ -1,16 +1,18 @@
 #!/usr/bin/env python3
-"""Writes crates/cases/stdin and stdout: stored cases for the public calls, and the answers that document 01 and K1 of 02 give them.
+"""Writes crates/cases/stdin and stdout: stored cases for the public calls, and the answers that document 01 and K1 and K2 of 02 give them.
 
-The answers come from the reading of these in reading.py and rules.py and from nothing else: no source of the project is used. Run it by hand after adding a
+The answers come from the reading of these in reading.py, matrix.py and rules.py and from nothing else: no source of the project is used. Run it by hand after adding a
 case and look at the difference; the tests only compare what the program writes with what is stored."""
 import functools
 import itertools
 import random
 
 import circuits
+import matrices
+import matrix
 import rules
 import sheets
-from reading import Sheet, fields, first_reason, first_reason_of_sheet, holding, lines_of, rewritten
+from reading import Sheet, first_reason, first_reason_of_sheet, holding, lines_of, rewritten
 from sheets import damaged, full, pairs, t, write_table
 
 ROOM, PATTERN = 40000, 85
@@ -30,14 +32,16 @@ def written(letter, text):
     """The text that a call writes, by the call's letter."""
     if letter == "S":
         return rewritten(text)
-    ring, *rows = lines_of(text)
-    n, rows = fields(ring, b"R", 1)[0], tuple(tuple(fields(row, b"D", 3)) for row in rows)
-    return rules.sheet(n, rows) if letter == "R" else write_table(n, rows)
+    n, rows = matrix.rows_of(text) if letter == "M" else matrix.table_values(text)
+    return {"R": rules.sheet, "W": matrix.write_matrix}.get(letter, write_table)(n, rows)
+
+
+REFUSALS = {"T": first_reason, "R": first_reason, "M": matrix.first_reason_of_matrix, "W": matrix.first_reason_of_sums}
 
 
 @functools.cache
 def refused(letter, text):
-    return first_reason(text) if letter in "TR" else first_reason_of_sheet(text)
+    return REFUSALS.get(letter, first_reason_of_sheet)(text)
 
 
 def answer(letter, text, room):
@@ -233,15 +237,20 @@ def of_sheets():
             yield "S", text, max(room, 0)
 
 
+def of_matrices():
+    """Matrices to read and tables to write; among these some of each kind of refused table."""
+    return matrices.cases([*itertools.islice(refusals(), 0, None, 5), *single_faults(), *itertools.islice(rings(), 0, None, 3), *longest(), *circuits.tables_of_497()], ROOM)
+
+
 def main():
     given, due = [], []
-    calls = [("T", text, min(room, ROOM)) for text, room in all_cases()] + [("R", *case) for case in to_route()] + [*of_sheets()]
+    calls = [("T", text, min(room, ROOM)) for text, room in all_cases()] + [("R", *case) for case in to_route()] + [*of_sheets(), *of_matrices()]
     for letter, text, room in dict.fromkeys(calls):
         given.append(b"%c%05d%05d\n" % (ord(letter), len(text), room) + text)
         due.append(letter + " %s\n" % " ".join(map(str, answer(letter, text, room))))
     open("crates/cases/stdin", "wb").write(b"".join(given))
     open("crates/cases/stdout", "w").write("".join(line[2:] for line in due))
-    for letter in "TRCPS":
+    for letter in "TRCPSMW":
         mine = [line.split() for line in due if line[0] == letter]
         print(letter, len(mine), "cases, reasons seen:", sorted({int(words[1]) for words in mine}))
     print("pairs seen:", len({line for line in due if line.startswith("P 0") and not line.endswith(" 0 0\n")}))

@@ -9,6 +9,12 @@ ORDER = (1, 2, 3, 4, 5, 6, 16, 7, 8, 9, 10, 11, 12, 13, 14)
 SHEET = {"R": 1, "D": 5, "C": 3, "L": 3, "Z": 2}
 
 
+def number(field):
+    """The number that a field spells; None where it is badly spelled."""
+    bad = not 1 <= len(field) <= 7 or any(c not in b"0123456789" for c in field) or (field[:1] == b"0" and field != b"0")
+    return None if bad else int(field)
+
+
 def fields(line, letter, numbers, way=False):
     """The numbers of a line, and its way as F or B; None where it has not this shape."""
     if not line.endswith(b"\n"):
@@ -18,11 +24,9 @@ def fields(line, letter, numbers, way=False):
         return None
     if way and parts[-1] not in (b"F", b"B"):
         return None
-    out = []
-    for p in parts[1:1 + numbers]:
-        if not 1 <= len(p) <= 7 or any(c not in b"0123456789" for c in p) or (p[:1] == b"0" and p != b"0"):
-            return None
-        out.append(int(p))
+    out = [number(p) for p in parts[1:1 + numbers]]
+    if None in out:
+        return None
     return out + [parts[-1].decode()] if way else out
 
 

@@ -1,7 +1,7 @@
 // Runs stored cases: each is a header of 12 bytes (the letter of the call, the text's length and the buffer's in five digits each, LF) and
 // the text. Each is answered by a line: the reply's numbers, and a sum over every byte of the buffer, which is filled with a pattern before the call.
-// The letter T is `ringkit_rewrite_table`, R is `ringkit_route`, S is `ringkit_rewrite_sheet`. C is `ringkit_check` and P is `ringkit_parallel`: these lend no
-// buffer, so their lines have reason and line, and for P the two places. Any other letter ends the run.
+// The letter T is `ringkit_rewrite_table`, R is `ringkit_route`, S is `ringkit_rewrite_sheet`, M is `ringkit_read_matrix`, W is `ringkit_write_matrix`. C is
+// `ringkit_check` and P is `ringkit_parallel`: these lend no buffer, so their lines have reason and line, and for P the two places. Any other letter ends the run.
 use libc::STDIN_FILENO;
 use libc::STDOUT_FILENO;
 use ringkit::Reply;
@@ -75,6 +75,12 @@ fn lends(letter: u8) -> bool {
     if letter == b'S' {
         return true;
     }
+    if letter == b'M' {
+        return true;
+    }
+    if letter == b'W' {
+        return true;
+    }
     letter == b'R'
 }
 
@@ -84,6 +90,12 @@ fn call(letter: u8, text: &[u8], buffer: &mut [u8]) -> Reply {
     }
     if letter == b'S' {
         return ringkit::ringkit_rewrite_sheet(text, buffer);
+    }
+    if letter == b'M' {
+        return ringkit::ringkit_read_matrix(text, buffer);
+    }
+    if letter == b'W' {
+        return ringkit::ringkit_write_matrix(text, buffer);
     }
     ringkit::ringkit_rewrite_table(text, buffer)
 }
