@@ -87,25 +87,6 @@ pub fn after_z(text: &[u8]) -> Result<Sheet, Refusal> {
     check::read(text)
 }
 
-pub fn sheet_final_lf(text: &[u8]) -> Result<Sheet, Refusal> {
-    let missing = !text.ends_with(b"\n") && !text.is_empty();
-    let end: &[u8] = if missing { b"\n" } else { b"" };
-    check::read(&[text, end].concat())
-}
-
-pub fn sheet_cr_lf(text: &[u8]) -> Result<Sheet, Refusal> {
-    let mut kept = text.to_vec();
-    while let Some(at) = kept.windows(2).position(|two| two == b"\r\n") {
-        kept.remove(at);
-    }
-    check::read(&kept)
-}
-
-pub fn sheet_limit_high(text: &[u8]) -> Result<Sheet, Refusal> {
-    let end = text.len() - usize::from(text.len() == 32_769);
-    check::read(&text[..end])
-}
-
 pub fn lower_case(text: &[u8]) -> Result<Sheet, Refusal> {
     let mut upper = text.to_vec();
     for byte in &mut upper {

@@ -226,6 +226,26 @@ pub fn damage_lines(rng: &mut Rng, text: &mut Vec<u8>) {
     *text = lines.concat();
 }
 
+/// By number: the text with each byte given each value, then cut short there,
+/// with it dropped, and with bytes put in before it.
+pub fn byte_changed(mut text: Vec<u8>, number: u64) -> Option<Vec<u8>> {
+    let new = *b"RDZ\t\n\r 0123456789\0\xff.-+";
+    let each = 256 + new.len() + 2;
+    let (at, what) = (number as usize / each, number as usize % each);
+    if at >= text.len() {
+        return None;
+    }
+    match what {
+        0..=255 => text[at] = what as u8,
+        256 => text.truncate(at),
+        257 => {
+            text.remove(at);
+        }
+        _ => text.insert(at, new[what - 258]),
+    }
+    Some(text)
+}
+
 /// All sequences of one to `longest` of these, by number.
 pub fn sequence<'a>(choices: &[&'a str], longest: u32, mut number: u64) -> Option<Vec<&'a str>> {
     let base = choices.len() as u64;
@@ -257,29 +277,36 @@ pub fn damage_fields(rng: &mut Rng, text: &mut Vec<u8>) {
     }
     let first = rng.chance(1, 12);
     let at = if first { 0 } else { any_line(rng, &lines) };
-    let ended = lines[at].ends_with(b"\n");
-    let body = lines[at].strip_suffix(b"\n").unwrap_or(&lines[at]);
+    change_fields(&mut lines[at], |fields| {
+        let field = rng.below(fields.len());
+        match rng.below(16) {
+            0 => fields.insert(field, fields[field].clone()),
+            1 => {
+                fields.remove(field);
+            }
+            2 | 3 if fields.len() > 2 => fields.swap(1, 2),
+            4 => fields[field] = rng.pick(&ODD).as_bytes().to_vec(),
+            _ => {
+                let number = fields.len() > 1 && field == 0;
+                let field = if number { 1 } else { field };
+                fields[field] = rng.pick(&BOUNDARY).as_bytes().to_vec();
+            }
+        }
+    });
+    *text = lines.concat();
+}
+
+/// A line with its fields changed; its LF, if it has one, stays.
+pub fn change_fields(line: &mut Vec<u8>, change: impl FnOnce(&mut Vec<Vec<u8>>)) {
+    let ended = line.ends_with(b"\n");
+    let body = line.strip_suffix(b"\n").unwrap_or(line);
     let split = body.split(|byte| *byte == b'\t');
     let mut fields: Vec<Vec<u8>> = split.map(|field| field.to_vec()).collect();
-    let field = rng.below(fields.len());
-    match rng.below(16) {
-        0 => fields.insert(field, fields[field].clone()),
-        1 => {
-            fields.remove(field);
-        }
-        2 | 3 if fields.len() > 2 => fields.swap(1, 2),
-        4 => fields[field] = rng.pick(&ODD).as_bytes().to_vec(),
-        _ => {
-            let number = fields.len() > 1 && field == 0;
-            let field = if number { 1 } else { field };
-            fields[field] = rng.pick(&BOUNDARY).as_bytes().to_vec();
-        }
-    }
-    lines[at] = fields.join(&b'\t');
+    change(&mut fields);
+    *line = fields.join(&b'\t');
     if ended {
-        lines[at].push(b'\n');
+        line.push(b'\n');
     }
-    *text = lines.concat();
 }
 
 /// Two nodes, many of them on one side or the other of a limit.

@@ -1,8 +1,9 @@
 //! The groups of cases: of tables whole lists first, then random tables and
-//! texts; the groups of sheets after them.
+//! texts; the groups of sheets after them, and those of matrices last.
 
 use crate::compare::{Case, Lend};
 use crate::gen::{self, Amounts};
+use crate::matrices;
 use crate::rng::Rng;
 use crate::sheet::table_text;
 use crate::sheets;
@@ -10,8 +11,8 @@ use crate::table::{Row, Table};
 use crate::twin::Call;
 
 /// A group of cases. A group with share 0 is a list: it runs until `make`
-/// gives None. Any other runs until it has its share, out of 10,000, of the
-/// number of random comparisons.
+/// gives None. Any other runs until it has its share, out of all `SHARES`, of
+/// the number of random comparisons.
 pub struct Group {
     pub name: &'static str,
     pub share: u64,
@@ -22,7 +23,17 @@ const fn group(name: &'static str, share: u64, make: fn(&mut Rng, u64) -> Option
     Group { name, share, make }
 }
 
-pub const GROUPS: [Group; 49] = [
+/// What the shares of all groups add up to.
+pub const SHARES: u64 = {
+    let (mut at, mut sum) = (0, 0);
+    while at < GROUPS.len() {
+        sum += GROUPS[at].share;
+        at += 1;
+    }
+    sum
+};
+
+pub const GROUPS: [Group; 68] = [
     group("numbers to try of 01 and K1", 0, numbers_to_try),
     group("all small tables", 0, all_small),
     group("about 496 rows", 0, about_496),
@@ -88,6 +99,25 @@ pub const GROUPS: [Group; 49] = [
     group("damaged sheets: several times", 150, sheets::damaged_often),
     group("padded sheets", 50, sheets::padded),
     group("tables and noise for sheets", 50, sheets::no_sheets),
+    group("matrices: by hand", 0, matrices::by_hand),
+    group("matrices: all small ones", 0, matrices::all_small),
+    group("matrices: every byte", 0, matrices::every_byte),
+    group("matrices: every buffer length", 0, matrices::every_length),
+    group("matrices: all small sums", 0, matrices::small_sums),
+    group("matrices", 250, matrices::any),
+    group("matrices, full rings", 150, matrices::full),
+    group("matrices with faulty entries", 400, matrices::spoiled),
+    group("matrices turned about", 100, matrices::turned),
+    group("damaged matrices: bytes", 300, matrices::damaged_bytes),
+    group("damaged matrices: lines", 250, matrices::damaged_lines),
+    group("damaged matrices: fields", 250, matrices::damaged_fields),
+    group("damaged matrices: long lines", 60, matrices::long_lines),
+    group("damaged matrices: several times", 200, matrices::damaged_often),
+    group("padded matrices", 60, matrices::padded),
+    group("matrices of tables", 200, matrices::written),
+    group("matrices of tables, sums about 9999", 400, matrices::about_the_limit),
+    group("matrices of damaged tables", 200, matrices::damaged_tables),
+    group("matrices of tables too long", 80, matrices::long_tables),
 ];
 
 pub const LENDS: [Lend; 6] = [
@@ -143,7 +173,7 @@ fn two_trials(rng: &mut Rng) -> Vec<(Call, Lend)> {
     lends.to_vec()
 }
 
-fn of_table(table: &Table, trials: Vec<(Call, Lend)>) -> Option<Case> {
+pub fn of_table(table: &Table, trials: Vec<(Call, Lend)>) -> Option<Case> {
     Some(Case {
         offices: table.n,
         text: table_text(table),
@@ -285,26 +315,11 @@ fn about_496(_: &mut Rng, case: u64) -> Option<Case> {
 /// The square with each byte given each value, then with bytes put in before
 /// it, then with it dropped or the text cut short there.
 fn every_byte(_: &mut Rng, case: u64) -> Option<Case> {
-    let new = *b"RDZ\t\n\r 0123456789\0\xff.-+";
-    let mut text = NUMBERS[0].replace('|', "\t").into_bytes();
-    let each = 256 + new.len() + 2;
-    let (at, what) = (case as usize / each, case as usize % each);
-    if at >= text.len() {
-        return None;
-    }
-    match what {
-        0..=255 => text[at] = what as u8,
-        256 => text.truncate(at),
-        257 => {
-            text.remove(at);
-        }
-        _ => text.insert(at, new[what - 258]),
-    }
-    let call = one_call(case);
+    let square = NUMBERS[0].replace('|', "\t").into_bytes();
     Some(Case {
         offices: 4,
-        text,
-        trials: vec![(call, Lend::Need(3))],
+        text: gen::byte_changed(square, case)?,
+        trials: vec![(one_call(case), Lend::Need(3))],
     })
 }
 
@@ -500,12 +515,16 @@ fn padded(rng: &mut Rng, _: u64) -> Option<Case> {
     if rng.chance(1, 2) {
         gen::damage_fields(rng, &mut case.text);
     }
+    padded_length(rng, &mut case.text);
+    Some(case)
+}
+
+pub fn padded_length(rng: &mut Rng, text: &mut Vec<u8>) {
     let lengths = [
         32_767, 32_768, 32_768, 32_768, 32_769, 32_769, 32_770, 65_536, 65_600, 98_304,
     ];
     let length = rng.pick(&lengths);
-    gen::pad(rng, &mut case.text, length);
-    Some(case)
+    gen::pad(rng, text, length);
 }
 
 fn noise(rng: &mut Rng, _: u64) -> Option<Case> {

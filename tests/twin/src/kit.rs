@@ -51,6 +51,18 @@ extern "C" {
         buffer_len: usize,
     ) -> Reply;
     fn ringkit_parallel(sheet_ptr: *const u8, sheet_len: usize) -> Pair;
+    fn ringkit_read_matrix(
+        matrix_ptr: *const u8,
+        matrix_len: usize,
+        buffer_ptr: *mut u8,
+        buffer_len: usize,
+    ) -> Reply;
+    fn ringkit_write_matrix(
+        table_ptr: *const u8,
+        table_len: usize,
+        buffer_ptr: *mut u8,
+        buffer_len: usize,
+    ) -> Reply;
 }
 
 #[cfg(not(mock))]
@@ -60,6 +72,8 @@ fn library(call: Call, text: &mut [u8], buffer: &mut [u8]) -> Said {
         Call::Route => ringkit_route,
         Call::Rewrite => ringkit_rewrite_table,
         Call::RewriteSheet => ringkit_rewrite_sheet,
+        Call::ReadMatrix => ringkit_read_matrix,
+        Call::WriteMatrix => ringkit_write_matrix,
         // SAFETY: the pointer comes from a slice of the length given, which
         // lives through the call.
         Call::Check => return Said::Reply(unsafe { ringkit_check(text_ptr, text_len) }),

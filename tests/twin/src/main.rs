@@ -1,6 +1,6 @@
-//! The twin: ring routing and the checking of sheets written once more from the
-//! sentences of 01 and of 02's K1 alone, and compared with the library call by
-//! call and byte by byte.
+//! The twin: ring routing, the checking of sheets and the reading and writing of
+//! matrices written once more from the sentences of 01 and of 02's K1 and K2
+//! alone, and compared with the library call by call and byte by byte.
 //!
 //! `twin [SEED [COUNT]]` compares: the lists in full and COUNT random
 //! comparisons. The exit status is 0 only when nothing failed.
@@ -21,8 +21,13 @@ mod foreign;
 mod gen;
 mod groups;
 mod kit;
+mod matrices;
+mod matrix;
+mod matrix_faults;
+mod matrix_selfcheck;
 mod mutant;
 mod rng;
+mod round_trips;
 mod row_faults;
 mod rules;
 mod selfcheck;
@@ -30,27 +35,32 @@ mod sheet;
 mod sheets;
 mod stored;
 mod table;
+mod text_faults;
 mod twin;
 
 use compare::{compare, describe, shrink, Case};
-use groups::{Group, GROUPS};
+use groups::{Group, GROUPS, SHARES};
 use kit::Kit;
-use mutant::{Mutant, FAULTS, SAME};
+use mutant::{faults, Mutant, SAME};
 use rng::Rng;
+use selfcheck::Outcome;
 use std::process::ExitCode;
 use std::time::Instant;
 use table::Table;
 use twin::{Answer, Call, Said, CALLS};
 
 const SEED: u64 = 20_010_496;
-const COUNT: u64 = 100_000;
-const MUTANT_COUNT: u64 = 12_000;
+const COUNT: u64 = 129_000;
+const MUTANT_COUNT: u64 = 15_480;
 /// The run goes on up to so many mismatches, one in a group at most.
 const MISMATCHES: usize = 5;
-/// Reasons 0, which is success, to 16: all must have been seen among the random
+/// Reasons 0, which is success, to 19: all must have been seen among the random
 /// cases.
-const REASONS: usize = 17;
-/// The size classes of accepted tables and sheets, by offices.
+const REASONS: usize = 20;
+/// What reading a matrix and writing one must have said among the random cases.
+const OF_READING: [usize; 8] = [0, 1, 2, 3, 7, 15, 17, 18];
+const OF_WRITING: [usize; 11] = [0, 1, 2, 3, 4, 5, 6, 7, 15, 16, 19];
+/// The size classes of accepted tables, sheets and matrices, by offices.
 const CLASSES: [(i64, i64); 7] = [
     (2, 3),
     (4, 7),
@@ -91,6 +101,9 @@ impl Accepted {
         }
         let [of_20, of_32] = self.full;
         println!("full {what} of 20 offices: {of_20}, of 32 offices: {of_32}");
+    }
+
+    fn print_circuits(&self, what: &str) {
         let [all, most] = self.circuits;
         println!("{what} with rows of the same nodes: {all}, of these {most} of 496 rows");
     }
@@ -100,13 +113,15 @@ impl Accepted {
 #[derive(Default)]
 struct Tally {
     comparisons: u64,
-    /// Comparisons with a table or sheet of 16 offices and more.
+    /// Comparisons with a table, sheet or matrix of 16 offices and more.
     large: u64,
     calls: [u64; CALLS.len()],
     reasons: [u64; REASONS],
-    random_reasons: [u64; REASONS],
+    /// In random cases, by call.
+    random_reasons: [[u64; REASONS]; CALLS.len()],
     tables: Accepted,
     sheets: Accepted,
+    matrices: Accepted,
     /// Random accepted sheets with no parallel pair, with one, and with one
     /// that is not the first two rows.
     pairs: [u64; 3],
@@ -120,6 +135,19 @@ impl Tally {
         if let Ok(sheet) = check::read(&case.text) {
             self.sheets.count(&sheet.table);
         }
+        if let Ok(matrix) = matrix::read(&case.text) {
+            self.matrices.count(&matrix::table_of(&matrix));
+        }
+    }
+
+    fn random(&self, reason: usize) -> u64 {
+        self.random_reasons.iter().map(|of_call| of_call[reason]).sum()
+    }
+
+    /// Whether a call gave each of these reasons in random cases.
+    fn gave(&self, call: Call, reasons: &[usize]) -> bool {
+        let given = self.random_reasons[call as usize];
+        reasons.iter().all(|reason| given[*reason] > 0)
     }
 
     fn count_said(&mut self, case: &Case, call: Call, said: Said, random: bool) {
@@ -128,7 +156,7 @@ impl Tally {
         self.large += u64::from(case.offices >= 16);
         self.calls[call as usize] += 1;
         self.reasons[reason] += 1;
-        self.random_reasons[reason] += u64::from(random);
+        self.random_reasons[call as usize][reason] += u64::from(random);
         if let (Said::Pair(pair), 0, true) = (said, reason, random) {
             self.pairs[0] += u64::from(pair.first == 0);
             self.pairs[1] += u64::from(pair.first > 0);
@@ -158,7 +186,7 @@ impl Run<'_> {
         let quota = if list {
             u64::MAX
         } else {
-            self.count * group.share / 10_000
+            self.count * group.share / SHARES
         };
         let mut ended = Ended {
             comparisons: 0,
@@ -200,9 +228,9 @@ impl Run<'_> {
     }
 }
 
-/// The twin's own checks: how many passed, how many failed.
+/// The twin's own checks.
 fn self_checks(seed: u64) -> (u64, u64) {
-    let outcomes = [
+    passed_and_failed(&[
         ("self-check: the square", selfcheck::square()),
         ("self-check: document 002", selfcheck::document_002()),
         ("self-check: figure 4.1", selfcheck::figure_4_1()),
@@ -210,10 +238,30 @@ fn self_checks(seed: u64) -> (u64, u64) {
         ("self-check: refusals", selfcheck::refusals()),
         ("self-check: sheets", selfcheck::sheets()),
         ("self-check: circuits", selfcheck::circuits()),
+        ("self-check: matrices", matrix_selfcheck::matrices()),
+        ("self-check: sums", matrix_selfcheck::sums()),
         ("self-check: theorems", selfcheck::random_theorems(seed)),
-    ];
+    ])
+}
+
+/// What the library's calls make of each other's texts.
+fn ways_there_and_back(kit: Kit, seed: u64) -> (u64, u64) {
+    passed_and_failed(&[
+        (
+            "matrix to table to matrix",
+            round_trips::of_matrices(kit, seed),
+        ),
+        (
+            "table to matrix to table",
+            round_trips::of_tables(kit, seed),
+        ),
+    ])
+}
+
+/// Prints each outcome: how many passed, how many failed.
+fn passed_and_failed(outcomes: &[(&str, Outcome)]) -> (u64, u64) {
     let mut failed = 0;
-    for (name, outcome) in &outcomes {
+    for (name, outcome) in outcomes {
         match outcome {
             Ok(()) => println!("passed: {name}"),
             Err(words) => {
@@ -266,18 +314,29 @@ fn print_counts(tally: &Tally) -> (u64, u64) {
         println!("call {call:?}: {}", tally.calls[call as usize]);
     }
     for reason in 0..REASONS {
-        let (seen, random) = (tally.reasons[reason], tally.random_reasons[reason]);
+        let (seen, random) = (tally.reasons[reason], tally.random(reason));
         println!("reason {reason}: {seen}, of these {random} in random cases");
     }
     tally.tables.print("tables");
+    tally.tables.print_circuits("tables");
     tally.sheets.print("sheets");
+    tally.sheets.print_circuits("sheets");
+    tally.matrices.print("matrices");
     let [none, some, later] = tally.pairs;
     println!("random accepted sheets with no parallel pair: {none}");
     println!("with one: {some}, of these {later} with other than rows 1 and 2");
     let demands = [
         (
-            "every reason of 0 to 16 seen in random cases",
-            tally.random_reasons.iter().all(|seen| *seen > 0),
+            "every reason of 0 to 19 seen in random cases",
+            (0..REASONS).all(|reason| tally.random(reason) > 0),
+        ),
+        (
+            "every reason of reading a matrix and of writing one seen in random cases",
+            tally.gave(Call::ReadMatrix, &OF_READING) && tally.gave(Call::WriteMatrix, &OF_WRITING),
+        ),
+        (
+            "full matrices of 20 and of 32 offices seen",
+            tally.matrices.full.iter().all(|full| *full > 0),
         ),
         (
             "496 rows, some of the same nodes, seen in accepted tables and sheets",
@@ -318,7 +377,7 @@ fn places(mutant: &'static Mutant, seed: u64, count: u64) -> usize {
 /// to the same never differs.
 fn mutants(seed: u64, count: u64) -> bool {
     let (mut caught, mut equal) = (0, 0);
-    for (at, mutant) in FAULTS.iter().enumerate() {
+    for (at, mutant) in faults().into_iter().enumerate() {
         println!("{}. {}", at + 1, mutant.name);
         let places = places(mutant, seed, count);
         let word = if places > 0 { "caught" } else { "MISSED" };
@@ -336,7 +395,7 @@ fn mutants(seed: u64, count: u64) -> bool {
         println!("    {word}");
         equal += usize::from(places == 0);
     }
-    let (faults, same) = (FAULTS.len(), SAME.len());
+    let (faults, same) = (faults().len(), SAME.len());
     println!("{caught} of {faults} faults caught, {equal} of {same} come to the same");
     caught == faults && equal == same
 }
@@ -363,7 +422,7 @@ fn asked() -> Option<Asked> {
     let mut kit = Kit::Library;
     if mode == "--mutant" {
         let place: usize = words[1].parse().ok()?;
-        kit = Kit::Mutant(FAULTS.get(place.checked_sub(1)?)?);
+        kit = Kit::Mutant(faults().get(place.checked_sub(1)?)?);
     }
     (numbers.len() <= 2).then_some(Asked {
         cases: mode == "--cases",
@@ -391,10 +450,11 @@ fn main() -> ExitCode {
     println!("seed {seed}, {count} random comparisons and the lists");
     let mut tally = Tally::default();
     let (own_passed, own_failed) = self_checks(seed);
+    let (back, not_back) = ways_there_and_back(asked.kit, seed);
     let (passed, failed) = all_groups(asked.kit, seed, count, &mut tally);
     let (seen, unseen) = print_counts(&tally);
-    let passed = own_passed + passed + seen;
-    let failed = own_failed + failed + unseen;
+    let passed = own_passed + back + passed + seen;
+    let failed = own_failed + not_back + failed + unseen;
     println!("{passed} passed, {failed} failed");
     ExitCode::from(u8::from(failed > 0))
 }

@@ -4,10 +4,13 @@
 use crate::check::{self, Question, Questions, Sheet, QUESTIONS};
 use crate::checking_faults::*;
 use crate::foreign::cuts;
+use crate::matrix::{self, Matrix};
+use crate::matrix_faults::{self, MATRIX_FAULTS};
 use crate::row_faults::*;
 use crate::rules::{self, Cut, Plan, Sent, Way};
 use crate::sheet;
 use crate::table::{self, Refusal, Row, RowReason, Table};
+use crate::text_faults::*;
 use crate::twin::{self, Answer, Call, Reply, Said};
 use std::ops::Range;
 
@@ -28,12 +31,18 @@ enum How {
     Parallel(fn(&Sheet) -> Option<(usize, usize)>),
     RewriteSheet(fn(Sheet) -> Sheet),
     Say(fn(&[u8], Said) -> Said),
+    ReadMatrix(fn(&[u8]) -> Result<Matrix, Refusal>),
+    Pairs(fn(&Matrix) -> Table),
+    Sums(fn(&[u8]) -> Result<Matrix, Refusal>),
+    Square(fn(&Matrix) -> Vec<u8>),
 }
 
 impl Mutant {
     pub fn call(&self, call: Call, text: &[u8], area: &mut [u8], lent: Range<usize>) -> Said {
         let answer = match call {
             Call::Route | Call::Rewrite => self.answer_table(call, text),
+            Call::ReadMatrix => self.answer_matrix(text),
+            Call::WriteMatrix => self.answer_sums(text),
             _ => self.answer_sheet(call, text),
         };
         match self.how {
@@ -45,12 +54,16 @@ impl Mutant {
         }
     }
 
+    fn read_table(&self, text: &[u8]) -> Result<Table, Refusal> {
+        match self.how {
+            How::Read(read) => read(text),
+            How::Rows(reasons) => table::read_judging(text, reasons),
+            _ => table::read(text),
+        }
+    }
+
     fn answer_table(&self, call: Call, text: &[u8]) -> Answer {
-        let table = match self.how {
-            How::Read(read) => read(text)?,
-            How::Rows(reasons) => table::read_judging(text, reasons)?,
-            _ => table::read(text)?,
-        };
+        let table = self.read_table(text)?;
         Ok(twin::written(match (call, &self.how) {
             (Call::Route, How::Plan(plan)) => sheet::sheet_text(&table, &plan(&table)),
             (Call::Route, _) => sheet::sheet_text(&table, &rules::plan(&table)),
@@ -76,6 +89,34 @@ impl Mutant {
             _ => twin::Granted::default(),
         })
     }
+
+    fn answer_matrix(&self, text: &[u8]) -> Answer {
+        let matrix = match self.how {
+            How::ReadMatrix(read) => read(text)?,
+            _ => matrix::read(text)?,
+        };
+        let table = match self.how {
+            How::Pairs(pairs) => pairs(&matrix),
+            _ => matrix::table_of(&matrix),
+        };
+        Ok(twin::written(sheet::table_text(&table)))
+    }
+
+    fn answer_sums(&self, text: &[u8]) -> Answer {
+        let matrix = match self.how {
+            How::Sums(sums) => sums(text)?,
+            _ => matrix::add_up(&self.read_table(text)?)?,
+        };
+        Ok(twin::written(match self.how {
+            How::Square(square) => square(&matrix),
+            _ => matrix::matrix_text(&matrix),
+        }))
+    }
+}
+
+/// All faults, those of a matrix last.
+pub fn faults() -> Vec<&'static Mutant> {
+    FAULTS.iter().chain(&MATRIX_FAULTS).collect()
 }
 
 const fn plan(name: &'static str, plan: fn(&Table) -> Plan) -> Mutant {
@@ -168,8 +209,31 @@ const fn say(name: &'static str, change: fn(&[u8], Said) -> Said) -> Mutant {
     Mutant { name, how }
 }
 
+pub const fn read_matrix(
+    name: &'static str,
+    read: fn(&[u8]) -> Result<Matrix, Refusal>,
+) -> Mutant {
+    let how = How::ReadMatrix(read);
+    Mutant { name, how }
+}
+
+pub const fn pairs(name: &'static str, pairs: fn(&Matrix) -> Table) -> Mutant {
+    let how = How::Pairs(pairs);
+    Mutant { name, how }
+}
+
+pub const fn sums(name: &'static str, sums: fn(&[u8]) -> Result<Matrix, Refusal>) -> Mutant {
+    let how = How::Sums(sums);
+    Mutant { name, how }
+}
+
+pub const fn square(name: &'static str, square: fn(&Matrix) -> Vec<u8>) -> Mutant {
+    let how = How::Square(square);
+    Mutant { name, how }
+}
+
 /// Faults that change some sheet or reply: each must be caught.
-pub static FAULTS: [Mutant; 133] = [
+static FAULTS: [Mutant; 133] = [
     write("one byte after the text changed", after_text),
     write("one byte after the buffer changed", after_buffer),
     write("one byte before the buffer changed", before_buffer),
@@ -205,12 +269,12 @@ pub static FAULTS: [Mutant; 133] = [
     plan("D: amount 0 goes B", d_zero),
     plan("Z: size above the peak", z_above),
     plan("Z: 768 for every larger peak", z_largest),
-    read("reading: leading zeros", zeros),
-    read("reading: 8 digits", digits),
-    read("reading: final LF not asked for", final_lf),
-    read("reading: CR LF taken for LF", cr_lf),
-    read("reading: 32,768 bytes refused", limit_low),
-    read("reading: 32,769 bytes read", limit_high),
+    read("reading: leading zeros", |text| table::read(&without_leading_zeros(text))),
+    read("reading: 8 digits", |text| table::read(&without_eighth_digit(text))),
+    read("reading: final LF not asked for", |text| table::read(&with_final_lf(text))),
+    read("reading: CR LF taken for LF", |text| table::read(&without_cr(text))),
+    read("reading: 32,768 bytes refused", |text| table::read(&past_limit(text))),
+    read("reading: 32,769 bytes read", |text| table::read(&within_limit(text))),
     read("reading: 32 offices refused", ring_32),
     read("reading: 33 offices taken for 32", ring_33),
     rows("reading: 5 before 4", &FIVE_FIRST),
@@ -236,9 +300,9 @@ pub static FAULTS: [Mutant; 133] = [
     read_sheet("checking: 13 and 14 before the lines", peaks_first),
     read_sheet("checking: 14 before 13", bound_first),
     read_sheet("checking: lines after Z taken", after_z),
-    read_sheet("checking: final LF not asked for", sheet_final_lf),
-    read_sheet("checking: CR LF taken for LF", sheet_cr_lf),
-    read_sheet("checking: 32,769 bytes read", sheet_limit_high),
+    read_sheet("checking: final LF not asked for", |text| check::read(&with_final_lf(text))),
+    read_sheet("checking: CR LF taken for LF", |text| check::read(&without_cr(text))),
+    read_sheet("checking: 32,769 bytes read", |text| check::read(&within_limit(text))),
     read_sheet("checking: lower case f and b taken", lower_case),
     read_sheet("checking: 2 in any line first", sheet_shape_first),
     read_sheet("checking: a missing line is the last", missing_is_last),
@@ -320,7 +384,9 @@ pub static FAULTS: [Mutant; 133] = [
 ///   common move the same amounts.
 /// - 13: each row across the cut sends 2d over g and h together, so the split
 ///   peak is never below a true across number.
-pub static SAME: [Mutant; 8] = [
+///
+/// - A matrix that is accepted is symmetric, so either half says the same.
+pub static SAME: [Mutant; 9] = [
     plan("A: tie to the smallest h, then g", a_by_h),
     plan("C: disjoint fronts skipped", c_disjoint),
     plan("C: fronts that touch taken for crossing", c_touching),
@@ -329,6 +395,7 @@ pub static SAME: [Mutant; 8] = [
     plan("C: two circuits taken for crossing", c_other_nodes),
     plan("C: by second, then first", c_by_second),
     on_best("13: peak below the across number taken", best_most),
+    pairs("matrix: rows from the lower half", matrix_faults::lower_half),
 ];
 
 // Faults of replying.
@@ -761,56 +828,6 @@ fn z_largest(table: &Table) -> Plan {
 }
 
 // Faults of reading.
-
-/// The text with each field changed, then read.
-fn read_fields(text: &[u8], change: fn(&str) -> String) -> Result<Table, Refusal> {
-    let Ok(text) = std::str::from_utf8(text) else {
-        return table::read(text);
-    };
-    let line = |line: &str| line.split('\t').map(change).collect::<Vec<_>>().join("\t");
-    let lines: Vec<String> = text.split('\n').map(line).collect();
-    table::read(lines.join("\n").as_bytes())
-}
-
-fn zeros(text: &[u8]) -> Result<Table, Refusal> {
-    read_fields(text, |field| {
-        let rest = field.trim_start_matches('0');
-        let number = rest.starts_with(|first: char| first.is_ascii_digit());
-        let some = if field.starts_with('0') { "0" } else { "" };
-        if number { rest } else { some }.to_string() + if number { "" } else { rest }
-    })
-}
-
-fn digits(text: &[u8]) -> Result<Table, Refusal> {
-    read_fields(text, |field| field.replace("10000000", "9999999"))
-}
-
-fn final_lf(text: &[u8]) -> Result<Table, Refusal> {
-    let end: &[u8] = if text.ends_with(b"\n") || text.is_empty() {
-        b""
-    } else {
-        b"\n"
-    };
-    table::read(&[text, end].concat())
-}
-
-fn cr_lf(text: &[u8]) -> Result<Table, Refusal> {
-    let mut kept = text.to_vec();
-    while let Some(at) = kept.windows(2).position(|two| two == b"\r\n") {
-        kept.remove(at);
-    }
-    table::read(&kept)
-}
-
-fn limit_low(text: &[u8]) -> Result<Table, Refusal> {
-    let longer = vec![b'\n'; usize::from(text.len() == 32_768)];
-    table::read(&[text, &longer].concat())
-}
-
-fn limit_high(text: &[u8]) -> Result<Table, Refusal> {
-    let end = text.len() - usize::from(text.len() == 32_769);
-    table::read(&text[..end])
-}
 
 fn ring_32(text: &[u8]) -> Result<Table, Refusal> {
     match table::read(text) {

@@ -15,14 +15,14 @@ use crate::twin::{self, Call, Pair};
 
 pub type Outcome = Result<(), String>;
 
-fn same<T: PartialEq + std::fmt::Debug>(what: &str, got: T, wanted: T) -> Outcome {
+pub fn same<T: PartialEq + std::fmt::Debug>(what: &str, got: T, wanted: T) -> Outcome {
     if got == wanted {
         return Ok(());
     }
     Err(format!("{what}: {got:?}, not {wanted:?}"))
 }
 
-fn holds(what: &str, true_here: bool) -> Outcome {
+pub fn holds(what: &str, true_here: bool) -> Outcome {
     if true_here {
         return Ok(());
     }
@@ -175,7 +175,7 @@ pub fn sheets() -> Outcome {
     Ok(())
 }
 
-fn place(refusal: Refusal) -> (u32, u32) {
+pub fn place(refusal: Refusal) -> (u32, u32) {
     (refusal.reason, refusal.line)
 }
 

@@ -35,6 +35,8 @@ fn next_case(cases: &[u8]) -> Option<(Call, &[u8], usize, &[u8])> {
         b'C' => Call::Check,
         b'S' => Call::RewriteSheet,
         b'P' => Call::Parallel,
+        b'M' => Call::ReadMatrix,
+        b'W' => Call::WriteMatrix,
         _ => return None,
     };
     let number = |digits: &[u8]| std::str::from_utf8(digits).ok()?.parse().ok();

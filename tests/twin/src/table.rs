@@ -115,7 +115,7 @@ pub fn numbers(line: &Line, letter: &[u8], count: usize) -> Option<Vec<i64>> {
 }
 
 /// Numbers are 1 to 7 digits with no leading zero but 0 itself.
-fn number(field: &[u8]) -> Option<i64> {
+pub fn number(field: &[u8]) -> Option<i64> {
     let digits = field.iter().all(|byte| byte.is_ascii_digit());
     if field.is_empty() || field.len() > 7 || !digits {
         return None;

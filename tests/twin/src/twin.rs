@@ -1,6 +1,7 @@
 //! What the twin says of a call: the reply and the content of the lent buffer.
 
 use crate::check;
+use crate::matrix;
 use crate::rules;
 use crate::sheet;
 use crate::table::{self, Refusal};
@@ -18,15 +19,21 @@ pub enum Call {
     RewriteSheet,
     /// The first parallel pair of split rows of an accepted sheet.
     Parallel,
+    /// Matrix text in, table text out.
+    ReadMatrix,
+    /// Table text in, matrix text out.
+    WriteMatrix,
 }
 
 /// All calls, each at the place of its number.
-pub const CALLS: [Call; 5] = [
+pub const CALLS: [Call; 7] = [
     Call::Route,
     Call::Rewrite,
     Call::Check,
     Call::RewriteSheet,
     Call::Parallel,
+    Call::ReadMatrix,
+    Call::WriteMatrix,
 ];
 
 impl Call {
@@ -80,10 +87,10 @@ pub struct Granted {
     pub pair: Option<(usize, usize)>,
 }
 
-/// What is granted, or the refusal of the table or sheet.
+/// What is granted, or the refusal of the text.
 pub type Answer = Result<Granted, Refusal>;
 
-/// Reading the table or the sheet, then what the call is for.
+/// Reading the table, the sheet or the matrix, then what the call is for.
 pub fn answer(call: Call, text: &[u8]) -> Answer {
     match call {
         Call::Route => {
@@ -97,6 +104,14 @@ pub fn answer(call: Call, text: &[u8]) -> Answer {
             Ok(written(sheet::sheet_text(&sheet.table, &sheet.plan)))
         }
         Call::Parallel => Ok(found(check::first_parallel(&check::read(text)?))),
+        Call::ReadMatrix => {
+            let table = matrix::table_of(&matrix::read(text)?);
+            Ok(written(sheet::table_text(&table)))
+        }
+        Call::WriteMatrix => {
+            let sums = matrix::add_up(&table::read(text)?)?;
+            Ok(written(matrix::matrix_text(&sums)))
+        }
     }
 }
 
