@@ -3,6 +3,8 @@
  *   desk plan [--sheet] [TABLE]   the plan of the table in words, or its sheet
  *   desk check [SHEET]            whether the sheet is accepted
  *   desk parallel [SHEET]         its first two split rows that are parallel
+ *   desk table [MATRIX]           the table of a matrix of demands
+ *   desk matrix [TABLE]           the matrix of a table, circuits of the same two offices added up
  *
  * A name of - or none at all is standard input. Refusals go to standard error. The exit status is 0 where all is fine, 1 where the text is
  * refused, and 2 where the words are wrong or a file cannot be read or written.
@@ -22,17 +24,44 @@ static enum status refused(const struct text *text, uint32_t reason, uint32_t li
     return REFUSED;
 }
 
-static enum status plan_table(const struct text *table, bool as_sheet)
+typedef ringkit_reply writing(const uint8_t *, size_t, uint8_t *, size_t);
+
+/* Writes the bytes that the call makes of the text, with so much room for them. */
+static enum status pass_on(const struct text *text, writing *call, uint8_t *room, size_t length)
+{
+    ringkit_reply reply = call(text->bytes, text->length, room, length);
+    if (reply.reason != RINGKIT_OK) {
+        return refused(text, reply.reason, reply.line);
+    }
+    fwrite(room, 1, reply.length, stdout);
+    return FINE;
+}
+
+static enum status sheet_of(const struct text *table)
+{
+    uint8_t sheet[RINGKIT_SHEET_BYTES];
+    return pass_on(table, ringkit_route, sheet, sizeof sheet);
+}
+
+static enum status table_of(const struct text *matrix)
+{
+    uint8_t table[RINGKIT_TABLE_BYTES];
+    return pass_on(matrix, ringkit_read_matrix, table, sizeof table);
+}
+
+static enum status matrix_of(const struct text *table)
+{
+    uint8_t matrix[RINGKIT_MATRIX_BYTES];
+    return pass_on(table, ringkit_write_matrix, matrix, sizeof matrix);
+}
+
+static enum status plan_table(const struct text *table)
 {
     uint8_t sheet[RINGKIT_SHEET_BYTES];
     struct plan plan;
     ringkit_reply reply = ringkit_route(table->bytes, table->length, sheet, sizeof sheet);
     if (reply.reason != RINGKIT_OK) {
         return refused(table, reply.reason, reply.line);
-    }
-    if (as_sheet) {
-        fwrite(sheet, 1, reply.length, stdout);
-        return FINE;
     }
     if (!read_plan(&plan, sheet, reply.length)) {
         fputs("desk: the library's sheet is not one that this desk can read\n", stderr);
@@ -77,11 +106,19 @@ static enum status ask_parallel(const struct text *sheet)
     return FINE;
 }
 
+/* What a command does with its text. */
+static const struct command {
+    const char *name;
+    enum status (*does)(const struct text *);
+    enum status (*as_sheet)(const struct text *); /* with --sheet; NULL where the command has no such option */
+} COMMANDS[] = {
+    {"plan", plan_table, sheet_of}, {"check", check_sheet, NULL}, {"parallel", ask_parallel, NULL}, {"table", table_of, NULL}, {"matrix", matrix_of, NULL},
+};
+
 /* What the words of the command line ask for. */
 struct order {
-    const char *command;
+    enum status (*does)(const struct text *);
     const char *file; /* NULL where none is named */
-    bool as_sheet;
 };
 
 static bool is(const char *word, const char *other)
@@ -89,18 +126,29 @@ static bool is(const char *word, const char *other)
     return strcmp(word, other) == 0;
 }
 
+/* NULL where no command has that name. */
+static const struct command *command_of(const char *name)
+{
+    for (size_t k = 0; k < sizeof COMMANDS / sizeof *COMMANDS; k++) {
+        if (is(name, COMMANDS[k].name)) {
+            return &COMMANDS[k];
+        }
+    }
+    return NULL;
+}
+
 /* False where the words make no order. */
 static bool read_order(struct order *order, int count, char **words)
 {
-    *order = (struct order){.command = count > 1 ? words[1] : ""};
-    bool plans = is(order->command, "plan");
-    if (!plans && !is(order->command, "check") && !is(order->command, "parallel")) {
+    const struct command *command = command_of(count > 1 ? words[1] : "");
+    if (command == NULL) {
         return false;
     }
+    *order = (struct order){.does = command->does};
     for (int k = 2; k < count; k++) {
         bool option = words[k][0] == '-' && words[k][1] != '\0';
-        if (plans && is(words[k], "--sheet")) {
-            order->as_sheet = true;
+        if (command->as_sheet != NULL && is(words[k], "--sheet")) {
+            order->does = command->as_sheet;
         } else if (option || order->file != NULL) {
             return false;
         } else {
@@ -113,18 +161,14 @@ static bool read_order(struct order *order, int count, char **words)
 static enum status carry_out(const struct order *order)
 {
     struct text text;
-    if (!read_text(&text, order->file)) {
-        return TROUBLE;
-    }
-    if (is(order->command, "plan")) {
-        return plan_table(&text, order->as_sheet);
-    }
-    return is(order->command, "check") ? check_sheet(&text) : ask_parallel(&text);
+    return read_text(&text, order->file) ? order->does(&text) : TROUBLE;
 }
 
 static const char USAGE[] = "usage: desk plan [--sheet] [TABLE]\n"
                             "       desk check [SHEET]\n"
-                            "       desk parallel [SHEET]\n";
+                            "       desk parallel [SHEET]\n"
+                            "       desk table [MATRIX]\n"
+                            "       desk matrix [TABLE]\n";
 
 int main(int count, char **words)
 {

@@ -11,7 +11,7 @@ static const char *const SENTENCES[] = {
     [RINGKIT_NO_SUCH_NODE] = "an office of the row is not on the ring",
     [RINGKIT_NOT_BELOW] = "the first office of the row is not below the second",
     [RINGKIT_OUT_OF_ORDER] = "the row belongs before the row above it: rows go by first office, then by second",
-    [RINGKIT_TOO_MUCH] = "the amount is over " NUMBER(RINGKIT_MAX_AMOUNT),
+    [RINGKIT_TOO_MUCH] = "an amount is over " NUMBER(RINGKIT_MAX_AMOUNT),
     [RINGKIT_WRONG_SUM] = "front and back, in halves, do not add up to twice the amount",
     [RINGKIT_WRONG_WAY] = "the row is not split, and its direction is not the one it is sent in: F where back is 0, else B",
     [RINGKIT_WRONG_CUT] = "the cut is not two links of the ring by rising number, or its across number is false",
@@ -21,6 +21,9 @@ static const char *const SENTENCES[] = {
     [RINGKIT_OVER_BOUND] = "the unsplit peak breaks its bound: twice the unsplit peak is more than the split peak, in halves, plus 3 times the largest split amount",
     [RINGKIT_NO_ROOM] = "the text to be written is longer than the room for it",
     [RINGKIT_TOO_MANY_ROWS] = "the text has more than " NUMBER(RINGKIT_MAX_ROWS) " rows",
+    [RINGKIT_DIAGONAL] = "an office has a demand with itself: where line and field have the same number, the field must be 0",
+    [RINGKIT_NOT_SYMMETRIC] = "a field of the line differs from its mirror: field j of line i must be equal to field i of line j",
+    [RINGKIT_SUM_TOO_MUCH] = "with this row the circuits between its two offices add up to more than " NUMBER(RINGKIT_MAX_AMOUNT),
 };
 
 static const char *sentence_of(uint32_t reason)

@@ -1,6 +1,6 @@
 /* ringkit: plans a ring of offices, and checks plans. For C11 and C++11, x86-64 Linux.
  *
- * A text is read as a table or as a sheet. Fields are parted by one tab, every line ends with LF, numbers are 1 to 7 digits with no leading
+ * A text is read as a table, as a sheet or as a matrix. Fields are parted by one tab, every line ends with LF, numbers are 1 to 7 digits with no leading
  * zero but 0 itself.
  *
  *   table:  R n             n offices, 1 to n; link k joins k and k+1, link n joins n and 1
@@ -11,6 +11,8 @@
  *           C g h across    a cut: two links, and the demand between the offices that they part,
  *           L link split-load unsplit-load     the loads of links 1 to n, split ones in halves,
  *           Z unsplit-peak size                and the line size to buy, 0 where no SONET size is large enough
+ *   matrix: n lines of n numbers, and no letters: field j of line i is the demand between offices i and j, so it equals field i of line j,
+ *           and field i of line i is 0. The first line says how many offices there are
  *
  * Each call accepts its text, or refuses it with a reason and a line. What it answers and what it writes is proved to be what the
  * definitions say, for every text and every buffer on these terms:
@@ -37,7 +39,7 @@ extern "C" {
 #endif
 
 /* Grows by 1 whenever a call, an answer or a limit changes. */
-#define RINGKIT_VERSION 1
+#define RINGKIT_VERSION 2
 
 /* The limits of what is accepted. */
 #define RINGKIT_MAX_TEXT_BYTES 32768
@@ -52,20 +54,25 @@ extern "C" {
 /* A buffer of so many bytes suffices for every sheet that ringkit_route writes; this is proved. For rewriting, the text's own length suffices. */
 #define RINGKIT_SHEET_BYTES 28872
 
+/* The same for every table that ringkit_read_matrix writes, and for every matrix that ringkit_write_matrix writes. */
+#define RINGKIT_TABLE_BYTES 15888
+#define RINGKIT_MATRIX_BYTES 5120
+
 /* Enough stack for each call, with some to spare for binding memcpy and memset when they are first called. */
 #define RINGKIT_STACK_BYTES 73728
 
 /* Why a text is refused. Each is given exactly when it holds and nothing before it in this order does: RINGKIT_TOO_LONG; then line by line,
- * and in a line by rising number, but RINGKIT_TOO_MANY_ROWS between 6 and 7; then 13, 14 and 15. */
+ * and in a line by rising number, but RINGKIT_TOO_MANY_ROWS between 6 and 7; then, when all lines have passed, 13 and 14 of a sheet, the first
+ * entry in reading order that is 17 or 18 of a matrix, and the first row that is 19 of a table to be written as a matrix; then 15. */
 enum ringkit_reason {
     RINGKIT_OK = 0,             /* accepted */
     RINGKIT_TOO_LONG = 1,       /* text over 32,768 bytes */
     RINGKIT_MISSHAPEN = 2,      /* line of the wrong shape, missing, or left over; a badly spelled number; no final LF */
-    RINGKIT_RING_SIZE = 3,      /* n outside 2..32 */
+    RINGKIT_RING_SIZE = 3,      /* n outside 2..32; of a matrix, on its first line */
     RINGKIT_NO_SUCH_NODE = 4,   /* a node outside 1..n */
     RINGKIT_NOT_BELOW = 5,      /* first node not below second */
     RINGKIT_OUT_OF_ORDER = 6,   /* row's nodes below the row before, by first node, then second */
-    RINGKIT_TOO_MUCH = 7,       /* amount over 9,999 */
+    RINGKIT_TOO_MUCH = 7,       /* amount, or entry of a matrix, over 9,999 */
     RINGKIT_WRONG_SUM = 8,      /* front + back is not 2 x amount */
     RINGKIT_WRONG_WAY = 9,      /* direction of an unsplit row differs from rule D: back 0 goes F, else front 0 goes B */
     RINGKIT_WRONG_CUT = 10,     /* not 1 <= g < h <= n, or across number false */
@@ -74,7 +81,10 @@ enum ringkit_reason {
     RINGKIT_NOT_TIGHT = 13,     /* split peak (halves) is not the across number */
     RINGKIT_OVER_BOUND = 14,    /* the bound of rule D broken: twice the unsplit peak over split peak (halves) + 3 x largest split amount */
     RINGKIT_NO_ROOM = 15,       /* lent buffer shorter than the text to be written */
-    RINGKIT_TOO_MANY_ROWS = 16  /* more than 496 rows */
+    RINGKIT_TOO_MANY_ROWS = 16, /* more than 496 rows */
+    RINGKIT_DIAGONAL = 17,      /* an entry on the diagonal of a matrix is not 0 */
+    RINGKIT_NOT_SYMMETRIC = 18, /* an entry (i,j) of a matrix is not equal to (j,i); the line is that of the entry which is read first */
+    RINGKIT_SUM_TOO_MUCH = 19   /* with this row, the sum of the rows of its two nodes passes 9,999, and no entry of a matrix can say it */
 };
 
 /* The answer of a call. The line counts from 1, a missing line being the one after the last; it is 0 for reasons 1, 13, 14 and 15. */
@@ -107,6 +117,13 @@ ringkit_pair_reply ringkit_parallel(const uint8_t *sheet, size_t sheet_length);
 /* Reads a table, or checks a sheet, and writes its values afresh: the same bytes. */
 ringkit_reply ringkit_rewrite_table(const uint8_t *table, size_t table_length, uint8_t *buffer, size_t buffer_length);
 ringkit_reply ringkit_rewrite_sheet(const uint8_t *sheet, size_t sheet_length, uint8_t *buffer, size_t buffer_length);
+
+/* Reads a matrix and writes its table: a row for each pair of offices whose entry is above 0. The table can be routed. */
+ringkit_reply ringkit_read_matrix(const uint8_t *matrix, size_t matrix_length, uint8_t *buffer, size_t buffer_length);
+
+/* Reads a table and writes its matrix: circuits of the same two offices are added up, so what tells them apart is lost. A matrix that is read
+ * and then written has the same bytes; so has a table that is written and then read, where no pair has two rows and no row has amount 0. */
+ringkit_reply ringkit_write_matrix(const uint8_t *table, size_t table_length, uint8_t *buffer, size_t buffer_length);
 
 #ifdef __cplusplus
 }

@@ -14,6 +14,8 @@
 
 _Static_assert(RINGKIT_SHEET_BYTES == 8 * (2 + 7 * RINGKIT_MAX_ROWS + 4 + 4 * RINGKIT_MAX_OFFICES + 3),
                "8 bytes for each field of the longest sheet, as in crates/ringkit");
+_Static_assert(RINGKIT_TABLE_BYTES == 8 * (2 + 4 * RINGKIT_MAX_ROWS), "8 bytes for each field of the longest table");
+_Static_assert(RINGKIT_MATRIX_BYTES == 5 * RINGKIT_MAX_OFFICES * RINGKIT_MAX_OFFICES, "4 digits and the byte behind them for each entry");
 
 static unsigned passed, failed;
 
@@ -49,7 +51,7 @@ struct text {
 };
 
 static const struct text NOTHING;
-static struct text table, sheet;
+static struct text table, sheet, matrix;
 
 static void add(struct text *text, const char *line, ...)
 {
@@ -65,13 +67,18 @@ static void one_row(unsigned offices, unsigned amount)
     add(&table, "R\t%u\nD\t1\t2\t%u\n", offices, amount);
 }
 
+static unsigned mixed(unsigned i, unsigned j)
+{
+    return (i * 7919 + j * 3571) % (RINGKIT_MAX_AMOUNT + 1);
+}
+
 static void all_pairs(unsigned offices)
 {
     table.length = 0;
     add(&table, "R\t%u\n", offices);
     for (unsigned i = 1; i < offices; i++) {
         for (unsigned j = i + 1; j <= offices; j++) {
-            add(&table, "D\t%u\t%u\t%u\n", i, j, (i * 7919 + j * 3571) % (RINGKIT_MAX_AMOUNT + 1));
+            add(&table, "D\t%u\t%u\t%u\n", i, j, mixed(i, j));
         }
     }
 }
@@ -187,16 +194,103 @@ static void test_pair(void)
     expect(pair.reason == RINGKIT_WRONG_LAST && pair.line == 10 && pair.first == 0 && pair.second == 0, "a pair of a refused sheet");
 }
 
+/* ---- matrices */
+
+/* A square with 0 on its diagonal and a demand for every pair. */
+static void fill_matrix(unsigned offices, unsigned (*demand)(unsigned, unsigned))
+{
+    matrix.length = 0;
+    for (unsigned i = 1; i <= offices; i++) {
+        for (unsigned j = 1; j <= offices; j++) {
+            unsigned entry = i == j ? 0 : i < j ? demand(i, j) : demand(j, i);
+            add(&matrix, "%u%c", entry, j == offices ? '\n' : '\t');
+        }
+    }
+}
+
+static unsigned most(unsigned i, unsigned j)
+{
+    return i < j ? RINGKIT_MAX_AMOUNT : 0;
+}
+
+static unsigned none(unsigned i, unsigned j)
+{
+    return i < j ? 0 : RINGKIT_MAX_AMOUNT;
+}
+
+/* The matrix is read into its table and written from it, and the table that was made can be routed. */
+static void test_matrix(const char *name)
+{
+    ringkit_reply reply = lend(ringkit_read_matrix, &matrix, RINGKIT_TABLE_BYTES);
+    expect(reply.reason == RINGKIT_OK && reply.line == 0, "%s: reading", name);
+    table.length = reply.length;
+    memcpy(table.bytes, buffer_area + AREA - RINGKIT_TABLE_BYTES, table.length);
+    expect(holds(RINGKIT_TABLE_BYTES, &table), "%s: reading touches more than its table", name);
+    reply = lend(ringkit_write_matrix, &table, RINGKIT_MATRIX_BYTES);
+    expect(says(reply, RINGKIT_OK, 0, matrix.length) && holds(RINGKIT_MATRIX_BYTES, &matrix), "%s: another matrix comes back", name);
+    writes(name, ringkit_read_matrix, &matrix, &table);
+    writes(name, ringkit_write_matrix, &table, &matrix);
+    route(name);
+}
+
+/* A call gives the text that reason and line, and touches nothing where it refuses. */
+static void judges(const char *name, writing *call, const struct text *text, uint32_t reason, uint32_t line)
+{
+    ringkit_reply reply = lend(call, text, RINGKIT_MAX_TEXT_BYTES);
+    expect(reply.reason == reason && reply.line == line, "%s: %u on line %u", name, (unsigned)reply.reason, (unsigned)reply.line);
+    expect(reason == RINGKIT_OK || holds(RINGKIT_MAX_TEXT_BYTES, &NOTHING), "%s: a refusal touches the buffer", name);
+}
+
+/* A matrix of two offices, given by its bytes. */
+static void reads(const char *name, const char *bytes, uint32_t reason, uint32_t line)
+{
+    matrix.length = 0;
+    add(&matrix, "%s", bytes);
+    judges(name, ringkit_read_matrix, &matrix, reason, line);
+}
+
+static void test_matrix_limits(void)
+{
+    reads("largest entries", "0\t9999\n9999\t0\n", RINGKIT_OK, 0);
+    reads("too large an entry", "0\t9999\n10000\t0\n", RINGKIT_TOO_MUCH, 2);
+    reads("a demand of an office with itself", "0\t9999\n9999\t1\n", RINGKIT_DIAGONAL, 2);
+    reads("an entry unlike its mirror", "0\t9999\n9998\t0\n", RINGKIT_NOT_SYMMETRIC, 1);
+    reads("one office", "0\n", RINGKIT_RING_SIZE, 1);
+    fill_matrix(RINGKIT_MAX_OFFICES + 1, none);
+    judges("too many offices in a matrix", ringkit_read_matrix, &matrix, RINGKIT_RING_SIZE, 1);
+    memset(matrix.bytes, '0', sizeof matrix.bytes);
+    matrix.length = RINGKIT_MAX_TEXT_BYTES;
+    judges("longest matrix", ringkit_read_matrix, &matrix, RINGKIT_MISSHAPEN, 1);
+    matrix.length++;
+    judges("too long a matrix", ringkit_read_matrix, &matrix, RINGKIT_TOO_LONG, 0);
+    one_row(RINGKIT_MIN_OFFICES, RINGKIT_MAX_AMOUNT);
+    add(&table, "D\t1\t2\t0\n");
+    judges("the largest sum", ringkit_write_matrix, &table, RINGKIT_OK, 0);
+    add(&table, "D\t1\t2\t1\n");
+    judges("too large a sum", ringkit_write_matrix, &table, RINGKIT_SUM_TOO_MUCH, 4);
+}
+
+static void test_matrices(void)
+{
+    test_matrix_limits();
+    fill_matrix(RINGKIT_MIN_OFFICES, none);
+    test_matrix("no demand between two offices");
+    fill_matrix(20, mixed);
+    test_matrix("a matrix of 20 offices");
+    fill_matrix(RINGKIT_MAX_OFFICES, mixed);
+    test_matrix("a matrix of 32 offices");
+    fill_matrix(RINGKIT_MAX_OFFICES, most);
+    test_matrix("the largest demands of 32 offices");
+}
+
 /* ---- what the header says of limits, and of no text at all */
 
-/* Both table calls give the table that reason and line; a refusal touches nothing. */
+/* Both calls that route or rewrite give the table that reason and line. */
 static void judged(const char *name, uint32_t reason, uint32_t line)
 {
     writing *calls[] = {ringkit_route, ringkit_rewrite_table};
     for (unsigned k = 0; k < 2; k++) {
-        ringkit_reply reply = lend(calls[k], &table, RINGKIT_MAX_TEXT_BYTES);
-        expect(reply.reason == reason && reply.line == line, "%s: %u on line %u", name, (unsigned)reply.reason, (unsigned)reply.line);
-        expect(reason == RINGKIT_OK || holds(RINGKIT_MAX_TEXT_BYTES, &NOTHING), "%s: a refusal touches the buffer", name);
+        judges(name, calls[k], &table, reason, line);
     }
 }
 
@@ -229,6 +323,8 @@ static void test_no_text(void)
     expect(says(ringkit_route(NULL, 0, NULL, 0), RINGKIT_MISSHAPEN, 1, 0), "route: no text");
     expect(says(ringkit_rewrite_table(NULL, 0, NULL, 0), RINGKIT_MISSHAPEN, 1, 0), "rewrite a table: no text");
     expect(says(ringkit_rewrite_sheet(NULL, 0, NULL, 0), RINGKIT_MISSHAPEN, 1, 0), "rewrite a sheet: no text");
+    expect(says(ringkit_read_matrix(NULL, 0, NULL, 0), RINGKIT_MISSHAPEN, 1, 0), "read a matrix: no text");
+    expect(says(ringkit_write_matrix(NULL, 0, NULL, 0), RINGKIT_MISSHAPEN, 1, 0), "write a matrix: no text");
 }
 
 /* ---- threads */
@@ -240,6 +336,7 @@ static void *test_texts(void *unused)
     test_no_text();
     test_pair();
     test_limits();
+    test_matrices();
     all_pairs(20);
     test_table("all pairs of 20 offices");
     all_pairs(RINGKIT_MAX_OFFICES);

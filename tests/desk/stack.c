@@ -13,6 +13,7 @@ enum { STACK = 256 * 1024, PAINT = 0xa5 };
 /* No frame grows with the text, so a small one shows all of them; only writing a number nests, once for each digit, far from the deepest place. */
 static const char TABLE[] = "R\t2\nD\t1\t2\t5\n";
 static const char SHEET[] = "R\t2\nD\t1\t2\t5\t5\t5\tF\nC\t1\t2\t5\nL\t1\t5\t5\nL\t2\t5\t0\nZ\t5\t12\n";
+static const char MATRIX[] = "0\t5\n5\t0\n";
 static uint8_t buffer[sizeof SHEET];
 
 static const uint8_t *bytes(const char *text)
@@ -45,11 +46,22 @@ static uint32_t parallel(void)
     return ringkit_parallel(bytes(SHEET), sizeof SHEET - 1).reason;
 }
 
+static uint32_t read_matrix(void)
+{
+    return ringkit_read_matrix(bytes(MATRIX), sizeof MATRIX - 1, buffer, sizeof buffer).reason;
+}
+
+static uint32_t write_matrix(void)
+{
+    return ringkit_write_matrix(bytes(TABLE), sizeof TABLE - 1, buffer, sizeof buffer).reason;
+}
+
 static const struct named {
     const char *name;
     uint32_t (*call)(void);
 } CALLS[] = {
     {"ringkit_route", route}, {"ringkit_rewrite_table", rewrite_table}, {"ringkit_rewrite_sheet", rewrite_sheet}, {"ringkit_check", check}, {"ringkit_parallel", parallel},
+    {"ringkit_read_matrix", read_matrix}, {"ringkit_write_matrix", write_matrix},
 };
 
 struct dive {

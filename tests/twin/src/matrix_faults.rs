@@ -134,7 +134,8 @@ fn seven_before_3(text: &[u8]) -> Read {
 /// The line that is refused, if a well-spelled number of it is over 9,999.
 fn seven_before_2(text: &[u8]) -> Read {
     matrix::read(text).map_err(|refusal| {
-        let line = table::lines(text).get(refusal.line as usize - usize::from(refusal.line > 0)).copied();
+        let at = refusal.line.saturating_sub(1) as usize;
+        let line = table::lines(text).get(at).copied();
         let over = |line: Line| {
             let numbers = line.bytes.split(|byte| *byte == b'\t').filter_map(table::number);
             numbers.max().is_some_and(|most| most > 9_999)
