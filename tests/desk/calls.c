@@ -160,14 +160,19 @@ static void writes(const char *name, writing *call, const struct text *text, con
     expect(says(call(fenced(text), text->length, NULL, 0), RINGKIT_NO_ROOM, 0, 0), "%s: no buffer is enough", name);
 }
 
-/* Routes the table with more than enough room. */
+/* What the call makes of the text, with the room that always suffices. */
+static void make(const char *name, writing *call, const struct text *text, struct text *made, size_t room)
+{
+    ringkit_reply reply = lend(call, text, room);
+    expect(reply.reason == RINGKIT_OK && reply.line == 0, "%s: %u on line %u", name, (unsigned)reply.reason, (unsigned)reply.line);
+    made->length = reply.length;
+    memcpy(made->bytes, buffer_area + AREA - room, made->length);
+    expect(holds(room, made), "%s: more is touched than what is written", name);
+}
+
 static void route(const char *name)
 {
-    ringkit_reply reply = lend(ringkit_route, &table, RINGKIT_SHEET_BYTES);
-    expect(reply.reason == RINGKIT_OK && reply.line == 0, "%s: routing", name);
-    sheet.length = reply.length;
-    memcpy(sheet.bytes, buffer_area + AREA - RINGKIT_SHEET_BYTES, sheet.length);
-    expect(holds(RINGKIT_SHEET_BYTES, &sheet), "%s: routing touches more than its sheet", name);
+    make(name, ringkit_route, &table, &sheet, RINGKIT_SHEET_BYTES);
 }
 
 static void test_table(const char *name)
@@ -221,12 +226,8 @@ static unsigned none(unsigned i, unsigned j)
 /* The matrix is read into its table and written from it, and the table that was made can be routed. */
 static void test_matrix(const char *name)
 {
-    ringkit_reply reply = lend(ringkit_read_matrix, &matrix, RINGKIT_TABLE_BYTES);
-    expect(reply.reason == RINGKIT_OK && reply.line == 0, "%s: reading", name);
-    table.length = reply.length;
-    memcpy(table.bytes, buffer_area + AREA - RINGKIT_TABLE_BYTES, table.length);
-    expect(holds(RINGKIT_TABLE_BYTES, &table), "%s: reading touches more than its table", name);
-    reply = lend(ringkit_write_matrix, &table, RINGKIT_MATRIX_BYTES);
+    make(name, ringkit_read_matrix, &matrix, &table, RINGKIT_TABLE_BYTES);
+    ringkit_reply reply = lend(ringkit_write_matrix, &table, RINGKIT_MATRIX_BYTES);
     expect(says(reply, RINGKIT_OK, 0, matrix.length) && holds(RINGKIT_MATRIX_BYTES, &matrix), "%s: another matrix comes back", name);
     writes(name, ringkit_read_matrix, &matrix, &table);
     writes(name, ringkit_write_matrix, &table, &matrix);

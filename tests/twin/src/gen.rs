@@ -386,7 +386,6 @@ pub fn noise(rng: &mut Rng) -> Vec<u8> {
 
 /// One of the damages, that of a row among them.
 pub fn damage_any(rng: &mut Rng, text: &mut Vec<u8>, row: fn(&mut Rng, &mut Vec<u8>)) {
-    let damages: [fn(&mut Rng, &mut Vec<u8>); 4] =
-        [damage_bytes, damage_lines, damage_fields, row];
+    let damages: [fn(&mut Rng, &mut Vec<u8>); 4] = [damage_bytes, damage_lines, damage_fields, row];
     rng.pick(&damages)(rng, text);
 }

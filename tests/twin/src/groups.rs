@@ -112,10 +112,18 @@ pub const GROUPS: [Group; 68] = [
     group("damaged matrices: lines", 250, matrices::damaged_lines),
     group("damaged matrices: fields", 250, matrices::damaged_fields),
     group("damaged matrices: long lines", 60, matrices::long_lines),
-    group("damaged matrices: several times", 200, matrices::damaged_often),
+    group(
+        "damaged matrices: several times",
+        200,
+        matrices::damaged_often,
+    ),
     group("padded matrices", 60, matrices::padded),
     group("matrices of tables", 200, matrices::written),
-    group("matrices of tables, sums about 9999", 400, matrices::about_the_limit),
+    group(
+        "matrices of tables, sums about 9999",
+        400,
+        matrices::about_the_limit,
+    ),
     group("matrices of damaged tables", 200, matrices::damaged_tables),
     group("matrices of tables too long", 80, matrices::long_tables),
 ];
@@ -506,7 +514,9 @@ fn damaged_rows(rng: &mut Rng, _: u64) -> Option<Case> {
 
 fn damaged_often(rng: &mut Rng, _: u64) -> Option<Case> {
     let times = rng.between(2, 4) as u64;
-    damaged(rng, times, |rng, text| gen::damage_any(rng, text, gen::damage_row))
+    damaged(rng, times, |rng, text| {
+        gen::damage_any(rng, text, gen::damage_row)
+    })
 }
 
 /// Texts of 32,768 bytes, one more, and lengths about as large.

@@ -141,7 +141,10 @@ impl Tally {
     }
 
     fn random(&self, reason: usize) -> u64 {
-        self.random_reasons.iter().map(|of_call| of_call[reason]).sum()
+        self.random_reasons
+            .iter()
+            .map(|of_call| of_call[reason])
+            .sum()
     }
 
     /// Whether a call gave each of these reasons in random cases.

@@ -153,7 +153,7 @@ pub fn every_length(rng: &mut Rng, case: u64) -> Option<Case> {
 }
 
 /// The square of a table with one row a pair at most.
-fn square(table: &Table) -> Matrix {
+pub fn square(table: &Table) -> Matrix {
     let mut matrix = matrix::zeros(table.n);
     for row in &table.rows {
         matrix::set(&mut matrix, row.i, row.j, row.d);
@@ -183,7 +183,11 @@ pub fn any(rng: &mut Rng, _: u64) -> Option<Case> {
 /// amounts only.
 pub fn full(rng: &mut Rng, case: u64) -> Option<Case> {
     let n = if case % 2 == 0 { 20 } else { 32 };
-    let amounts = rng.pick(&[Amounts::Always(1), Amounts::Always(9_999), Amounts::UpTo(9_999)]);
+    let amounts = rng.pick(&[
+        Amounts::Always(1),
+        Amounts::Always(9_999),
+        Amounts::UpTo(9_999),
+    ]);
     let matrix = square(&gen::full(rng, n, amounts));
     of_matrix(&matrix, some_trials(rng, Call::ReadMatrix))
 }
@@ -195,7 +199,11 @@ fn spoil(rng: &mut Rng, matrix: &mut Matrix) {
     let (i, j) = (rng.below(n), rng.below(n));
     let other = rng.pick(&[0, 1, 256, 8_192, 9_999, 10_000, 65_536, 9_999_999]);
     let entry = matrix.lines[i][j];
-    let near = if rng.chance(1, 2) { entry + 1 } else { (entry - 1).max(0) };
+    let near = if rng.chance(1, 2) {
+        entry + 1
+    } else {
+        (entry - 1).max(0)
+    };
     let new = if rng.chance(1, 3) { other } else { near };
     match rng.below(6) {
         0 => matrix.lines[i][i] = new,
@@ -344,7 +352,12 @@ pub fn written(rng: &mut Rng, case: u64) -> Option<Case> {
 pub fn about_the_limit(rng: &mut Rng, _: u64) -> Option<Case> {
     let mut table = circuits(rng);
     for _ in 0..rng.between(1, 3) {
-        let Some(at) = table.rows.len().checked_sub(1).map(|last| rng.below(last + 1)) else {
+        let Some(at) = table
+            .rows
+            .len()
+            .checked_sub(1)
+            .map(|last| rng.below(last + 1))
+        else {
             break;
         };
         let Row { i, j, .. } = table.rows[at];
@@ -362,7 +375,11 @@ fn fill(rng: &mut Rng, table: &mut Table, i: i64, j: i64, total: i64) {
     let mut rows: Vec<&mut Row> = row.collect();
     let last = rng.below(rows.len());
     for (at, row) in rows.iter_mut().enumerate() {
-        let part = if at < last { rng.between(0, left.min(9_999)) } else { left.min(9_999) };
+        let part = if at < last {
+            rng.between(0, left.min(9_999))
+        } else {
+            left.min(9_999)
+        };
         row.d = part;
         left -= part;
     }
@@ -379,7 +396,10 @@ pub fn damaged_tables(rng: &mut Rng, _: u64) -> Option<Case> {
 /// Tables that are too long, or have too many rows.
 pub fn long_tables(rng: &mut Rng, _: u64) -> Option<Case> {
     let (n, count) = (offices(rng), rng.pick(&[497, 498, 600, 2_000]));
-    let mut case = of_table(&gen::circuits(rng, n, count), some_trials(rng, Call::WriteMatrix))?;
+    let mut case = of_table(
+        &gen::circuits(rng, n, count),
+        some_trials(rng, Call::WriteMatrix),
+    )?;
     if rng.chance(1, 2) {
         padded_length(rng, &mut case.text);
     }

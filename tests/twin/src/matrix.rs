@@ -126,10 +126,15 @@ pub fn set(matrix: &mut Matrix, i: i64, j: i64, d: i64) {
 /// Writing adds up rows of one pair. 19 is on the row where a pair's sum passes
 /// 9,999.
 pub fn add_up(table: &Table) -> Result<Matrix, Refusal> {
+    take_in(table, |sum, d| sum + d, 9_999)
+}
+
+/// Each row taken into what its pair has so far, up to a limit.
+pub fn take_in(table: &Table, take: fn(i64, i64) -> i64, limit: i64) -> Result<Matrix, Refusal> {
     let mut matrix = zeros(table.n);
     for (at, row) in table.rows.iter().enumerate() {
-        let sum = matrix.lines[row.i as usize - 1][row.j as usize - 1] + row.d;
-        if sum > 9_999 {
+        let sum = take(matrix.lines[row.i as usize - 1][row.j as usize - 1], row.d);
+        if sum > limit {
             return refuse(19, at as u32 + 2);
         }
         set(&mut matrix, row.i, row.j, sum);

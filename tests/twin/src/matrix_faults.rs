@@ -9,19 +9,35 @@ use crate::text_faults::*;
 type Read = Result<Matrix, Refusal>;
 
 pub static MATRIX_FAULTS: [Mutant; 57] = [
-    read_matrix("matrix: leading zeros", |text| matrix::read(&without_leading_zeros(text))),
-    read_matrix("matrix: 8 digits", |text| matrix::read(&without_eighth_digit(text))),
-    read_matrix("matrix: final LF not asked for", |text| matrix::read(&with_final_lf(text))),
-    read_matrix("matrix: CR LF taken for LF", |text| matrix::read(&without_cr(text))),
-    read_matrix("matrix: 32,768 bytes refused", |text| matrix::read(&past_limit(text))),
-    read_matrix("matrix: 32,769 bytes read", |text| matrix::read(&within_limit(text))),
+    read_matrix("matrix: leading zeros", |text| {
+        matrix::read(&without_leading_zeros(text))
+    }),
+    read_matrix("matrix: 8 digits", |text| {
+        matrix::read(&without_eighth_digit(text))
+    }),
+    read_matrix("matrix: final LF not asked for", |text| {
+        matrix::read(&with_final_lf(text))
+    }),
+    read_matrix("matrix: CR LF taken for LF", |text| {
+        matrix::read(&without_cr(text))
+    }),
+    read_matrix("matrix: 32,768 bytes refused", |text| {
+        matrix::read(&past_limit(text))
+    }),
+    read_matrix("matrix: 32,769 bytes read", |text| {
+        matrix::read(&within_limit(text))
+    }),
     read_matrix("matrix: a tab at a line's end taken", without_last_tabs),
     read_matrix("matrix: one office taken", |text| sized(text, 1, 32)),
     read_matrix("matrix: two offices refused", |text| sized(text, 3, 32)),
     read_matrix("matrix: 32 offices refused", |text| sized(text, 2, 31)),
     read_matrix("matrix: 33 offices taken", |text| sized(text, 2, 33)),
-    read_matrix("matrix: 9,999 refused", |text| limited(text, |entry| entry >= 9_999)),
-    read_matrix("matrix: 10,000 taken", |text| limited(text, |entry| entry > 10_000)),
+    read_matrix("matrix: 9,999 refused", |text| {
+        limited(text, |entry| entry >= 9_999)
+    }),
+    read_matrix("matrix: 10,000 taken", |text| {
+        limited(text, |entry| entry > 10_000)
+    }),
     read_matrix("matrix: 3 before 2", three_before_2),
     read_matrix("matrix: 3 never", |text| sized(text, 0, 32_768)),
     read_matrix("matrix: 7 before 3", seven_before_3),
@@ -35,31 +51,61 @@ pub static MATRIX_FAULTS: [Mutant; 57] = [
     read_matrix("matrix: a missing line is the last", missing_is_last),
     read_matrix("matrix: missing lines are zeros", with_lines),
     read_matrix("matrix: lines left over taken", without_lines),
-    read_matrix("matrix: missing fields are zeros", |text| fitted(text, true)),
+    read_matrix("matrix: missing fields are zeros", |text| {
+        fitted(text, true)
+    }),
     read_matrix("matrix: fields left over taken", |text| fitted(text, false)),
-    read_matrix("17: not asked", |text| searched(text, |m| first(m, rows_first, &[18]))),
+    read_matrix("17: not asked", |text| {
+        searched(text, |m| first(m, rows_first, &[18]))
+    }),
     read_matrix("17: not asked of the last office", but_last),
-    read_matrix("17: before every 18", |text| searched(text, |m| in_turn(m, 17, 18))),
-    read_matrix("18: not asked", |text| searched(text, |m| first(m, rows_first, &[17]))),
-    read_matrix("18: before every 17", |text| searched(text, |m| in_turn(m, 18, 17))),
-    read_matrix("18: seen from the lower half", |text| searched(text, in_lower_half)),
+    read_matrix("17: before every 18", |text| {
+        searched(text, |m| in_turn(m, 17, 18))
+    }),
+    read_matrix("18: not asked", |text| {
+        searched(text, |m| first(m, rows_first, &[17]))
+    }),
+    read_matrix("18: before every 17", |text| {
+        searched(text, |m| in_turn(m, 18, 17))
+    }),
+    read_matrix("18: seen from the lower half", |text| {
+        searched(text, in_lower_half)
+    }),
     read_matrix("18: compared with its neighbour's mirror only", neighbours),
     read_matrix("18: compared in 8 bits", |text| searched(text, in_8_bits)),
     read_matrix("17, 18: column by column", columns),
-    read_matrix("17, 18: the last faulty entry", |text| searched(text, last_faulty)),
+    read_matrix("17, 18: the last faulty entry", |text| {
+        searched(text, last_faulty)
+    }),
     pairs("matrix: zero entries kept", zeros_kept),
     pairs("matrix: rows by second node, then first", by_second),
     pairs("matrix: both halves added", doubled),
     pairs("matrix: the last office left out", without_last),
-    sums("sums: the first row alone", |text| summed(text, first_alone, 9_999)),
-    sums("sums: the last row alone", |text| summed(text, |_, d| d, 9_999)),
-    sums("sums: the largest row", |text| summed(text, i64::max, 9_999)),
-    sums("sums: 9,999 for more", |text| summed(text, |sum, d| (sum + d).min(9_999), 9_999)),
-    sums("sums: 9,999 refused", |text| summed(text, |sum, d| sum + d, 9_998)),
-    sums("sums: 10,000 taken", |text| summed(text, |sum, d| sum + d, 10_000)),
+    sums("sums: the first row alone", |text| {
+        summed(text, first_alone, 9_999)
+    }),
+    sums("sums: the last row alone", |text| {
+        summed(text, |_, d| d, 9_999)
+    }),
+    sums("sums: the largest row", |text| {
+        summed(text, i64::max, 9_999)
+    }),
+    sums("sums: 9,999 for more", |text| {
+        summed(text, |sum, d| (sum + d).min(9_999), 9_999)
+    }),
+    sums("sums: 9,999 refused", |text| {
+        summed(text, |sum, d| sum + d, 9_998)
+    }),
+    sums("sums: 10,000 taken", |text| {
+        summed(text, |sum, d| sum + d, 10_000)
+    }),
     sums("sums: in 16 bits, at the end", in_16_bits),
-    sums("19: on the pair's first row", |text| moved(text, |of_pair, _| of_pair[0])),
-    sums("19: on the pair's last row", |text| moved(text, |of_pair, _| of_pair[of_pair.len() - 1])),
+    sums("19: on the pair's first row", |text| {
+        moved(text, |of_pair, _| of_pair[0])
+    }),
+    sums("19: on the pair's last row", |text| {
+        moved(text, |of_pair, _| of_pair[of_pair.len() - 1])
+    }),
     sums("19: on the row before", |text| moved(text, |_, at| at - 1)),
     sums("19: the last sum that passes", last_sum),
     sums("19: before the table's reasons", sums_first),
@@ -114,11 +160,23 @@ fn sized(text: &[u8], low: usize, high: usize) -> Read {
         (_, 33) => |n| !(2..=33).contains(&n),
         _ => |_| false,
     };
-    matrix::read_asking(text, &Questions { off_size, ..QUESTIONS })
+    matrix::read_asking(
+        text,
+        &Questions {
+            off_size,
+            ..QUESTIONS
+        },
+    )
 }
 
 fn limited(text: &[u8], too_much: fn(i64) -> bool) -> Read {
-    matrix::read_asking(text, &Questions { too_much, ..QUESTIONS })
+    matrix::read_asking(
+        text,
+        &Questions {
+            too_much,
+            ..QUESTIONS
+        },
+    )
 }
 
 fn seven_before_3(text: &[u8]) -> Read {
@@ -137,11 +195,17 @@ fn seven_before_2(text: &[u8]) -> Read {
         let at = refusal.line.saturating_sub(1) as usize;
         let line = table::lines(text).get(at).copied();
         let over = |line: Line| {
-            let numbers = line.bytes.split(|byte| *byte == b'\t').filter_map(table::number);
+            let numbers = line
+                .bytes
+                .split(|byte| *byte == b'\t')
+                .filter_map(table::number);
             numbers.max().is_some_and(|most| most > 9_999)
         };
         match (refusal.reason, line) {
-            (2, Some(line)) if over(line) => Refusal { reason: 7, ..refusal },
+            (2, Some(line)) if over(line) => Refusal {
+                reason: 7,
+                ..refusal
+            },
             _ => refusal,
         }
     })
@@ -151,8 +215,16 @@ fn seven_before_2(text: &[u8]) -> Read {
 /// large, come before all others.
 fn late(text: &[u8], reasons: &[u32]) -> Read {
     let too_much = |_| false;
-    let off_size: fn(usize) -> bool = if reasons == [2] { |_| false } else { QUESTIONS.off_size };
-    let lenient = Questions { too_much, off_size, ..QUESTIONS };
+    let off_size: fn(usize) -> bool = if reasons == [2] {
+        |_| false
+    } else {
+        QUESTIONS.off_size
+    };
+    let lenient = Questions {
+        too_much,
+        off_size,
+        ..QUESTIONS
+    };
     match matrix::read_asking(text, &lenient) {
         Err(refusal) if reasons.contains(&refusal.reason) => Err(refusal),
         _ => matrix::read(text),
@@ -161,7 +233,10 @@ fn late(text: &[u8], reasons: &[u32]) -> Read {
 
 fn diagonal_by_line(text: &[u8]) -> Read {
     let read = matrix::read(text);
-    let before = read.as_ref().err().map_or(0, |refusal| refusal.line as usize);
+    let before = read
+        .as_ref()
+        .err()
+        .map_or(0, |refusal| refusal.line as usize);
     let lines = table::lines(text);
     for (at, line) in lines.iter().enumerate().take(before.saturating_sub(1)) {
         let entry = matrix::entries(line).and_then(|entries| entries.get(at).copied());
@@ -205,7 +280,10 @@ fn with_lines(text: &[u8]) -> Read {
 
 fn without_lines(text: &[u8]) -> Read {
     let n = first_fields(text);
-    let kept = map_lines(text, |at, line| if at < n { line.to_vec() } else { Vec::new() });
+    let kept = map_lines(
+        text,
+        |at, line| if at < n { line.to_vec() } else { Vec::new() },
+    );
     if text.len() > 32_768 {
         return refuse(1, 0);
     }
@@ -234,7 +312,13 @@ fn fitted(text: &[u8], shorter: bool) -> Read {
 // Faults of reading: entries.
 
 fn searched(text: &[u8], faulty: fn(&Matrix) -> Option<Refusal>) -> Read {
-    matrix::read_asking(text, &Questions { faulty, ..QUESTIONS })
+    matrix::read_asking(
+        text,
+        &Questions {
+            faulty,
+            ..QUESTIONS
+        },
+    )
 }
 
 /// All entries, in reading order.
@@ -284,14 +368,24 @@ fn columns(text: &[u8]) -> Read {
 
 fn but_last(text: &[u8]) -> Read {
     searched(text, |matrix| {
-        let but_last = |n| rows_first(n).into_iter().filter(|at| *at != (n - 1, n - 1)).collect();
+        let but_last = |n| {
+            rows_first(n)
+                .into_iter()
+                .filter(|at| *at != (n - 1, n - 1))
+                .collect()
+        };
         first(matrix, but_last, &[17, 18])
     })
 }
 
 fn neighbours(text: &[u8]) -> Read {
     searched(text, |matrix| {
-        let near = |n| rows_first(n).into_iter().filter(|(i, j)| i.abs_diff(*j) <= 1).collect();
+        let near = |n| {
+            rows_first(n)
+                .into_iter()
+                .filter(|(i, j)| i.abs_diff(*j) <= 1)
+                .collect()
+        };
         first(matrix, near, &[17, 18])
     })
 }
@@ -355,20 +449,15 @@ fn without_last(matrix: &Matrix) -> Table {
 
 /// Rows taken in another way, or to another limit.
 fn summed(text: &[u8], take: fn(i64, i64) -> i64, limit: i64) -> Read {
-    let table = table::read(text)?;
-    let mut matrix = matrix::zeros(table.n);
-    for (at, row) in table.rows.iter().enumerate() {
-        let sum = take(matrix.lines[row.i as usize - 1][row.j as usize - 1], row.d);
-        if sum > limit {
-            return refuse(19, at as u32 + 2);
-        }
-        matrix::set(&mut matrix, row.i, row.j, sum);
-    }
-    Ok(matrix)
+    matrix::take_in(&table::read(text)?, take, limit)
 }
 
 fn first_alone(sum: i64, d: i64) -> i64 {
-    if sum > 0 { sum } else { d }
+    if sum > 0 {
+        sum
+    } else {
+        d
+    }
 }
 
 /// The limit is asked of whole sums that have lost their upper bits.
@@ -412,9 +501,16 @@ fn last_sum(text: &[u8]) -> Read {
 
 fn sums_first(text: &[u8]) -> Read {
     let read = table::read(text);
-    let accepted = read.as_ref().err().map_or(0, |refusal| refusal.line as usize);
+    let accepted = read
+        .as_ref()
+        .err()
+        .map_or(0, |refusal| refusal.line as usize);
     let lines = text.split_inclusive(|byte| *byte == b'\n');
-    let before: Vec<u8> = lines.take(accepted.saturating_sub(1)).flatten().copied().collect();
+    let before: Vec<u8> = lines
+        .take(accepted.saturating_sub(1))
+        .flatten()
+        .copied()
+        .collect();
     if let Ok(above) = table::read(&before) {
         matrix::add_up(&above)?;
     }

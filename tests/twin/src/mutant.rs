@@ -209,10 +209,7 @@ const fn say(name: &'static str, change: fn(&[u8], Said) -> Said) -> Mutant {
     Mutant { name, how }
 }
 
-pub const fn read_matrix(
-    name: &'static str,
-    read: fn(&[u8]) -> Result<Matrix, Refusal>,
-) -> Mutant {
+pub const fn read_matrix(name: &'static str, read: fn(&[u8]) -> Result<Matrix, Refusal>) -> Mutant {
     let how = How::ReadMatrix(read);
     Mutant { name, how }
 }
@@ -269,12 +266,24 @@ static FAULTS: [Mutant; 133] = [
     plan("D: amount 0 goes B", d_zero),
     plan("Z: size above the peak", z_above),
     plan("Z: 768 for every larger peak", z_largest),
-    read("reading: leading zeros", |text| table::read(&without_leading_zeros(text))),
-    read("reading: 8 digits", |text| table::read(&without_eighth_digit(text))),
-    read("reading: final LF not asked for", |text| table::read(&with_final_lf(text))),
-    read("reading: CR LF taken for LF", |text| table::read(&without_cr(text))),
-    read("reading: 32,768 bytes refused", |text| table::read(&past_limit(text))),
-    read("reading: 32,769 bytes read", |text| table::read(&within_limit(text))),
+    read("reading: leading zeros", |text| {
+        table::read(&without_leading_zeros(text))
+    }),
+    read("reading: 8 digits", |text| {
+        table::read(&without_eighth_digit(text))
+    }),
+    read("reading: final LF not asked for", |text| {
+        table::read(&with_final_lf(text))
+    }),
+    read("reading: CR LF taken for LF", |text| {
+        table::read(&without_cr(text))
+    }),
+    read("reading: 32,768 bytes refused", |text| {
+        table::read(&past_limit(text))
+    }),
+    read("reading: 32,769 bytes read", |text| {
+        table::read(&within_limit(text))
+    }),
     read("reading: 32 offices refused", ring_32),
     read("reading: 33 offices taken for 32", ring_33),
     rows("reading: 5 before 4", &FIVE_FIRST),
@@ -300,9 +309,15 @@ static FAULTS: [Mutant; 133] = [
     read_sheet("checking: 13 and 14 before the lines", peaks_first),
     read_sheet("checking: 14 before 13", bound_first),
     read_sheet("checking: lines after Z taken", after_z),
-    read_sheet("checking: final LF not asked for", |text| check::read(&with_final_lf(text))),
-    read_sheet("checking: CR LF taken for LF", |text| check::read(&without_cr(text))),
-    read_sheet("checking: 32,769 bytes read", |text| check::read(&within_limit(text))),
+    read_sheet("checking: final LF not asked for", |text| {
+        check::read(&with_final_lf(text))
+    }),
+    read_sheet("checking: CR LF taken for LF", |text| {
+        check::read(&without_cr(text))
+    }),
+    read_sheet("checking: 32,769 bytes read", |text| {
+        check::read(&within_limit(text))
+    }),
     read_sheet("checking: lower case f and b taken", lower_case),
     read_sheet("checking: 2 in any line first", sheet_shape_first),
     read_sheet("checking: a missing line is the last", missing_is_last),
@@ -395,7 +410,10 @@ pub static SAME: [Mutant; 9] = [
     plan("C: two circuits taken for crossing", c_other_nodes),
     plan("C: by second, then first", c_by_second),
     on_best("13: peak below the across number taken", best_most),
-    pairs("matrix: rows from the lower half", matrix_faults::lower_half),
+    pairs(
+        "matrix: rows from the lower half",
+        matrix_faults::lower_half,
+    ),
 ];
 
 // Faults of replying.

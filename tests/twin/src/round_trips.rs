@@ -5,7 +5,8 @@
 use crate::compare::shown;
 use crate::gen::{self, Amounts};
 use crate::kit::Kit;
-use crate::matrix;
+use crate::matrices;
+use crate::matrix::matrix_text;
 use crate::rng::Rng;
 use crate::selfcheck::Outcome;
 use crate::sheet::table_text;
@@ -53,7 +54,12 @@ fn table(rng: &mut Rng, case: u64) -> Table {
 pub fn of_tables(kit: Kit, seed: u64) -> Outcome {
     for case in 0..CASES {
         let table = table(&mut Rng::for_case(seed, 2_000, case), case);
-        there_and_back(kit, &table_text(&table), Call::WriteMatrix, Call::ReadMatrix)?;
+        there_and_back(
+            kit,
+            &table_text(&table),
+            Call::WriteMatrix,
+            Call::ReadMatrix,
+        )?;
     }
     Ok(())
 }
@@ -61,11 +67,7 @@ pub fn of_tables(kit: Kit, seed: u64) -> Outcome {
 pub fn of_matrices(kit: Kit, seed: u64) -> Outcome {
     for case in 0..CASES {
         let table = table(&mut Rng::for_case(seed, 2_001, case), case);
-        let mut square = matrix::zeros(table.n);
-        for row in &table.rows {
-            matrix::set(&mut square, row.i, row.j, row.d);
-        }
-        let text = matrix::matrix_text(&square);
+        let text = matrix_text(&matrices::square(&table));
         there_and_back(kit, &text, Call::ReadMatrix, Call::WriteMatrix)?;
     }
     Ok(())

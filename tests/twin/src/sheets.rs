@@ -397,7 +397,9 @@ pub fn damaged_rows(rng: &mut Rng, _: u64) -> Option<Case> {
 
 pub fn damaged_often(rng: &mut Rng, _: u64) -> Option<Case> {
     let times = rng.between(2, 4) as u64;
-    damaged(rng, times, |rng, text| gen::damage_any(rng, text, gen::damage_sheet_row))
+    damaged(rng, times, |rng, text| {
+        gen::damage_any(rng, text, gen::damage_sheet_row)
+    })
 }
 
 /// Texts of 32,768 bytes, one more, and lengths about as large.
