@@ -8,7 +8,13 @@ use Rattle.ring.specs.Sheet.{Sheet, plan}
 use Rattle.ring.specs.True.{TrueSheet}
 use Rattle.sheet.specs.Range as sheet-range
 use Rattle.sheet.specs.WriteSheet.{writeSheet}
+use Rattle.table.specs.Says.{Given}
 use Rattle.table.specs.Table.{writeTable, InRange}
+use Rattle.table.specs.declared.reason.Reason.{Reason}
+use Rattle.table.specs.declared.reason.Reason.the-variants.{SumTooMuch}
+use Rattle.matrix.specs.Matrix as matrix
+use Rattle.matrix.specs.Matrix.{writeMatrix}
+use Rattle.matrix.specs.Demands.{rowsOfMatrix, matrixOfRows, Passes, PassesAt}
 
 -- t is the table of these values, and they are in the desk's range
 pub record TableOf (t : List ℕ) (n : ℕ) (rs : List Row) : Type 0 where
@@ -31,6 +37,10 @@ pub record SomeForm (t : List ℕ) : Type 0 where
   pub x : Sheet
   pub text : t ≡ writeSheet x
   pub range : sheet-range.InRange desk x
+-- t is the matrix of these lines, and they are in the desk's range: n lines of n numbers, symmetric, with 0 on the diagonal
+pub record MatrixOf (t : List ℕ) (n : ℕ) (m : List (List ℕ)) : Type 0 where
+  pub text : t ≡ writeMatrix m
+  pub range : matrix.InRange desk n m
 
 -- ---- what is due
 
@@ -54,3 +64,23 @@ sheetDue n rs = writeSheet (plan n rs)
 pub record Itself (Accepted : Type 0) (t text : List ℕ) : Type 0 where
   pub accepted : Accepted
   pub same : text ≡ t
+
+-- the text that is due to a matrix that is read: the table with one row for each pair whose entry is above 0
+pub record MatrixDue (t text : List ℕ) : Type 0 where
+  pub n : ℕ
+  pub m : List (List ℕ)
+  pub of : MatrixOf t n m
+  pub is : text ≡ writeTable n (rowsOfMatrix n m)
+
+-- the text that is due to a table of which a matrix is written: rows of one pair add up, and no sum passes the limit
+pub record SumsDue (t text : List ℕ) : Type 0 where
+  pub n : ℕ
+  pub rs : List Row
+  pub of : TableOf t n rs
+  pub fit : (k : ℕ) → Passes desk rs k → ⊥
+  pub is : text ≡ writeMatrix (matrixOfRows n rs)
+
+-- what is given to a table of which a matrix is written: the table's own reasons; then 19, on the line of the first row at which a pair's sum passes 9,999
+pub data SumsGiven (t : List ℕ) : Reason → ℕ → Type 0 where
+  of-table : {reason : Reason} {line : ℕ} → Given desk t reason line → SumsGiven t reason line
+  of-sums : {n : ℕ} {rs : List Row} {line : ℕ} → TableOf t n rs → PassesAt desk rs line → SumsGiven t SumTooMuch line

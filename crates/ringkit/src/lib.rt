@@ -1,6 +1,7 @@
 // The public calls, as C sees them: byte slices and numbers in, a reply by value out. No call has a `requires`.
 use checker::Answer as Judged;
 use checker::Pair;
+use matrix::Sums;
 use ring::LINKS;
 use ring::ROWS;
 use sheet::Figures;
@@ -9,11 +10,17 @@ use table::Reason;
 ghost use mathlib.Core.Path.{_≡_};
 ghost use Prim.Native.Nat.{_≤_};
 ghost use Rattle.ring.specs.Limits.{desk};
+ghost use Rattle.ring.specs.Columns.{rowsIn};
+ghost use Rattle.table.specs.Table.{writeTable};
+ghost use Rattle.matrix.specs.Matrix.{writeMatrix};
+ghost use Rattle.matrix.specs.Demands.{matrixOfRows};
+ghost use Rattle.matrix.specs.Arrays.{Amounts};
 ghost use Rattle.sheet.specs.WriteSheet.{writeSheet};
 ghost use Rattle.sheet.specs.Arrays.{sheetIn};
 ghost use Rattle.sheet.specs.Range.{longest};
 ghost use Rattle.ringkit.specs.Outcome.{replyOf, refuse, write, Fills};
 ghost use Rattle.ringkit.specs.TableCalls.{tableAfresh, tableRouted};
+ghost use Rattle.ringkit.specs.MatrixCalls.{matrixRead, matrixWritten};
 ghost use Rattle.ringkit.specs.SheetCalls.{sheetChecked, sheetParallel, sheetAfresh};
 
 // A buffer of so many bytes has room for every sheet that routing writes: R has 2 fields, D 7, C 4, L 4, Z 3, and a field takes at most 7 digits and
@@ -45,6 +52,30 @@ fn refusal(reason: Reason, line: u32) -> Reply
     }
 }
 
+// Writes a table, or refuses where the buffer is too short.
+fn put_table<'a>(
+    buf: &mut [u8],
+    n: u32,
+    count: usize,
+    first: &'a [u32; ROWS],
+    second: &'a [u32; ROWS],
+    amount: &'a [u32; ROWS],
+) -> Reply
+    requires { ⌜ count ≤ desk .rows ⌝ }
+    ensures { λ r. ⌜ Fills (write (writeTable n (rowsIn count (now (first .entry)) (now (second .entry)) (now (amount .entry))))) (now (buf .entry)) (now (buf .exit)) r ⌝ }
+{
+    let need = table::table_length(n, count, first, second, amount);
+    if buf.len() < need {
+        return refusal(Reason::NoRoom, 0);
+    }
+    let length = table::write_table(buf, n, count, first, second, amount);
+    Reply {
+        reason: 0,
+        line: 0,
+        length,
+    }
+}
+
 // Reads a table and writes its values afresh.
 #[no_mangle]
 pub extern "C" fn ringkit_rewrite_table(table: &[u8], buffer: &mut [u8]) -> Reply
@@ -54,16 +85,61 @@ pub extern "C" fn ringkit_rewrite_table(table: &[u8], buffer: &mut [u8]) -> Repl
     let answer = t.answer;
     match answer {
         Answer::Refused(reason, line) => refusal(reason, line),
+        Answer::Is(n, count) => put_table(buffer, n, count, &t.first, &t.second, &t.amount),
+    }
+}
+
+// Reads a matrix and writes its table.
+#[no_mangle]
+pub extern "C" fn ringkit_read_matrix(matrix: &[u8], buffer: &mut [u8]) -> Reply
+    ensures { λ r. ⌜ Fills (matrixRead (now (matrix .entry))) (now (buffer .entry)) (now (buffer .exit)) r ⌝ }
+{
+    let t = matrix::read_matrix(matrix);
+    let answer = t.answer;
+    match answer {
+        Answer::Refused(reason, line) => refusal(reason, line),
+        Answer::Is(n, count) => put_table(buffer, n, count, &t.first, &t.second, &t.amount),
+    }
+}
+
+// Writes the matrix of a table's rows, or refuses where the buffer is too short.
+fn put_matrix<'a>(
+    buf: &mut [u8],
+    n: u32,
+    count: usize,
+    first: &'a [u32; ROWS],
+    second: &'a [u32; ROWS],
+    amount: &'a [u32; ROWS],
+) -> Reply
+    requires { ⌜ (n ≤ desk .nodes) × Amounts count (now amount) ⌝ }
+    ensures { λ r. ⌜ Fills (write (writeMatrix (matrixOfRows n (rowsIn count (now (first .entry)) (now (second .entry)) (now (amount .entry)))))) (now (buf .entry)) (now (buf .exit)) r ⌝ }
+{
+    let need = matrix::matrix_length(n, count, first, second, amount);
+    if buf.len() < need {
+        return refusal(Reason::NoRoom, 0);
+    }
+    let length = matrix::write_matrix(buf, n, count, first, second, amount);
+    Reply {
+        reason: 0,
+        line: 0,
+        length,
+    }
+}
+
+// Reads a table and writes its matrix.
+#[no_mangle]
+pub extern "C" fn ringkit_write_matrix(table: &[u8], buffer: &mut [u8]) -> Reply
+    ensures { λ r. ⌜ Fills (matrixWritten (now (table .entry))) (now (buffer .entry)) (now (buffer .exit)) r ⌝ }
+{
+    let t = table::read_table(table);
+    let answer = t.answer;
+    match answer {
+        Answer::Refused(reason, line) => refusal(reason, line),
         Answer::Is(n, count) => {
-            let size = table::table_length(n, count, &t.first, &t.second, &t.amount);
-            if buffer.len() < size {
-                return refusal(Reason::NoRoom, 0);
-            }
-            let length = table::write_table(buffer, n, count, &t.first, &t.second, &t.amount);
-            Reply {
-                reason: 0,
-                line: 0,
-                length,
+            let sums = matrix::judge_sums(count, &t.first, &t.second, &t.amount);
+            match sums {
+                Sums::Pass(line) => refusal(Reason::SumTooMuch, line),
+                Sums::Fit => put_matrix(buffer, n, count, &t.first, &t.second, &t.amount),
             }
         }
     }

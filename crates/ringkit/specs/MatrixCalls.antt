@@ -1,0 +1,35 @@
+-- Internal: the outcome of the calls that read or write a matrix: the text's refusals, and of a table 19 (then 15); or the text that is due.
+use Prim.Native.Nat.{ℕ}
+use mathlib.Core.List.{List}
+use Rattle.ring.specs.Limits.{desk}
+use Rattle.table.specs.Table.{writeTable}
+use Rattle.table.specs.ReadTable.{Result, accepted, refused, tableOf}
+use Rattle.table.specs.declared.reason.Reason.the-variants.{SumTooMuch}
+use Rattle.matrix.specs.Matrix.{writeMatrix}
+use Rattle.matrix.specs.Demands.{matrixOfRows}
+use Rattle.matrix.specs.Read.{matrixOf, tableFrom}
+use Rattle.matrix.specs.Judged.{judgeSums}
+use Rattle.matrix.specs.declared.sums.Sums.{Sums}
+use Rattle.matrix.specs.declared.sums.Sums.the-variants.{Fit, Pass}
+use Rattle.ringkit.specs.Outcome.{Outcome, write, refuse}
+use Rattle.ringkit.specs.TableCalls.{ofTable}
+
+-- reading a matrix and writing its table
+unfoldable pub matrixRead : List ℕ → Outcome
+unfolding ofTable
+matrixRead t = ofTable writeTable (tableFrom (matrixOf desk t))
+
+-- 19, where a pair's sum passes the limit
+unfoldable pub unlessPass : Sums → Outcome → Outcome
+unlessPass Fit next = next
+unlessPass (Pass line) next = refuse SumTooMuch line
+
+unfoldable pub ofRows : Result → Outcome
+unfolding unlessPass
+ofRows (accepted n rs) = unlessPass (judgeSums desk rs) (write (writeMatrix (matrixOfRows n rs)))
+ofRows (refused reason line) = refuse reason line
+
+-- reading a table and writing its matrix
+unfoldable pub matrixWritten : List ℕ → Outcome
+unfolding ofRows
+matrixWritten t = ofRows (tableOf desk t)
