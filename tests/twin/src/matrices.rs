@@ -361,7 +361,8 @@ pub fn about_the_limit(rng: &mut Rng, _: u64) -> Option<Case> {
             break;
         };
         let Row { i, j, .. } = table.rows[at];
-        let total = rng.pick(&[9_998, 9_999, 9_999, 10_000, 10_000, 10_001]);
+        // The last two come out small where 16 bits are all that is kept.
+        let total = rng.pick(&[9_998, 9_999, 9_999, 10_000, 10_001, 65_536, 70_000]);
         fill(rng, &mut table, i, j, total);
     }
     of_table(&table, some_trials(rng, Call::WriteMatrix))
