@@ -37,6 +37,7 @@ pub record SomeForm (t : List ℕ) : Type 0 where
   pub x : Sheet
   pub text : t ≡ writeSheet x
   pub range : sheet-range.InRange desk x
+
 -- t is the matrix of these lines, and they are in the desk's range: n lines of n numbers, symmetric, with 0 on the diagonal
 pub record MatrixOf (t : List ℕ) (n : ℕ) (m : List (List ℕ)) : Type 0 where
   pub text : t ≡ writeMatrix m

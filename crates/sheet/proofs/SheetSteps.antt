@@ -71,7 +71,7 @@ module _ (x : Figures) (count : ℕ) (first second amount front back way split u
     sheet-measured = omega (arith, whole-long, end-long x split unsplit)
 
     -- no sum of them is too large for a usize
-    pub sheet-small : a + b + c + d + e ≤ 100000
+    pub sheet-small : a + b + c + d + e ≤ 1000000
     sheet-small =
         omega (
           arith,

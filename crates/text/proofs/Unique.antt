@@ -3,12 +3,11 @@ use Prim.Native.Nat.{ℕ}
 use mathlib.Core.Path.{_≡_, _∙_, sym}
 use mathlib.Core.List.{List}
 use lib.ListN.{length}
-use Rattle.text.specs.ReadLine.{readLine}
+use Rattle.text.specs.ReadLine.{readLine, fieldAt}
 use Rattle.text.specs.Answers.{oneIn, twoIn, threeIn, sentIn}
 use Rattle.text.specs.Shapes.{ringShape, rowShape, sentShape, cutShape, linkShape, lastShape, ringLine, rowLine, sentLine, cutLine, linkLine, lastLine}
 use Rattle.text.specs.Written.{Written}
 use Rattle.text.specs.Bytes.{number}
-use Rattle.text.specs.ReadLine.{fieldAt}
 use Rattle.text.specs.WriteLine.{endOf, writeLine}
 use Rattle.text.specs.declared.field.Field.{Field}
 use Rattle.text.specs.declared.OneNumber.{OneNumber}

@@ -13,7 +13,7 @@ ghost use Rattle.text.specs.ReadLine.{fieldAt};
 ghost use Rattle.text.specs.Written.{Written};
 
 // What a shape names a field by, where it is no letter.
-pub(crate) const NUMBER: u8 = b'n';
+pub const NUMBER: u8 = b'n';
 
 pub(crate) const WAY: u8 = b'w';
 

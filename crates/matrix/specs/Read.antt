@@ -1,0 +1,114 @@
+-- Internal: reading a matrix line by line, then entry by entry, each step as the code takes it; `Matrix` and `Says` and the theorems of `proofs/` pin it down.
+use Prim.Native.Nat.{ℕ, zero, suc, _+_}
+use mathlib.Core.Bool.{cond}
+use mathlib.Core.List.{List, [], _∷_, _++_}
+use lib.Dec.{ltb, eqb}
+use lib.ListN.{length}
+use Rattle.ring.specs.Limits.{Limits}
+use Rattle.text.specs.Bytes.{tab}
+use Rattle.text.specs.ReadLine.{Reading, good, bad, readLine}
+use Rattle.text.specs.Shapes.{numbers}
+use Rattle.table.specs.Lines.{lines}
+use Rattle.table.specs.Judge.{judgeRing}
+use Rattle.table.specs.ReadTable.{Result, accepted, refused}
+use Rattle.table.specs.declared.reason.Reason.{Reason}
+use Rattle.table.specs.declared.reason.Reason.the-variants.{TooLong, Misshapen, TooMuch, NotZero, NotSymmetric}
+use Rattle.table.specs.declared.judge.Verdict.{Verdict}
+use Rattle.table.specs.declared.judge.Verdict.the-variants.{Fine, Fault}
+use Rattle.matrix.specs.Matrix.{entry}
+use Rattle.matrix.specs.Demands.{rowsOfMatrix}
+use Rattle.matrix.specs.declared.square.Lines.{Lines}
+use Rattle.matrix.specs.declared.square.Lines.the-variants.{Read, Refused}
+
+-- a ring of n nodes and the lines; or a reason and a line
+pub data Matrix : Type 0 where
+  matrix : ℕ → List (List ℕ) → Matrix
+  no-matrix : Reason → ℕ → Matrix
+
+-- ---- one line
+
+-- fields are what tabs part
+unfoldable pub fieldsIn : List ℕ → ℕ
+fieldsIn [] = 1
+fieldsIn (b ∷ t) = cond (eqb b tab) 1 0 + fieldsIn t
+
+unfoldable pub numbersOr : Reading → ℕ → (List ℕ → Matrix) → Matrix
+numbersOr (good vs) line next = next vs
+numbersOr (bad p) line next = no-matrix Misshapen line
+
+unfoldable pub unless : Verdict → ℕ → Matrix → Matrix
+unless Fine line next = next
+unless (Fault reason) line next = no-matrix reason line
+
+-- 7: an entry over 9,999
+unfoldable pub judgeAmounts : Limits → List ℕ → Verdict
+judgeAmounts limits [] = Fine
+judgeAmounts limits (v ∷ vs) = cond (ltb (limits .amount) v) (Fault TooMuch) (judgeAmounts limits vs)
+
+-- ---- the lines in order
+
+-- `left` lines of n numbers are due in ls, of which the first has the number `line`, behind the lines m
+unfoldable pub linesOf : Limits → ℕ → ℕ → ℕ → List (List ℕ) → List (List ℕ) → Matrix
+unfolding numbersOr unless judgeAmounts
+linesOf limits n line zero m [] = matrix n m
+linesOf limits n line zero m (l ∷ ls) = no-matrix Misshapen line
+linesOf limits n line (suc left) m [] = no-matrix Misshapen line
+linesOf limits n line (suc left) m (l ∷ ls) =
+    numbersOr (readLine (numbers n) l) line λ vs.
+    unless (judgeAmounts limits vs) line
+    (linesOf limits n (line + 1) left (m ++ vs ∷ []) ls)
+
+-- ---- the entries in order
+
+-- 17 and 18, of the entry x at i, j whose mirror entry is y
+unfoldable pub judgeEntry : ℕ → ℕ → ℕ → ℕ → Verdict
+judgeEntry i j x y = cond (eqb i j) (cond (eqb x 0) Fine (Fault NotZero)) (cond (eqb x y) Fine (Fault NotSymmetric))
+
+unfoldable pub orElse : Verdict → Verdict → Verdict
+orElse Fine next = next
+orElse (Fault reason) next = Fault reason
+
+unfoldable pub onLine : Verdict → ℕ → Lines → Lines
+onLine Fine line next = next
+onLine (Fault reason) line next = Refused reason line
+
+-- the entries i, j and on, k of them
+unfoldable pub judgeAcross : (ℕ → ℕ → ℕ) → ℕ → ℕ → ℕ → Verdict
+unfolding judgeEntry orElse
+judgeAcross a i j zero = Fine
+judgeAcross a i j (suc k) = orElse (judgeEntry i j (a i j) (a j i)) (judgeAcross a i (j + 1) k)
+
+-- the lines i and on, k of them
+unfoldable pub judgeDown : (ℕ → ℕ → ℕ) → ℕ → ℕ → ℕ → Lines
+unfolding judgeAcross onLine
+judgeDown a n i zero = Read
+judgeDown a n i (suc k) = onLine (judgeAcross a i 1 n) i (judgeDown a n (i + 1) k)
+
+unfoldable pub afterSquare : Lines → Matrix → Matrix
+afterSquare Read x = x
+afterSquare (Refused reason line) x = no-matrix reason line
+
+unfoldable pub squareJudged : Matrix → Matrix
+unfolding judgeDown afterSquare
+squareJudged (matrix n m) = afterSquare (judgeDown (entry m) n 1 n) (matrix n m)
+squareJudged (no-matrix reason line) = no-matrix reason line
+
+-- ---- the whole
+
+-- n is the number of fields of the first line
+unfoldable pub matrixLines : Limits → List (List ℕ) → Matrix
+unfolding numbersOr unless linesOf squareJudged fieldsIn
+matrixLines limits [] = no-matrix Misshapen 1
+matrixLines limits (l ∷ ls) =
+    numbersOr (readLine (numbers (fieldsIn l)) l) 1 λ vs.
+    unless (judgeRing limits (fieldsIn l)) 1
+    (squareJudged (linesOf limits (fieldsIn l) 1 (fieldsIn l) [] (l ∷ ls)))
+
+unfoldable pub matrixOf : Limits → List ℕ → Matrix
+unfolding matrixLines
+matrixOf limits t = cond (ltb (limits .bytes) (length t)) (no-matrix TooLong 0) (matrixLines limits (lines t))
+
+-- as a table
+unfoldable pub tableFrom : Matrix → Result
+tableFrom (matrix n m) = accepted n (rowsOfMatrix n m)
+tableFrom (no-matrix reason line) = refused reason line

@@ -1,0 +1,65 @@
+// A text to rows in arrays.
+use crate::judge::judge_square;
+use crate::line::Spelling;
+use crate::line::fields;
+use crate::line::read_numbers;
+use crate::rows::rows_of;
+use crate::square::Lines;
+use crate::square::read_lines;
+use ring::BYTES;
+use table::Reason;
+use table::Table;
+use table::Verdict;
+use table::judge_ring;
+use table::line_end;
+use table::refusal;
+ghost use mathlib.Core.Path.{_≡_};
+ghost use mathlib.Core.List.{[]};
+ghost use Prim.Native.Nat.{_≤_};
+ghost use Rattle.ring.specs.Limits.{desk};
+ghost use Rattle.table.specs.Lines.{lines};
+ghost use Rattle.table.specs.Arrays.{tableIn};
+ghost use Rattle.matrix.specs.Read.{linesOf, squareJudged, matrixOf, tableFrom};
+
+// The lines of a matrix of n nodes, then its entries.
+fn read_square(s: &[u8], n: u32) -> Table
+    requires { ⌜ n ≤ desk .nodes ⌝ }
+    ensures { λ r. ⌜ r ≡ tableIn (tableFrom (squareJudged (linesOf desk n 1 n [] (lines (now (s .entry)))))) ⌝ }
+{
+    let square = read_lines(s, ring::wide(n));
+    let read = square.lines;
+    let entries = square.entries;
+    if let Lines::Refused(reason, line) = read {
+        return refusal(reason, line);
+    }
+    let found = judge_square(n, &entries);
+    if let Lines::Refused(reason, line) = found {
+        return refusal(reason, line);
+    }
+    rows_of(n, &entries)
+}
+
+// The first line's size is judged by its fields once it is known to be all numbers, so that it may have any number of them.
+pub fn read_matrix(s: &[u8]) -> Table
+    ensures { λ r. ⌜ r ≡ tableIn (tableFrom (matrixOf desk (now (s .entry)))) ⌝ }
+{
+    if BYTES < s.len() {
+        return refusal(Reason::TooLong, 0);
+    }
+    if s.len() <= 0 {
+        return refusal(Reason::Misshapen, 1);
+    }
+    let end = line_end(s, 0);
+    let count = fields(&s[0..end]);
+    let first = read_numbers(&s[0..end], count);
+    let spelling = first.spelling;
+    if let Spelling::Bad(_) = spelling {
+        return refusal(Reason::Misshapen, 1);
+    }
+    let n = count as u32;
+    let verdict = judge_ring(n);
+    if let Verdict::Fault(reason) = verdict {
+        return refusal(reason, 1);
+    }
+    read_square(s, n)
+}

@@ -1,0 +1,112 @@
+// The entries of a matrix: all lines are read before any entry is compared with its mirror entry, so they are kept in a square.
+use crate::line::Spelling;
+use crate::line::judge_amounts;
+use crate::line::read_numbers;
+use ring::LINKS;
+use ring::wide;
+use table::Reason;
+use table::Verdict;
+use table::line_end;
+ghost use mathlib.Core.Path.{_≡_};
+ghost use mathlib.Core.List.{[]};
+ghost use Prim.Native.Nat.{_+_, _≤_};
+ghost use lib.ListN.{length, take};
+ghost use lib.Seq.{sets};
+ghost use Rattle.ring.specs.Limits.{desk};
+ghost use Rattle.table.specs.Lines.{lines as linesIn};
+ghost use Rattle.matrix.specs.Read.{no-matrix, linesOf};
+ghost use Rattle.matrix.specs.Arrays.{placeOf, at as entryAt, empty, squareIn};
+
+// Each line of the square has room for the largest ring.
+pub(crate) const SQUARE: usize = LINKS * LINKS;
+
+// Whether nothing was found; where something was, the reason and the line.
+pub(crate) enum Lines {
+    Read,
+    Refused(Reason, u32),
+}
+
+pub(crate) struct Square {
+    pub lines: Lines,
+    pub entries: [u32; SQUARE],
+}
+
+// The entry i, j.
+pub(crate) fn get(square: &[u32; SQUARE], i: u32, j: u32) -> u32
+    requires { ⌜ (1 ≤ i) × (i ≤ desk .nodes) × (1 ≤ j) × (j ≤ desk .nodes) ⌝ }
+    ensures { λ r. ⌜ r ≡ entryAt (now (square .entry)) i j ⌝ }
+{
+    let a = wide(i);
+    let b = wide(j);
+    let p = LINKS * (a - 1) + (b - 1);
+    square[p]
+}
+
+// Puts the first n values of a line into the square, from `start` on.
+fn keep(square: &mut [u32; SQUARE], start: usize, n: usize, values: &[u32; LINKS])
+    requires { ⌜ (n ≤ desk .nodes) × (start + n ≤ 1024) × (length (now values) ≡ desk .nodes) ⌝ }
+    ensures { λ _. ⌜ now (square .exit) ≡ sets (now (square .entry)) start (take n (now (values .entry))) ⌝ }
+{
+    let mut t: usize = 0;
+    while t < n {
+        square[start + t] = values[t];
+        t += 1;
+    }
+}
+
+fn refused(reason: Reason, line: u32) -> Square
+    ensures { λ r. ⌜ r ≡ squareIn (no-matrix reason line) ⌝ }
+{
+    Square {
+        lines: Lines::Refused(reason, line),
+        entries: [0u32; SQUARE],
+    }
+}
+
+// The lines of a matrix of n nodes. A line behind the n-th is left over, and a missing one is the one after the last.
+pub(crate) fn read_lines(s: &[u8], n: usize) -> Square
+    requires { ⌜ n ≤ desk .nodes ⌝ }
+    ensures { λ r. ⌜ r ≡ squareIn (linesOf desk n 1 n [] (linesIn (now (s .entry)))) ⌝ }
+{
+    let mut entries = [0u32; SQUARE];
+    let mut start: usize = 0;
+    let mut count: usize = 0;
+    let mut line: u32 = 1;
+    let mut at: usize = 0;
+    while at < s.len() {
+        if n <= count {
+            return refused(Reason::Misshapen, line);
+        }
+        let end = line_end(s, at);
+        let numbers = read_numbers(&s[at..end], n);
+        let spelling = numbers.spelling;
+        match spelling {
+            Spelling::Bad(_) => {
+                return refused(Reason::Misshapen, line);
+            }
+            Spelling::Good => {
+                let values = numbers.values;
+                let verdict = judge_amounts(n, &values);
+                match verdict {
+                    Verdict::Fault(reason) => {
+                        return refused(reason, line);
+                    }
+                    Verdict::Fine => {
+                        keep(&mut entries, start, n, &values);
+                        start += LINKS;
+                        count += 1;
+                        line += 1;
+                        at = end;
+                    }
+                }
+            }
+        }
+    }
+    if count < n {
+        return refused(Reason::Misshapen, line);
+    }
+    Square {
+        lines: Lines::Read,
+        entries,
+    }
+}
