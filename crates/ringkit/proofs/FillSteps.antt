@@ -48,3 +48,7 @@ module _ (old t : List ℕ) (size : ℕ) (is : size ≡ length t) where
 
   pub text-fills : (new : List ℕ) (n : ℕ) → size ≤ length old → Written old 0 t new n → Fills (write t) old new (record { reason = 0; line = 0; length = n })
   text-fills = fills (write t) old t refl size is
+
+-- a call that does what another outcome says does what an equal one says
+pub same-fills : {outcome other : Outcome} (old new : List ℕ) (r : Reply) → outcome ≡ other → Fills other old new r → Fills outcome old new r
+same-fills old new r e f = rw e f

@@ -1,8 +1,10 @@
 pub mod FillSteps
 pub mod RewriteSteps
+pub mod MatrixSteps
 pub mod RouteSteps
 pub mod SheetSteps
 pub mod Unique
 pub mod Calls
 pub mod TableCalls
 pub mod SheetCalls
+pub mod MatrixCalls

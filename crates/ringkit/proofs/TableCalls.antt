@@ -26,7 +26,7 @@ use Rattle.ringkit.proofs.Calls.{Decided, is-due, is-given, One, call-p
 
 module _ (t : List ℕ) where
   -- a table is read to the values that it is the table of
-  read-is : (n : ℕ) (rs : List Row) → (tableOf desk t ≡ accepted n rs) ↔ TableOf t n rs
+  pub read-is : (n : ℕ) (rs : List Row) → (tableOf desk t ≡ accepted n rs) ↔ TableOf t n rs
   read-is n rs = (
     λ e. let w = table-text desk desk-spelled t n rs .0 e in record { text = w .0; range = w .1 },
     λ h. table-text desk desk-spelled t n rs .1 (h .text, h .range),

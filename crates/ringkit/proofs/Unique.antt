@@ -8,6 +8,7 @@ use Rattle.sheet.specs.Range.{longest}
 use Rattle.ringkit.specs.Outcome.{Outcome, Fills}
 use Rattle.ringkit.specs.TableCalls.{tableAfresh, tableRouted}
 use Rattle.ringkit.specs.SheetCalls.{sheetChecked, sheetParallel, sheetAfresh}
+use Rattle.ringkit.specs.MatrixCalls.{matrixRead, matrixWritten}
 use Rattle.ringkit.specs.declared.Reply.{Reply}
 use Rattle.ringkit.specs.declared.PairReply.{PairReply}
 
@@ -31,3 +32,9 @@ parallel-unique t r q = same-result
 
 pub rewrite-sheet-unique : (t old new buf : List ℕ) (r q : Reply) → Fills (sheetAfresh t) old new r → Fills (sheetAfresh t) old buf q → (r ≡ q) × (new ≡ buf)
 rewrite-sheet-unique t = fills-unique (sheetAfresh t)
+
+pub read-matrix-unique : (t old new buf : List ℕ) (r q : Reply) → Fills (matrixRead t) old new r → Fills (matrixRead t) old buf q → (r ≡ q) × (new ≡ buf)
+read-matrix-unique t = fills-unique (matrixRead t)
+
+pub write-matrix-unique : (t old new buf : List ℕ) (r q : Reply) → Fills (matrixWritten t) old new r → Fills (matrixWritten t) old buf q → (r ≡ q) × (new ≡ buf)
+write-matrix-unique t = fills-unique (matrixWritten t)

@@ -1,0 +1,203 @@
+-- The calls that read or write a matrix do what 02 says (`Calls`), by the laws of reading a matrix and of sums; and a matrix comes back from its table, a table from
+-- its matrix, over both calls.
+use Prim.Native.Nat.{ℕ, _≤_}
+use mathlib.Core.List.{List}
+use mathlib.Core.Logic.{_↔_}
+use mathlib.Core.Path.{_≡_, refl, ap, _∙_, sym, subst}
+use native.Mathlib.Omega.{arith}
+use lib.ListN.{length}
+use Rattle.ring.specs.Limits.{desk}
+use Rattle.ring.specs.Row.{Row}
+use Rattle.table.specs.Reasons.{numberOf}
+use Rattle.table.specs.Table.{writeTable}
+use Rattle.table.specs.ReadTable.{Result, accepted, refused, tableOf}
+use Rattle.table.specs.Says as table
+use Rattle.table.specs.declared.reason.Reason.{Reason}
+use Rattle.table.specs.declared.reason.Reason.the-variants.{NoRoom}
+use Rattle.table.proofs.ReasonNumbers.{same-reason}
+use Rattle.table.proofs.ReasonsGiven as table-given
+use Rattle.table.proofs.Accepted.{same-table}
+use Rattle.table.proofs.Said.{not-15 as table-not-15}
+use Rattle.table.proofs.TableText.{desk-spelled}
+use Rattle.matrix.specs.Matrix.{writeMatrix}
+use Rattle.matrix.specs.Demands.{rowsOfMatrix, matrixOfRows, OneEach}
+use Rattle.matrix.specs.Read.{Matrix, matrix, no-matrix, matrixOf, tableFrom}
+use Rattle.matrix.specs.Judged.{judgeSums}
+use Rattle.matrix.specs.Room.{matrixRoom, tableRoom}
+use Rattle.matrix.specs.Says.{Says, Given, Accepted}
+use Rattle.matrix.specs.declared.sums.Sums.{Sums}
+use Rattle.matrix.specs.declared.sums.Sums.the-variants.{Fit, Pass}
+use Rattle.matrix.proofs.MatrixText.{desk-possible, matrix-text}
+use Rattle.matrix.proofs.ReasonsGiven.{one-given, given, accepted-is}
+use Rattle.matrix.proofs.RoundTrip.{matrix-back, table-back, rows-in-range, rows-one-each}
+use Rattle.matrix.proofs.Rooms.{room-for-table, room-for-matrix, matrix-in-range}
+use Rattle.matrix.proofs.SumsGiven.{sums-given, sums-fit}
+use Rattle.matrix.proofs.Texts.{one-each-fit}
+use Rattle.ringkit.specs.Outcome.{Outcome, write, Fills}
+use Rattle.ringkit.specs.TableCalls.{ofTable}
+use Rattle.ringkit.specs.MatrixCalls.{matrixRead, unlessPass, ofRows, matrixWritten}
+use Rattle.ringkit.specs.Says.{Success, CallPromise}
+use Rattle.ringkit.specs.Texts.{TableOf, MatrixOf, MatrixDue, SumsDue, SumsGiven, of-table, of-sums}
+use Rattle.ringkit.specs.declared.Reply.{Reply}
+use Rattle.ringkit.proofs.Calls.{Decided, is-due, is-given, One, call-promise}
+use Rattle.ringkit.proofs.TableCalls.{read-is, due-accepted}
+
+-- ---- reading
+
+module _ (t : List ℕ) where
+  -- a matrix is read to the lines that it is the matrix of
+  matrix-is : (n : ℕ) (m : List (List ℕ)) → (matrixOf desk t ≡ matrix n m) ↔ MatrixOf t n m
+  matrix-is n m = (
+    λ e. let w = matrix-text desk desk-possible t n m .0 e in record { text = w .0; range = w .1 },
+    λ h. matrix-text desk desk-possible t n m .1 (h .text, h .range),
+  )
+
+  decided : (x : Matrix) → matrixOf desk t ≡ x → Decided (MatrixDue t) (Given desk t) (ofTable writeTable (tableFrom x))
+  unfolding ofTable tableFrom
+  decided (matrix n m) e = is-due (record { n = n; m = m; of = matrix-is n m .0 e; is = refl })
+  decided (no-matrix reason line) e = is-given (given desk t reason line .0 e)
+
+  due-accepted-matrix : (text : List ℕ) → MatrixDue t text → Accepted desk t
+  due-accepted-matrix text d = accepted-is desk t .0 (record { n = d .n; m = d .m; is = matrix-is (d .n) (d .m) .1 (d .of) })
+
+  not-15 : (reason : Reason) (line : ℕ) → Says desk t reason line → numberOf reason ≡ numberOf NoRoom → ⊥
+  unfolding Says
+  not-15 reason line h e = subst (λ s. Says desk t s line) (same-reason reason NoRoom e) h
+
+  one-due : One (MatrixDue t) (Given desk t)
+  one-due =
+      record {
+        text = λ a b.
+            let e : matrix (a .n) (a .m) ≡ matrix (b .n) (b .m) = sym (matrix-is (a .n) (a .m) .1 (a .of)) ∙ matrix-is (b .n) (b .m) .1 (b .of) in
+            let en : a .n ≡ b .n = cc in
+            let em : a .m ≡ b .m = cc in
+            let d : writeTable (a .n) (rowsOfMatrix (a .n) (a .m)) ≡ writeTable (b .n) (rowsOfMatrix (b .n) (b .m)) = rw (en, em) in
+            a .is ∙ d ∙ sym (b .is);
+        refusal = λ f g. one-given f g;
+        apart = λ {a} {r} {line} d g. due-accepted-matrix a d r line (g .holds);
+        other = λ {r} {line} g. not-15 r line (g .holds);
+      }
+
+-- the table of a matrix is written, with room for it; else 15 or the matrix's first reason
+pub read-matrix-promise : (t old new : List ℕ) (r : Reply) → Fills (matrixRead t) old new r → CallPromise (MatrixDue t) (Given desk t) old new r
+unfolding matrixRead
+read-matrix-promise t old new r f = call-promise (one-due t) (decided t (matrixOf desk t) refl) f
+
+module _ (t text : List ℕ) (d : MatrixDue t text) where
+  -- the table that is due is a table in range, so that it is accepted and can be routed
+  due-table : TableOf text (d .n) (rowsOfMatrix (d .n) (d .m))
+  due-table = record { text = d .is; range = rows-in-range (d .n) (d .m) (d .of .range) }
+
+  pub matrix-table-accepted : table.Accepted desk text
+  matrix-table-accepted = due-accepted text writeTable .1 (record { text = text; is = record { n = d .n; rs = rowsOfMatrix (d .n) (d .m); of = due-table; is = d .is } })
+
+  -- and no longer than `tableRoom`
+  pub matrix-table-short : length text ≤ tableRoom desk
+  matrix-table-short = omega (arith, ap length (d .is), room-for-table (d .n) (d .m) (d .of .range))
+
+-- ---- writing
+
+-- the same text is the table of one ring and one list of rows
+same-values : {t : List ℕ} {n k : ℕ} {rs qs : List Row} → TableOf t n rs → TableOf t k qs → (n ≡ k) × (rs ≡ qs)
+same-values {n} {k} {rs} {qs} a b = same-table desk desk-spelled n k rs qs (a .range) (b .range) (sym (a .text) ∙ b .text)
+
+-- no reason is given to a text that is a table
+no-reason : {t : List ℕ} {n : ℕ} {rs : List Row} → TableOf t n rs → {reason : Reason} {line : ℕ} → table.Given desk t reason line → ⊥
+no-reason {t} {n} {rs} of {reason} {line} g = due-accepted t writeTable .1 (record { text = t; is = record { n = n; rs = rs; of = of; is = of .text } }) reason line (g .holds)
+
+module _ (t : List ℕ) where
+  sums-decided : (x : Result) → tableOf desk t ≡ x → Decided (SumsDue t) (SumsGiven t) (ofRows x)
+  unfolding ofRows unlessPass
+  sums-decided (accepted n rs) e = go (judgeSums desk rs) refl
+    where
+      go : (x : Sums) → judgeSums desk rs ≡ x → Decided (SumsDue t) (SumsGiven t) (unlessPass x (write (writeMatrix (matrixOfRows n rs))))
+      go Fit f = is-due (record { n = n; rs = rs; of = read-is t n rs .0 e; fit = sums-fit desk rs .0 f; is = refl })
+      go (Pass line) f = is-given (of-sums (read-is t n rs .0 e) (sums-given desk rs line .0 f))
+  sums-decided (refused reason line) e = is-given (of-table (table-given.given desk t reason line .0 e))
+
+  one-refusal : {r s : Reason} {line other : ℕ} → SumsGiven t r line → SumsGiven t s other → (r ≡ s) × (line ≡ other)
+  one-refusal (of-table a) (of-table b) = table-given.one-given a b
+  one-refusal (of-table a) (of-sums of p) = absurd (no-reason of a)
+  one-refusal (of-sums of p) (of-table b) = absurd (no-reason of b)
+  one-refusal (of-sums {rs} {line} of p) (of-sums {rs = qs} {line = other} of′ q) =
+      let e = same-values of of′ .1 in
+      let f : Pass line ≡ Pass other = sym (sums-given desk rs line .1 p) ∙ sums-given desk rs other .1 (rw e q) in
+      (refl, cc)
+
+  due-or-given : {text : List ℕ} {r : Reason} {line : ℕ} → SumsDue t text → SumsGiven t r line → ⊥
+  due-or-given d (of-table a) = no-reason (d .of) a
+  due-or-given d (of-sums of p) = let e = same-values of (d .of) .1 in d .fit (p .k) (rw e at (p .holds))
+
+  not-full : {r : Reason} {line : ℕ} → SumsGiven t r line → numberOf r ≡ numberOf NoRoom → ⊥
+  not-full (of-table {reason} {line} a) e = table-not-15 desk t line reason (a .holds) e
+  not-full (of-sums of p) e = omega arith
+
+  one-sums : One (SumsDue t) (SumsGiven t)
+  one-sums =
+      record {
+        text = λ a b.
+            let e = same-values (a .of) (b .of) in
+            let en = e .0 in
+            let er = e .1 in
+            let d : writeMatrix (matrixOfRows (a .n) (a .rs)) ≡ writeMatrix (matrixOfRows (b .n) (b .rs)) = rw (en, er) in
+            a .is ∙ d ∙ sym (b .is);
+        refusal = λ f g. one-refusal f g;
+        apart = λ d g. due-or-given d g;
+        other = λ g. not-full g;
+      }
+
+-- the matrix of a table is written, with room for it; else the table's first reason, 19 or 15
+pub write-matrix-promise : (t old new : List ℕ) (r : Reply) → Fills (matrixWritten t) old new r → CallPromise (SumsDue t) (SumsGiven t) old new r
+unfolding matrixWritten
+write-matrix-promise t old new r f = call-promise (one-sums t) (sums-decided t (tableOf desk t) refl) f
+
+module _ (t text : List ℕ) (d : SumsDue t text) where
+  fits : judgeSums desk (d .rs) ≡ Fit
+  fits = sums-fit desk (d .rs) .1 (d .fit)
+
+  -- the matrix that is due is a matrix in range, so that it is accepted
+  due-matrix : MatrixOf text (d .n) (matrixOfRows (d .n) (d .rs))
+  due-matrix = record { text = d .is; range = matrix-in-range (d .n) (d .rs) (d .of .range) fits }
+
+  pub written-matrix-accepted : Accepted desk text
+  written-matrix-accepted =
+      accepted-is desk text .0 (record { n = d .n; m = matrixOfRows (d .n) (d .rs); is = matrix-is text (d .n) (matrixOfRows (d .n) (d .rs)) .1 due-matrix })
+
+  -- and no longer than `matrixRoom`
+  pub written-matrix-short : length text ≤ matrixRoom desk
+  written-matrix-short = omega (arith, ap length (d .is), room-for-matrix (d .n) (d .rs) (d .of .range) fits)
+
+-- ---- there and back
+
+-- matrix to table to matrix: the same bytes, for every accepted matrix
+pub matrix-there-and-back : (t text old new : List ℕ) (r : Reply) → Fills (matrixRead t) old new r → Success text old new r
+    → (other after : List ℕ) (q : Reply) → Fills (matrixWritten text) other after q → length t ≤ length other → Success t other after q
+matrix-there-and-back t text old new r read done other after q written room =
+    let d = read-matrix-promise t old new r read .succeeds text .0 done .0 in
+    let table = due-table t text d in
+    let one = one-each-fit (d .n) (rowsOfMatrix (d .n) (d .m)) (table .range) (rows-one-each (d .n) (d .m)) in
+    let due : SumsDue text t =
+    record {
+      n = d .n;
+      rs = rowsOfMatrix (d .n) (d .m);
+      of = table;
+      fit = sums-fit desk (rowsOfMatrix (d .n) (d .m)) .0 one;
+      is = d .of .text ∙ sym (ap writeMatrix (matrix-back desk (d .n) (d .m) (d .of .range)));
+    } in
+    write-matrix-promise text other after q written .succeeds t .1 (due, room)
+
+-- table to matrix to table: the same bytes, for every accepted table with at most one row for a pair and none of amount 0
+pub table-there-and-back : (t : List ℕ) (n : ℕ) (rs : List Row) → TableOf t n rs → OneEach rs → (text old new : List ℕ) (r : Reply) → Fills (matrixWritten t) old new r → Success text old new r
+    → (other after : List ℕ) (q : Reply) → Fills (matrixRead text) other after q → length t ≤ length other → Success t other after q
+table-there-and-back t n rs of each text old new r written done other after q read room =
+    let d = write-matrix-promise t old new r written .succeeds text .0 done .0 in
+    let e = same-values of (d .of) .1 in
+    let back = table-back (d .n) (d .rs) (d .of .range .rows) (rw e at each) in
+    let due : MatrixDue text t =
+    record {
+      n = d .n;
+      m = matrixOfRows (d .n) (d .rs);
+      of = due-matrix t text d;
+      is = d .of .text ∙ sym (ap (writeTable (d .n)) back);
+    } in
+    read-matrix-promise text other after q read .succeeds t .1 (due, room)

@@ -1,0 +1,42 @@
+-- Reading a matrix: what reading answers gives the outcome, and the outcome each way out (`RewriteSteps`).
+use Rattle.ringkit.proofs.RewriteSteps.{matrix-refused, matrix-rows-have-room, matrix-fills}
+use borrow.Author.Needs.{needs}
+use Rattle.ringkit.proofs.ringkit_read_matrix.Statement.{statement}
+use Rattle.ringkit.proofs.ringkit_read_matrix.Tie as tie
+
+read-matrix-requires : tie.Need-read-matrix-requires
+read-matrix-requires c κs = search needs
+
+enum-known-answer : tie.Need-enum-known-answer
+enum-known-answer c = search needs
+
+refusal-requires : tie.Need-refusal-requires
+refusal-requires c κs = search needs
+
+enum-known-answer-2 : tie.Need-enum-known-answer-2
+enum-known-answer-2 c = search needs
+
+put-table-requires : tie.Need-put-table-requires
+put-table-requires c κs = search matrix-rows-have-room
+
+returns : tie.Need-returns
+returns c = search matrix-refused
+
+same-length : tie.Need-same-length
+same-length c = search needs
+
+returns-2 : tie.Need-returns-2
+returns-2 c = search matrix-fills
+
+pub ringkit-read-matrix-spec : {M : Type 1} → statement M
+ringkit-read-matrix-spec =
+    tie.close
+    (tie.spec
+    read-matrix-requires
+    enum-known-answer
+    refusal-requires
+    enum-known-answer-2
+    put-table-requires
+    returns
+    same-length
+    returns-2)
