@@ -64,8 +64,8 @@ fn put_table<'a>(
     requires { ⌜ count ≤ desk .rows ⌝ }
     ensures { λ r. ⌜ Fills (write (writeTable n (rowsIn count (now (first .entry)) (now (second .entry)) (now (amount .entry))))) (now (buf .entry)) (now (buf .exit)) r ⌝ }
 {
-    let need = table::table_length(n, count, first, second, amount);
-    if buf.len() < need {
+    let size = table::table_length(n, count, first, second, amount);
+    if buf.len() < size {
         return refusal(Reason::NoRoom, 0);
     }
     let length = table::write_table(buf, n, count, first, second, amount);
@@ -114,8 +114,8 @@ fn put_matrix<'a>(
     requires { ⌜ (n ≤ desk .nodes) × Amounts count (now amount) ⌝ }
     ensures { λ r. ⌜ Fills (write (writeMatrix (matrixOfRows n (rowsIn count (now (first .entry)) (now (second .entry)) (now (amount .entry)))))) (now (buf .entry)) (now (buf .exit)) r ⌝ }
 {
-    let need = matrix::matrix_length(n, count, first, second, amount);
-    if buf.len() < need {
+    let bytes = matrix::matrix_length(n, count, first, second, amount);
+    if buf.len() < bytes {
         return refusal(Reason::NoRoom, 0);
     }
     let length = matrix::write_matrix(buf, n, count, first, second, amount);
