@@ -1,9 +1,12 @@
 //! The library that is compared with the twin, behind a safe call. Built with
-//! `--cfg mock`, the twin itself stands in for the library.
+//! `--cfg mock`, the twin itself stands in for the library; with `--cfg remote`
+//! the library is not linked but asked in a process of its own.
 
 use crate::mutant::Mutant;
+#[cfg(remote)]
+use crate::remote::library;
 use crate::twin::{Call, Said};
-#[cfg(not(mock))]
+#[cfg(not(any(mock, remote)))]
 use crate::twin::{Pair, Reply};
 use std::ops::Range;
 
@@ -20,16 +23,16 @@ impl Kit {
     /// that changes it can be seen.
     pub fn call(self, call: Call, text: &mut [u8], area: &mut [u8], lent: Range<usize>) -> Said {
         match self {
-            Kit::Library => library(call, text, &mut area[lent]),
+            Kit::Library => library(call, text, area, lent),
             Kit::Mutant(mutant) => mutant.call(call, text, area, lent),
         }
     }
 }
 
-#[cfg(not(mock))]
+#[cfg(not(any(mock, remote)))]
 type Writing = unsafe extern "C" fn(*const u8, usize, *mut u8, usize) -> Reply;
 
-#[cfg(not(mock))]
+#[cfg(not(any(mock, remote)))]
 extern "C" {
     fn ringkit_route(
         table_ptr: *const u8,
@@ -65,8 +68,9 @@ extern "C" {
     ) -> Reply;
 }
 
-#[cfg(not(mock))]
-fn library(call: Call, text: &mut [u8], buffer: &mut [u8]) -> Said {
+#[cfg(not(any(mock, remote)))]
+fn library(call: Call, text: &mut [u8], area: &mut [u8], lent: Range<usize>) -> Said {
+    let buffer = &mut area[lent];
     let (text_ptr, text_len) = (text.as_mut_ptr().cast_const(), text.len());
     let write: Writing = match call {
         Call::Route => ringkit_route,
@@ -85,6 +89,7 @@ fn library(call: Call, text: &mut [u8], buffer: &mut [u8]) -> Said {
 }
 
 #[cfg(mock)]
-fn library(call: Call, text: &mut [u8], buffer: &mut [u8]) -> Said {
+fn library(call: Call, text: &mut [u8], area: &mut [u8], lent: Range<usize>) -> Said {
+    let buffer = &mut area[lent];
     crate::twin::say(call, &crate::twin::answer(call, text), buffer)
 }

@@ -8,7 +8,8 @@
 //! Two modes show that the comparison itself is good. `twin --mutants [SEED
 //! [COUNT]]` lists which faults it catches, and where. `twin --mutant K [SEED
 //! [COUNT]]` puts the K-th fault in the library's place, from 1. Built with
-//! `--cfg mock` and no library, the twin stands in for the library.
+//! `--cfg mock` and no library, the twin stands in for the library. Built with
+//! `--cfg remote`, it asks a process that has the library.
 //!
 //! `twin --cases` answers the stored cases given on standard input by itself,
 //! without the library, so that its reading is compared with the one that wrote
@@ -26,6 +27,8 @@ mod matrix;
 mod matrix_faults;
 mod matrix_selfcheck;
 mod mutant;
+#[cfg(remote)]
+mod remote;
 mod rng;
 mod round_trips;
 mod row_faults;

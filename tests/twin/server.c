@@ -1,0 +1,121 @@
+/* Makes calls of the library for a twin that cannot link it, one after the other until standard input ends. Numbers on the pipes have 8 bytes, the
+ * lowest first. A request is the lengths of a call's name, of its text and of an area, where in the area the lent buffer begins and ends, and then
+ * the name, the text and the area. The answer is the reply's four numbers and then text and area as the call leaves them. */
+#include <stdio.h>
+#include <stdlib.h>
+#include <string.h>
+
+#include "ringkit.h"
+
+/* A call has one of three forms. */
+typedef ringkit_reply writing(const uint8_t *, size_t, uint8_t *, size_t);
+typedef ringkit_reply judging(const uint8_t *, size_t);
+typedef ringkit_pair_reply finding(const uint8_t *, size_t);
+
+static const struct call {
+    const char *name; /* as the twin has it */
+    writing *write;
+    judging *judge;
+    finding *find;
+} CALLS[] = {
+    {.name = "Route", .write = ringkit_route},
+    {.name = "Rewrite", .write = ringkit_rewrite_table},
+    {.name = "Check", .judge = ringkit_check},
+    {.name = "RewriteSheet", .write = ringkit_rewrite_sheet},
+    {.name = "Parallel", .find = ringkit_parallel},
+    {.name = "ReadMatrix", .write = ringkit_read_matrix},
+    {.name = "WriteMatrix", .write = ringkit_write_matrix},
+};
+
+struct request {
+    uint64_t name_length, text_length, area_length, begin, end;
+};
+
+struct answer {
+    uint64_t reason, line, first, second; /* first is the length in a reply that has no pair, and second 0 */
+};
+
+static _Noreturn void fail(const char *what)
+{
+    fprintf(stderr, "server: %s\n", what);
+    exit(1);
+}
+
+static const struct call *named(const char *name)
+{
+    for (size_t k = 0; k < sizeof CALLS / sizeof *CALLS; k++) {
+        if (strcmp(name, CALLS[k].name) == 0) {
+            return &CALLS[k];
+        }
+    }
+    fail("the twin makes a call that this server does not have");
+}
+
+static struct answer reply(ringkit_reply reply)
+{
+    return (struct answer){reply.reason, reply.line, reply.length, 0};
+}
+
+static struct answer pair(ringkit_pair_reply pair)
+{
+    return (struct answer){pair.reason, pair.line, pair.first, pair.second};
+}
+
+static struct answer make(const struct call *call, const struct request *r, const uint8_t *text, uint8_t *area)
+{
+    if (call->write != NULL) {
+        return reply(call->write(text, r->text_length, area + r->begin, r->end - r->begin));
+    }
+    return call->judge != NULL ? reply(call->judge(text, r->text_length)) : pair(call->find(text, r->text_length));
+}
+
+/* So many bytes of standard input, and a NUL behind them. */
+static void *received(uint64_t length)
+{
+    char *bytes = malloc(length + 1);
+    if (bytes == NULL) {
+        fail("no memory");
+    }
+    if (fread(bytes, 1, length, stdin) != length) {
+        fail("a request ends too early");
+    }
+    bytes[length] = '\0';
+    return bytes;
+}
+
+static void send(const void *bytes, uint64_t length)
+{
+    if (fwrite(bytes, 1, length, stdout) != length) {
+        fail("the twin does not take the answer");
+    }
+}
+
+static void serve(const struct request *r)
+{
+    char *name = received(r->name_length);
+    uint8_t *text = received(r->text_length);
+    uint8_t *area = received(r->area_length);
+    struct answer answer = make(named(name), r, text, area);
+    send(&answer, sizeof answer);
+    send(text, r->text_length);
+    send(area, r->area_length);
+    if (fflush(stdout) != 0) {
+        fail("the twin does not take the answer");
+    }
+    free(name);
+    free(text);
+    free(area);
+}
+
+int main(void)
+{
+    struct request request;
+    size_t had;
+    while ((had = fread(&request, 1, sizeof request, stdin)) == sizeof request) {
+        serve(&request);
+    }
+    if (had > 0) {
+        fail("a request ends too early");
+    }
+    return 0;
+}
