@@ -2,6 +2,7 @@
 use Prim.Native.Nat.{ℕ}
 use mathlib.Core.List.{List}
 use mathlib.Core.Path.{_≡_, refl, ap, _∙_, sym}
+use Rattle.ring.specs.Ring.{Ring}
 use Rattle.ring.specs.Row.{Row}
 use Rattle.ring.specs.Limits.{Limits}
 use Rattle.table.specs.Table.{writeTable, LimitsSpelled, InRange}
@@ -10,15 +11,15 @@ use Rattle.table.proofs.TableText.{table-text}
 
 module _ (limits : Limits) (spelled : LimitsSpelled limits) where
   -- writing what was read gives the same bytes
-  pub write-read : (t : List ℕ) (n : ℕ) (rs : List Row) → tableOf limits t ≡ accepted n rs → writeTable n rs ≡ t
-  write-read t n rs e = sym (table-text limits spelled t n rs .0 e .0)
+  pub write-read : (t : List ℕ) (ring : Ring) (rs : List Row) → tableOf limits t ≡ accepted ring rs → writeTable ring rs ≡ t
+  write-read t ring rs e = sym (table-text limits spelled t ring rs .0 e .0)
 
   -- reading what was written gives the same values
-  pub read-written : (n : ℕ) (rs : List Row) → InRange limits n rs → tableOf limits (writeTable n rs) ≡ accepted n rs
-  read-written n rs range = table-text limits spelled (writeTable n rs) n rs .1 (refl, range)
+  pub read-written : (ring : Ring) (rs : List Row) → InRange limits ring rs → tableOf limits (writeTable ring rs) ≡ accepted ring rs
+  read-written ring rs range = table-text limits spelled (writeTable ring rs) ring rs .1 (refl, range)
 
   -- two tables written the same are the same table
-  pub same-table : (n m : ℕ) (rs ss : List Row) → InRange limits n rs → InRange limits m ss → writeTable n rs ≡ writeTable m ss → (n ≡ m) × (rs ≡ ss)
-  same-table n m rs ss r s e =
-      let f : accepted n rs ≡ accepted m ss = sym (read-written n rs r) ∙ ap (tableOf limits) e ∙ read-written m ss s in
+  pub same-table : (ring other : Ring) (rs ss : List Row) → InRange limits ring rs → InRange limits other ss → writeTable ring rs ≡ writeTable other ss → (ring ≡ other) × (rs ≡ ss)
+  same-table ring other rs ss r s e =
+      let f : accepted ring rs ≡ accepted other ss = sym (read-written ring rs r) ∙ ap (tableOf limits) e ∙ read-written other ss s in
       (cc, cc)

@@ -1,18 +1,20 @@
--- What each reason says against a row's numbers; and a row's verdict is the first reason against it, by the cases of the judging.
+-- What each reason says against a ring's and a row's numbers; and a verdict is the first reason against them, by the cases of the judging.
 use Prim.Native.Nat.{ℕ, _≤_, _<_}
 use mathlib.Core.Logic.{_⊎_, inl, inr, ⊎-elim}
 use mathlib.Core.Path.{_≡_, refl}
 use native.Mathlib.Omega.{arith}
 use Rattle.ring.specs.Row.{row, OnRing, PairBefore, PairUpTo}
 use Rattle.ring.specs.Limits.{Limits}
+use Rattle.ring.specs.Ring.{Ring}
+use Rattle.ring.specs.LineSize.{IsFibres}
 use Rattle.table.specs.Reasons.{rankOf}
 use Rattle.table.specs.Says.{NoNode}
 use Rattle.table.specs.Judge.{judgeRing, judgeRow}
 use Rattle.table.specs.declared.reason.Reason.{Reason}
-use Rattle.table.specs.declared.reason.Reason.the-variants.{NoSuchNode, NotBelow, OutOfOrder, TooMany, TooMuch}
+use Rattle.table.specs.declared.reason.Reason.the-variants.{RingSize, Fibres, NoSuchNode, NotBelow, OutOfOrder, TooMany, TooMuch}
 use Rattle.table.specs.declared.judge.Verdict.{Verdict}
 use Rattle.table.specs.declared.judge.Verdict.the-variants.{Fine, Fault}
-use Rattle.table.proofs.Judged.{RingJudged, wrong-size, right-size, ring-judged, HasNode, RowJudged, no-such-node, not-below, out-of-order, too-many, too-much, row-fine, row-judged}
+use Rattle.table.proofs.Judged.{RingJudged, wrong-size, wrong-fibres, right-ring, ring-judged, HasNode, RowJudged, no-such-node, not-below, out-of-order, too-many, too-much, row-fine, row-judged}
 
 -- the verdict comes no later than the reason s, and where it is Fine there is no such reason
 abbrev pub NoLater : Verdict → Reason → Type 0
@@ -89,12 +91,29 @@ fine-row-judged limits n k a b i j d r o c m = go (row-judged limits n k a b i j
     go (too-much h p l u c x) = absurd (none (by-amount x))
     go (row-fine r o c m) = refl
 
--- ---- a ring's size
+-- ---- a ring
 
-pub fine-ring-judged : (limits : Limits) (n : ℕ) → limits .fewest ≤ n → n ≤ limits .nodes → judgeRing limits n ≡ Fine
-fine-ring-judged limits n few many = go (ring-judged limits n)
+pub data AgainstRing (limits : Limits) (ring : Ring) : Reason → Type 0 where
+  by-size : (ring .n < limits .fewest) ⊎ (limits .nodes < ring .n) → AgainstRing limits ring RingSize
+  by-fibres : (IsFibres (ring .fibres) → ⊥) → AgainstRing limits ring Fibres
+
+has-size : {limits : Limits} {ring : Ring} → limits .fewest ≤ ring .n → ring .n ≤ limits .nodes → (ring .n < limits .fewest) ⊎ (limits .nodes < ring .n) → ⊥
+has-size few many (inl l) = omega arith
+has-size few many (inr l) = omega arith
+
+module _ {limits : Limits} {ring : Ring} where
+  pub ring-least : {v : Verdict} {s : Reason} → RingJudged limits ring v → AgainstRing limits ring s → NoLater v s
+  ring-least (wrong-size u) (by-size w) = omega arith
+  ring-least (wrong-size u) (by-fibres w) = omega arith
+  ring-least (wrong-fibres l m u) (by-size w) = absurd (has-size {limits} {ring} l m w)
+  ring-least (wrong-fibres l m u) (by-fibres w) = omega arith
+  ring-least (right-ring l m f) (by-size w) = has-size {limits} {ring} l m w
+  ring-least (right-ring l m f) (by-fibres w) = w f
+
+pub fine-ring-judged : (limits : Limits) (ring : Ring) → limits .fewest ≤ ring .n → ring .n ≤ limits .nodes → IsFibres (ring .fibres) → judgeRing limits ring ≡ Fine
+fine-ring-judged limits ring few many fibres = go (ring-judged limits ring)
   where
-    go : {v : Verdict} → RingJudged limits n v → v ≡ Fine
-    go (wrong-size (inl l)) = absurd (omega arith)
-    go (wrong-size (inr l)) = absurd (omega arith)
-    go (right-size l m) = refl
+    go : {v : Verdict} → RingJudged limits ring v → v ≡ Fine
+    go (wrong-size w) = absurd (has-size {limits} {ring} few many w)
+    go (wrong-fibres l m w) = absurd (w fibres)
+    go (right-ring l m f) = refl

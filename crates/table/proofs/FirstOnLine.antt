@@ -2,22 +2,23 @@
 -- of its numbers, since the line has one reading.
 use Prim.Native.Nat.{ℕ, _+_, _≤_}
 use mathlib.Core.List.{List}
-use mathlib.Core.Logic.{inl, inr, ⊎-elim}
+use mathlib.Core.Logic.{inl, inr}
 use mathlib.Core.Path.{_≡_, refl}
 use native.Mathlib.Omega.{arith}
 use Rattle.ring.specs.Limits.{Limits}
+use Rattle.ring.specs.Ring.{Ring}
 use Rattle.ring.specs.Row.{PairBefore}
 use Rattle.table.specs.Lines.{lines}
 use Rattle.table.specs.Reasons.{rankOf}
-use Rattle.table.specs.Says.{LineIs, RingIs, RowIs, WrongRing, WrongOrder, Says}
+use Rattle.table.specs.Says.{LineIs, RingIs, RowIs, WrongOrder, Says}
 use Rattle.table.specs.declared.reason.Reason.{Reason}
-use Rattle.table.specs.declared.reason.Reason.the-variants.{Misshapen, RingSize}
+use Rattle.table.specs.declared.reason.Reason.the-variants.{Misshapen}
 use Rattle.table.specs.declared.judge.Verdict.{Verdict}
 use Rattle.table.specs.declared.judge.Verdict.the-variants.{Fine, Fault}
-use Rattle.table.proofs.Judged.{RingJudged, wrong-size, right-size, RowJudged, no-such-node, not-below, out-of-order, too-many, too-much, row-fine}
-use Rattle.table.proofs.Against.{NoLater, AgainstRow, by-nodes, by-pair, by-order, by-count, by-amount, row-least}
+use Rattle.table.proofs.Judged.{RingJudged, wrong-size, wrong-fibres as other-fibres, right-ring, RowJudged, no-such-node, not-below, out-of-order, too-many, too-much, row-fine}
+use Rattle.table.proofs.Against.{NoLater, AgainstRow, by-nodes, by-pair, by-order, by-count, by-amount, row-least, AgainstRing, by-size, by-fibres, ring-least}
 use Rattle.table.proofs.LineNumbers.{ring-one, row-one}
-use Rattle.table.proofs.Said.{Said, too-long, no-ring-line, no-row-line, wrong-ring, wrong-node, wrong-pair, wrong-order, wrong-count, wrong-amount, said, Stands, on-none, on-first, on-later, stands}
+use Rattle.table.proofs.Said.{Said, too-long, no-ring-line, no-row-line, wrong-ring, wrong-fibres, wrong-node, wrong-pair, wrong-order, wrong-count, wrong-amount, said, Stands, on-none, on-first, on-later, stands}
 
 -- the reason of a verdict holds on the line
 abbrev Holds : Limits → List ℕ → ℕ → Verdict → Type 0
@@ -40,7 +41,7 @@ misshapen-first {limits} {t} {line} low h = record { holds = h; least = λ s k. 
     go (on-first e two) = two
     go (on-later later is two) = two
 
-pub no-ring-first : {limits : Limits} {t : List ℕ} → ((n : ℕ) → RingIs t n → ⊥) → FirstOnLine limits t 1 (Fault Misshapen)
+pub no-ring-first : {limits : Limits} {t : List ℕ} → ((ring : Ring) → RingIs t ring → ⊥) → FirstOnLine limits t 1 (Fault Misshapen)
 unfolding Says
 no-ring-first none = misshapen-first (omega arith) (inl (record { at = refl; none = none }))
 
@@ -49,34 +50,30 @@ pub no-row-first : {limits : Limits} {t : List ℕ} {line : ℕ} {l : List ℕ} 
 unfolding Says
 no-row-first {l} later is none = misshapen-first (omega arith) (inr (record { later = later; l = l; is = is; none = none }))
 
--- ---- R n
+-- ---- R n fibres
 
-module _ {limits : Limits} {t : List ℕ} {n : ℕ} (ring : RingIs t n) where
-  -- only reason 3 can be left
-  said-of-ring : {s : Reason} → Said limits t 1 s → (s ≡ RingSize) × WrongRing limits t 1
+module _ {limits : Limits} {t : List ℕ} {ring : Ring} (here : RingIs t ring) where
+  -- what is said of the line is said of its numbers
+  said-of-ring : {s : Reason} → Said limits t 1 s → AgainstRing limits ring s
   said-of-ring (too-long e long) = absurd (omega arith)
-  said-of-ring (no-ring-line h) = absurd (h .none n ring)
+  said-of-ring (no-ring-line h) = absurd (h .none ring here)
   said-of-ring (no-row-line h) = absurd (omega (arith, h .later))
-  said-of-ring (wrong-ring h) = (refl, h)
+  said-of-ring (wrong-ring h) = let e : h .ring ≡ ring = ring-one (h .said) here in by-size (rw e at (h .wrong))
+  said-of-ring (wrong-fibres h) = let e : h .ring ≡ ring = ring-one (h .said) here in by-fibres (rw e at (h .wrong))
   said-of-ring (wrong-node h) = absurd (omega (arith, h .row .later))
   said-of-ring (wrong-pair h) = absurd (omega (arith, h .row .later))
   said-of-ring (wrong-order h) = absurd (omega (arith, h .row .later))
   said-of-ring (wrong-count h) = absurd (omega (arith, h .row .later))
   said-of-ring (wrong-amount h) = absurd (omega (arith, h .row .later))
 
-  pub ring-judged-first : {v : Verdict} → RingJudged limits n v → FirstOnLine limits t 1 v
+  pub ring-judged-first : {v : Verdict} → RingJudged limits ring v → FirstOnLine limits t 1 v
   unfolding Says
-  ring-judged-first (wrong-size w) = record {
-    holds = record { at = refl; n = n; ring = ring; wrong = w };
-    least = λ s h. let e = said-of-ring (said s h) .0 in rw e (omega arith);
-  }
-  ring-judged-first (right-size few many) = record {
-    holds = tt;
-    least = λ s h.
-        let w = said-of-ring (said s h) .1 in
-        let e : w .n ≡ n = ring-one (w .ring) ring in
-        ⊎-elim (λ l. omega arith) (λ l. omega arith) (w .wrong);
-  }
+  ring-judged-first judged = record { holds = go judged; least = λ s h. ring-least judged (said-of-ring (said s h)) }
+    where
+      go : {v : Verdict} → RingJudged limits ring v → Holds limits t 1 v
+      go (wrong-size w) = record { at = refl; ring = ring; said = here; wrong = w }
+      go (other-fibres l m w) = record { at = refl; ring = ring; said = here; wrong = w }
+      go (right-ring l m f) = tt
 
 -- ---- D i j d
 
@@ -100,27 +97,28 @@ order-holds {i} {j} {d} row (row-before {line} {a} {b} {c} above) low wrong =
     record { before = line; next = refl; a = a; b = b; c = c; above = above; i = i; j = j; d = d; row = row; wrong = wrong }
 
 -- the row stands behind k rows
-module _ {limits : Limits} {t : List ℕ} {line n k i j d : ℕ} (ring : RingIs t n) (row : RowIs t line i j d) (place : line ≡ k + 2) where
-  said-of-row : {a b : ℕ} {s : Reason} → RowBefore t line a b → Said limits t line s → AgainstRow limits n k a b i j d s
+module _ {limits : Limits} {t : List ℕ} {ring : Ring} {line k i j d : ℕ} (here : RingIs t ring) (row : RowIs t line i j d) (place : line ≡ k + 2) where
+  said-of-row : {a b : ℕ} {s : Reason} → RowBefore t line a b → Said limits t line s → AgainstRow limits (ring .n) k a b i j d s
   said-of-row before (too-long e long) = absurd (omega (arith, row .later))
   said-of-row before (no-ring-line h) = absurd (omega (arith, h .at, row .later))
   said-of-row before (no-row-line h) = absurd (h .none i j d row)
   said-of-row before (wrong-ring h) = absurd (omega (arith, h .at, row .later))
+  said-of-row before (wrong-fibres h) = absurd (omega (arith, h .at, row .later))
   said-of-row before (wrong-node h) =
       let r = row-one (h .row) row refl in
-      let e : h .n ≡ n = ring-one (h .ring) ring in
+      let e : h .ring ≡ ring = ring-one (h .said) here in
       by-nodes (rw (e, r .same-i, r .same-j) at (h .wrong))
   said-of-row before (wrong-pair h) = let r = row-one (h .row) row refl in by-pair (rw (r .same-i, r .same-j) at (h .wrong))
   said-of-row before (wrong-order h) = by-order (order-against row before h)
   said-of-row before (wrong-count h) = by-count (omega (arith, h .wrong))
   said-of-row before (wrong-amount h) = let r = row-one (h .row) row refl in by-amount (rw (r .same-d) at (h .wrong))
 
-  pub row-judged-first : {a b : ℕ} {v : Verdict} → RowBefore t line a b → RowJudged limits n k a b i j d v → FirstOnLine limits t line v
+  pub row-judged-first : {a b : ℕ} {v : Verdict} → RowBefore t line a b → RowJudged limits (ring .n) k a b i j d v → FirstOnLine limits t line v
   unfolding Says
   row-judged-first {a} {b} before judged = record { holds = go judged; least = λ s h. row-least judged (said-of-row before (said s h)) }
     where
-      go : {v : Verdict} → RowJudged limits n k a b i j d v → Holds limits t line v
-      go (no-such-node w) = record { n = n; ring = ring; i = i; j = j; d = d; row = row; wrong = w }
+      go : {v : Verdict} → RowJudged limits (ring .n) k a b i j d v → Holds limits t line v
+      go (no-such-node w) = record { ring = ring; said = here; i = i; j = j; d = d; row = row; wrong = w }
       go (not-below h p w) = record { i = i; j = j; d = d; row = row; wrong = w }
       go (out-of-order h p l w) = order-holds row before (h .0) w
       go (too-many h p l o w) = record { i = i; j = j; d = d; row = row; wrong = omega arith }

@@ -1,12 +1,27 @@
--- What the code's tests of a row, in their order, say of the verdict: each `return` is one law, by rewriting with the tests that led there.
+-- What the code's tests of a ring and of a row, in their order, say of the verdict: each `return` is one law, by rewriting with the tests that led there.
 use Prim.Native.Nat.{ℕ, _≤_, _<_}
 use mathlib.Core.Bool.{Bool, true, false}
 use mathlib.Core.Path.{_≡_, sym, _∙_}
 use borrow.Author.Tests.{le-leb, lt-leb, lt-ltb, le-ltb}
 use Rattle.ring.specs.Limits.{desk}
-use Rattle.table.specs.Judge.{outside, isBelow, judgeRow}
-use Rattle.table.specs.declared.reason.Reason.the-variants.{NoSuchNode, NotBelow, OutOfOrder, TooMany, TooMuch}
+use Rattle.ring.specs.Ring.{ringOf}
+use Rattle.table.specs.Judge.{wrongSize, otherFibres, judgeRing, outside, isBelow, judgeRow}
+use Rattle.table.specs.declared.reason.Reason.the-variants.{RingSize, Fibres, NoSuchNode, NotBelow, OutOfOrder, TooMany, TooMuch}
 use Rattle.table.specs.declared.judge.Verdict.the-variants.{Fine, Fault}
+
+module _ (n fibres : ℕ) (x : Bool) (ex : x ≡ wrongSize desk n) (y : Bool) (ey : y ≡ otherFibres fibres) where
+  pub size-wrong : x ≡ true → Fault RingSize ≡ judgeRing desk (ringOf n fibres)
+  unfolding judgeRing
+  size-wrong t = rw (sym ex ∙ t)
+
+  module _ (fx : x ≡ false) where
+    pub fibres-wrong : y ≡ true → Fault Fibres ≡ judgeRing desk (ringOf n fibres)
+    unfolding judgeRing
+    fibres-wrong t = rw (sym ex ∙ fx, sym ey ∙ t)
+
+    pub ring-fine : y ≡ false → Fine ≡ judgeRing desk (ringOf n fibres)
+    unfolding judgeRing
+    ring-fine t = rw (sym ex ∙ fx, sym ey ∙ t)
 
 module _ (n k a b i j d : ℕ) (x : Bool) (ex : x ≡ outside n i) where
   pub first-missing : x ≡ true → Fault NoSuchNode ≡ judgeRow desk n k a b i j d

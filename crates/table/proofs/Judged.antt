@@ -1,7 +1,7 @@
--- What each verdict on a ring's size or a row means: the tests taken apart once, in their order.
+-- What each verdict on a ring or a row means: the tests taken apart once, in their order.
 use Prim.Native.Nat.{ℕ, _≤_, _<_}
 use mathlib.Core.Bool.{Bool, true, false}
-use mathlib.Core.Logic.{_⊎_, inl, inr}
+use mathlib.Core.Logic.{_⊎_, inl, inr, ⊎-elim}
 use mathlib.Core.Path.{_≡_}
 use native.Mathlib.Omega.{arith}
 use native.Mathlib.Decide.{decLt, decLe, ℕ-discrete}
@@ -9,34 +9,59 @@ use lib.Dec.{ltb}
 use borrow.Author.Tests.{lt-ltb, le-ltb, le-leb, lt-leb, eq-eqb, ne-eqb}
 use Rattle.ring.specs.Row.{row, OnRing, PairBefore, PairUpTo}
 use Rattle.ring.specs.Limits.{Limits}
+use Rattle.ring.specs.Ring.{Ring}
+use Rattle.ring.specs.LineSize.{twoFibres, fourFibres, IsFibres}
 use Rattle.table.specs.Says.{NoNode}
-use Rattle.table.specs.Judge.{judgeRing, outside, isBelow, judgeRow}
-use Rattle.table.specs.declared.reason.Reason.the-variants.{RingSize, NoSuchNode, NotBelow, OutOfOrder, TooMany, TooMuch}
+use Rattle.table.specs.Judge.{wrongSize, otherFibres, judgeRing, outside, isBelow, judgeRow}
+use Rattle.table.specs.declared.reason.Reason.the-variants.{RingSize, Fibres, NoSuchNode, NotBelow, OutOfOrder, TooMany, TooMuch}
 use Rattle.table.specs.declared.judge.Verdict.{Verdict}
 use Rattle.table.specs.declared.judge.Verdict.the-variants.{Fine, Fault}
 
--- ---- a ring's size
+-- ---- a ring
 
-pub data RingJudged (limits : Limits) (n : ℕ) : Verdict → Type 0 where
-  wrong-size : (n < limits .fewest) ⊎ (limits .nodes < n) → RingJudged limits n (Fault RingSize)
-  right-size : limits .fewest ≤ n → n ≤ limits .nodes → RingJudged limits n Fine
+data Size (limits : Limits) (n : ℕ) : Type 0 where
+  wrong : (n < limits .fewest) ⊎ (limits .nodes < n) → wrongSize limits n ≡ true → Size limits n
+  right : limits .fewest ≤ n → n ≤ limits .nodes → wrongSize limits n ≡ false → Size limits n
 
-pub ring-judged : (limits : Limits) (n : ℕ) → RingJudged limits n (judgeRing limits n)
-unfolding judgeRing
-ring-judged limits n =
+size : (limits : Limits) (n : ℕ) → Size limits n
+unfolding wrongSize
+size limits n =
     elim (decLt n (limits .fewest)) [
-      | yes l ↦ rw (lt-ltb n (limits .fewest) l) (wrong-size (inl l))
+      | yes l ↦ wrong (inl l) (rw (lt-ltb n (limits .fewest) l))
       | no l ↦ elim (decLt (limits .nodes) n) [
-        | yes m ↦ more-than (omega arith) m
-        | no m ↦ as-many (omega arith) (omega arith)
+        | yes m ↦ wrong (inr m) (let k : limits .fewest ≤ n = omega arith in rw (le-ltb n (limits .fewest) k, lt-ltb (limits .nodes) n m))
+        | no m ↦ right (omega arith) (omega arith) (let k : limits .fewest ≤ n = omega arith in let h : n ≤ limits .nodes = omega arith in rw (le-ltb n (limits .fewest) k, le-ltb (limits .nodes) n h))
       ]
     ]
-  where
-    more-than : limits .fewest ≤ n → limits .nodes < n → RingJudged limits n (judgeRing limits n)
-    more-than l m = rw (le-ltb n (limits .fewest) l, lt-ltb (limits .nodes) n m) (wrong-size (inr m))
 
-    as-many : limits .fewest ≤ n → n ≤ limits .nodes → RingJudged limits n (judgeRing limits n)
-    as-many l m = rw (le-ltb n (limits .fewest) l, le-ltb (limits .nodes) n m) (right-size l m)
+data Fibred (fibres : ℕ) : Type 0 where
+  other : (IsFibres fibres → ⊥) → otherFibres fibres ≡ true → Fibred fibres
+  known : IsFibres fibres → otherFibres fibres ≡ false → Fibred fibres
+
+fibred : (fibres : ℕ) → Fibred fibres
+unfolding otherFibres
+fibred fibres =
+    elim (ℕ-discrete fibres twoFibres) [
+      | yes e ↦ known (inl e) (rw (eq-eqb fibres twoFibres e))
+      | no e ↦ elim (ℕ-discrete fibres fourFibres) [
+        | yes f ↦ known (inr f) (rw (ne-eqb fibres twoFibres e, eq-eqb fibres fourFibres f))
+        | no f ↦ other (⊎-elim e f) (rw (ne-eqb fibres twoFibres e, ne-eqb fibres fourFibres f))
+      ]
+    ]
+
+pub data RingJudged (limits : Limits) (ring : Ring) : Verdict → Type 0 where
+  wrong-size : (ring .n < limits .fewest) ⊎ (limits .nodes < ring .n) → RingJudged limits ring (Fault RingSize)
+  wrong-fibres : limits .fewest ≤ ring .n → ring .n ≤ limits .nodes → (IsFibres (ring .fibres) → ⊥) → RingJudged limits ring (Fault Fibres)
+  right-ring : limits .fewest ≤ ring .n → ring .n ≤ limits .nodes → IsFibres (ring .fibres) → RingJudged limits ring Fine
+
+pub ring-judged : (limits : Limits) (ring : Ring) → RingJudged limits ring (judgeRing limits ring)
+unfolding judgeRing
+ring-judged limits ring = go (size limits (ring .n)) (fibred (ring .fibres))
+  where
+    go : Size limits (ring .n) → Fibred (ring .fibres) → RingJudged limits ring (judgeRing limits ring)
+    go (wrong w e) f = rw e (wrong-size w)
+    go (right l m e) (other o f) = rw (e, f) (wrong-fibres l m o)
+    go (right l m e) (known o f) = rw (e, f) (right-ring l m o)
 
 -- ---- a node
 

@@ -2,14 +2,15 @@
 -- a line stands.
 use Prim.Native.Nat.{ℕ, _+_, _≤_, _<_}
 use mathlib.Core.List.{List, [], _∷_}
-use mathlib.Core.Path.{_≡_, refl, ap, _∙_, sym, subst}
+use mathlib.Core.Path.{_≡_, refl, ap, ap₂, _∙_, sym, subst}
 use native.Mathlib.Omega.{arith}
 use lib.ListN.{length}
 use Rattle.text.specs.ReadLine.{readLine}
 use Rattle.text.specs.Shapes.{ringShape, rowShape}
-use Rattle.text.specs.Answers.{oneIn, threeIn}
-use Rattle.text.specs.declared.OneNumber.the-variants.{Is as IsOne}
+use Rattle.text.specs.Answers.{twoIn, threeIn}
+use Rattle.text.specs.declared.TwoNumbers.the-variants.{Are as AreTwo}
 use Rattle.text.specs.declared.ThreeNumbers.the-variants.{Are as AreThree}
+use Rattle.ring.specs.Ring.{Ring, ringOf}
 use Rattle.table.specs.Says.{LineIs, at-first, behind, RingIs, RowIs}
 use Rattle.table.proofs.LineRead.{ring-line-read, row-line-read}
 
@@ -25,11 +26,12 @@ line-one at-first (behind q) e = absurd (omega (arith, line-low q))
 line-one (behind p) at-first e = absurd (omega (arith, line-low p))
 line-one (behind p) (behind q) e = line-one p q (omega arith)
 
-pub ring-one : {t : List ℕ} {n m : ℕ} → RingIs t n → RingIs t m → n ≡ m
-ring-one {t} {n} {m} p q =
-    let e : IsOne n ≡ IsOne m =
-    sym (ring-line-read n (p .spelled)) ∙ ap (λ l. oneIn (readLine ringShape l)) (line-one (p .text) (q .text) refl) ∙ ring-line-read m (q .spelled) in
-    cc
+pub ring-one : {t : List ℕ} {r s : Ring} → RingIs t r → RingIs t s → r ≡ s
+ring-one {t} {r} {s} p q =
+    let e : AreTwo (r .n) (r .fibres) ≡ AreTwo (s .n) (s .fibres) =
+    sym (ring-line-read (r .n) (r .fibres) (p .spelled)) ∙ ap (λ l. twoIn (readLine ringShape l)) (line-one (p .text) (q .text) refl)
+    ∙ ring-line-read (s .n) (s .fibres) (q .spelled) in
+    ap₂ ringOf (cc) (cc)
 
 -- the same three numbers
 pub record SameRow (i j d i′ j′ d′ : ℕ) : Type 0 where

@@ -9,34 +9,38 @@ use Rattle.text.specs.Field.{top}
 use Rattle.text.specs.WriteLine.{FitsShape}
 use Rattle.text.specs.ReadLine.{readLine}
 use Rattle.text.specs.Shapes.{ringShape, rowShape, ringLine, rowLine}
-use Rattle.text.specs.Answers.{oneIn, threeIn}
-use Rattle.text.specs.declared.OneNumber.{OneNumber}
-use Rattle.text.specs.declared.OneNumber.the-variants.{Is as IsOne, Bad as NotOne}
+use Rattle.text.specs.Answers.{twoIn, threeIn}
+use Rattle.text.specs.declared.TwoNumbers.{TwoNumbers}
+use Rattle.text.specs.declared.TwoNumbers.the-variants.{Are as AreTwo, Bad as NotTwo}
 use Rattle.text.specs.declared.ThreeNumbers.{ThreeNumbers}
 use Rattle.text.specs.declared.ThreeNumbers.the-variants.{Are as AreThree, Bad as NotThree}
 use Rattle.text.proofs.Apart.{clash}
 use Rattle.text.proofs.AnswerLaws.{ring-good, row-good}
 
--- ---- R n
+-- ---- R n fibres
 
-pub ring-in-range : (n : ℕ) → n < limit → FitsShape ringShape (0 ∷ n ∷ [])
+-- each of its numbers has at most 7 digits
+abbrev pub RingSpelled : ℕ → ℕ → Type 0
+RingSpelled n fibres = (n < limit) × (fibres < limit)
+
+pub ring-in-range : (n fibres : ℕ) → RingSpelled n fibres → FitsShape ringShape (0 ∷ n ∷ fibres ∷ [])
 unfolding FitsShape top marks
-ring-in-range n h = (omega arith, (h, tt))
+ring-in-range n fibres h = (omega arith, (h .0, (h .1, tt)))
 
-pub ring-line-read : (n : ℕ) → n < limit → oneIn (readLine ringShape (ringLine n)) ≡ IsOne n
-ring-line-read n h = ring-good (ringLine n) n .1 (refl, ring-in-range n h)
+pub ring-line-read : (n fibres : ℕ) → RingSpelled n fibres → twoIn (readLine ringShape (ringLine n fibres)) ≡ AreTwo n fibres
+ring-line-read n fibres h = ring-good (ringLine n fibres) n fibres .1 (refl, ring-in-range n fibres h)
 
-pub data RingRead (l : List ℕ) : OneNumber → Type 0 where
-  is-ring : {n : ℕ} → l ≡ ringLine n → n < limit → RingRead l (IsOne n)
-  no-ring : {p : ℕ} → ((n : ℕ) → l ≡ ringLine n → n < limit → ⊥) → RingRead l (NotOne p)
+pub data RingRead (l : List ℕ) : TwoNumbers → Type 0 where
+  is-ring : {n fibres : ℕ} → l ≡ ringLine n fibres → RingSpelled n fibres → RingRead l (AreTwo n fibres)
+  no-ring : {p : ℕ} → ((n fibres : ℕ) → l ≡ ringLine n fibres → RingSpelled n fibres → ⊥) → RingRead l (NotTwo p)
 
-pub ring-read : (l : List ℕ) → RingRead l (oneIn (readLine ringShape l))
+pub ring-read : (l : List ℕ) → RingRead l (twoIn (readLine ringShape l))
 unfolding FitsShape top marks
-ring-read l = go (oneIn (readLine ringShape l)) refl
+ring-read l = go (twoIn (readLine ringShape l)) refl
   where
-    go : (x : OneNumber) → oneIn (readLine ringShape l) ≡ x → RingRead l x
-    go (IsOne n) e = let w = ring-good l n .0 e in is-ring (w .0) (w .1 .1 .0)
-    go (NotOne p) e = no-ring (λ n w h. clash (cc (ring-good l n .1 (w, ring-in-range n h))))
+    go : (x : TwoNumbers) → twoIn (readLine ringShape l) ≡ x → RingRead l x
+    go (AreTwo n fibres) e = let w = ring-good l n fibres .0 e in is-ring (w .0) (w .1 .1 .0, w .1 .1 .1 .0)
+    go (NotTwo p) e = no-ring (λ n fibres w h. clash (cc (ring-good l n fibres .1 (w, ring-in-range n fibres h))))
 
 -- ---- D i j d
 

@@ -17,7 +17,7 @@ use Rattle.text.specs.WriteLine.{endOf, writeLine, FitsShape}
 use Rattle.text.specs.Shapes.{ringLine, rowLine}
 use Rattle.text.proofs.Digits.{by-digits, digits-one, digits-more}
 use Rattle.table.specs.Lines.{withByte, lines}
-use Rattle.table.proofs.LineRead.{ring-in-range, RowSpelled, row-in-range}
+use Rattle.table.proofs.LineRead.{RingSpelled, ring-in-range, RowSpelled, row-in-range}
 
 -- ---- the lines are the text
 
@@ -77,8 +77,8 @@ written-first f (g ∷ fs) (v ∷ vs) (more h hs) r =
 
 -- ---- the lines of a table
 
-pub ring-first : (n : ℕ) → n < limit → FirstLine (ringLine n)
-ring-first n h = written-first _ _ _ (more (λ e. omega arith) (more (λ e. omega arith) none)) (ring-in-range n h)
+pub ring-first : (n fibres : ℕ) → RingSpelled n fibres → FirstLine (ringLine n fibres)
+ring-first n fibres h = written-first _ _ _ (more (λ e. omega arith) (more (λ e. omega arith) (more (λ e. omega arith) none))) (ring-in-range n fibres h)
 
 pub row-first : (i j d : ℕ) → RowSpelled i j d → FirstLine (rowLine i j d)
 row-first i j d h =

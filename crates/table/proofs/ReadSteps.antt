@@ -8,13 +8,14 @@ use lib.ListN.{length, replicate, set, take, drop, drop-of-length-le, length-app
 use borrow.Author.Tests.{lt-ltb, le-ltb}
 use Rattle.ring.specs.Row.{Row, row}
 use Rattle.text.specs.ReadLine.{readLine}
-use Rattle.text.specs.Answers.{oneIn, threeIn}
+use Rattle.text.specs.Answers.{twoIn, threeIn}
 use Rattle.text.specs.Shapes.{ringShape, rowShape}
-use Rattle.text.specs.declared.OneNumber.{OneNumber}
-use Rattle.text.specs.declared.OneNumber.the-variants.{Is as IsOne, Bad as NotOne}
+use Rattle.text.specs.declared.TwoNumbers.{TwoNumbers}
+use Rattle.text.specs.declared.TwoNumbers.the-variants.{Are as AreTwo, Bad as NotTwo}
 use Rattle.text.specs.declared.ThreeNumbers.{ThreeNumbers}
 use Rattle.text.specs.declared.ThreeNumbers.the-variants.{Are as AreThree, Bad as NotThree}
 use Rattle.ring.specs.Limits.{desk}
+use Rattle.ring.specs.Ring.{ringOf}
 use Rattle.table.specs.Lines.{lines}
 use Rattle.table.specs.LineEnds.{LineEnds}
 use Rattle.table.specs.Judge.{judgeRing, judgeRow}
@@ -39,13 +40,13 @@ has-room n k a b i j d v e f = let q = sym e ∙ f in go (rw q at (row-judged de
     go (row-fine on order room most) = room
 
 -- the rows of the lines from the place `from` on
-abbrev whole : List ℕ → ℕ → ℕ → Result
-whole s n from = rowsOf desk n 2 0 0 [] (lines (drop from s))
+abbrev whole : List ℕ → ℕ → ℕ → ℕ → Result
+whole s n fibres from = rowsOf desk (ringOf n fibres) 2 0 0 [] (lines (drop from s))
 
 -- `count` rows are read, of which the last is a, b; the line `line` begins at the place `at`
-pub record Reading (s : List ℕ) (n from line a b count at : ℕ) (first second amount : List ℕ) : Type 0 where
+pub record Reading (s : List ℕ) (n fibres from line a b count at : ℕ) (first second amount : List ℕ) : Type 0 where
   pub rows : List Row
-  pub rest : whole s n from ≡ rowsOf desk n line a b rows (lines (drop at s))
+  pub rest : whole s n fibres from ≡ rowsOf desk (ringOf n fibres) line a b rows (lines (drop at s))
   pub many : count ≡ length rows
   pub firsts : first ≡ column (λ (r : Row). r .i) (desk .rows) rows
   pub seconds : second ≡ column (λ (r : Row). r .j) (desk .rows) rows
@@ -58,9 +59,9 @@ pub record Reading (s : List ℕ) (n from line a b count at : ℕ) (first second
 abbrev none-yet : List ℕ
 none-yet = replicate {A = ℕ} (desk .rows) 0
 
-pub reading-starts : (s : List ℕ) (n from : ℕ) → from ≤ length s → Reading s n from 2 0 0 0 from none-yet none-yet none-yet
+pub reading-starts : (s : List ℕ) (n fibres from : ℕ) → from ≤ length s → Reading s n fibres from 2 0 0 0 from none-yet none-yet none-yet
 unfolding column
-reading-starts s n from w =
+reading-starts s n fibres from w =
     record {
       rows = [];
       rest = refl;
@@ -73,15 +74,15 @@ reading-starts s n from w =
       within = w;
     }
 
-module _ (s : List ℕ) (n from line a b count at : ℕ) (first second amount : List ℕ) (reading : Reading s n from line a b count at first second amount) where
+module _ (s : List ℕ) (n fibres from line a b count at : ℕ) (first second amount : List ℕ) (reading : Reading s n fibres from line a b count at first second amount) where
   -- no line is left
-  pub all-read : length s ≤ at → record { answer = Is n count; first = first; second = second; amount = amount } ≡ tableIn (whole s n from)
+  pub all-read : length s ≤ at → record { answer = Is n fibres count; first = first; second = second; amount = amount } ≡ tableIn (whole s n fibres from)
   unfolding rowsOf lines tableIn
   all-read k = rw (reading .rest, drop-of-length-le s k, reading .many, reading .firsts, reading .seconds, reading .amounts)
 
   module _ (end : ℕ) (there : at < length s) (ends : LineEnds s at end) (x : ThreeNumbers) (ex : x ≡ threeIn (readLine rowShape (take (end - at) (drop at s)))) where
     -- the next line is no row
-    pub no-row : (p : ℕ) (t : Table) → x ≡ NotThree p → t ≡ tableIn (refused Misshapen line) → t ≡ tableIn (whole s n from)
+    pub no-row : (p : ℕ) (t : Table) → x ≡ NotThree p → t ≡ tableIn (refused Misshapen line) → t ≡ tableIn (whole s n fibres from)
     unfolding rowsOf
     no-row p t q e = e ∙ ap tableIn (rw (reading .rest, line-at s at end there ends, ← ex, q))
 
@@ -90,7 +91,7 @@ module _ (s : List ℕ) (n from line a b count at : ℕ) (first second amount : 
       found = let e = reading .many in rw (← e) (sym ev)
 
       -- something is found against it
-      pub row-fault : (reason : Reason) (t : Table) → v ≡ Fault reason → t ≡ tableIn (refused reason line) → t ≡ tableIn (whole s n from)
+      pub row-fault : (reason : Reason) (t : Table) → v ≡ Fault reason → t ≡ tableIn (refused reason line) → t ≡ tableIn (whole s n fibres from)
       unfolding rowsOf
       row-fault reason t q e = e ∙ ap tableIn (rw (reading .rest, line-at s at end there ends, ← ex, is, found, q))
 
@@ -98,7 +99,7 @@ module _ (s : List ℕ) (n from line a b count at : ℕ) (first second amount : 
         pub room : count < desk .rows
         room = has-room n count a b i j d v ev fine
 
-        pub reads-row : Reading s n from (line + 1) i j (count + 1) end (set first count i) (set second count j) (set amount count d)
+        pub reads-row : Reading s n fibres from (line + 1) i j (count + 1) end (set first count i) (set second count j) (set amount count d)
         unfolding rowsOf
         reads-row =
             record {
@@ -128,19 +129,19 @@ module _ (s : List ℕ) (t : Table) where
   pub no-line : length s ≤ 0 → t ≡ tableIn (refused Misshapen 1) → t ≡ tableIn (tableOf desk s)
   no-line h e = e ∙ ap tableIn (nothing s h)
 
-  module _ (short : length s ≤ desk .bytes) (there : 0 < length s) (end : ℕ) (ends : LineEnds s 0 end) (x : OneNumber) (ex : x ≡ oneIn (readLine ringShape (take (end - 0) (drop 0 s)))) where
+  module _ (short : length s ≤ desk .bytes) (there : 0 < length s) (end : ℕ) (ends : LineEnds s 0 end) (x : TwoNumbers) (ex : x ≡ twoIn (readLine ringShape (take (end - 0) (drop 0 s)))) where
     first-line : lines s ≡ take (end - 0) (drop 0 s) ∷ lines (drop end s)
     first-line = line-at s 0 end there ends
 
-    pub no-ring : (p : ℕ) → x ≡ NotOne p → t ≡ tableIn (refused Misshapen 1) → t ≡ tableIn (tableOf desk s)
+    pub no-ring : (p : ℕ) → x ≡ NotTwo p → t ≡ tableIn (refused Misshapen 1) → t ≡ tableIn (tableOf desk s)
     unfolding tableOf
     no-ring p q e = e ∙ ap tableIn (rw (le-ltb (desk .bytes) (length s) short, first-line, ← ex, q))
 
-    module _ (n : ℕ) (is : x ≡ IsOne n) (v : Verdict) (ev : v ≡ judgeRing desk n) where
+    module _ (n fibres : ℕ) (is : x ≡ AreTwo n fibres) (v : Verdict) (ev : v ≡ judgeRing desk (ringOf n fibres)) where
       pub ring-fault : (reason : Reason) → v ≡ Fault reason → t ≡ tableIn (refused reason 1) → t ≡ tableIn (tableOf desk s)
       unfolding tableOf
       ring-fault reason q e = e ∙ ap tableIn (rw (le-ltb (desk .bytes) (length s) short, first-line, ← ex, is, ← ev, q))
 
-      pub then-rows : v ≡ Fine → t ≡ tableIn (whole s n end) → t ≡ tableIn (tableOf desk s)
+      pub then-rows : v ≡ Fine → t ≡ tableIn (whole s n fibres end) → t ≡ tableIn (tableOf desk s)
       unfolding tableOf
       then-rows q e = e ∙ ap tableIn (rw (le-ltb (desk .bytes) (length s) short, first-line, ← ex, is, ← ev, q))

@@ -10,9 +10,10 @@ use lib.ListN.{length, length-append}
 use borrow.Author.Tests.{ltb-true, ltb-false}
 use Rattle.ring.specs.Row.{Row, row}
 use Rattle.ring.proofs.Side.{cond-elim}
-use Rattle.text.specs.declared.OneNumber.{OneNumber}
+use Rattle.text.specs.declared.TwoNumbers.{TwoNumbers}
 use Rattle.text.specs.declared.ThreeNumbers.{ThreeNumbers}
 use Rattle.ring.specs.Limits.{Limits}
+use Rattle.ring.specs.Ring.{Ring, ringOf}
 use Rattle.table.specs.Lines.{lines}
 use Rattle.table.specs.Judge.{judgeRing, judgeRow}
 use Rattle.table.specs.Reasons.{rankOf}
@@ -37,7 +38,7 @@ record Clean (limits : Limits) (t : List ℕ) (line : ℕ) : Type 0 where
 
 -- a result that is right by what the reasons say
 data Right (limits : Limits) (t : List ℕ) : Result → Type 0 where
-  none-holds : {n : ℕ} {rs : List Row} → Accepted limits t → Right limits t (accepted n rs)
+  none-holds : {ring : Ring} {rs : List Row} → Accepted limits t → Right limits t (accepted ring rs)
   first-holds : {r : Reason} {line : ℕ} → Given limits t r line → Right limits t (refused r line)
 
 module _ {limits : Limits} {t : List ℕ} where
@@ -81,21 +82,21 @@ module _ {limits : Limits} {t : List ℕ} where
       go (on-first e two) = clean .none s other (omega arith) h
       go (on-later m is two) = clean .none s other (no-line-left from is) h
 
-  rows-right : {n : ℕ} → RingIs t n → (ls : List (List ℕ)) (line a b : ℕ) (rs : List Row) → LinesFrom (lines t) line ls → line ≡ length rs + 2 → Clean limits t line
-      → RowBefore t line a b → Right limits t (rowsOf limits n line a b rs ls)
+  rows-right : {ring : Ring} → RingIs t ring → (ls : List (List ℕ)) (line a b : ℕ) (rs : List Row) → LinesFrom (lines t) line ls → line ≡ length rs + 2 → Clean limits t line
+      → RowBefore t line a b → Right limits t (rowsOf limits ring line a b rs ls)
   unfolding rowsOf rowOr
-  rows-right ring [] line a b rs from place clean before = none-holds (clean-end (omega arith) from clean)
-  rows-right {n} ring (l ∷ ls) line a b rs from place clean before =
-      go (row-read l) (λ i j d. rows-right ring ls (line + 1) i j (rs ++ row i j d ∷ []) (from-next from) (omega (arith, length-append rs (row i j d ∷ []))))
+  rows-right here [] line a b rs from place clean before = none-holds (clean-end (omega arith) from clean)
+  rows-right {ring} here (l ∷ ls) line a b rs from place clean before =
+      go (row-read l) (λ i j d. rows-right here ls (line + 1) i j (rs ++ row i j d ∷ []) (from-next from) (omega (arith, length-append rs (row i j d ∷ []))))
     where
       next : ℕ → ℕ → ℕ → Result
-      next i j d = rowsOf limits n (line + 1) i j (rs ++ row i j d ∷ []) ls
+      next i j d = rowsOf limits ring (line + 1) i j (rs ++ row i j d ∷ []) ls
 
       go : {x : ThreeNumbers} → RowRead l x → ((i j d : ℕ) → Clean limits t (line + 1) → RowBefore t (line + 1) i j → Right limits t (next i j d))
-          → Right limits t (rowOr x line λ i j d. unless (judgeRow limits n (length rs) a b i j d) line (next i j d))
+          → Right limits t (rowOr x line λ i j d. unless (judgeRow limits (ring .n) (length rs) a b i j d) line (next i j d))
       go (is-row {i} {j} {d} e w) rest =
           let now : RowIs t line i j d = record { later = omega arith; text = rw e at (line-here from); spelled = w } in
-          unless-right _ clean (row-judged-first ring now place before (row-judged limits n (length rs) a b i j d)) (λ c. rest i j d c (row-before now))
+          unless-right _ clean (row-judged-first here now place before (row-judged limits (ring .n) (length rs) a b i j d)) (λ c. rest i j d c (row-before now))
       go (no-row none) rest =
           first-holds (given-here clean (no-row-first (omega arith) (line-here from) (λ i j d r. none i j d (line-one (line-here from) (r .text) refl) (r .spelled))))
 
@@ -104,13 +105,13 @@ module _ {limits : Limits} {t : List ℕ} where
   lines-right short [] from = first-holds (given-here (clean-start short) (no-ring-first (λ n r. omega (arith, no-line-left from (r .text)))))
   lines-right short (l ∷ ls) from = go (ring-read l)
     where
-      go : {x : OneNumber} → RingRead l x → Right limits t (ringOr x 1 λ n. unless (judgeRing limits n) 1 (rowsOf limits n 2 0 0 [] ls))
-      go (is-ring {n} e w) =
-          let ring : RingIs t n = record { text = rw e at (line-here from); spelled = w } in
-          unless-right _ (clean-start short) (ring-judged-first ring (ring-judged limits n))
-          (λ c. rows-right ring ls 2 0 0 [] (from-next from) refl c no-row-before)
+      go : {x : TwoNumbers} → RingRead l x → Right limits t (ringOr x 1 λ ring. unless (judgeRing limits ring) 1 (rowsOf limits ring 2 0 0 [] ls))
+      go (is-ring {n} {fibres} e w) =
+          let here : RingIs t (ringOf n fibres) = record { text = rw e at (line-here from); spelled = w } in
+          unless-right _ (clean-start short) (ring-judged-first here (ring-judged limits (ringOf n fibres)))
+          (λ c. rows-right here ls 2 0 0 [] (from-next from) refl c no-row-before)
       go (no-ring none) =
-          first-holds (given-here (clean-start short) (no-ring-first (λ n r. none n (line-one (line-here from) (r .text) refl) (r .spelled))))
+          first-holds (given-here (clean-start short) (no-ring-first (λ ring r. none (ring .n) (ring .fibres) (line-one (line-here from) (r .text) refl) (r .spelled))))
 
 too-long-given : {limits : Limits} {t : List ℕ} → limits .bytes < length t → Given limits t TooLong 0
 unfolding Says
@@ -153,16 +154,16 @@ given limits t r line = (λ e. there (subst (Right limits t) e (right limits t))
 
 -- the text is read to a table
 pub record Reads (limits : Limits) (t : List ℕ) : Type 0 where
-  pub n : ℕ
+  pub ring : Ring
   pub rs : List Row
-  pub is : tableOf limits t ≡ accepted n rs
+  pub is : tableOf limits t ≡ accepted ring rs
 
 pub accepted-is : (limits : Limits) (t : List ℕ) → Reads limits t ↔ Accepted limits t
 accepted-is limits t = (λ h. there (subst (Right limits t) (h .is) (right limits t)), λ none. back none (tableOf limits t) refl)
   where
-    there : {n : ℕ} {rs : List Row} → Right limits t (accepted n rs) → Accepted limits t
+    there : {ring : Ring} {rs : List Row} → Right limits t (accepted ring rs) → Accepted limits t
     there (none-holds none) = none
 
     back : Accepted limits t → (x : Result) → tableOf limits t ≡ x → Reads limits t
-    back none (accepted n rs) e = record { n = n; rs = rs; is = e }
+    back none (accepted ring rs) e = record { ring = ring; rs = rs; is = e }
     back none (refused r line) e = absurd (none r line (given limits t r line .0 e .holds))

@@ -1,4 +1,4 @@
--- What is said of a text, as one view: its eight reasons by cases, their order, and on which line each can stand.
+-- What is said of a text, as one view: its nine reasons by cases, their order, and on which line each can stand.
 use Prim.Native.Nat.{ℕ, _≤_, _<_}
 use mathlib.Core.List.{List}
 use mathlib.Core.Logic.{inl, inr}
@@ -8,9 +8,9 @@ use lib.ListN.{length}
 use Rattle.ring.specs.Limits.{Limits}
 use Rattle.table.specs.Lines.{lines}
 use Rattle.table.specs.Reasons.{numberOf, rankOf}
-use Rattle.table.specs.Says.{LineIs, NoRingLine, NoRowLine, WrongRing, WrongNode, WrongPair, WrongOrder, WrongCount, WrongAmount, Says}
+use Rattle.table.specs.Says.{LineIs, NoRingLine, NoRowLine, WrongRing, WrongFibres, WrongNode, WrongPair, WrongOrder, WrongCount, WrongAmount, Says}
 use Rattle.table.specs.declared.reason.Reason.{Reason}
-use Rattle.table.specs.declared.reason.Reason.the-variants.{TooLong, Misshapen, RingSize, NoSuchNode, NotBelow, OutOfOrder, TooMany, TooMuch, WrongSum, WrongWay, WrongCut, WrongLink, WrongLast, NotTight, OverBound, NotZero, NotSymmetric, SumTooMuch, NoRoom}
+use Rattle.table.specs.declared.reason.Reason.the-variants.{TooLong, Misshapen, RingSize, Fibres, NoSuchNode, NotBelow, OutOfOrder, TooMany, TooMuch, WrongSum, WrongWay, WrongCut, WrongLink, WrongLast, NotTight, OverBound, NotZero, NotSymmetric, SumTooMuch, NoRoom}
 use Rattle.table.proofs.ReasonNumbers.{same-reason}
 
 pub data Said (limits : Limits) (t : List ℕ) (line : ℕ) : Reason → Type 0 where
@@ -18,6 +18,7 @@ pub data Said (limits : Limits) (t : List ℕ) (line : ℕ) : Reason → Type 0 
   no-ring-line : NoRingLine t line → Said limits t line Misshapen
   no-row-line : NoRowLine t line → Said limits t line Misshapen
   wrong-ring : WrongRing limits t line → Said limits t line RingSize
+  wrong-fibres : WrongFibres t line → Said limits t line Fibres
   wrong-node : WrongNode t line → Said limits t line NoSuchNode
   wrong-pair : WrongPair t line → Said limits t line NotBelow
   wrong-order : WrongOrder t line → Said limits t line OutOfOrder
@@ -31,6 +32,7 @@ module _ {limits : Limits} {t : List ℕ} {line : ℕ} where
   said Misshapen (inl h) = no-ring-line h
   said Misshapen (inr h) = no-row-line h
   said RingSize h = wrong-ring h
+  said Fibres h = wrong-fibres h
   said NoSuchNode h = wrong-node h
   said NotBelow h = wrong-pair h
   said OutOfOrder h = wrong-order h
@@ -59,6 +61,7 @@ stands (too-long z h) = on-none z h (omega arith)
 stands (no-ring-line h) = on-first (h .at) (omega arith)
 stands (no-row-line h) = on-later (h .later) (h .is) (omega arith)
 stands (wrong-ring h) = on-first (h .at) (omega arith)
+stands (wrong-fibres h) = on-first (h .at) (omega arith)
 stands (wrong-node h) = on-later (h .row .later) (h .row .text) (omega arith)
 stands (wrong-pair h) = on-later (h .row .later) (h .row .text) (omega arith)
 stands (wrong-order h) = on-later (h .row .later) (h .row .text) (omega arith)

@@ -7,6 +7,7 @@ use native.Mathlib.Omega.{arith}
 use lib.ListN.{length}
 use Rattle.text.proofs.Apart.{clash}
 use Rattle.ring.specs.Limits.{desk}
+use Rattle.ring.specs.Ring.{ringOf}
 use Rattle.table.specs.ReadTable.{Result, accepted, refused, tableOf}
 use Rattle.ring.specs.Row.{Row}
 use Rattle.ring.specs.Columns.{column, rowsIn}
@@ -17,27 +18,28 @@ use Rattle.table.specs.declared.read.Answer.the-variants.{Is, Refused}
 use Rattle.table.proofs.TableText.{desk-spelled, table-text}
 use Rattle.table.proofs.Columns.{rows-back}
 
-pub record Told (s : List ℕ) (n count : ℕ) (first second amount : List ℕ) : Type 0 where
-  pub is : tableOf desk s ≡ accepted n (rowsIn count first second amount)
+pub record Told (s : List ℕ) (n fibres count : ℕ) (first second amount : List ℕ) : Type 0 where
+  pub is : tableOf desk s ≡ accepted (ringOf n fibres) (rowsIn count first second amount)
   pub room : count ≤ desk .rows
 
 module _ (s : List ℕ) (t : Table) where
-  a-table : (r : Result) → tableOf desk s ≡ r → t ≡ tableIn r → (n count : ℕ) → t .answer ≡ Is n count → Told s n count (t .first) (t .second) (t .amount)
+  a-table : (r : Result) → tableOf desk s ≡ r → t ≡ tableIn r → (n fibres count : ℕ) → t .answer ≡ Is n fibres count → Told s n fibres count (t .first) (t .second) (t .amount)
   unfolding tableIn
-  a-table (accepted m rs) q e n count a =
-      let p : Is n count ≡ Is m (length rs) = sym a ∙ ap (λ (x : Table). x .answer) e in
-      let kn : n ≡ m = cc in
+  a-table (accepted ring rs) q e n fibres count a =
+      let p : Is n fibres count ≡ Is (ring .n) (ring .fibres) (length rs) = sym a ∙ ap (λ (x : Table). x .answer) e in
+      let kn : n ≡ ring .n = cc in
+      let kf : fibres ≡ ring .fibres = cc in
       let kc : count ≡ length rs = cc in
-      let h : length rs ≤ desk .rows = table-text desk desk-spelled s m rs .0 q .1 .count in
+      let h : length rs ≤ desk .rows = table-text desk desk-spelled s ring rs .0 q .1 .count in
       let ef : t .first ≡ column (λ (r : Row). r .i) (desk .rows) rs = ap (λ (x : Table). x .first) e in
       let es : t .second ≡ column (λ (r : Row). r .j) (desk .rows) rs = ap (λ (x : Table). x .second) e in
       let ea : t .amount ≡ column (λ (r : Row). r .d) (desk .rows) rs = ap (λ (x : Table). x .amount) e in
-      record { is = q ∙ sym (rw (kn, kc, ef, es, ea, rows-back (desk .rows) rs h)); room = omega arith }
-  a-table (refused reason line) q e n count a = clash (let p : Is n count ≡ Refused reason line = sym a ∙ ap (λ (x : Table). x .answer) e in cc)
+      record { is = q ∙ sym (rw (kn, kf, kc, ef, es, ea, rows-back (desk .rows) rs h)); room = omega arith }
+  a-table (refused reason line) q e n fibres count a = clash (let p : Is n fibres count ≡ Refused reason line = sym a ∙ ap (λ (x : Table). x .answer) e in cc)
 
   a-refusal : (r : Result) → tableOf desk s ≡ r → t ≡ tableIn r → (reason : Reason) (line : ℕ) → t .answer ≡ Refused reason line → tableOf desk s ≡ refused reason line
   unfolding tableIn
-  a-refusal (accepted m rs) q e reason line a = clash (let p : Refused reason line ≡ Is m (length rs) = sym a ∙ ap (λ (x : Table). x .answer) e in cc)
+  a-refusal (accepted ring rs) q e reason line a = clash (let p : Refused reason line ≡ Is (ring .n) (ring .fibres) (length rs) = sym a ∙ ap (λ (x : Table). x .answer) e in cc)
   a-refusal (refused why at) q e reason line a =
       let p : Refused reason line ≡ Refused why at = sym a ∙ ap (λ (x : Table). x .answer) e in
       let kw : why ≡ reason = cc in
@@ -45,7 +47,7 @@ module _ (s : List ℕ) (t : Table) where
       q ∙ rw (kw, kl)
 
   module _ (e : t ≡ tableIn (tableOf desk s)) where
-    pub told-table : (n count : ℕ) → t .answer ≡ Is n count → Told s n count (t .first) (t .second) (t .amount)
+    pub told-table : (n fibres count : ℕ) → t .answer ≡ Is n fibres count → Told s n fibres count (t .first) (t .second) (t .amount)
     told-table = a-table (tableOf desk s) refl e
 
     pub told-refusal : (reason : Reason) (line : ℕ) → t .answer ≡ Refused reason line → tableOf desk s ≡ refused reason line

@@ -6,6 +6,7 @@ use lib.ListN.{length}
 use Rattle.text.specs.Written.{Written}
 use Rattle.text.proofs.Unique.{same-result, same-written}
 use Rattle.ring.specs.Limits.{desk}
+use Rattle.ring.specs.Ring.{Ring}
 use Rattle.table.specs.Judge.{judgeRing, judgeRow}
 use Rattle.table.specs.LineEnds.{LineEnds}
 use Rattle.table.specs.Reasons.{numberOf}
@@ -26,19 +27,19 @@ read-table-unique s r q = same-result
 pub refusal-unique : (reason : Reason) (line : ℕ) (r q : Table) → r ≡ tableIn (refused reason line) → q ≡ tableIn (refused reason line) → r ≡ q
 refusal-unique reason line r q = same-result
 
-module _ (n count : ℕ) (first second amount : List ℕ) where
-  pub table-length-unique : (r q : ℕ) → r ≡ length (writeTable n (rowsIn count first second amount)) → q ≡ length (writeTable n (rowsIn count first second amount)) → r ≡ q
+module _ (ring : Ring) (count : ℕ) (first second amount : List ℕ) where
+  pub table-length-unique : (r q : ℕ) → r ≡ length (writeTable ring (rowsIn count first second amount)) → q ≡ length (writeTable ring (rowsIn count first second amount)) → r ≡ q
   table-length-unique r q = same-result
 
-  pub write-table-unique : (old new buf : List ℕ) (r q : ℕ) → Written old 0 (writeTable n (rowsIn count first second amount)) new r →
-      Written old 0 (writeTable n (rowsIn count first second amount)) buf q → (r ≡ q) × (new ≡ buf)
+  pub write-table-unique : (old new buf : List ℕ) (r q : ℕ) → Written old 0 (writeTable ring (rowsIn count first second amount)) new r →
+      Written old 0 (writeTable ring (rowsIn count first second amount)) buf q → (r ≡ q) × (new ≡ buf)
   write-table-unique old new buf r q = same-written
 
 pub line-end-unique : (s : List ℕ) (at r q : ℕ) → LineEnds s at r → LineEnds s at q → r ≡ q
 line-end-unique s at r q a b = same-result (a .is) (b .is)
 
-pub judge-ring-unique : (n : ℕ) (r q : Verdict) → r ≡ judgeRing desk n → q ≡ judgeRing desk n → r ≡ q
-judge-ring-unique n r q = same-result
+pub judge-ring-unique : (ring : Ring) (r q : Verdict) → r ≡ judgeRing desk ring → q ≡ judgeRing desk ring → r ≡ q
+judge-ring-unique ring r q = same-result
 
 pub judge-row-unique : (n k a b i j d : ℕ) (r q : Verdict) → r ≡ judgeRow desk n k a b i j d → q ≡ judgeRow desk n k a b i j d → r ≡ q
 judge-row-unique n k a b i j d r q = same-result

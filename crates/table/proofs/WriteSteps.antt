@@ -4,6 +4,7 @@ use mathlib.Core.List.{List, [], _∷_, _++_, append-assoc, append-nil}
 use mathlib.Core.Path.{_≡_, refl, ap, _∙_, sym}
 use native.Mathlib.Omega.{arith}
 use lib.ListN.{length, getD, length-append}
+use Rattle.ring.specs.Ring.{ringOf}
 use Rattle.ring.specs.Row.{Row}
 use Rattle.ring.specs.Columns.{listed, rowsIn, rowAt}
 use Rattle.ring.proofs.Listed.{listed-snoc}
@@ -36,27 +37,27 @@ module _ (first second amount : List ℕ) where
           let e : 0 + k ≡ k = omega arith in
           ap writeRows (listed-snoc (rowAt first second amount) 0 k ∙ ap (λ m. rowsIn k first second amount ++ rowAt first second amount m ∷ []) e) ∙ rows-more (rowsIn k first second amount) (rowAt first second amount k)
 
--- ---- R n, and the rows behind it
+-- ---- R n fibres, and the rows behind it
 
-pub ring-short : (n size : ℕ) → size ≡ length (ringLine n) → size ≤ 100
-ring-short n size e = omega (arith, line-short ringShape (0 ∷ n ∷ []))
+pub ring-short : (n fibres size : ℕ) → size ≡ length (ringLine n fibres) → size ≤ 100
+ring-short n fibres size e = omega (arith, line-short ringShape (0 ∷ n ∷ fibres ∷ []))
 
-module _ (n : ℕ) (rs : List Row) where
-  whole-long : length (writeTable n rs) ≡ length (ringLine n) + length (writeRows rs)
+module _ (n fibres : ℕ) (rs : List Row) where
+  whole-long : length (writeTable (ringOf n fibres) rs) ≡ length (ringLine n fibres) + length (writeRows rs)
   unfolding writeTable
-  whole-long = length-append (ringLine n) (writeRows rs)
+  whole-long = length-append (ringLine n fibres) (writeRows rs)
 
-  pub table-measured : (start size : ℕ) → start ≡ length (ringLine n) → size ≡ start + length (writeRows rs) → size ≡ length (writeTable n rs)
+  pub table-measured : (start size : ℕ) → start ≡ length (ringLine n fibres) → size ≡ start + length (writeRows rs) → size ≡ length (writeTable (ringOf n fibres) rs)
   table-measured start size e f = omega (arith, whole-long)
 
-  module _ (old : List ℕ) (room : length (writeTable n rs) ≤ length old) where
-    pub ring-has-room : 0 + length (ringLine n) ≤ length old
+  module _ (old : List ℕ) (room : length (writeTable (ringOf n fibres) rs) ≤ length old) where
+    pub ring-has-room : 0 + length (ringLine n fibres) ≤ length old
     ring-has-room = omega (arith, room, whole-long)
 
-    module _ (mid : List ℕ) (at : ℕ) (w : Written old 0 (ringLine n) mid at) where
+    module _ (mid : List ℕ) (at : ℕ) (w : Written old 0 (ringLine n fibres) mid at) where
       pub rows-have-room : at + length (writeRows rs) ≤ length mid
-      rows-have-room = omega (arith, room, whole-long, w .place, written-length old mid (ringLine n) 0 at w)
+      rows-have-room = omega (arith, room, whole-long, w .place, written-length old mid (ringLine n fibres) 0 at w)
 
-      pub table-written : (new : List ℕ) (r : ℕ) → Written mid at (writeRows rs) new r → Written old 0 (writeTable n rs) new r
+      pub table-written : (new : List ℕ) (r : ℕ) → Written mid at (writeRows rs) new r → Written old 0 (writeTable (ringOf n fibres) rs) new r
       unfolding writeTable
-      table-written new r v = written-behind old mid new (ringLine n) (writeRows rs) 0 at r w v
+      table-written new r v = written-behind old mid new (ringLine n fibres) (writeRows rs) 0 at r w v

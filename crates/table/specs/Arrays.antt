@@ -22,5 +22,5 @@ beside answer rs =
 -- the answer beside its rows; a refusal returns only reason and line
 unfoldable pub tableIn : Result → Table
 unfolding column
-tableIn (accepted n rs) = beside (Is n (length rs)) rs
+tableIn (accepted ring rs) = beside (Is (ring .n) (ring .fibres) (length rs)) rs
 tableIn (refused reason line) = beside (Refused reason line) []

@@ -1,15 +1,26 @@
--- Internal: what is found against a ring's size and against a row, over any numbers: nothing, or the first reason that holds, in their order.
+-- Internal: what is found against a ring and against a row, over any numbers: nothing, or the first reason that holds, in their order.
 use Prim.Native.Nat.{ℕ}
-use mathlib.Core.Bool.{Bool, cond, _&&_, _||_}
+use mathlib.Core.Bool.{Bool, cond, not, _&&_, _||_}
 use lib.Dec.{ltb, leb, eqb}
 use Rattle.ring.specs.Limits.{Limits}
-use Rattle.table.specs.declared.reason.Reason.the-variants.{RingSize, NoSuchNode, NotBelow, OutOfOrder, TooMany, TooMuch}
+use Rattle.ring.specs.Ring.{Ring}
+use Rattle.ring.specs.LineSize.{twoFibres, fourFibres}
+use Rattle.table.specs.declared.reason.Reason.the-variants.{RingSize, Fibres, NoSuchNode, NotBelow, OutOfOrder, TooMany, TooMuch}
 use Rattle.table.specs.declared.judge.Verdict.{Verdict}
 use Rattle.table.specs.declared.judge.Verdict.the-variants.{Fine, Fault}
 
--- 3: n outside 2..32
-unfoldable pub judgeRing : Limits → ℕ → Verdict
-judgeRing limits n = cond (ltb n (limits .fewest) || ltb (limits .nodes) n) (Fault RingSize) Fine
+-- n outside 2..32
+unfoldable pub wrongSize : Limits → ℕ → Bool
+wrongSize limits n = ltb n (limits .fewest) || ltb (limits .nodes) n
+
+-- fibres neither 2 nor 4
+unfoldable pub otherFibres : ℕ → Bool
+otherFibres fibres = not (eqb fibres twoFibres) && not (eqb fibres fourFibres)
+
+-- 3 and 20
+unfoldable pub judgeRing : Limits → Ring → Verdict
+unfolding wrongSize otherFibres
+judgeRing limits ring = cond (wrongSize limits (ring .n)) (Fault RingSize) (cond (otherFibres (ring .fibres)) (Fault Fibres) Fine)
 
 -- a node outside 1..n
 unfoldable pub outside : ℕ → ℕ → Bool

@@ -6,13 +6,14 @@ use lib.ListN.{length}
 use lib.Dec.{ltb}
 use Rattle.ring.specs.Row.{Row, row}
 use Rattle.text.specs.ReadLine.{readLine}
-use Rattle.text.specs.Answers.{oneIn, threeIn}
+use Rattle.text.specs.Answers.{twoIn, threeIn}
 use Rattle.text.specs.Shapes.{ringShape, rowShape}
-use Rattle.text.specs.declared.OneNumber.{OneNumber}
-use Rattle.text.specs.declared.OneNumber.the-variants.{Is as IsOne, Bad as NotOne}
+use Rattle.text.specs.declared.TwoNumbers.{TwoNumbers}
+use Rattle.text.specs.declared.TwoNumbers.the-variants.{Are as AreTwo, Bad as NotTwo}
 use Rattle.text.specs.declared.ThreeNumbers.{ThreeNumbers}
 use Rattle.text.specs.declared.ThreeNumbers.the-variants.{Are as AreThree, Bad as NotThree}
 use Rattle.ring.specs.Limits.{Limits}
+use Rattle.ring.specs.Ring.{Ring, ringOf}
 use Rattle.table.specs.Lines.{lines}
 use Rattle.table.specs.Judge.{judgeRing, judgeRow}
 use Rattle.table.specs.declared.reason.Reason.{Reason}
@@ -20,16 +21,16 @@ use Rattle.table.specs.declared.reason.Reason.the-variants.{TooLong, Mis
 use Rattle.table.specs.declared.judge.Verdict.{Verdict}
 use Rattle.table.specs.declared.judge.Verdict.the-variants.{Fine, Fault}
 
--- a ring of n nodes and its rows; or a reason and a line
+-- a ring and its rows; or a reason and a line
 pub data Result : Type 0 where
-  accepted : ℕ → List Row → Result
+  accepted : Ring → List Row → Result
   refused : Reason → ℕ → Result
 
 -- ---- one line: its shape, then what is found against its numbers
 
-unfoldable pub ringOr : OneNumber → ℕ → (ℕ → Result) → Result
-ringOr (IsOne n) line next = next n
-ringOr (NotOne p) line next = refused Misshapen line
+unfoldable pub ringOr : TwoNumbers → ℕ → (Ring → Result) → Result
+ringOr (AreTwo n fibres) line next = next (ringOf n fibres)
+ringOr (NotTwo p) line next = refused Misshapen line
 
 unfoldable pub rowOr : ThreeNumbers → ℕ → (ℕ → ℕ → ℕ → Result) → Result
 rowOr (AreThree i j d) line next = next i j d
@@ -42,19 +43,19 @@ unless (Fault reason) line next = refused reason line
 -- ---- the lines in order
 
 -- the rows of the lines ls, of which the first has the number `line`, behind the rows rs, of which the last is a, b
-unfoldable pub rowsOf : Limits → ℕ → ℕ → ℕ → ℕ → List Row → List (List ℕ) → Result
+unfoldable pub rowsOf : Limits → Ring → ℕ → ℕ → ℕ → List Row → List (List ℕ) → Result
 unfolding rowOr unless
-rowsOf limits n line a b rs [] = accepted n rs
-rowsOf limits n line a b rs (l ∷ ls) =
+rowsOf limits ring line a b rs [] = accepted ring rs
+rowsOf limits ring line a b rs (l ∷ ls) =
     rowOr (threeIn (readLine rowShape l)) line λ i j d.
-    unless (judgeRow limits n (length rs) a b i j d) line
-    (rowsOf limits n (line + 1) i j (rs ++ row i j d ∷ []) ls)
+    unless (judgeRow limits (ring .n) (length rs) a b i j d) line
+    (rowsOf limits ring (line + 1) i j (rs ++ row i j d ∷ []) ls)
 
--- R n, then rows; a missing first line is line 1
+-- R n fibres, then rows; a missing first line is line 1
 unfoldable pub tableLines : Limits → List (List ℕ) → Result
 unfolding ringOr unless rowsOf
 tableLines limits [] = refused Misshapen 1
-tableLines limits (l ∷ ls) = ringOr (oneIn (readLine ringShape l)) 1 λ n. unless (judgeRing limits n) 1 (rowsOf limits n 2 0 0 [] ls)
+tableLines limits (l ∷ ls) = ringOr (twoIn (readLine ringShape l)) 1 λ ring. unless (judgeRing limits ring) 1 (rowsOf limits ring 2 0 0 [] ls)
 
 unfoldable pub tableOf : Limits → List ℕ → Result
 unfolding tableLines

@@ -1,7 +1,7 @@
--- To believe: 01's numbers of the reasons (01, "Reasons and their order"; 02, K1 and K2), and the order in which they are tried.
+-- To believe: 01's numbers of the reasons (01, "Reasons and their order"; 02, K1 to K3), and the order in which they are tried.
 use Prim.Native.Nat.{ℕ}
 use Rattle.table.specs.declared.reason.Reason.{Reason}
-use Rattle.table.specs.declared.reason.Reason.the-variants.{TooLong, Misshapen, RingSize, NoSuchNode, NotBelow, OutOfOrder, TooMany, TooMuch, WrongSum, WrongWay, WrongCut, WrongLink, WrongLast, NotTight, OverBound, NotZero, NotSymmetric, SumTooMuch, NoRoom}
+use Rattle.table.specs.declared.reason.Reason.the-variants.{TooLong, Misshapen, RingSize, Fibres, NoSuchNode, NotBelow, OutOfOrder, TooMany, TooMuch, WrongSum, WrongWay, WrongCut, WrongLink, WrongLast, NotTight, OverBound, NotZero, NotSymmetric, SumTooMuch, NoRoom}
 
 abbrev pub numberOf : Reason → ℕ
 -- text over 32,768 bytes
@@ -10,6 +10,8 @@ numberOf TooLong = 1
 numberOf Misshapen = 2
 -- n outside 2..32
 numberOf RingSize = 3
+-- fibres neither 2 nor 4
+numberOf Fibres = 20
 -- a node outside 1..n
 numberOf NoSuchNode = 4
 -- first node not below second
@@ -43,24 +45,25 @@ numberOf SumTooMuch = 19
 -- lent buffer shorter than the text to be written
 numberOf NoRoom = 15
 
--- their order: by rising number, but 16 stands between 6 and 7, and 15 behind all
+-- their order: by rising number, but 20 stands behind 3, 16 between 6 and 7, and 15 behind all
 abbrev pub rankOf : Reason → ℕ
 rankOf TooLong = 1
 rankOf Misshapen = 2
 rankOf RingSize = 3
-rankOf NoSuchNode = 4
-rankOf NotBelow = 5
-rankOf OutOfOrder = 6
-rankOf TooMany = 7
-rankOf TooMuch = 8
-rankOf WrongSum = 9
-rankOf WrongWay = 10
-rankOf WrongCut = 11
-rankOf WrongLink = 12
-rankOf WrongLast = 13
-rankOf NotTight = 14
-rankOf OverBound = 15
-rankOf NotZero = 16
-rankOf NotSymmetric = 17
-rankOf SumTooMuch = 18
-rankOf NoRoom = 19
+rankOf Fibres = 4
+rankOf NoSuchNode = 5
+rankOf NotBelow = 6
+rankOf OutOfOrder = 7
+rankOf TooMany = 8
+rankOf TooMuch = 9
+rankOf WrongSum = 10
+rankOf WrongWay = 11
+rankOf WrongCut = 12
+rankOf WrongLink = 13
+rankOf WrongLast = 14
+rankOf NotTight = 15
+rankOf OverBound = 16
+rankOf NotZero = 17
+rankOf NotSymmetric = 18
+rankOf SumTooMuch = 19
+rankOf NoRoom = 20

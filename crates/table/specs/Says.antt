@@ -7,11 +7,13 @@ use lib.ListN.{length}
 use Rattle.text.specs.Number.{limit}
 use Rattle.text.specs.Shapes.{ringLine, rowLine}
 use Rattle.ring.specs.Limits.{Limits}
+use Rattle.ring.specs.Ring.{Ring}
+use Rattle.ring.specs.LineSize.{IsFibres}
 use Rattle.ring.specs.Row.{PairBefore}
 use Rattle.table.specs.Lines.{lines}
 use Rattle.table.specs.Reasons.{rankOf}
 use Rattle.table.specs.declared.reason.Reason.{Reason}
-use Rattle.table.specs.declared.reason.Reason.the-variants.{TooLong, Misshapen, RingSize, NoSuchNode, NotBelow, OutOfOrder, TooMany, TooMuch, WrongSum, WrongWay, WrongCut, WrongLink, WrongLast, NotTight, OverBound, NotZero, NotSymmetric, SumTooMuch, NoRoom}
+use Rattle.table.specs.declared.reason.Reason.the-variants.{TooLong, Misshapen, RingSize, Fibres, NoSuchNode, NotBelow, OutOfOrder, TooMany, TooMuch, WrongSum, WrongWay, WrongCut, WrongLink, WrongLast, NotTight, OverBound, NotZero, NotSymmetric, SumTooMuch, NoRoom}
 
 -- ---- lines
 
@@ -20,10 +22,10 @@ pub data LineIs : List (List ℕ) → ℕ → List ℕ → Type 0 where
   at-first : {l : List ℕ} {ls : List (List ℕ)} → LineIs (l ∷ ls) 1 l
   behind : {l m : List ℕ} {ls : List (List ℕ)} {line : ℕ} → LineIs ls line l → LineIs (m ∷ ls) (line + 1) l
 
--- the first line is R n
-pub record RingIs (t : List ℕ) (n : ℕ) : Type 0 where
-  pub text : LineIs (lines t) 1 (ringLine n)
-  pub spelled : n < limit
+-- the first line is R n fibres
+pub record RingIs (t : List ℕ) (ring : Ring) : Type 0 where
+  pub text : LineIs (lines t) 1 (ringLine (ring .n) (ring .fibres))
+  pub spelled : (ring .n < limit) × (ring .fibres < limit)
 
 -- a later line is D i j d
 pub record RowIs (t : List ℕ) (line i j d : ℕ) : Type 0 where
@@ -40,7 +42,7 @@ NoNode n i = (i < 1) ⊎ (n < i)
 -- 2: the first line is missing, or is no R line; a later line is no D line
 pub record NoRingLine (t : List ℕ) (line : ℕ) : Type 0 where
   pub at : line ≡ 1
-  pub none : (n : ℕ) → RingIs t n → ⊥
+  pub none : (ring : Ring) → RingIs t ring → ⊥
 
 pub record NoRowLine (t : List ℕ) (line : ℕ) : Type 0 where
   pub later : 2 ≤ line
@@ -51,19 +53,26 @@ pub record NoRowLine (t : List ℕ) (line : ℕ) : Type 0 where
 -- 3: n outside 2..32
 pub record WrongRing (limits : Limits) (t : List ℕ) (line : ℕ) : Type 0 where
   pub at : line ≡ 1
-  pub n : ℕ
-  pub ring : RingIs t n
-  pub wrong : (n < limits .fewest) ⊎ (limits .nodes < n)
+  pub ring : Ring
+  pub said : RingIs t ring
+  pub wrong : (ring .n < limits .fewest) ⊎ (limits .nodes < ring .n)
+
+-- 20: fibres neither 2 nor 4
+pub record WrongFibres (t : List ℕ) (line : ℕ) : Type 0 where
+  pub at : line ≡ 1
+  pub ring : Ring
+  pub said : RingIs t ring
+  pub wrong : IsFibres (ring .fibres) → ⊥
 
 -- 4: a node outside 1..n
 pub record WrongNode (t : List ℕ) (line : ℕ) : Type 0 where
-  pub n : ℕ
-  pub ring : RingIs t n
+  pub ring : Ring
+  pub said : RingIs t ring
   pub i : ℕ
   pub j : ℕ
   pub d : ℕ
   pub row : RowIs t line i j d
-  pub wrong : NoNode n i ⊎ NoNode n j
+  pub wrong : NoNode (ring .n) i ⊎ NoNode (ring .n) j
 
 -- 5: first node not below second
 pub record WrongPair (t : List ℕ) (line : ℕ) : Type 0 where
@@ -108,6 +117,7 @@ unfoldable pub Says : Limits → List ℕ → Reason → ℕ → Type 0
 Says limits t TooLong line = (line ≡ 0) × (limits .bytes < length t)
 Says limits t Misshapen line = NoRingLine t line ⊎ NoRowLine t line
 Says limits t RingSize line = WrongRing limits t line
+Says limits t Fibres line = WrongFibres t line
 Says limits t NoSuchNode line = WrongNode t line
 Says limits t NotBelow line = WrongPair t line
 Says limits t OutOfOrder line = WrongOrder t line

@@ -1,27 +1,46 @@
-// What is found against a ring's size and against a row.
+// What is found against a ring and against a row.
 use crate::reason::Reason;
 use ring::AMOUNT;
 use ring::FEWEST;
+use ring::FOUR_FIBRES;
 use ring::NODES;
 use ring::ROWS;
+use ring::TWO_FIBRES;
 ghost use mathlib.Core.Path.{_≡_};
 ghost use Rattle.ring.specs.Limits.{desk};
-ghost use Rattle.table.specs.Judge.{judgeRing, outside, isBelow, judgeRow};
+ghost use Rattle.ring.specs.Ring.{ringOf};
+ghost use Rattle.table.specs.Judge.{wrongSize, otherFibres, judgeRing, outside, isBelow, judgeRow};
 
 pub enum Verdict {
     Fine,
     Fault(Reason),
 }
 
-// n nodes.
-pub fn judge_ring(n: u32) -> Verdict
-    ensures { λ r. ⌜ r ≡ judgeRing desk n ⌝ }
+// Whether a ring cannot have n nodes.
+fn wrong_size(n: u32) -> bool
+    ensures { λ r. ⌜ r ≡ wrongSize desk n ⌝ }
 {
-    if n < FEWEST {
+    n < FEWEST || NODES < n
+}
+
+// Whether fibres are neither 2 nor 4.
+fn other_fibres(fibres: u32) -> bool
+    ensures { λ r. ⌜ r ≡ otherFibres fibres ⌝ }
+{
+    fibres != TWO_FIBRES && fibres != FOUR_FIBRES
+}
+
+// A ring of n nodes and so many fibres.
+pub fn judge_ring(n: u32, fibres: u32) -> Verdict
+    ensures { λ r. ⌜ r ≡ judgeRing desk (ringOf n fibres) ⌝ }
+{
+    let wrong = wrong_size(n);
+    let other = other_fibres(fibres);
+    if wrong {
         return Verdict::Fault(Reason::RingSize);
     }
-    if NODES < n {
-        return Verdict::Fault(Reason::RingSize);
+    if other {
+        return Verdict::Fault(Reason::Fibres);
     }
     Verdict::Fine
 }

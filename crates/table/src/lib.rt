@@ -1,6 +1,6 @@
 // A table: text to rows, and rows to text.
 mod reason; // why a text is refused
-mod judge; // what is found against a ring's size and a row
+mod judge; // what is found against a ring and a row
 mod lines; // where a line ends
 mod read; // a text to rows in arrays
 mod write; // rows in arrays to a text

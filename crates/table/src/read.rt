@@ -6,20 +6,21 @@ use crate::lines::line_end;
 use crate::reason::Reason;
 use ring::BYTES;
 use ring::ROWS;
-use text::OneNumber;
 use text::ThreeNumbers;
+use text::TwoNumbers;
 ghost use mathlib.Core.Path.{_≡_};
 ghost use mathlib.Core.List.{[]};
 ghost use Prim.Native.Nat.{_≤_};
 ghost use lib.ListN.{length, drop};
 ghost use Rattle.ring.specs.Limits.{desk};
+ghost use Rattle.ring.specs.Ring.{ringOf};
 ghost use Rattle.table.specs.Lines.{lines};
 ghost use Rattle.table.specs.ReadTable.{refused, rowsOf, tableOf};
 ghost use Rattle.table.specs.Arrays.{tableIn};
 
-// How many nodes the ring has and how many rows there are; or the reason and the line.
+// How many nodes and fibres the ring has and how many rows there are; or the reason and the line.
 pub enum Answer {
-    Is(u32, usize),
+    Is(u32, u32, usize),
     Refused(Reason, u32),
 }
 
@@ -43,10 +44,10 @@ pub fn refusal(reason: Reason, line: u32) -> Table
     }
 }
 
-// The rows of a ring of n nodes, from the place `from` on.
-fn read_rows(s: &[u8], from: usize, n: u32) -> Table
+// The rows of a ring of n nodes and so many fibres, from the place `from` on.
+fn read_rows(s: &[u8], from: usize, n: u32, fibres: u32) -> Table
     requires { ⌜ from ≤ length (now s) ⌝ }
-    ensures { λ r. ⌜ r ≡ tableIn (rowsOf desk n 2 0 0 [] (lines (drop from (now (s .entry))))) ⌝ }
+    ensures { λ r. ⌜ r ≡ tableIn (rowsOf desk (ringOf n fibres) 2 0 0 [] (lines (drop from (now (s .entry))))) ⌝ }
 {
     let mut first = [0u32; ROWS];
     let mut second = [0u32; ROWS];
@@ -84,7 +85,7 @@ fn read_rows(s: &[u8], from: usize, n: u32) -> Table
         }
     }
     Table {
-        answer: Answer::Is(n, count),
+        answer: Answer::Is(n, fibres, count),
         first,
         second,
         amount,
@@ -102,12 +103,12 @@ pub fn read_table(s: &[u8]) -> Table
     }
     let end = line_end(s, 0);
     let ring = text::read_ring(&s[0..end]);
-    let OneNumber::Is(n) = ring else {
+    let TwoNumbers::Are(n, fibres) = ring else {
         return refusal(Reason::Misshapen, 1);
     };
-    let verdict = judge_ring(n);
+    let verdict = judge_ring(n, fibres);
     if let Verdict::Fault(reason) = verdict {
         return refusal(reason, 1);
     }
-    read_rows(s, end, n)
+    read_rows(s, end, n, fibres)
 }

@@ -1,4 +1,4 @@
-// The reasons of 01's table and of 02's K1 and K2, in their order. Tables use the first eight and, where a buffer is lent, the last.
+// The reasons of 01's table and of 02's K1 to K3, in their order. Tables use the first nine and, where a buffer is lent, the last.
 ghost use mathlib.Core.Path.{_≡_};
 ghost use Rattle.table.specs.Reasons.{numberOf};
 
@@ -6,6 +6,7 @@ pub enum Reason {
     TooLong,
     Misshapen,
     RingSize,
+    Fibres,
     NoSuchNode,
     NotBelow,
     OutOfOrder,
@@ -33,6 +34,7 @@ impl Reason {
             Reason::TooLong => 1,
             Reason::Misshapen => 2,
             Reason::RingSize => 3,
+            Reason::Fibres => 20,
             Reason::NoSuchNode => 4,
             Reason::NotBelow => 5,
             Reason::OutOfOrder => 6,

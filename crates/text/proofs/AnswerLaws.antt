@@ -13,8 +13,7 @@ use Rattle.text.specs.WriteLine.{writeLine, FitsShape}
 use Rattle.text.specs.ReadLine.{Reading, good, bad, readLine}
 use Rattle.text.specs.FirstFault.{FirstFault}
 use Rattle.text.specs.Shapes.{ringShape, rowShape, sentShape, cutShape, linkShape, lastShape}
-use Rattle.text.specs.Answers.{oneIn, twoIn, threeIn, sentIn}
-use Rattle.text.specs.declared.OneNumber.the-variants.{Is as IsOne, Bad as NotOne}
+use Rattle.text.specs.Answers.{twoIn, threeIn, sentIn}
 use Rattle.text.specs.declared.TwoNumbers.the-variants.{Are as AreTwo, Bad as NotTwo}
 use Rattle.text.specs.declared.ThreeNumbers.the-variants.{Are as AreThree, Bad as NotThree}
 use Rattle.text.specs.declared.SentRow.the-variants.{Is as IsSent, Bad as NotSent}
@@ -75,13 +74,6 @@ behind-letter f fs (v ∷ vs) e r =
     rw z (ap (λ (l : List ℕ). 0 ∷ l) (values-listed fs vs (r .1)))
 
 module _ (letter : ℕ) (is-letter : top letter ≡ 1) (s : List ℕ) where
-  pub one-good : (a : ℕ) → AnswerIs oneIn (letter ∷ number ∷ []) s (IsOne a) (0 ∷ a ∷ [])
-  unfolding oneIn
-  one-good a =
-      answer-good oneIn _ _ _ _ refl
-      (λ us r e. let l = behind-letter letter _ us is-letter r in cc)
-      (λ p e. clash (cc))
-
   pub two-good : (a b : ℕ) → AnswerIs twoIn (letter ∷ number ∷ number ∷ []) s (AreTwo a b) (0 ∷ a ∷ b ∷ [])
   unfolding twoIn
   two-good a b =
@@ -107,9 +99,9 @@ module _ (letter : ℕ) (is-letter : top letter ≡ 1) (s : List ℕ) where
 -- ---- the six lines
 
 module _ (s : List ℕ) where
-  pub ring-good : (n : ℕ) → AnswerIs oneIn ringShape s (IsOne n) (0 ∷ n ∷ [])
+  pub ring-good : (n fibres : ℕ) → AnswerIs twoIn ringShape s (AreTwo n fibres) (0 ∷ n ∷ fibres ∷ [])
   unfolding top marks
-  ring-good = one-good letterR refl s
+  ring-good = two-good letterR refl s
 
   pub row-good : (i j amount : ℕ) → AnswerIs threeIn rowShape s (AreThree i j amount) (0 ∷ i ∷ j ∷ amount ∷ [])
   unfolding top marks
@@ -134,10 +126,6 @@ module _ (s : List ℕ) where
 -- ---- a faulty line, of any shape
 
 module _ (shape s : List ℕ) (p : ℕ) where
-  pub one-bad : Refuses oneIn shape s (NotOne p) p
-  unfolding oneIn
-  one-bad = answer-bad oneIn _ _ _ p refl (λ q e. cc) (λ us e. clash (cc))
-
   pub two-bad : Refuses twoIn shape s (NotTwo p) p
   unfolding twoIn
   two-bad = answer-bad twoIn _ _ _ p refl (λ q e. cc) (λ us e. clash (cc))

@@ -4,13 +4,12 @@ use mathlib.Core.Path.{_≡_, _∙_, sym}
 use mathlib.Core.List.{List}
 use lib.ListN.{length}
 use Rattle.text.specs.ReadLine.{readLine, fieldAt}
-use Rattle.text.specs.Answers.{oneIn, twoIn, threeIn, sentIn}
+use Rattle.text.specs.Answers.{twoIn, threeIn, sentIn}
 use Rattle.text.specs.Shapes.{ringShape, rowShape, sentShape, cutShape, linkShape, lastShape, ringLine, rowLine, sentLine, cutLine, linkLine, lastLine}
 use Rattle.text.specs.Written.{Written}
 use Rattle.text.specs.Bytes.{number}
 use Rattle.text.specs.WriteLine.{endOf, writeLine}
 use Rattle.text.specs.declared.field.Field.{Field}
-use Rattle.text.specs.declared.OneNumber.{OneNumber}
 use Rattle.text.specs.declared.TwoNumbers.{TwoNumbers}
 use Rattle.text.specs.declared.ThreeNumbers.{ThreeNumbers}
 use Rattle.text.specs.declared.SentRow.{SentRow}
@@ -26,7 +25,7 @@ same-written w x = (same-result (w .place) (x .place), same-result (w .buffer) (
 -- ---- readers
 
 module _ (s : List ℕ) where
-  pub read-ring-unique : (r q : OneNumber) → r ≡ oneIn (readLine ringShape s) → q ≡ oneIn (readLine ringShape s) → r ≡ q
+  pub read-ring-unique : (r q : TwoNumbers) → r ≡ twoIn (readLine ringShape s) → q ≡ twoIn (readLine ringShape s) → r ≡ q
   read-ring-unique r q = same-result
 
   pub read-row-unique : (r q : ThreeNumbers) → r ≡ threeIn (readLine rowShape s) → q ≡ threeIn (readLine rowShape s) → r ≡ q
@@ -52,8 +51,8 @@ module _ (s : List ℕ) where
 pub line-length-unique : (shape vs : List ℕ) (r q : ℕ) → r ≡ length (writeLine shape vs) → q ≡ length (writeLine shape vs) → r ≡ q
 line-length-unique _ _ r q = same-result
 
-pub ring-length-unique : (n r q : ℕ) → r ≡ length (ringLine n) → q ≡ length (ringLine n) → r ≡ q
-ring-length-unique _ r q = same-result
+pub ring-length-unique : (n fibres r q : ℕ) → r ≡ length (ringLine n fibres) → q ≡ length (ringLine n fibres) → r ≡ q
+ring-length-unique _ _ r q = same-result
 
 pub row-length-unique : (i j amount r q : ℕ) → r ≡ length (rowLine i j amount) → q ≡ length (rowLine i j amount) → r ≡ q
 row-length-unique _ _ _ r q = same-result
@@ -77,9 +76,9 @@ module _ (old : List ℕ) (at : ℕ) where
       → (r ≡ q) × (new ≡ buf)
   write-line-unique _ _ r q new buf = same-written
 
-  pub write-ring-unique : (n r q : ℕ) (new buf : List ℕ) → Written old at (ringLine n) new r → Written old at (ringLine n) buf q
+  pub write-ring-unique : (n fibres r q : ℕ) (new buf : List ℕ) → Written old at (ringLine n fibres) new r → Written old at (ringLine n fibres) buf q
       → (r ≡ q) × (new ≡ buf)
-  write-ring-unique _ r q new buf = same-written
+  write-ring-unique _ _ r q new buf = same-written
 
   pub write-row-unique : (i j amount r q : ℕ) (new buf : List ℕ) → Written old at (rowLine i j amount) new r → Written old at (rowLine i j amount) buf q
       → (r ≡ q) × (new ≡ buf)

@@ -1,8 +1,6 @@
 -- Internal: what a caller is told of a line: the values behind its letter, which is field 0; or the place of its first faulty byte.
 use lib.ListN.{getD}
 use Rattle.text.specs.ReadLine.{Reading, good, bad}
-use Rattle.text.specs.declared.OneNumber.{OneNumber}
-use Rattle.text.specs.declared.OneNumber.the-variants.{Is as IsOne, Bad as NotOne}
 use Rattle.text.specs.declared.TwoNumbers.{TwoNumbers}
 use Rattle.text.specs.declared.TwoNumbers.the-variants.{Are as AreTwo, Bad as NotTwo}
 use Rattle.text.specs.declared.ThreeNumbers.{ThreeNumbers}
@@ -10,12 +8,7 @@ use Rattle.text.specs.declared.ThreeNumbers.the-variants.{Are as AreThre
 use Rattle.text.specs.declared.SentRow.{SentRow}
 use Rattle.text.specs.declared.SentRow.the-variants.{Is as IsSent, Bad as NotSent}
 
--- R n
-unfoldable pub oneIn : Reading → OneNumber
-oneIn (good vs) = IsOne (getD vs 1 0)
-oneIn (bad p) = NotOne p
-
--- Z unsplit-peak size
+-- R n fibres, Z unsplit-peak size
 unfoldable pub twoIn : Reading → TwoNumbers
 twoIn (good vs) = AreTwo (getD vs 1 0) (getD vs 2 0)
 twoIn (bad p) = NotTwo p

@@ -5,9 +5,9 @@ use lib.ListN.{length, replicate}
 use Rattle.text.specs.Bytes.{letterR, letterD, letterC, letterL, letterZ, number, way}
 use Rattle.text.specs.WriteLine.{writeLine}
 
--- R n
+-- R n fibres
 abbrev pub ringShape : List ℕ
-ringShape = letterR ∷ number ∷ []
+ringShape = letterR ∷ number ∷ number ∷ []
 
 -- D i j amount, in a table
 abbrev pub rowShape : List ℕ
@@ -35,9 +35,9 @@ numbers n = replicate n number
 
 -- ---- their texts: the letter is the first field, and its value is 0
 
--- R n
-abbrev pub ringLine : ℕ → List ℕ
-ringLine n = writeLine ringShape (0 ∷ n ∷ [])
+-- R n fibres
+abbrev pub ringLine : ℕ → ℕ → List ℕ
+ringLine n fibres = writeLine ringShape (0 ∷ n ∷ fibres ∷ [])
 
 -- D i j amount
 abbrev pub rowLine : ℕ → ℕ → ℕ → List ℕ

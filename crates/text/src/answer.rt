@@ -1,5 +1,4 @@
-// A line of one, two or three numbers by any shape, its values taken from behind the letter.
-use crate::OneNumber;
+// A line of two or three numbers by any shape, its values taken from behind the letter.
 use crate::ThreeNumbers;
 use crate::TwoNumbers;
 use crate::line::Line;
@@ -7,19 +6,7 @@ use crate::line::read_line;
 ghost use mathlib.Core.Path.{_≡_};
 ghost use lib.ListN.{length};
 ghost use Rattle.text.specs.ReadLine.{readLine};
-ghost use Rattle.text.specs.Answers.{oneIn, twoIn, threeIn};
-
-pub(crate) fn read_one(s: &[u8], shape: &[u8; 2]) -> OneNumber
-    requires { ⌜ length (now shape) ≡ 2 ⌝ }
-    ensures { λ r. ⌜ r ≡ oneIn (readLine (now (shape .entry)) (now (s .entry))) ⌝ }
-{
-    let mut values = [0u32; 2];
-    let line = read_line(s, shape, &mut values);
-    match line {
-        Line::Bad(p) => OneNumber::Bad(p),
-        Line::Good => OneNumber::Is(values[1]),
-    }
-}
+ghost use Rattle.text.specs.Answers.{twoIn, threeIn};
 
 pub(crate) fn read_two(s: &[u8], shape: &[u8; 3]) -> TwoNumbers
     requires { ⌜ length (now shape) ≡ 3 ⌝ }

@@ -10,7 +10,6 @@ mod field; // a number or a mark, with the byte behind it
 mod line; // a line of any shape
 mod answer; // what a line of so many numbers says
 
-use answer::read_one;
 use answer::read_three;
 use answer::read_two;
 pub use field::Field;
@@ -28,11 +27,11 @@ ghost use Rattle.text.specs.Bytes.{number};
 ghost use Rattle.text.specs.ReadLine.{fieldAt, readLine};
 ghost use Rattle.text.specs.WriteLine.{endOf};
 ghost use Rattle.text.specs.Written.{Written};
-ghost use Rattle.text.specs.Answers.{oneIn, twoIn, threeIn, sentIn};
+ghost use Rattle.text.specs.Answers.{twoIn, threeIn, sentIn};
 ghost use Rattle.text.specs.Shapes.{ringShape, rowShape, sentShape, cutShape, linkShape, lastShape, ringLine, rowLine, sentLine, cutLine, linkLine, lastLine};
 
 // The shapes of the six lines.
-const RING: [u8; 2] = *b"Rn";
+const RING: [u8; 3] = *b"Rnn";
 
 const ROW: [u8; 4] = *b"Dnnn";
 
@@ -49,13 +48,7 @@ pub(crate) const WAY_F: u32 = 0;
 
 pub(crate) const WAY_B: u32 = 1;
 
-// What a line of one number says: R n.
-pub enum OneNumber {
-    Is(u32),
-    Bad(usize),
-}
-
-// What a line of two numbers says: Z unsplit-peak size.
+// What a line of two numbers says: R n fibres, Z unsplit-peak size.
 pub enum TwoNumbers {
     Are(u32, u32),
     Bad(usize),
@@ -90,25 +83,25 @@ pub fn read_entry(s: &[u8], at: usize, left: usize) -> Field
     read_field(s, at, NUMBER, end)
 }
 
-// ---- R n
+// ---- R n fibres
 
-pub fn read_ring(s: &[u8]) -> OneNumber
-    ensures { λ r. ⌜ r ≡ oneIn (readLine ringShape (now (s .entry))) ⌝ }
+pub fn read_ring(s: &[u8]) -> TwoNumbers
+    ensures { λ r. ⌜ r ≡ twoIn (readLine ringShape (now (s .entry))) ⌝ }
 {
-    read_one(s, &RING)
+    read_two(s, &RING)
 }
 
-pub fn ring_length(n: u32) -> usize
-    ensures { λ r. ⌜ r ≡ length (ringLine n) ⌝ }
+pub fn ring_length(n: u32, fibres: u32) -> usize
+    ensures { λ r. ⌜ r ≡ length (ringLine n fibres) ⌝ }
 {
-    line_length(&RING, &[0, n])
+    line_length(&RING, &[0, n, fibres])
 }
 
-pub fn write_ring(buf: &mut [u8], at: usize, n: u32) -> usize
-    requires { ⌜ at + length (ringLine n) ≤ length (now buf) ⌝ }
-    ensures { λ r. ⌜ Written (now (buf .entry)) at (ringLine n) (now (buf .exit)) r ⌝ }
+pub fn write_ring(buf: &mut [u8], at: usize, n: u32, fibres: u32) -> usize
+    requires { ⌜ at + length (ringLine n fibres) ≤ length (now buf) ⌝ }
+    ensures { λ r. ⌜ Written (now (buf .entry)) at (ringLine n fibres) (now (buf .exit)) r ⌝ }
 {
-    write_line(buf, at, &RING, &[0, n])
+    write_line(buf, at, &RING, &[0, n, fibres])
 }
 
 // ---- D i j amount, in a table

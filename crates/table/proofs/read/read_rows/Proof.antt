@@ -7,15 +7,15 @@ use Rattle.table.proofs.read.read_rows.Statement.{statement}
 use Rattle.table.proofs.read.read_rows.Tie as tie
 
 abbrev Inv-loop : tie.InvT-loop
-Inv-loop s from n first₀ second₀ amount₀ count₀ line₀ at₀ a₀ b₀ first second amount count line at a b =
-    Reading s n from line a b count at first second amount
+Inv-loop s from n fibres first₀ second₀ amount₀ count₀ line₀ at₀ a₀ b₀ first second amount count line at a b =
+    Reading s n fibres from line a b count at first second amount
 
 abbrev μ-loop : tie.MeasureT-loop
-μ-loop s from n first₀ second₀ amount₀ count₀ line₀ at₀ a₀ b₀ first second amount count line at a b =
+μ-loop s from n fibres first₀ second₀ amount₀ count₀ line₀ at₀ a₀ b₀ first second amount count line at a b =
     length s - at
 
 loop-holds : tie.Need-loop-holds Inv-loop μ-loop
-loop-holds c = reading-starts _ _ _ (search needs)
+loop-holds c = reading-starts _ _ _ _ (search needs)
 
 line-end-requires : tie.Need-line-end-requires Inv-loop μ-loop
 line-end-requires c κs = search needs

@@ -7,10 +7,10 @@ use Rattle.table.proofs.write.table_length.Statement.{statement}
 use Rattle.table.proofs.write.table_length.Tie as tie
 
 abbrev Inv-loop : tie.InvT-loop
-Inv-loop n count first second amount size₀ k₀ size k = Measuring (rowLineAt first second amount) (rowsText first second amount) size₀ count k size
+Inv-loop n fibres count first second amount size₀ k₀ size k = Measuring (rowLineAt first second amount) (rowsText first second amount) size₀ count k size
 
 abbrev μ-loop : tie.MeasureT-loop
-μ-loop n count first second amount size₀ k₀ size k = count - k
+μ-loop n fibres count first second amount size₀ k₀ size k = count - k
 
 ring-length-requires : tie.Need-ring-length-requires Inv-loop μ-loop
 ring-length-requires c κs = search needs
@@ -42,7 +42,7 @@ row-length-requires c κs = search needs
 add-size : tie.Need-add-size Inv-loop μ-loop
 add-size c =
     measure-fits _ _ _ _ _ _ (c .before .before .before .before .before .loop .inv) _ (search needs) (c .row-length .ensures)
-    (ring-short _ _ (c .before .before .before .before .before .before .ring-length .ensures)) (search needs)
+    (ring-short _ _ _ (c .before .before .before .before .before .before .ring-length .ensures)) (search needs)
 
 add-k : tie.Need-add-k Inv-loop μ-loop
 add-k c = search needs
@@ -54,7 +54,7 @@ loop-again : tie.Need-loop-again Inv-loop μ-loop
 loop-again c = search measures-line
 
 returns : tie.Need-returns Inv-loop μ-loop
-returns c = table-measured _ _ _ _ (c .before .before .ring-length .ensures) (measured _ _ _ _ _ _ (c .before .loop .inv) (search needs))
+returns c = table-measured _ _ _ _ _ (c .before .before .ring-length .ensures) (measured _ _ _ _ _ _ (c .before .loop .inv) (search needs))
 
 pub table-length-spec : {M : Type 1} → statement M
 table-length-spec =

@@ -1,0 +1,22 @@
+-- The size is the rule's over any rising list: the list's own smallest size, asked of the peak on four fibres and of twice it on two.
+use Prim.Native.Nat.{ℕ}
+use mathlib.Core.Bool.{true}
+use mathlib.Core.List.{List}
+use mathlib.Core.Path.{_≡_, refl}
+use Rattle.sonet.specs.Size.{sonetSizes, rises}
+use Rattle.sonet.proofs.Sizes.{smallest-is}
+use Rattle.ring.specs.LineSize.{fourFibres, twoFibres, needed, lineSize, SizeFor, SizeRule}
+
+-- of any number of fibres: the smallest that is at least what is needed
+pub line-size-is : (sizes : List ℕ) → rises sizes ≡ true → (fibres peak : ℕ) → SizeFor sizes (needed fibres peak) (lineSize sizes fibres peak)
+unfolding lineSize
+line-size-is sizes e fibres peak = smallest-is sizes e (needed fibres peak)
+
+pub size-rule : (sizes : List ℕ) → rises sizes ≡ true → SizeRule sizes (lineSize sizes)
+unfolding needed
+size-rule sizes e = record { four = λ peak. line-size-is sizes e fourFibres peak; two = λ peak. line-size-is sizes e twoFibres peak }
+
+-- so of the SONET family
+pub sonet-rule : SizeRule sonetSizes (lineSize sonetSizes)
+unfolding rises
+sonet-rule = size-rule sonetSizes refl
