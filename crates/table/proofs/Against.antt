@@ -97,7 +97,7 @@ pub data AgainstRing (limits : Limits) (ring : Ring) : Reason → Type 0 where
   by-size : (ring .n < limits .fewest) ⊎ (limits .nodes < ring .n) → AgainstRing limits ring RingSize
   by-fibres : (IsFibres (ring .fibres) → ⊥) → AgainstRing limits ring Fibres
 
-has-size : {limits : Limits} {ring : Ring} → limits .fewest ≤ ring .n → ring .n ≤ limits .nodes → (ring .n < limits .fewest) ⊎ (limits .nodes < ring .n) → ⊥
+has-size : {least most n : ℕ} → least ≤ n → n ≤ most → (n < least) ⊎ (most < n) → ⊥
 has-size few many (inl l) = omega arith
 has-size few many (inr l) = omega arith
 
@@ -105,15 +105,15 @@ module _ {limits : Limits} {ring : Ring} where
   pub ring-least : {v : Verdict} {s : Reason} → RingJudged limits ring v → AgainstRing limits ring s → NoLater v s
   ring-least (wrong-size u) (by-size w) = omega arith
   ring-least (wrong-size u) (by-fibres w) = omega arith
-  ring-least (wrong-fibres l m u) (by-size w) = absurd (has-size {limits} {ring} l m w)
+  ring-least (wrong-fibres l m u) (by-size w) = absurd (has-size l m w)
   ring-least (wrong-fibres l m u) (by-fibres w) = omega arith
-  ring-least (right-ring l m f) (by-size w) = has-size {limits} {ring} l m w
+  ring-least (right-ring l m f) (by-size w) = has-size l m w
   ring-least (right-ring l m f) (by-fibres w) = w f
 
 pub fine-ring-judged : (limits : Limits) (ring : Ring) → limits .fewest ≤ ring .n → ring .n ≤ limits .nodes → IsFibres (ring .fibres) → judgeRing limits ring ≡ Fine
 fine-ring-judged limits ring few many fibres = go (ring-judged limits ring)
   where
     go : {v : Verdict} → RingJudged limits ring v → v ≡ Fine
-    go (wrong-size w) = absurd (has-size {limits} {ring} few many w)
+    go (wrong-size w) = absurd (has-size few many w)
     go (wrong-fibres l m w) = absurd (w fibres)
     go (right-ring l m f) = refl
