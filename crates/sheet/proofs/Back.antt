@@ -86,10 +86,10 @@ module _ (n : ℕ) (ls : List Link) (few : n ≤ desk .nodes) (same : map (λ (l
 
 -- ---- the sheet
 
-pub sheet-back : (x : Sheet) (count : ℕ) (first second amount : List ℕ) → length (x .rows) ≡ count → count ≤ desk .rows → x .n ≤ desk .nodes →
-    demands (sents (x .rows)) ≡ rowsIn count first second amount → map (λ (l : Link). l .link) (x .links) ≡ numbersFrom 1 (x .n) →
+pub sheet-back : (x : Sheet) (count : ℕ) (first second amount : List ℕ) → length (x .rows) ≡ count → count ≤ desk .rows → x .ring .n ≤ desk .nodes →
+    demands (sents (x .rows)) ≡ rowsIn count first second amount → map (λ (l : Link). l .link) (x .links) ≡ numbersFrom 1 (x .ring .n) →
     sheetIn (figuresOf x) count first second amount (column (λ (r : Routed). r .sent .front) (desk .rows) (x .rows)) (column (λ (r : Routed). r .sent .back) (desk .rows) (x .rows)) (column (λ (r : Routed). wayNumber (r .way)) (desk .rows) (x .rows))
     (column (λ (l : Link). l .split) (desk .nodes) (x .links)) (column (λ (l : Link). l .unsplit) (desk .nodes) (x .links)) ≡ x
 unfolding sheetIn
 sheet-back x count first second amount long few small same numbers =
-    rw (← long, rows-back (x .rows) first second amount (omega arith) (same ∙ ap (λ m. rowsIn m first second amount) (sym long)), links-back (x .n) (x .links) small numbers)
+    rw (← long, rows-back (x .rows) first second amount (omega arith) (same ∙ ap (λ m. rowsIn m first second amount) (sym long)), links-back (x .ring .n) (x .links) small numbers)

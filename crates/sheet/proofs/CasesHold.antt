@@ -7,15 +7,15 @@ use Rattle.text.specs.ReadNumber.{digitOf, numberAt}
 use Rattle.text.specs.Field.{spell}
 use Rattle.text.specs.ReadLine.{fieldAt, readLine, fieldsFrom}
 use Rattle.text.specs.WriteLine.{endOf, writeLine}
-use Rattle.text.specs.Answers.{oneIn, twoIn, threeIn, sentIn}
+use Rattle.text.specs.Answers.{twoIn, threeIn, sentIn}
 use Rattle.table.specs.Lines.{lines}
-use Rattle.table.specs.Judge.{judgeRing, judgeRow, outside, isBelow}
+use Rattle.table.specs.Judge.{wrongSize, otherFibres, judgeRing, judgeRow, outside, isBelow}
 use Rattle.sheet.specs.Judge.{judgeHalves, judgeCut, judgeLink, judgeLast, judgeWhole}
 use Rattle.sheet.specs.Cases.{cases, stated, computed}
 
 pub cases-hold : computed cases ≡ stated cases
 unfolding computed stated cases
-    lines readLine fieldsFrom fieldAt numberAt digitOf markAt markOf marks oneIn twoIn threeIn sentIn
-    judgeRing judgeRow outside isBelow judgeHalves judgeCut judgeLink judgeLast judgeWhole
+    lines readLine fieldsFrom fieldAt numberAt digitOf markAt markOf marks twoIn threeIn sentIn
+    wrongSize otherFibres judgeRing judgeRow outside isBelow judgeHalves judgeCut judgeLink judgeLast judgeWhole
     writeLine spell digits digitsIn markByte endOf
 cases-hold = refl

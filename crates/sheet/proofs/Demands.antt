@@ -7,6 +7,7 @@ use mathlib.Core.Path.{_≡_, refl, ap, _∙_, sym}
 use Rattle.ring.specs.Division.{Divides}
 use Rattle.ring.specs.Limits.{Limits, desk}
 use Rattle.ring.specs.Lists.{Each, none, more}
+use Rattle.ring.specs.Ring.{Ring}
 use Rattle.ring.specs.Row.{Row}
 use Rattle.ring.specs.Routing.{Sent, Routed, splitLoad, peak}
 use Rattle.ring.specs.Sheet.{Link, Sheet, sents, demands, plan}
@@ -70,7 +71,7 @@ module _ (limits : Limits) (limited : table.LimitsSpelled limits) (t : List ℕ)
     write-read = sym (check-text .0 e .0)
 
     -- demand 3: no division of the demands, however fine, has a lower peak
-    pub no-lower-peak : (q : ℕ) (ss : List Sent) → Divides q (demands (sents (x .rows))) ss → q * x .cut .number ≤ 2 * peak (splitLoad ss) (x .n)
+    pub no-lower-peak : (q : ℕ) (ss : List Sent) → Divides q (demands (sents (x .rows))) ss → q * x .cut .number ≤ 2 * peak (splitLoad ss) (x .ring .n)
     no-lower-peak = no-lower x (check-text .0 e .1 .1)
 
 module _ (limits : Limits) (limited : table.LimitsSpelled limits) where
@@ -86,5 +87,5 @@ module _ (limits : Limits) (limited : table.LimitsSpelled limits) where
       cc
 
 -- demand 3: the sheet of a table's plan is accepted
-pub plan-accepted : (n : ℕ) (rs : List Row) → table.InRange desk n rs → check desk (writeSheet (plan n rs)) ≡ accepted (plan n rs)
-plan-accepted n rs h = read-written desk desk-spelled (plan n rs) (plan-in-range n rs h) (plan-true n rs (h .few) (h .rows))
+pub plan-accepted : (ring : Ring) (rs : List Row) → table.InRange desk ring rs → check desk (writeSheet (plan ring rs)) ≡ accepted (plan ring rs)
+plan-accepted ring rs h = read-written desk desk-spelled (plan ring rs) (plan-in-range ring rs h) (plan-true ring rs (h .few) (h .rows))

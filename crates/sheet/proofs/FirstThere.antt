@@ -3,28 +3,30 @@
 use Prim.Native.Nat.{ℕ, _+_, _≤_, _<_}
 use mathlib.Core.Bool.{Bool}
 use mathlib.Core.List.{List}
-use mathlib.Core.Logic.{inl, inr, ⊎-elim}
+use mathlib.Core.Logic.{inl, inr}
 use mathlib.Core.Path.{refl, _∙_, sym, subst}
 use native.Mathlib.Omega.{arith}
 use lib.ListN.{length}
 use borrow.Author.Tests.{ltb-true, ltb-false}
 use Rattle.ring.specs.Cut.{Cut}
 use Rattle.ring.specs.Limits.{Limits}
+use Rattle.ring.specs.Ring.{Ring, ringOf}
 use Rattle.ring.specs.Routing.{Routed}
 use Rattle.ring.specs.Sheet.{Link}
 use Rattle.ring.proofs.Side.{cond-elim}
-use Rattle.text.specs.declared.OneNumber.{OneNumber}
 use Rattle.text.specs.declared.TwoNumbers.{TwoNumbers}
 use Rattle.text.specs.declared.ThreeNumbers.{ThreeNumbers}
 use Rattle.text.specs.declared.SentRow.{SentRow}
 use Rattle.table.specs.Lines.{lines}
 use Rattle.table.specs.Judge.{judgeRing}
+use Rattle.table.specs.Reasons.{rankOf}
 use Rattle.table.specs.Says.{LineIs, RingIs}
 use Rattle.table.specs.declared.reason.Reason.{Reason}
-use Rattle.table.specs.declared.reason.Reason.the-variants.{Misshapen, RingSize}
+use Rattle.table.specs.declared.reason.Reason.the-variants.{Misshapen, WrongSum}
 use Rattle.table.specs.declared.judge.Verdict.{Verdict}
 use Rattle.table.specs.declared.judge.Verdict.the-variants.{Fine, Fault}
-use Rattle.table.proofs.Judged.{RingJudged, wrong-size, right-size, ring-judged}
+use Rattle.table.proofs.Judged.{RingJudged, wrong-size, wrong-fibres, right-ring, ring-judged}
+use Rattle.table.proofs.Against.{AgainstRing, by-size, by-fibres, ring-least}
 use Rattle.table.proofs.LineRead.{RingRead, is-ring, no-ring, ring-read}
 use Rattle.table.proofs.LineNumbers.{line-one}
 use Rattle.sheet.specs.Check.{Turn, on, stop, unless, cutOf, routedOf, linkOf, ringTurn, cutTurn, rowTurn, linkTurn, lastTurn, turn}
@@ -32,9 +34,9 @@ use Rattle.sheet.specs.Says.{State, start, rows, links, end, SentIs, Cut
 use Rattle.sheet.proofs.LineAt.{way-spelled}
 use Rattle.sheet.proofs.SheetLines.{SentRead, is-sent, no-sent, sent-read, CutRead, is-cut, no-cut, cut-read, LinkRead, is-link, no-link, link-read, LastRead, is-last, no-last, last-read}
 use Rattle.sheet.proofs.Places.{sent-spelled}
-use Rattle.sheet.proofs.FirstReason.{First, first-as, Only, only, only-rank, only-then, only-fact, Counts, counts-form, form-first, when-first}
+use Rattle.sheet.proofs.FirstReason.{Holds, First, first-as, Only, only-rank, only-then, Counts, counts-form, form-first, when-first}
 use Rattle.sheet.proofs.SheetJudged.{cut-first, link-first, last-first}
-use Rattle.sheet.proofs.SheetSaid.{said-of-ring, said-of-cut, said-of-link, said-of-last, Counted, Unfit, unfit-wrong, SizeWrong, SaidAt, said, said-here, from-2}
+use Rattle.sheet.proofs.SheetSaid.{said-of-ring, said-of-cut, said-of-link, said-of-last, Counted, Unfit, unfit-wrong, SaidAt, said, said-here, from-2}
 use Rattle.sheet.proofs.RowFirst.{sent-first}
 
 -- ---- a turn that is right
@@ -64,45 +66,56 @@ module _ (limits : Limits) (judging : Bool) {t : List ℕ} {line : ℕ} where
       (first-as (λ s p. (p .0, only-then (λ s. Says limits t s line) says s (p .1))) (λ s c. (c .0, against s (said-here at (said s (c .1))))) f)
       to
 
--- ---- R n
+-- ---- R n fibres
 
-ring-first : (limits : Limits) (n : ℕ) → First (Only RingSize (SizeWrong limits n)) (judgeRing limits n)
-ring-first limits n = go (ring-judged limits n)
+ring-first : (limits : Limits) (ring : Ring) → First (AgainstRing limits ring) (judgeRing limits ring)
+ring-first limits ring = record { holds = go (ring-judged limits ring); least = λ s a. ring-least (ring-judged limits ring) a }
   where
-    go : {v : Verdict} → RingJudged limits n v → First (Only RingSize (SizeWrong limits n)) v
-    go (wrong-size w) = record { holds = only w; least = λ s o. omega (arith, only-rank o) }
-    go (right-size few many) = record { holds = tt; least = λ s o. ⊎-elim (λ l. omega arith) (λ l. omega arith) (only-fact o) }
+    go : {v : Verdict} → RingJudged limits ring v → Holds (AgainstRing limits ring) v
+    go (wrong-size w) = by-size w
+    go (wrong-fibres l m w) = by-fibres w
+    go (right-ring l m f) = tt
+
+ring-early : {limits : Limits} {ring : Ring} {s : Reason} → AgainstRing limits ring s → rankOf s < rankOf WrongSum
+ring-early (by-size w) = omega arith
+ring-early (by-fibres w) = omega arith
+
+ring-said : {limits : Limits} {ring : Ring} {t : List ℕ} → RingIs t ring → (s : Reason) → AgainstRing limits ring s → Says limits t s 1
+unfolding Says
+ring-said {ring} here s (by-size w) = record { at = refl; ring = ring; said = here; wrong = w }
+ring-said {ring} here s (by-fibres w) = record { at = refl; ring = ring; said = here; wrong = w }
 
 -- ---- the turn of each line
 
 module _ (limits : Limits) (judging : Bool) {t l : List ℕ} where
-  -- R n
-  ring-turned : {x : OneNumber} {line : ℕ} → At t line start → LineIs (lines t) line l → RingRead l x → Turned limits judging t line (ringTurn limits x)
-  unfolding ringTurn Says
-  ring-turned at-start here (is-ring {n} e w) =
-      let ring : RingIs t n = record { text = subst (LineIs (lines t) 1) e here; spelled = w } in
-      values-turned limits judging (form-first judging (λ s o. omega (arith, only-rank o)) (ring-first limits n)) at-start (λ s. said-of-ring ring)
-      (λ w. record { at = refl; n = n; ring = ring; wrong = w })
+  -- R n fibres
+  ring-turned : {x : TwoNumbers} {line : ℕ} → At t line start → LineIs (lines t) line l → RingRead l x → Turned limits judging t line (ringTurn limits x)
+  unfolding ringTurn
+  ring-turned at-start here (is-ring {n} {fibres} e w) =
+      let ring : RingIs t (ringOf n fibres) = record { text = subst (LineIs (lines t) 1) e here; spelled = w } in
+      unless-turned limits judging
+      (first-as (λ s p. (p .0, ring-said ring s (p .1))) (λ s c. (c .0, said-of-ring ring (said-here at-start (said s (c .1)))))
+      (form-first judging (λ s. ring-early) (ring-first limits (ringOf n fibres))))
       (behind-ring ring)
   ring-turned at-start here (no-ring none) =
-      stops (unfit-first limits judging at-start (λ n r. none n (line-one here (r .text) refl) (r .spelled)))
+      stops (unfit-first limits judging at-start (λ ring r. none (ring .n) (ring .fibres) (line-one here (r .text) refl) (r .spelled)))
 
   module _ {line : ℕ} (here : LineIs (lines t) line l) where
     -- C g h across, where the line is no D line
-    cut-turned : {n : ℕ} {rs : List Routed} {x : ThreeNumbers} → At t line (rows n rs) → ((r : Routed) → SentIs t line r → ⊥) → CutRead l x
-        → Turned limits judging t line (cutTurn judging n rs x)
+    cut-turned : {ring : Ring} {rs : List Routed} {x : ThreeNumbers} → At t line (rows ring rs) → ((r : Routed) → SentIs t line r → ⊥) → CutRead l x
+        → Turned limits judging t line (cutTurn judging ring rs x)
     unfolding cutTurn Says
-    cut-turned {n} {rs} at none (is-cut {g} {h} {m} e u v w) =
+    cut-turned {ring} {rs} at none (is-cut {g} {h} {m} e u v w) =
         let is : CutIs t line (cutOf g h m) = record { text = subst (LineIs (lines t) line) e here; pair = (u, v); number = w } in
-        values-turned limits judging (when-first judging (λ s o. omega (arith, only-rank o)) (cut-first n rs (cutOf g h m))) at (λ s. said-of-cut is)
-        (λ w. record { n = n; rs = rs; due = at; c = cutOf g h m; is = is; wrong = w })
+        values-turned limits judging (when-first judging (λ s o. omega (arith, only-rank o)) (cut-first (ring .n) rs (cutOf g h m))) at (λ s. said-of-cut is)
+        (λ w. record { ring = ring; rs = rs; due = at; c = cutOf g h m; is = is; wrong = w })
         (behind-cut at is)
     cut-turned at none (no-cut none′) =
         stops (unfit-first limits judging at (none, λ c k. none′ (c .g) (c .h) (c .number) (line-one here (k .text) refl) (k .pair .0) (k .pair .1) (k .number)))
 
     -- D i j amount front back F-or-B, else C
-    row-turned : {n : ℕ} {rs : List Routed} {x : SentRow} {y : ThreeNumbers} → At t line (rows n rs) → SentRead l x → CutRead l y
-        → Turned limits judging t line (rowTurn limits judging n rs x y)
+    row-turned : {ring : Ring} {rs : List Routed} {x : SentRow} {y : ThreeNumbers} → At t line (rows ring rs) → SentRead l x → CutRead l y
+        → Turned limits judging t line (rowTurn limits judging ring rs x y)
     unfolding rowTurn
     row-turned at (is-sent {i} {j} {d} {f} {b = k} {w} e h) c =
         let is : SentIs t line (routedOf i j d f k w) =
@@ -116,26 +129,26 @@ module _ (limits : Limits) (judging : Bool) {t l : List ℕ} where
     row-turned at (no-sent none) c =
         cut-turned at (λ r s. none _ _ _ _ _ _ (line-one here (s .text) refl) (sent-spelled s)) c
 
-    module _ {n : ℕ} {rs : List Routed} {c : Cut} {ks : List Link} (at : At t line (links n rs c ks)) where
+    module _ {ring : Ring} {rs : List Routed} {c : Cut} {ks : List Link} (at : At t line (links ring rs c ks)) where
       -- L link split-load unsplit-load
-      link-turned : {x : ThreeNumbers} → length ks < n → LinkRead l x → Turned limits judging t line (linkTurn judging n rs c ks x)
+      link-turned : {x : ThreeNumbers} → length ks < ring .n → LinkRead l x → Turned limits judging t line (linkTurn judging ring rs c ks x)
       unfolding linkTurn Says
       link-turned few (is-link {k} {s} {u} e p q o) =
           let is : LinkIs t line (linkOf k s u) = record { text = subst (LineIs (lines t) line) e here; link = p; loads = (q, o) } in
           values-turned limits judging (when-first judging (λ s o. omega (arith, only-rank o)) (link-first rs (length ks + 1) (linkOf k s u))) at
           (λ s. said-of-link few is)
-          (λ w. record { n = n; rs = rs; c = c; ks = ks; due = at; few = few; l = linkOf k s u; is = is; wrong = w })
+          (λ w. record { ring = ring; rs = rs; c = c; ks = ks; due = at; few = few; l = linkOf k s u; is = is; wrong = w })
           (behind-link at few is)
       link-turned few (no-link none) =
           stops (unfit-first limits judging at (inl (few, λ k m. none (k .link) (k .split) (k .unsplit) (line-one here (m .text) refl) (m .link) (m .loads .0) (m .loads .1))))
 
       -- Z unsplit-peak size
-      last-turned : {x : TwoNumbers} → n ≤ length ks → LastRead l x → Turned limits judging t line (lastTurn judging n rs c ks x)
+      last-turned : {x : TwoNumbers} → ring .n ≤ length ks → LastRead l x → Turned limits judging t line (lastTurn judging ring rs c ks x)
       unfolding lastTurn Says
       last-turned all (is-last {p} {z} e v w) =
           let is : LastIs t line p z = record { text = subst (LineIs (lines t) line) e here; spelled = (v, w) } in
-          values-turned limits judging (when-first judging (λ s o. omega (arith, only-rank o)) (last-first n rs p z)) at (λ s. said-of-last all is)
-          (λ w. record { n = n; rs = rs; c = c; ks = ks; due = at; all = all; p = p; z = z; is = is; wrong = w })
+          values-turned limits judging (when-first judging (λ s o. omega (arith, only-rank o)) (last-first ring rs p z)) at (λ s. said-of-last all is)
+          (λ w. record { ring = ring; rs = rs; c = c; ks = ks; due = at; all = all; p = p; z = z; is = is; wrong = w })
           (behind-last at all is)
       last-turned all (no-last none) =
           stops (unfit-first limits judging at (inr (all, λ p z m. none p z (line-one here (m .text) refl) (m .spelled .0) (m .spelled .1))))
@@ -144,9 +157,9 @@ module _ (limits : Limits) (judging : Bool) {t l : List ℕ} where
   pub turned : {state : State} {line : ℕ} → At t line state → LineIs (lines t) line l → Turned limits judging t line (turn limits judging state l)
   unfolding turn
   turned {state = start} at here = ring-turned at here (ring-read l)
-  turned {state = rows n rs} at here = row-turned here at (sent-read l) (cut-read l)
-  turned {state = links n rs c ks} {line} at here =
+  turned {state = rows ring rs} at here = row-turned here at (sent-read l) (cut-read l)
+  turned {state = links ring rs c ks} {line} at here =
       cond-elim (Turned limits judging t line) _ _ _
-      (λ e. link-turned here at (ltb-true (length ks) n e) (link-read l))
-      (λ e. last-turned here at (ltb-false (length ks) n e) (last-read l))
+      (λ e. link-turned here at (ltb-true (length ks) (ring .n) e) (link-read l))
+      (λ e. last-turned here at (ltb-false (length ks) (ring .n) e) (last-read l))
   turned {state = end x} at here = stops (unfit-first limits judging at (l, here))

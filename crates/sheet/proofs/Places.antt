@@ -7,6 +7,7 @@ use native.Mathlib.Omega.{arith}
 use lib.ListN.{length, getD}
 use Rattle.ring.specs.Routing.{wayNumber, Routed, Way, F, B, routed, sent}
 use Rattle.ring.specs.Cut.{Cut}
+use Rattle.ring.specs.Ring.{Ring}
 use Rattle.ring.specs.Sheet.{Link, Sheet}
 use Rattle.text.specs.Field.{spell}
 use Rattle.text.specs.Mark.{markByte}
@@ -92,26 +93,26 @@ module _ {t : List ℕ} {line : ℕ} where
 
 -- the line leads from one place to the next
 data Leads (t : List ℕ) (line : ℕ) : State → State → Type 0 where
-  by-ring : {n : ℕ} → RingIs t n → Leads t line start (rows n [])
-  by-row : {n : ℕ} {rs : List Routed} {r : Routed} → SentIs t line r → Leads t line (rows n rs) (rows n (rs ++ r ∷ []))
-  by-cut : {n : ℕ} {rs : List Routed} {c : Cut} → CutIs t line c → Leads t line (rows n rs) (links n rs c [])
-  by-link : {n : ℕ} {rs : List Routed} {c : Cut} {ks : List Link} {l : Link} → length ks < n → LinkIs t line l
-      → Leads t line (links n rs c ks) (links n rs c (ks ++ l ∷ []))
-  by-last : {n : ℕ} {rs : List Routed} {c : Cut} {ks : List Link} {p z : ℕ} → n ≤ length ks → LastIs t line p z
-      → Leads t line (links n rs c ks) (end (record { n = n; rows = rs; cut = c; links = ks; peak = p; size = z }))
+  by-ring : {ring : Ring} → RingIs t ring → Leads t line start (rows ring [])
+  by-row : {ring : Ring} {rs : List Routed} {r : Routed} → SentIs t line r → Leads t line (rows ring rs) (rows ring (rs ++ r ∷ []))
+  by-cut : {ring : Ring} {rs : List Routed} {c : Cut} → CutIs t line c → Leads t line (rows ring rs) (links ring rs c [])
+  by-link : {ring : Ring} {rs : List Routed} {c : Cut} {ks : List Link} {l : Link} → length ks < ring .n → LinkIs t line l
+      → Leads t line (links ring rs c ks) (links ring rs c (ks ++ l ∷ []))
+  by-last : {ring : Ring} {rs : List Routed} {c : Cut} {ks : List Link} {p z : ℕ} → ring .n ≤ length ks → LastIs t line p z
+      → Leads t line (links ring rs c ks) (end (record { ring = ring; rows = rs; cut = c; links = ks; peak = p; size = z }))
 
 leads-one : {t : List ℕ} {line : ℕ} {q x y : State} → Leads t line q x → Leads t line q y → x ≡ y
-leads-one (by-ring a) (by-ring b) = ap (λ n. rows n []) (ring-one a b)
-leads-one (by-row {n} {rs} a) (by-row b) = ap (λ (r : Routed). rows n (rs ++ r ∷ [])) (sent-one a b)
+leads-one (by-ring a) (by-ring b) = ap (λ ring. rows ring []) (ring-one a b)
+leads-one (by-row {ring} {rs} a) (by-row b) = ap (λ (r : Routed). rows ring (rs ++ r ∷ [])) (sent-one a b)
 leads-one (by-row a) (by-cut b) = absurd (sent-or-cut a b)
 leads-one (by-cut a) (by-row b) = absurd (sent-or-cut b a)
-leads-one (by-cut {n} {rs} a) (by-cut b) = ap (λ c. links n rs c []) (cut-one a b)
-leads-one (by-link {n} {rs} {c} {ks} few a) (by-link few′ b) = ap (λ l. links n rs c (ks ++ l ∷ [])) (link-one a b)
+leads-one (by-cut {ring} {rs} a) (by-cut b) = ap (λ c. links ring rs c []) (cut-one a b)
+leads-one (by-link {ring} {rs} {c} {ks} few a) (by-link few′ b) = ap (λ l. links ring rs c (ks ++ l ∷ [])) (link-one a b)
 leads-one (by-link few a) (by-last all b) = absurd (omega arith)
 leads-one (by-last all a) (by-link few b) = absurd (omega arith)
-leads-one (by-last {n} {rs} {c} {ks} all a) (by-last all′ b) =
+leads-one (by-last {ring} {rs} {c} {ks} all a) (by-last all′ b) =
     let e = last-one a b in
-    ap₂ (λ p z. end (record { n = n; rows = rs; cut = c; links = ks; peak = p; size = z })) (e .0) (e .1)
+    ap₂ (λ p z. end (record { ring = ring; rows = rs; cut = c; links = ks; peak = p; size = z })) (e .0) (e .1)
 
 -- ---- one place
 

@@ -10,6 +10,7 @@ use lib.ListN.{length, getD}
 use borrow.Author.Tests.{lt-ltb, le-ltb}
 use Rattle.ring.specs.Cut.{Cut}
 use Rattle.ring.specs.Limits.{Limits}
+use Rattle.ring.specs.Ring.{Ring, ringOf}
 use Rattle.ring.specs.Lists.{Each, none, more}
 use Rattle.ring.specs.Routing.{Routed}
 use Rattle.ring.specs.Sheet.{Link, Sheet}
@@ -21,7 +22,6 @@ use Rattle.text.specs.Mark.{markByte}
 use Rattle.text.specs.WriteLine.{writeLine}
 use Rattle.text.specs.Shapes.{cutShape, ringLine, sentLine, cutLine, linkLine, lastLine}
 use Rattle.text.specs.ReadLine.{readLine}
-use Rattle.text.specs.declared.OneNumber.{OneNumber}
 use Rattle.text.specs.declared.TwoNumbers.{TwoNumbers}
 use Rattle.text.specs.declared.ThreeNumbers.{ThreeNumbers}
 use Rattle.text.specs.declared.SentRow.{SentRow}
@@ -30,7 +30,7 @@ use Rattle.table.specs.Lines.{lines}
 use Rattle.table.specs.Judge.{judgeRing}
 use Rattle.table.specs.declared.judge.Verdict.{Verdict}
 use Rattle.table.specs.declared.judge.Verdict.the-variants.{Fine, Fault}
-use Rattle.table.proofs.LineRead.{RingRead, is-ring, no-ring, ring-read, ring-line-read}
+use Rattle.table.proofs.LineRead.{RingSpelled, RingRead, is-ring, no-ring, ring-read, ring-line-read}
 use Rattle.table.proofs.LinesOf.{FirstLine, NoLf, written-first, ring-first}
 use Rattle.sheet.specs.Verdicts.{orElse}
 use Rattle.sheet.specs.Judge.{judgeHalves, judgeCut, judgeLink, judgeLast, judgeWhole}
@@ -41,20 +41,20 @@ use Rattle.sheet.proofs.SheetLines.{SentSpelled, SentRead, is-sent, no-
 -- the rest `text` leads from a state to the sheet x; where `judging`, nothing is found against it
 pub data Rest (limits : Limits) (judging : Bool) (x : Sheet) : State → List ℕ → Type 0 where
   rest-end : when judging (judgeWhole x) ≡ Fine → Rest limits judging x (end x) []
-  rest-last : {n : ℕ} {rs : List Routed} {c : Cut} {ks : List Link} {p z : ℕ} {text : List ℕ} → n ≤ length ks → p < limit → z < limit
-      → when judging (judgeLast n rs p z) ≡ Fine → Rest limits judging x (end (record { n = n; rows = rs; cut = c; links = ks; peak = p; size = z })) text
-      → Rest limits judging x (links n rs c ks) (lastLine p z ++ text)
-  rest-link : {n : ℕ} {rs : List Routed} {c : Cut} {ks : List Link} {k s u : ℕ} {text : List ℕ} → length ks < n → k < limit → s < limit → u < limit
-      → when judging (judgeLink rs (length ks + 1) (linkOf k s u)) ≡ Fine → Rest limits judging x (links n rs c (ks ++ linkOf k s u ∷ [])) text
-      → Rest limits judging x (links n rs c ks) (linkLine k s u ++ text)
-  rest-cut : {n : ℕ} {rs : List Routed} {g h m : ℕ} {text : List ℕ} → g < limit → h < limit → m < limit
-      → when judging (judgeCut n rs (cutOf g h m)) ≡ Fine → Rest limits judging x (links n rs (cutOf g h m) []) text
-      → Rest limits judging x (rows n rs) (cutLine g h m ++ text)
-  rest-row : {n : ℕ} {rs : List Routed} {i j d f k w : ℕ} {text : List ℕ} → SentSpelled i j d f k w → judgeNext limits n rs i j d ≡ Fine
-      → when judging (judgeHalves (routedOf i j d f k w)) ≡ Fine → Rest limits judging x (rows n (rs ++ routedOf i j d f k w ∷ [])) text
-      → Rest limits judging x (rows n rs) (sentLine i j d f k w ++ text)
-  rest-ring : {n : ℕ} {text : List ℕ} → n < limit → judgeRing limits n ≡ Fine → Rest limits judging x (rows n []) text
-      → Rest limits judging x start (ringLine n ++ text)
+  rest-last : {ring : Ring} {rs : List Routed} {c : Cut} {ks : List Link} {p z : ℕ} {text : List ℕ} → ring .n ≤ length ks → p < limit → z < limit
+      → when judging (judgeLast ring rs p z) ≡ Fine → Rest limits judging x (end (record { ring = ring; rows = rs; cut = c; links = ks; peak = p; size = z })) text
+      → Rest limits judging x (links ring rs c ks) (lastLine p z ++ text)
+  rest-link : {ring : Ring} {rs : List Routed} {c : Cut} {ks : List Link} {k s u : ℕ} {text : List ℕ} → length ks < ring .n → k < limit → s < limit → u < limit
+      → when judging (judgeLink rs (length ks + 1) (linkOf k s u)) ≡ Fine → Rest limits judging x (links ring rs c (ks ++ linkOf k s u ∷ [])) text
+      → Rest limits judging x (links ring rs c ks) (linkLine k s u ++ text)
+  rest-cut : {ring : Ring} {rs : List Routed} {g h m : ℕ} {text : List ℕ} → g < limit → h < limit → m < limit
+      → when judging (judgeCut (ring .n) rs (cutOf g h m)) ≡ Fine → Rest limits judging x (links ring rs (cutOf g h m) []) text
+      → Rest limits judging x (rows ring rs) (cutLine g h m ++ text)
+  rest-row : {ring : Ring} {rs : List Routed} {i j d f k w : ℕ} {text : List ℕ} → SentSpelled i j d f k w → judgeNext limits (ring .n) rs i j d ≡ Fine
+      → when judging (judgeHalves (routedOf i j d f k w)) ≡ Fine → Rest limits judging x (rows ring (rs ++ routedOf i j d f k w ∷ [])) text
+      → Rest limits judging x (rows ring rs) (sentLine i j d f k w ++ text)
+  rest-ring : {ring : Ring} {text : List ℕ} → RingSpelled (ring .n) (ring .fibres) → judgeRing limits ring ≡ Fine → Rest limits judging x (rows ring []) text
+      → Rest limits judging x start (ringLine (ring .n) (ring .fibres) ++ text)
 
 -- ---- a line that leads on
 
@@ -73,52 +73,52 @@ module _ (limits : Limits) (judging : Bool) (x : Sheet) where
   abbrev Leads : State → List ℕ → Turn → Type 0
   Leads state l t = (next : State) → t ≡ on next → (text : List ℕ) → Rest limits judging x next text → Rest limits judging x state (l ++ text)
 
-  ring-leads : (l : List ℕ) {y : OneNumber} → RingRead l y → Leads start l (ringTurn limits y)
+  ring-leads : (l : List ℕ) {y : TwoNumbers} → RingRead l y → Leads start l (ringTurn limits y)
   unfolding ringTurn
-  ring-leads l (is-ring {n} e w) next q text rest =
-      let u = unless-on (judgeRing limits n) (rows n []) next q in
-      rw e (rest-ring w (u .0) (subst (λ s. Rest limits judging x s text) (sym (u .1)) rest))
+  ring-leads l (is-ring {n} {fibres} e w) next q text rest =
+      let u = unless-on (judgeRing limits (ringOf n fibres)) (rows (ringOf n fibres) []) next q in
+      rw e (rest-ring {ring = ringOf n fibres} w (u .0) (subst (λ s. Rest limits judging x s text) (sym (u .1)) rest))
   ring-leads l (no-ring misread) next q text rest = clash (cc)
 
-  module _ (n : ℕ) (rs : List Routed) where
-    cut-leads : (l : List ℕ) {y : ThreeNumbers} → CutRead l y → Leads (rows n rs) l (cutTurn judging n rs y)
+  module _ (ring : Ring) (rs : List Routed) where
+    cut-leads : (l : List ℕ) {y : ThreeNumbers} → CutRead l y → Leads (rows ring rs) l (cutTurn judging ring rs y)
     unfolding cutTurn
     cut-leads l (is-cut {g} {h} {m} e p q r) next t text rest =
-        let u = unless-on (when judging (judgeCut n rs (cutOf g h m))) (links n rs (cutOf g h m) []) next t in
+        let u = unless-on (when judging (judgeCut (ring .n) rs (cutOf g h m))) (links ring rs (cutOf g h m) []) next t in
         rw e (rest-cut p q r (u .0) (subst (λ s. Rest limits judging x s text) (sym (u .1)) rest))
     cut-leads l (no-cut misread) next t text rest = clash (cc)
 
-    row-leads : (l : List ℕ) {y : SentRow} {z : ThreeNumbers} → SentRead l y → CutRead l z → Leads (rows n rs) l (rowTurn limits judging n rs y z)
+    row-leads : (l : List ℕ) {y : SentRow} {z : ThreeNumbers} → SentRead l y → CutRead l z → Leads (rows ring rs) l (rowTurn limits judging ring rs y z)
     unfolding rowTurn
     row-leads l (is-sent {i} {j} {d} {f} {b = k} {w} e spelled) other next t text rest =
-        let u = unless-on (orElse (judgeNext limits n rs i j d) (when judging (judgeHalves (routedOf i j d f k w)))) (rows n (rs ++ routedOf i j d f k w ∷ [])) next t in
-        let v = or-fine (judgeNext limits n rs i j d) (when judging (judgeHalves (routedOf i j d f k w))) (u .0) in
+        let u = unless-on (orElse (judgeNext limits (ring .n) rs i j d) (when judging (judgeHalves (routedOf i j d f k w)))) (rows ring (rs ++ routedOf i j d f k w ∷ [])) next t in
+        let v = or-fine (judgeNext limits (ring .n) rs i j d) (when judging (judgeHalves (routedOf i j d f k w))) (u .0) in
         rw e (rest-row spelled (v .0) (v .1) (subst (λ s. Rest limits judging x s text) (sym (u .1)) rest))
     row-leads l (no-sent misread) other next t text rest = cut-leads l other next t text rest
 
     module _ (c : Cut) (ks : List Link) where
-      link-leads : (l : List ℕ) {y : ThreeNumbers} → length ks < n → LinkRead l y → Leads (links n rs c ks) l (linkTurn judging n rs c ks y)
+      link-leads : (l : List ℕ) {y : ThreeNumbers} → length ks < ring .n → LinkRead l y → Leads (links ring rs c ks) l (linkTurn judging ring rs c ks y)
       unfolding linkTurn
       link-leads l few (is-link {k} {s} {u} e p q r) next t text rest =
-          let v = unless-on (when judging (judgeLink rs (length ks + 1) (linkOf k s u))) (links n rs c (ks ++ linkOf k s u ∷ [])) next t in
+          let v = unless-on (when judging (judgeLink rs (length ks + 1) (linkOf k s u))) (links ring rs c (ks ++ linkOf k s u ∷ [])) next t in
           rw e (rest-link few p q r (v .0) (subst (λ s. Rest limits judging x s text) (sym (v .1)) rest))
       link-leads l few (no-link misread) next t text rest = clash (cc)
 
-      last-leads : (l : List ℕ) {y : TwoNumbers} → n ≤ length ks → LastRead l y → Leads (links n rs c ks) l (lastTurn judging n rs c ks y)
+      last-leads : (l : List ℕ) {y : TwoNumbers} → ring .n ≤ length ks → LastRead l y → Leads (links ring rs c ks) l (lastTurn judging ring rs c ks y)
       unfolding lastTurn
       last-leads l all (is-last {p} {z} e a b) next t text rest =
-          let u = unless-on (when judging (judgeLast n rs p z)) (end (record { n = n; rows = rs; cut = c; links = ks; peak = p; size = z })) next t in
+          let u = unless-on (when judging (judgeLast ring rs p z)) (end (record { ring = ring; rows = rs; cut = c; links = ks; peak = p; size = z })) next t in
           rw e (rest-last all a b (u .0) (subst (λ s. Rest limits judging x s text) (sym (u .1)) rest))
       last-leads l all (no-last misread) next t text rest = clash (cc)
 
   turn-leads : (state : State) (l : List ℕ) → Leads state l (turn limits judging state l)
   unfolding turn
   turn-leads start l = ring-leads l (ring-read l)
-  turn-leads (rows n rs) l = row-leads n rs l (sent-read l) (cut-read l)
-  turn-leads (links n rs c ks) l =
-      elim (decLt (length ks) n) [
-        | yes h ↦ rw (lt-ltb (length ks) n h) (link-leads n rs c ks l h (link-read l))
-        | no h ↦ let k : n ≤ length ks = omega arith in rw (le-ltb (length ks) n k) (last-leads n rs c ks l k (last-read l))
+  turn-leads (rows ring rs) l = row-leads ring rs l (sent-read l) (cut-read l)
+  turn-leads (links ring rs c ks) l =
+      elim (decLt (length ks) (ring .n)) [
+        | yes h ↦ rw (lt-ltb (length ks) (ring .n) h) (link-leads ring rs c ks l h (link-read l))
+        | no h ↦ let k : ring .n ≤ length ks = omega arith in rw (le-ltb (length ks) (ring .n) k) (last-leads ring rs c ks l k (last-read l))
       ]
   turn-leads (end y) l = λ next t text rest. clash (cc)
 
@@ -127,8 +127,8 @@ module _ (limits : Limits) (judging : Bool) (x : Sheet) where
   ended : (state : State) (line : ℕ) → atEnd judging state line ≡ accepted x → Rest limits judging x state []
   unfolding atEnd wholeResult
   ended start line e = clash (cc)
-  ended (rows n rs) line e = clash (cc)
-  ended (links n rs c ks) line e = clash (cc)
+  ended (rows ring rs) line e = clash (cc)
+  ended (links ring rs c ks) line e = clash (cc)
   ended (end y) line e = go (when judging (judgeWhole y)) refl e
     where
       go : (v : Verdict) → when judging (judgeWhole y) ≡ v → wholeResult y v ≡ accepted x → Rest limits judging x (end y) []
@@ -153,11 +153,11 @@ cut-no-row : (g h m i j d f b w : ℕ) → cutLine g h m ≡ sentLine i j d f b 
 unfolding writeLine spell markByte
 cut-no-row g h m i j d f b w e = let q : letterC ≡ letterD = ap (λ l. getD l 0 0) e in omega arith
 
-cut-not-sent : (g h m : ℕ) {y : SentRow} → SentRead (cutLine g h m) y → (limits : Limits) (judging : Bool) (n : ℕ) (rs : List Routed) (z : ThreeNumbers)
-    → rowTurn limits judging n rs y z ≡ cutTurn judging n rs z
+cut-not-sent : (g h m : ℕ) {y : SentRow} → SentRead (cutLine g h m) y → (limits : Limits) (judging : Bool) (ring : Ring) (rs : List Routed) (z : ThreeNumbers)
+    → rowTurn limits judging ring rs y z ≡ cutTurn judging ring rs z
 unfolding rowTurn
-cut-not-sent g h m (is-sent e s) limits judging n rs z = absurd (cut-no-row g h m _ _ _ _ _ _ e)
-cut-not-sent g h m (no-sent misread) limits judging n rs z = refl
+cut-not-sent g h m (is-sent e s) limits judging ring rs z = absurd (cut-no-row g h m _ _ _ _ _ _ e)
+cut-not-sent g h m (no-sent misread) limits judging ring rs z = refl
 
 -- each line is the first of what it begins
 pub sent-first : (i j d f b w : ℕ) → SentSpelled i j d f b w → FirstLine (sentLine i j d f b w)
@@ -185,13 +185,13 @@ module _ (limits : Limits) (judging : Bool) (x : Sheet) where
   pub rest-read : {state : State} {text : List ℕ} → Rest limits judging x state text → (line : ℕ) → checkFrom limits judging state line (lines text) ≡ accepted x
   unfolding checkFrom turn after atEnd wholeResult lines ringTurn rowTurn cutTurn linkTurn lastTurn unless orElse
   rest-read (rest-end v) line = rw v
-  rest-read (rest-last {n} {rs} {c} {ks} {p} {z} {text} all a b v rest) line =
-      rw (last-first p z a b text, le-ltb (length ks) n all, last-line-read p z a b, v) (rest-read rest (line + 1))
-  rest-read (rest-link {n} {rs} {c} {ks} {k} {s} {u} {text} few a b d v rest) line =
-      rw (link-first k s u a b d text, lt-ltb (length ks) n few, link-line-read k s u a b d, v) (rest-read rest (line + 1))
-  rest-read (rest-cut {n} {rs} {g} {h} {m} {text} p q r v rest) line =
-      rw (cut-first g h m p q r text, cut-not-sent g h m (sent-read (cutLine g h m)) limits judging n rs (threeIn (readLine cutShape (cutLine g h m))), cut-line-read g h m p q r, v)
+  rest-read (rest-last {ring} {rs} {c} {ks} {p} {z} {text} all a b v rest) line =
+      rw (last-first p z a b text, le-ltb (length ks) (ring .n) all, last-line-read p z a b, v) (rest-read rest (line + 1))
+  rest-read (rest-link {ring} {rs} {c} {ks} {k} {s} {u} {text} few a b d v rest) line =
+      rw (link-first k s u a b d text, lt-ltb (length ks) (ring .n) few, link-line-read k s u a b d, v) (rest-read rest (line + 1))
+  rest-read (rest-cut {ring} {rs} {g} {h} {m} {text} p q r v rest) line =
+      rw (cut-first g h m p q r text, cut-not-sent g h m (sent-read (cutLine g h m)) limits judging ring rs (threeIn (readLine cutShape (cutLine g h m))), cut-line-read g h m p q r, v)
       (rest-read rest (line + 1))
-  rest-read (rest-row {n} {rs} {i} {j} {d} {f} {k} {w} {text} spelled v u rest) line =
+  rest-read (rest-row {ring} {rs} {i} {j} {d} {f} {k} {w} {text} spelled v u rest) line =
       rw (sent-first i j d f k w spelled text, sent-line-read i j d f k w spelled, v, u) (rest-read rest (line + 1))
-  rest-read (rest-ring {n} {text} h v rest) line = rw (ring-first n h text, ring-line-read n h, v) (rest-read rest (line + 1))
+  rest-read (rest-ring {ring} {text} h v rest) line = rw (ring-first (ring .n) (ring .fibres) h text, ring-line-read (ring .n) (ring .fibres) h, v) (rest-read rest (line + 1))

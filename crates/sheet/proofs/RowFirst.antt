@@ -8,6 +8,7 @@ use mathlib.Core.Path.{refl}
 use native.Mathlib.Omega.{arith}
 use lib.ListN.{length}
 use Rattle.ring.specs.Limits.{Limits}
+use Rattle.ring.specs.Ring.{Ring}
 use Rattle.ring.specs.Row.{PairBefore}
 use Rattle.ring.specs.Routing.{Routed}
 use Rattle.table.specs.Reasons.{rankOf}
@@ -32,28 +33,28 @@ early (by-order w) = omega arith
 early (by-count w) = omega arith
 early (by-amount w) = omega arith
 
-row-at : {t : List ℕ} {line n : ℕ} {rs : List Routed} {r : Routed} → At t line (rows n rs) → SentIs t line r → RowAt t line r
-row-at {n} {rs} at is = record { n = n; rs = rs; due = at; is = is }
+row-at : {t : List ℕ} {line : ℕ} {ring : Ring} {rs : List Routed} {r : Routed} → At t line (rows ring rs) → SentIs t line r → RowAt t line r
+row-at {ring} {rs} at is = record { ring = ring; rs = rs; due = at; is = is }
 
 -- a row that has a first node is not below the pair 0, 0, so there is a row before
-order-holds : {t : List ℕ} {line n : ℕ} {rs : List Routed} {r : Routed} → At t line (rows n rs) → RowAt t line r → 1 ≤ r .sent .row .i
+order-holds : {t : List ℕ} {line : ℕ} {ring : Ring} {rs : List Routed} {r : Routed} → At t line (rows ring rs) → RowAt t line r → 1 ≤ r .sent .row .i
     → PairBefore (r .sent .row .i) (r .sent .row .j) (lastOf rs .i) (lastOf rs .j) → WrongOrder t line
 order-holds (behind-ring ring) row low (inl l) = absurd (omega arith)
 order-holds (behind-ring ring) row low (inr l) = absurd (omega (arith, l .0))
 order-holds {r} (behind-row {line} {rs} {r = q} at is) row low wrong =
     record { before = line; next = refl; q = q; above = row-at at is; r = r; row = row; wrong = rw (last-more rs q) at wrong }
 
-module _ (limits : Limits) {t : List ℕ} {line n : ℕ} {rs : List Routed} {r : Routed} (at : At t line (rows n rs)) (is : SentIs t line r) where
+module _ (limits : Limits) {t : List ℕ} {line : ℕ} {ring : Ring} {rs : List Routed} {r : Routed} (at : At t line (rows ring rs)) (is : SentIs t line r) where
   -- 4 to 7 and 16
-  demand-first : First (λ s. AgainstDemand limits n rs (r .sent .row) s × Says limits t s line)
-      (judgeNext limits n rs (r .sent .row .i) (r .sent .row .j) (r .sent .row .d))
+  demand-first : First (λ s. AgainstDemand limits (ring .n) rs (r .sent .row) s × Says limits t s line)
+      (judgeNext limits (ring .n) rs (r .sent .row .i) (r .sent .row .j) (r .sent .row .d))
   unfolding Says row-at
   demand-first =
-      let judged = row-judged limits n (length rs) (lastOf rs .i) (lastOf rs .j) (r .sent .row .i) (r .sent .row .j) (r .sent .row .d) in
+      let judged = row-judged limits (ring .n) (length rs) (lastOf rs .i) (lastOf rs .j) (r .sent .row .i) (r .sent .row .j) (r .sent .row .d) in
       record { holds = go judged; least = λ s p. row-least judged (p .0) }
     where
-      go : {v : Verdict} → RowJudged limits n (length rs) (lastOf rs .i) (lastOf rs .j) (r .sent .row .i) (r .sent .row .j) (r .sent .row .d) v
-          → HoldsAs (λ s. AgainstDemand limits n rs (r .sent .row) s × Says limits t s line) v
+      go : {v : Verdict} → RowJudged limits (ring .n) (length rs) (lastOf rs .i) (lastOf rs .j) (r .sent .row .i) (r .sent .row .j) (r .sent .row .d) v
+          → HoldsAs (λ s. AgainstDemand limits (ring .n) rs (r .sent .row) s × Says limits t s line) v
       go (no-such-node w) = (by-nodes w, record { r = r; row = row-at at is; wrong = w })
       go (not-below h k w) = (by-pair w, record { r = r; row = row-at at is; wrong = w })
       go (out-of-order h k l w) = (by-order w, order-holds at (row-at at is) (h .0) w)
@@ -68,14 +69,14 @@ module _ (limits : Limits) {t : List ℕ} {line n : ℕ} {rs : List Routed} {r :
   halves-said s (inr o) = only-then (λ s. Says limits t s line) (λ w. record { r = r; row = row-at at is; wrong = w }) s o
 
   pub sent-first : (judging : Bool) → First (Counted limits judging t line)
-      (orElse (judgeNext limits n rs (r .sent .row .i) (r .sent .row .j) (r .sent .row .d)) (when judging (judgeHalves r)))
+      (orElse (judgeNext limits (ring .n) rs (r .sent .row .i) (r .sent .row .j) (r .sent .row .d)) (when judging (judgeHalves r)))
   sent-first judging =
       first-as (λ s. ⊎-elim (λ p. (p .0, p .1 .1)) (λ p. (p .0, halves-said s (p .1)))) (λ s c. go c (said-of-row is (said-here at (said s (c .1)))))
       (or-else-first (λ x y p q. omega (arith, early (p .1 .0), halves-late r y (q .1)))
       (form-first judging (λ s p. early (p .0)) demand-first)
       (when-first judging (halves-late r) (halves-first r)))
     where
-      go : {s : Reason} → Counted limits judging t line s → AgainstSent limits n rs r s
-          → (Counts judging s × (AgainstDemand limits n rs (r .sent .row) s × Says limits t s line)) ⊎ (Counts judging s × AgainstHalves r s)
+      go : {s : Reason} → Counted limits judging t line s → AgainstSent limits (ring .n) rs r s
+          → (Counts judging s × (AgainstDemand limits (ring .n) rs (r .sent .row) s × Says limits t s line)) ⊎ (Counts judging s × AgainstHalves r s)
       go c (inl p) = inl (c .0, (p, c .1))
       go c (inr p) = inr (c .0, p)

@@ -7,7 +7,9 @@ use mathlib.Core.Path.{_≡_, ap, _∙_, sym}
 use native.Mathlib.Omega.{arith}
 use native.Mathlib.Decide.{ℕ-discrete}
 use borrow.Author.Tests.{eq-eqb, ne-eqb}
-use Rattle.sonet.specs.Size.{sonetSize}
+use Rattle.sonet.specs.Size.{sonetSizes}
+use Rattle.ring.specs.Ring.{Ring}
+use Rattle.ring.specs.LineSize.{lineSize}
 use Rattle.ring.specs.Routing.{wayNumber, wayOf, Sent, Routed, Way, F, B, isSplit, splitLoad, unsplitLoad, peak}
 use Rattle.ring.specs.Cut.{Cut, IsCut, across}
 use Rattle.ring.specs.RuleD.{wholeWay}
@@ -114,13 +116,13 @@ link-first rs k l =
 
 -- ---- 12: the unsplit peak and the size
 
-abbrev pub LastWrong : ℕ → List Routed → ℕ → ℕ → Type 0
-LastWrong n rs p z = (p ≡ peak (unsplitLoad rs) n → ⊥) ⊎ (z ≡ sonetSize (peak (unsplitLoad rs) n) → ⊥)
+abbrev pub LastWrong : Ring → List Routed → ℕ → ℕ → Type 0
+LastWrong ring rs p z = (p ≡ peak (unsplitLoad rs) (ring .n) → ⊥) ⊎ (z ≡ lineSize sonetSizes (ring .fibres) (peak (unsplitLoad rs) (ring .n)) → ⊥)
 
-pub last-first : (n : ℕ) (rs : List Routed) (p z : ℕ) → First (Only WrongLast (LastWrong n rs p z)) (judgeLast n rs p z)
+pub last-first : (ring : Ring) (rs : List Routed) (p z : ℕ) → First (Only WrongLast (LastWrong ring rs p z)) (judgeLast ring rs p z)
 unfolding judgeLast lastVerdict
-last-first n rs p z =
-    fault-first WrongLast (test-or (test-other p (peak (unsplitLoad rs) n)) (test-other z (sonetSize (peak (unsplitLoad rs) n))))
+last-first ring rs p z =
+    fault-first WrongLast (test-or (test-other p (peak (unsplitLoad rs) (ring .n))) (test-other z (lineSize sonetSizes (ring .fibres) (peak (unsplitLoad rs) (ring .n)))))
 
 -- ---- 13 and 14: the whole sheet
 

@@ -10,6 +10,7 @@ use native.Mathlib.Decide.{decLe}
 use lib.ListN.{length}
 use Rattle.ring.specs.Cut.{Cut}
 use Rattle.ring.specs.Limits.{Limits}
+use Rattle.ring.specs.Ring.{Ring}
 use Rattle.ring.specs.Row.{Row}
 use Rattle.ring.specs.Routing.{Routed}
 use Rattle.ring.specs.Sheet.{Link, Sheet}
@@ -17,8 +18,8 @@ use Rattle.table.specs.Lines.{lines}
 use Rattle.table.specs.Reasons.{rankOf}
 use Rattle.table.specs.Says.{LineIs, RingIs}
 use Rattle.table.specs.declared.reason.Reason.{Reason}
-use Rattle.table.specs.declared.reason.Reason.the-variants.{TooLong, Misshapen, RingSize, NoSuchNode, NotBelow, OutOfOrder, TooMany, TooMuch, WrongSum, WrongWay, WrongCut, WrongLink, WrongLast, NotTight, OverBound, NotZero, NotSymmetric, SumTooMuch, NoRoom}
-use Rattle.table.proofs.Against.{AgainstRow, by-nodes, by-pair, by-order, by-count, by-amount}
+use Rattle.table.specs.declared.reason.Reason.the-variants.{TooLong, Misshapen, RingSize, Fibres, NoSuchNode, NotBelow, OutOfOrder, TooMany, TooMuch, WrongSum, WrongWay, WrongCut, WrongLink, WrongLast, NotTight, OverBound, NotZero, NotSymmetric, SumTooMuch, NoRoom}
+use Rattle.table.proofs.Against.{AgainstRow, by-nodes, by-pair, by-order, by-count, by-amount, AgainstRing, by-size, by-fibres}
 use Rattle.table.proofs.LineNumbers.{ring-one}
 use Rattle.table.proofs.ReasonNumbers.{same-rank, no-rank-0}
 use Rattle.sheet.specs.Says.{State, start, rows, links, end, SentIs, CutIs, LinkIs, LastIs, At, at-start, behind-row, WrongLine, no-ring, no-row-no-cut, no-link, no-last, left-over, WholeIs, Says, stage}
@@ -32,22 +33,18 @@ use Rattle.sheet.proofs.SheetJudged.{AgainstHalves, CutWrong, LinkWrong
 
 -- 2: the line does not have the shape that is due
 abbrev pub Unfit : List ℕ → ℕ → State → Type 0
-Unfit t line start = (n : ℕ) → RingIs t n → ⊥
-Unfit t line (rows n rs) = ((r : Routed) → SentIs t line r → ⊥) × ((c : Cut) → CutIs t line c → ⊥)
-Unfit t line (links n rs c ks) =
-    ((length ks < n) × ((l : Link) → LinkIs t line l → ⊥)) ⊎ ((n ≤ length ks) × ((p z : ℕ) → LastIs t line p z → ⊥))
+Unfit t line start = (ring : Ring) → RingIs t ring → ⊥
+Unfit t line (rows ring rs) = ((r : Routed) → SentIs t line r → ⊥) × ((c : Cut) → CutIs t line c → ⊥)
+Unfit t line (links ring rs c ks) =
+    ((length ks < ring .n) × ((l : Link) → LinkIs t line l → ⊥)) ⊎ ((ring .n ≤ length ks) × ((p z : ℕ) → LastIs t line p z → ⊥))
 Unfit t line (end x) = (l : List ℕ) × LineIs (lines t) line l
 
 pub unfit-wrong : {t : List ℕ} {line : ℕ} {state : State} → At t line state → Unfit t line state → WrongLine t line
 unfit-wrong {state = start} at none = no-ring at none
-unfit-wrong {state = rows n rs} at none = no-row-no-cut at (none .0) (none .1)
-unfit-wrong {state = links n rs c ks} at (inl none) = no-link at (none .0) (none .1)
-unfit-wrong {state = links n rs c ks} at (inr none) = no-last at (none .0) (none .1)
+unfit-wrong {state = rows ring rs} at none = no-row-no-cut at (none .0) (none .1)
+unfit-wrong {state = links ring rs c ks} at (inl none) = no-link at (none .0) (none .1)
+unfit-wrong {state = links ring rs c ks} at (inr none) = no-last at (none .0) (none .1)
 unfit-wrong {state = end x} at left = left-over at (left .1)
-
--- 3
-abbrev pub SizeWrong : Limits → ℕ → Type 0
-SizeWrong limits n = (n < limits .fewest) ⊎ (limits .nodes < n)
 
 -- 4 to 7 and 16, of a demand behind the rows rs
 abbrev pub AgainstDemand : Limits → ℕ → List Routed → Row → Reason → Type 0
@@ -59,13 +56,13 @@ AgainstSent limits n rs r s = AgainstDemand limits n rs (r .sent .row) s ⊎ Aga
 
 pub data SaidAt (limits : Limits) (t : List ℕ) (line : ℕ) : State → Reason → Type 0 where
   of-shape : {state : State} → Unfit t line state → SaidAt limits t line state Misshapen
-  of-ring : {n : ℕ} {s : Reason} → RingIs t n → Only RingSize (SizeWrong limits n) s → SaidAt limits t line start s
-  of-row : {n : ℕ} {rs : List Routed} {r : Routed} {s : Reason} → SentIs t line r → AgainstSent limits n rs r s → SaidAt limits t line (rows n rs) s
-  of-cut : {n : ℕ} {rs : List Routed} {c : Cut} {s : Reason} → CutIs t line c → Only WrongCut (CutWrong n rs c) s → SaidAt limits t line (rows n rs) s
-  of-link : {n : ℕ} {rs : List Routed} {c : Cut} {ks : List Link} {l : Link} {s : Reason} → length ks < n → LinkIs t line l
-      → Only WrongLink (LinkWrong rs (length ks + 1) l) s → SaidAt limits t line (links n rs c ks) s
-  of-last : {n : ℕ} {rs : List Routed} {c : Cut} {ks : List Link} {p z : ℕ} {s : Reason} → n ≤ length ks → LastIs t line p z
-      → Only WrongLast (LastWrong n rs p z) s → SaidAt limits t line (links n rs c ks) s
+  of-ring : {ring : Ring} {s : Reason} → RingIs t ring → AgainstRing limits ring s → SaidAt limits t line start s
+  of-row : {ring : Ring} {rs : List Routed} {r : Routed} {s : Reason} → SentIs t line r → AgainstSent limits (ring .n) rs r s → SaidAt limits t line (rows ring rs) s
+  of-cut : {ring : Ring} {rs : List Routed} {c : Cut} {s : Reason} → CutIs t line c → Only WrongCut (CutWrong (ring .n) rs c) s → SaidAt limits t line (rows ring rs) s
+  of-link : {ring : Ring} {rs : List Routed} {c : Cut} {ks : List Link} {l : Link} {s : Reason} → length ks < ring .n → LinkIs t line l
+      → Only WrongLink (LinkWrong rs (length ks + 1) l) s → SaidAt limits t line (links ring rs c ks) s
+  of-last : {ring : Ring} {rs : List Routed} {c : Cut} {ks : List Link} {p z : ℕ} {s : Reason} → ring .n ≤ length ks → LastIs t line p z
+      → Only WrongLast (LastWrong ring rs p z) s → SaidAt limits t line (links ring rs c ks) s
 
 -- ---- all that is said
 
@@ -80,16 +77,17 @@ pub data Said (limits : Limits) (t : List ℕ) (line : ℕ) : Reason → Type 0 
 module _ {limits : Limits} {t : List ℕ} {line : ℕ} where
   said-shape : WrongLine t line → Said limits t line Misshapen
   said-shape (no-ring at none) = of-line at (of-shape none) refl
-  said-shape (no-row-no-cut {n} {rs} at none none′) = of-line at (of-shape {state = rows n rs} (none, none′)) refl
-  said-shape (no-link {n} {rs} {c} {ks} at few none) = of-line at (of-shape {state = links n rs c ks} (inl (few, none))) refl
-  said-shape (no-last {n} {rs} {c} {ks} at all none) = of-line at (of-shape {state = links n rs c ks} (inr (all, none))) refl
+  said-shape (no-row-no-cut {ring} {rs} at none none′) = of-line at (of-shape {state = rows ring rs} (none, none′)) refl
+  said-shape (no-link {ring} {rs} {c} {ks} at few none) = of-line at (of-shape {state = links ring rs c ks} (inl (few, none))) refl
+  said-shape (no-last {ring} {rs} {c} {ks} at all none) = of-line at (of-shape {state = links ring rs c ks} (inr (all, none))) refl
   said-shape (left-over {x} {l} at is) = of-line at (of-shape {state = end x} (l, is)) refl
 
   pub said : (s : Reason) → Says limits t s line → Said limits t line s
   unfolding Says
   said TooLong h = of-text (h .0) (h .1)
   said Misshapen h = said-shape h
-  said RingSize h = of-line (at-line (h .at) at-start) (of-ring (h .ring) (only (h .wrong))) refl
+  said RingSize h = of-line (at-line (h .at) at-start) (of-ring (h .said) (by-size (h .wrong))) refl
+  said Fibres h = of-line (at-line (h .at) at-start) (of-ring (h .said) (by-fibres (h .wrong))) refl
   said NoSuchNode h = of-line (h .row .due) (of-row (h .row .is) (inl (by-nodes (h .wrong)))) refl
   said NotBelow h = of-line (h .row .due) (of-row (h .row .is) (inl (by-pair (h .wrong)))) refl
   said OutOfOrder h =
@@ -139,29 +137,29 @@ line-stage limits {t} {line} at s h = go (said s h)
 -- ---- what is said of a line that has been read
 
 module _ {limits : Limits} {t : List ℕ} {line : ℕ} where
-  pub said-of-ring : {n : ℕ} {s : Reason} → RingIs t n → SaidAt limits t line start s → Only RingSize (SizeWrong limits n) s
-  said-of-ring {n} is (of-shape none) = absurd (none n is)
-  said-of-ring {s} is (of-ring r o) = subst (λ m. Only RingSize (SizeWrong limits m) s) (ring-one r is) o
+  pub said-of-ring : {ring : Ring} {s : Reason} → RingIs t ring → SaidAt limits t line start s → AgainstRing limits ring s
+  said-of-ring {ring} is (of-shape none) = absurd (none ring is)
+  said-of-ring {s} is (of-ring r o) = subst (λ m. AgainstRing limits m s) (ring-one r is) o
 
-  module _ {n : ℕ} {rs : List Routed} where
-    pub said-of-row : {r : Routed} {s : Reason} → SentIs t line r → SaidAt limits t line (rows n rs) s → AgainstSent limits n rs r s
+  module _ {ring : Ring} {rs : List Routed} where
+    pub said-of-row : {r : Routed} {s : Reason} → SentIs t line r → SaidAt limits t line (rows ring rs) s → AgainstSent limits (ring .n) rs r s
     said-of-row {r} is (of-shape none) = absurd (none .0 r is)
-    said-of-row {s} is (of-row q o) = subst (λ r. AgainstSent limits n rs r s) (sent-one q is) o
+    said-of-row {s} is (of-row q o) = subst (λ r. AgainstSent limits (ring .n) rs r s) (sent-one q is) o
     said-of-row is (of-cut c o) = absurd (sent-or-cut is c)
 
-    pub said-of-cut : {c : Cut} {s : Reason} → CutIs t line c → SaidAt limits t line (rows n rs) s → Only WrongCut (CutWrong n rs c) s
+    pub said-of-cut : {c : Cut} {s : Reason} → CutIs t line c → SaidAt limits t line (rows ring rs) s → Only WrongCut (CutWrong (ring .n) rs c) s
     said-of-cut {c} is (of-shape none) = absurd (none .1 c is)
     said-of-cut is (of-row r o) = absurd (sent-or-cut r is)
-    said-of-cut {s} is (of-cut b o) = subst (λ c. Only WrongCut (CutWrong n rs c) s) (cut-one b is) o
+    said-of-cut {s} is (of-cut b o) = subst (λ c. Only WrongCut (CutWrong (ring .n) rs c) s) (cut-one b is) o
 
-  module _ {n : ℕ} {rs : List Routed} {c : Cut} {ks : List Link} where
-    pub said-of-link : {l : Link} {s : Reason} → length ks < n → LinkIs t line l → SaidAt limits t line (links n rs c ks) s → Only WrongLink (LinkWrong rs (length ks + 1) l) s
+  module _ {ring : Ring} {rs : List Routed} {c : Cut} {ks : List Link} where
+    pub said-of-link : {l : Link} {s : Reason} → length ks < ring .n → LinkIs t line l → SaidAt limits t line (links ring rs c ks) s → Only WrongLink (LinkWrong rs (length ks + 1) l) s
     said-of-link {l} few is (of-shape (inl none)) = absurd (none .1 l is)
     said-of-link few is (of-shape (inr none)) = absurd (omega (arith, none .0))
     said-of-link {s} few is (of-link few′ m o) = subst (λ l. Only WrongLink (LinkWrong rs (length ks + 1) l) s) (link-one m is) o
     said-of-link few is (of-last all l o) = absurd (omega arith)
 
-    pub said-of-last : {p z : ℕ} {s : Reason} → n ≤ length ks → LastIs t line p z → SaidAt limits t line (links n rs c ks) s → Only WrongLast (LastWrong n rs p z) s
+    pub said-of-last : {p z : ℕ} {s : Reason} → ring .n ≤ length ks → LastIs t line p z → SaidAt limits t line (links ring rs c ks) s → Only WrongLast (LastWrong ring rs p z) s
     said-of-last all is (of-shape (inl none)) = absurd (omega (arith, none .0))
     said-of-last {p} {z} all is (of-shape (inr none)) = absurd (none .1 p z is)
     said-of-last all is (of-link few l o) = absurd (omega arith)

@@ -59,13 +59,13 @@ module _ (x : Figures) (count : ℕ) (first second amount front back way split u
   abbrev whole : List ℕ
   whole = writeSheet (sheetIn x count first second amount front back way split unsplit)
 
-  whole-long : length whole ≡ length (ringLine (x .n)) + (length rows + length end)
+  whole-long : length whole ≡ length (ringLine (x .n) (x .fibres)) + (length rows + length end)
   unfolding writeSheet sheetIn
-  whole-long = omega (arith, length-append (ringLine (x .n)) (rows ++ end), length-append rows end)
+  whole-long = omega (arith, length-append (ringLine (x .n) (x .fibres)) (rows ++ end), length-append rows end)
 
   -- ---- measuring
 
-  module _ (few : count ≤ desk .rows) (small : x .n ≤ desk .nodes) (a b c d e : ℕ) (ea : a ≡ length (ringLine (x .n))) (eb : b ≡ length rows)
+  module _ (few : count ≤ desk .rows) (small : x .n ≤ desk .nodes) (a b c d e : ℕ) (ea : a ≡ length (ringLine (x .n) (x .fibres))) (eb : b ≡ length rows)
       (ec : c ≡ length (cutLine (x .g) (x .h) (x .across))) (ed : d ≡ length (links x split unsplit)) (ee : e ≡ length (lastLine (x .peak) (x .size))) where
     pub sheet-measured : a + b + c + d + e ≡ length (writeSheet (sheetIn x count first second amount front back way split unsplit))
     sheet-measured = omega (arith, whole-long, end-long x split unsplit)
@@ -75,7 +75,7 @@ module _ (x : Figures) (count : ℕ) (first second amount front back way split u
     sheet-small =
         omega (
           arith,
-          line-short ringShape (0 ∷ x .n ∷ []),
+          line-short ringShape (0 ∷ x .n ∷ x .fibres ∷ []),
           line-short cutShape (0 ∷ x .g ∷ x .h ∷ x .across ∷ []),
           line-short lastShape (0 ∷ x .peak ∷ x .size ∷ []),
           text-short _ _ (sent-pieces first second amount front back way) count,
@@ -85,15 +85,15 @@ module _ (x : Figures) (count : ℕ) (first second amount front back way split u
   -- ---- writing
 
   module _ (old : List ℕ) (room : length (writeSheet (sheetIn x count first second amount front back way split unsplit)) ≤ length old) where
-    pub ring-has-room : 0 + length (ringLine (x .n)) ≤ length old
+    pub ring-has-room : 0 + length (ringLine (x .n) (x .fibres)) ≤ length old
     ring-has-room = omega (arith, room, whole-long)
 
-    all : 0 + length (ringLine (x .n) ++ (rows ++ end)) ≤ length old
-    all = omega (arith, room, whole-long, length-append (ringLine (x .n)) (rows ++ end), length-append rows end)
+    all : 0 + length (ringLine (x .n) (x .fibres) ++ (rows ++ end)) ≤ length old
+    all = omega (arith, room, whole-long, length-append (ringLine (x .n) (x .fibres)) (rows ++ end), length-append rows end)
 
-    module _ (mid : List ℕ) (p : ℕ) (w : Written old 0 (ringLine (x .n)) mid p) where
+    module _ (mid : List ℕ) (p : ℕ) (w : Written old 0 (ringLine (x .n) (x .fibres)) mid p) where
       left-of-ring : p + length (rows ++ end) ≤ length mid
-      left-of-ring = room-behind old mid (ringLine (x .n)) (rows ++ end) 0 p all w
+      left-of-ring = room-behind old mid (ringLine (x .n) (x .fibres)) (rows ++ end) 0 p all w
 
       pub rows-have-room : p + length (linesOf routedLine (routedIn count first second amount front back way)) ≤ length mid
       rows-have-room = room-first mid rows end p left-of-ring
@@ -105,4 +105,4 @@ module _ (x : Figures) (count : ℕ) (first second amount front back way split u
         pub sheet-written : (new : List ℕ) (r : ℕ) → Written mid′ q (endText x (linksIn (x .n) split unsplit)) new r →
             Written old 0 (writeSheet (sheetIn x count first second amount front back way split unsplit)) new r
         unfolding writeSheet sheetIn
-        sheet-written new r u = written-behind old mid new (ringLine (x .n)) (rows ++ end) 0 p r w (written-behind mid mid′ new rows end p q r v u)
+        sheet-written new r u = written-behind old mid new (ringLine (x .n) (x .fibres)) (rows ++ end) 0 p r w (written-behind mid mid′ new rows end p q r v u)

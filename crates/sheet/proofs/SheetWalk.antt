@@ -132,10 +132,10 @@ module _ (limits : Limits) (judging : Bool) {t : List ℕ} where
       → Right limits judging t (atEnd judging state line)
   unfolding atEnd
   end-right {state = start} at-start missing clean = missing-right at-start clean (λ n r. missing _ (r .text))
-  end-right {state = rows n rs} at missing clean = missing-right at clean (λ r s. missing _ (s .text), λ c k. missing _ (k .text))
-  end-right {state = links n rs c ks} at missing clean =
+  end-right {state = rows ring rs} at missing clean = missing-right at clean (λ r s. missing _ (s .text), λ c k. missing _ (k .text))
+  end-right {state = links ring rs c ks} at missing clean =
       missing-right at clean
-      (elim (decLt (length ks) n) [ yes few ↦ inl (few, λ l k. missing _ (k .text)) | no many ↦ inr (omega arith, λ p z k. missing _ (k .text)) ])
+      (elim (decLt (length ks) (ring .n)) [ yes few ↦ inl (few, λ l k. missing _ (k .text)) | no many ↦ inr (omega arith, λ p z k. missing _ (k .text)) ])
   end-right {state = end x} at missing clean = whole-right at missing clean (when-first judging (whole-late x) (whole-first x))
 
   -- ---- the lines in order

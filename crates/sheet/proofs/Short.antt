@@ -9,6 +9,8 @@ use lib.ListN.{length, length-append, length-map}
 use Rattle.sonet.specs.Size.{sonetSizes}
 use Rattle.sonet.proofs.Sizes.{largestOf}
 use Rattle.ring.specs.Limits.{desk}
+use Rattle.ring.specs.Ring.{Ring}
+use Rattle.ring.specs.LineSize.{IsFibres}
 use Rattle.ring.specs.Lists.{Each, none, more}
 use Rattle.ring.specs.Row.{Row, OnRing, TableRows}
 use Rattle.ring.specs.Routing.{Sent, Routed, Way, F, B, wayNumber}
@@ -22,6 +24,7 @@ use Rattle.text.specs.Shapes.{ringShape, sentShape, cutShape, linkShape, lastSh
 use Rattle.text.proofs.Lengths.{line-in-range-short}
 use Rattle.table.specs.Table as table
 use Rattle.table.proofs.LineRead.{ring-in-range}
+use Rattle.table.proofs.TableText.{desk-spelled, ring-spelled}
 use Rattle.sheet.specs.WriteSheet.{routedLine, loadLine, linesOf, figuresOf, endText, writeSheet}
 use Rattle.sheet.specs.Range.{RowSpelled, LinkSpelled, Spelled, InRange, longest}
 use Rattle.sheet.proofs.Back.{numbers-length}
@@ -64,30 +67,30 @@ module _ (n : ℕ) (many : n ≤ desk .nodes) where
 link-short : (l : Link) → LinkSpelled l → length (loadLine l) ≤ 32
 link-short l h = line-in-range-short linkShape (0 ∷ l .link ∷ l .split ∷ l .unsplit ∷ []) (link-in-range (l .link) (l .split) (l .unsplit) (h .link) (h .split) (h .unsplit))
 
-module _ (x : Sheet) (many : x .n ≤ desk .nodes) (rows : TableRows (x .n) (demands (sents (x .rows)))) (amounts : Each (λ (r : Row). r .d ≤ desk .amount) (demands (sents (x .rows)))) where
+module _ (x : Sheet) (many : x .ring .n ≤ desk .nodes) (fibres : IsFibres (x .ring .fibres)) (rows : TableRows (x .ring .n) (demands (sents (x .rows)))) (amounts : Each (λ (r : Row). r .d ≤ desk .amount) (demands (sents (x .rows)))) where
   of-demands : {P : Row → Type 0} → Each P (demands (sents (x .rows))) → Each (λ (r : Routed). P (r .sent .row)) (x .rows)
   of-demands {P} e = each-of-map (λ (r : Routed). r .sent) {P = λ s. P (s .row)} (x .rows) (each-of-map (λ (s : Sent). s .row) {P = P} (sents (x .rows)) e)
 
-  pub rows-fine : Each RowSpelled (x .rows) → Each (RowFine (x .n)) (x .rows)
+  pub rows-fine : Each RowSpelled (x .rows) → Each (RowFine (x .ring .n)) (x .rows)
   rows-fine halves =
-      each-both {P = λ (r : Routed). OnRing (x .n) (r .sent .row) × (r .sent .row .d ≤ desk .amount)} (λ r h s. record { on = h .0; amount = h .1; spelled = s })
-      (each-both (λ r o a. (o, a)) (of-demands {P = OnRing (x .n)} (rows .nodes)) (of-demands {P = λ r. r .d ≤ desk .amount} amounts)) halves
+      each-both {P = λ (r : Routed). OnRing (x .ring .n) (r .sent .row) × (r .sent .row .d ≤ desk .amount)} (λ r h s. record { on = h .0; amount = h .1; spelled = s })
+      (each-both (λ r o a. (o, a)) (of-demands {P = OnRing (x .ring .n)} (rows .nodes)) (of-demands {P = λ r. r .d ≤ desk .amount} amounts)) halves
 
-  pub sheet-short : length (x .rows) ≤ desk .rows → Spelled x → length (x .links) ≡ x .n → length (writeSheet x) ≤ longest desk
+  pub sheet-short : length (x .rows) ≤ desk .rows → Spelled x → length (x .links) ≡ x .ring .n → length (writeSheet x) ≤ longest desk
   unfolding writeSheet endText
   sheet-short count spelled links =
-      let n = x .n in
+      let n = x .ring .n in
       let c = x .cut in
       omega (
         arith,
         count,
         many,
         links,
-        length-append (ringLine n) (linesOf routedLine (x .rows) ++ endText (figuresOf x) (x .links)),
+        length-append (ringLine n (x .ring .fibres)) (linesOf routedLine (x .rows) ++ endText (figuresOf x) (x .links)),
         length-append (linesOf routedLine (x .rows)) (endText (figuresOf x) (x .links)),
         length-append (cutLine (c .g) (c .h) (c .number)) (linesOf loadLine (x .links) ++ lastLine (x .peak) (x .size)),
         length-append (linesOf loadLine (x .links)) (lastLine (x .peak) (x .size)),
-        line-in-range-short ringShape (0 ∷ n ∷ []) (ring-in-range n (omega arith)),
+        line-in-range-short ringShape (0 ∷ n ∷ x .ring .fibres ∷ []) (ring-in-range n (x .ring .fibres) (ring-spelled desk desk-spelled (x .ring) many fibres)),
         line-in-range-short cutShape (0 ∷ c .g ∷ c .h ∷ c .number ∷ []) (cut-in-range (c .g) (c .h) (c .number) (spelled .cut .0) (spelled .cut .1 .0) (spelled .cut .1 .1)),
         line-in-range-short lastShape (0 ∷ x .peak ∷ x .size ∷ []) (last-in-range (x .peak) (x .size) (spelled .last .0) (spelled .last .1)),
         lines-most routedLine 56 (each (row-short n many) (rows-fine (spelled .halves))),
@@ -105,13 +108,13 @@ unfolding numbersFrom
 numbers-within top k zero h = none
 numbers-within top k (suc m) h = more {a = k} (omega arith) (numbers-within top (suc k) m (omega arith))
 
-module _ (x : Sheet) (t : TrueSheet x) (many : x .n ≤ desk .nodes) (rows : TableRows (x .n) (demands (sents (x .rows)))) (count : length (x .rows) ≤ desk .rows)
+module _ (x : Sheet) (t : TrueSheet x) (many : x .ring .n ≤ desk .nodes) (fibres : IsFibres (x .ring .fibres)) (rows : TableRows (x .ring .n) (demands (sents (x .rows)))) (count : length (x .rows) ≤ desk .rows)
     (amounts : Each (λ (r : Row). r .d ≤ desk .amount) (demands (sents (x .rows)))) where
   small : SmallFigures (desk .amount) x
   small = figures-small (desk .amount) x t amounts
 
   numbers : Each (λ (l : Link). l .link < limit) (x .links)
-  numbers = each-of-map (λ (l : Link). l .link) {P = λ k. k < limit} (x .links) (subst (Each (λ k. k < limit)) (sym (t .links)) (numbers-within limit 1 (x .n) (omega arith)))
+  numbers = each-of-map (λ (l : Link). l .link) {P = λ k. k < limit} (x .links) (subst (Each (λ k. k < limit)) (sym (t .links)) (numbers-within limit 1 (x .ring .n) (omega arith)))
 
   -- every figure has at most 7 digits
   pub true-spelled : Spelled x
@@ -123,46 +126,50 @@ module _ (x : Sheet) (t : TrueSheet x) (many : x .n ≤ desk .nodes) (rows : Tab
         last = (omega (arith, small .peak, count), omega (arith, small .size, sizes-spelled));
       }
 
-  pub true-links : length (x .links) ≡ x .n
-  true-links = sym (length-map (x .links) (λ (l : Link). l .link)) ∙ ap length (t .links) ∙ numbers-length 1 (x .n)
+  pub true-links : length (x .links) ≡ x .ring .n
+  true-links = sym (length-map (x .links) (λ (l : Link). l .link)) ∙ ap length (t .links) ∙ numbers-length 1 (x .ring .n)
 
   pub true-short : length (writeSheet x) ≤ longest desk
-  true-short = sheet-short x many rows amounts count true-spelled true-links
+  true-short = sheet-short x many fibres rows amounts count true-spelled true-links
 
 -- ---- so a plan's
 
-module _ (n : ℕ) (rs : List Row) (h : table.InRange desk n rs) where
-  ring-is : plan n rs .n ≡ n
+module _ (ring : Ring) (rs : List Row) (h : table.InRange desk ring rs) where
+  ring-is : plan ring rs .ring ≡ ring
   unfolding plan
   ring-is = refl
 
-  true-plan : TrueSheet (plan n rs)
-  true-plan = plan-true n rs (h .few) (h .rows)
+  true-plan : TrueSheet (plan ring rs)
+  true-plan = plan-true ring rs (h .few) (h .rows)
 
-  many : plan n rs .n ≤ desk .nodes
-  many = omega (arith, h .many, ring-is)
+  many : plan ring rs .ring .n ≤ desk .nodes
+  many = rw ring-is (h .many)
 
-  rows : TableRows (plan n rs .n) (demands (sents (plan n rs .rows)))
-  rows = let e = plan-demands n rs (h .few) (h .rows) in rw (ring-is, e) (h .rows)
+  fibres : IsFibres (plan ring rs .ring .fibres)
+  fibres = rw ring-is (h .fibres)
 
-  count : length (plan n rs .rows) ≤ desk .rows
-  count = omega (arith, h .count, demands-length (plan n rs .rows), ap length (plan-demands n rs (h .few) (h .rows)))
+  rows : TableRows (plan ring rs .ring .n) (demands (sents (plan ring rs .rows)))
+  rows = let e = plan-demands ring rs (h .few) (h .rows) in rw (ring-is, e) (h .rows)
 
-  amounts : Each (λ (r : Row). r .d ≤ desk .amount) (demands (sents (plan n rs .rows)))
-  amounts = let e = plan-demands n rs (h .few) (h .rows) in rw e (h .amounts)
+  count : length (plan ring rs .rows) ≤ desk .rows
+  count = omega (arith, h .count, demands-length (plan ring rs .rows), ap length (plan-demands ring rs (h .few) (h .rows)))
 
-  pub plan-short : length (writeSheet (plan n rs)) ≤ longest desk
-  plan-short = true-short (plan n rs) true-plan many rows count amounts
+  amounts : Each (λ (r : Row). r .d ≤ desk .amount) (demands (sents (plan ring rs .rows)))
+  amounts = let e = plan-demands ring rs (h .few) (h .rows) in rw e (h .amounts)
 
-  pub plan-in-range : InRange desk (plan n rs)
+  pub plan-short : length (writeSheet (plan ring rs)) ≤ longest desk
+  plan-short = true-short (plan ring rs) true-plan many fibres rows count amounts
+
+  pub plan-in-range : InRange desk (plan ring rs)
   plan-in-range =
       record {
-        few = omega (arith, h .few, ring-is);
+        few = rw ring-is (h .few);
         many = many;
+        fibres = fibres;
         rows = rows;
         count = count;
         amounts = amounts;
-        spelled = true-spelled (plan n rs) true-plan many rows count amounts;
-        links = true-links (plan n rs) true-plan many rows count amounts;
+        spelled = true-spelled (plan ring rs) true-plan many fibres rows count amounts;
+        links = true-links (plan ring rs) true-plan many fibres rows count amounts;
         short = omega (arith, plan-short);
       }

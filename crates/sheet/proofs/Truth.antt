@@ -8,7 +8,9 @@ use mathlib.Core.Path.{_≡_, refl, ap, ap₂, _∙_, sym}
 use native.Mathlib.Decide.{ℕ-discrete, decLt, decLe}
 use native.Mathlib.Omega.{arith}
 use lib.ListN.{length}
-use Rattle.sonet.specs.Size.{sonetSize}
+use Rattle.sonet.specs.Size.{sonetSizes}
+use Rattle.ring.specs.Ring.{Ring}
+use Rattle.ring.specs.LineSize.{lineSize}
 use Rattle.ring.specs.Cut.{Cut, IsCut, across}
 use Rattle.ring.specs.Lists.{Each, none, more}
 use Rattle.ring.specs.Routing.{Routed, Way, F, B, splitLoad, unsplitLoad, peak}
@@ -148,10 +150,12 @@ module _ (x : Sheet) where
 
 -- ---- the last line, and the whole
 
-pub last-true : (n : ℕ) (rs : List Routed) (p z : ℕ) → judgeLast n rs p z ≡ Fine → (p ≡ peak (unsplitLoad rs) n) × (z ≡ sonetSize (peak (unsplitLoad rs) n))
-last-true n rs p z e =
-    let never = none-holds (last-first n rs p z) e in
-    (same p (peak (unsplitLoad rs) n) (λ d. never WrongLast (only (inl d))), same z (sonetSize (peak (unsplitLoad rs) n)) (λ d. never WrongLast (only (inr d))))
+pub last-true : (ring : Ring) (rs : List Routed) (p z : ℕ) → judgeLast ring rs p z ≡ Fine
+    → (p ≡ peak (unsplitLoad rs) (ring .n)) × (z ≡ lineSize sonetSizes (ring .fibres) (peak (unsplitLoad rs) (ring .n)))
+last-true ring rs p z e =
+    let never = none-holds (last-first ring rs p z) e in
+    let u = peak (unsplitLoad rs) (ring .n) in
+    (same p u (λ d. never WrongLast (only (inl d))), same z (lineSize sonetSizes (ring .fibres) u) (λ d. never WrongLast (only (inr d))))
 
 whole-true : (x : Sheet) → judgeWhole x ≡ Fine → (splitPeak x ≡ x .cut .number) × (2 * unsplitPeak x ≤ splitPeak x + 3 * largestSplitOf x)
 whole-true x e =
@@ -168,15 +172,15 @@ sums-of : {rs : List Routed} → Each (λ (r : Routed). judgeHalves r ≡ Fine) 
 sums-of none = none
 sums-of (more {a = r} e es) = more (row-true r e .0) (sums-of es)
 
-pub judged-true : (x : Sheet) → length (x .links) ≡ x .n → Judged true x ↔ TrueSheet x
+pub judged-true : (x : Sheet) → length (x .links) ≡ x .ring .n → Judged true x ↔ TrueSheet x
 unfolding when
 judged-true x many = (there, back)
   where
     there : Judged true x → TrueSheet x
     there j =
-        let c = cut-true (x .n) (x .rows) (x .cut) (j .cut) in
+        let c = cut-true (x .ring .n) (x .rows) (x .cut) (j .cut) in
         let ls = links-true x (j .links) in
-        let l = last-true (x .n) (x .rows) (x .peak) (x .size) (j .last) in
+        let l = last-true (x .ring) (x .rows) (x .peak) (x .size) (j .last) in
         let w = whole-true x (j .whole) in
         record {
           sums = sums-of (j .halves);
@@ -195,8 +199,8 @@ judged-true x many = (there, back)
     back t =
         record {
           halves = rows-both (t .sums) (t .kept);
-          cut = cut-fine (x .n) (x .rows) (x .cut) (t .cut) (t .across);
+          cut = cut-fine (x .ring .n) (x .rows) (x .cut) (t .cut) (t .across);
           links = links-fine x 0 (x .links) (record { numbers = t .links ∙ ap (numbersFrom 1) (sym many); loads = t .loads });
-          last = is-fine (last-first (x .n) (x .rows) (x .peak) (x .size)) (no-fact (⊎-elim (λ d. d (t .peak)) (λ d. d (t .size))));
+          last = is-fine (last-first (x .ring) (x .rows) (x .peak) (x .size)) (no-fact (⊎-elim (λ d. d (t .peak)) (λ d. d (t .size))));
           whole = is-fine (whole-first x) (λ q. ⊎-elim (no-fact (λ d. d (t .tight)) q) (no-fact (λ l. omega (arith, t .bound)) q));
         }

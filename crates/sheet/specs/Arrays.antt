@@ -3,6 +3,7 @@ use Prim.Native.Nat.{ℕ, _+_}
 use mathlib.Core.List.{List}
 use lib.ListN.{getD}
 use Rattle.ring.specs.Columns.{listed, routedIn}
+use Rattle.ring.specs.Ring.{ringOf}
 use Rattle.ring.specs.Sheet.{Link, Sheet}
 use Rattle.sheet.specs.declared.Figures.{Figures}
 
@@ -17,7 +18,7 @@ linksIn n split unsplit = listed (linkAt split unsplit) 0 n
 unfoldable pub sheetIn : Figures → ℕ → List ℕ → List ℕ → List ℕ → List ℕ → List ℕ → List ℕ → List ℕ → List ℕ → Sheet
 sheetIn x count first second amount front back way split unsplit =
     record {
-      n = x .n;
+      ring = ringOf (x .n) (x .fibres);
       rows = routedIn count first second amount front back way;
       cut = record { g = x .g; h = x .h; number = x .across };
       links = linksIn (x .n) split unsplit;

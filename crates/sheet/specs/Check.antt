@@ -7,13 +7,12 @@ use lib.Dec.{ltb}
 use Rattle.ring.specs.Routing.{wayOf, Routed, routed, sent}
 use Rattle.ring.specs.Cut.{Cut}
 use Rattle.ring.specs.Limits.{Limits}
+use Rattle.ring.specs.Ring.{Ring, ringOf}
 use Rattle.ring.specs.Row.{Row, row}
 use Rattle.ring.specs.Sheet.{Link, Sheet}
 use Rattle.text.specs.ReadLine.{readLine}
-use Rattle.text.specs.Answers.{oneIn, twoIn, threeIn, sentIn}
+use Rattle.text.specs.Answers.{twoIn, threeIn, sentIn}
 use Rattle.text.specs.Shapes.{ringShape, sentShape, cutShape, linkShape, lastShape}
-use Rattle.text.specs.declared.OneNumber.{OneNumber}
-use Rattle.text.specs.declared.OneNumber.the-variants.{Is as IsOne, Bad as NotOne}
 use Rattle.text.specs.declared.TwoNumbers.{TwoNumbers}
 use Rattle.text.specs.declared.TwoNumbers.the-variants.{Are as AreTwo, Bad as NotTwo}
 use Rattle.text.specs.declared.ThreeNumbers.{ThreeNumbers}
@@ -75,45 +74,45 @@ linkOf k s u = record { link = k; split = s; unsplit = u }
 
 -- ---- one line, by what it is read to: its shape, then what is found against its numbers
 
--- R n
-unfoldable pub ringTurn : Limits → OneNumber → Turn
+-- R n fibres
+unfoldable pub ringTurn : Limits → TwoNumbers → Turn
 unfolding unless
-ringTurn limits (IsOne n) = unless (judgeRing limits n) (rows n [])
-ringTurn limits (NotOne p) = stop Misshapen
+ringTurn limits (AreTwo n fibres) = unless (judgeRing limits (ringOf n fibres)) (rows (ringOf n fibres) [])
+ringTurn limits (NotTwo p) = stop Misshapen
 
 -- C g h across
-unfoldable pub cutTurn : Bool → ℕ → List Routed → ThreeNumbers → Turn
+unfoldable pub cutTurn : Bool → Ring → List Routed → ThreeNumbers → Turn
 unfolding unless when
-cutTurn judging n rs (AreThree g h m) = unless (when judging (judgeCut n rs (cutOf g h m))) (links n rs (cutOf g h m) [])
-cutTurn judging n rs (NotThree p) = stop Misshapen
+cutTurn judging ring rs (AreThree g h m) = unless (when judging (judgeCut (ring .n) rs (cutOf g h m))) (links ring rs (cutOf g h m) [])
+cutTurn judging ring rs (NotThree p) = stop Misshapen
 
 -- D i j amount front back F-or-B, else C
-unfoldable pub rowTurn : Limits → Bool → ℕ → List Routed → SentRow → ThreeNumbers → Turn
+unfoldable pub rowTurn : Limits → Bool → Ring → List Routed → SentRow → ThreeNumbers → Turn
 unfolding unless when cutTurn orElse
-rowTurn limits judging n rs (IsSent i j d f k w) other =
-    unless (orElse (judgeNext limits n rs i j d) (when judging (judgeHalves (routedOf i j d f k w)))) (rows n (rs ++ routedOf i j d f k w ∷ []))
-rowTurn limits judging n rs (NotSent p) other = cutTurn judging n rs other
+rowTurn limits judging ring rs (IsSent i j d f k w) other =
+    unless (orElse (judgeNext limits (ring .n) rs i j d) (when judging (judgeHalves (routedOf i j d f k w)))) (rows ring (rs ++ routedOf i j d f k w ∷ []))
+rowTurn limits judging ring rs (NotSent p) other = cutTurn judging ring rs other
 
 -- L link split-load unsplit-load
-unfoldable pub linkTurn : Bool → ℕ → List Routed → Cut → List Link → ThreeNumbers → Turn
+unfoldable pub linkTurn : Bool → Ring → List Routed → Cut → List Link → ThreeNumbers → Turn
 unfolding unless when
-linkTurn judging n rs c ks (AreThree k s u) =
-    unless (when judging (judgeLink rs (length ks + 1) (linkOf k s u))) (links n rs c (ks ++ linkOf k s u ∷ []))
-linkTurn judging n rs c ks (NotThree p) = stop Misshapen
+linkTurn judging ring rs c ks (AreThree k s u) =
+    unless (when judging (judgeLink rs (length ks + 1) (linkOf k s u))) (links ring rs c (ks ++ linkOf k s u ∷ []))
+linkTurn judging ring rs c ks (NotThree p) = stop Misshapen
 
 -- Z unsplit-peak size
-unfoldable pub lastTurn : Bool → ℕ → List Routed → Cut → List Link → TwoNumbers → Turn
+unfoldable pub lastTurn : Bool → Ring → List Routed → Cut → List Link → TwoNumbers → Turn
 unfolding unless when
-lastTurn judging n rs c ks (AreTwo p z) = unless (when judging (judgeLast n rs p z)) (end (record { n = n; rows = rs; cut = c; links = ks; peak = p; size = z }))
-lastTurn judging n rs c ks (NotTwo p) = stop Misshapen
+lastTurn judging ring rs c ks (AreTwo p z) = unless (when judging (judgeLast ring rs p z)) (end (record { ring = ring; rows = rs; cut = c; links = ks; peak = p; size = z }))
+lastTurn judging ring rs c ks (NotTwo p) = stop Misshapen
 
 -- by what is due; a line behind the last is left over
 unfoldable pub turn : Limits → Bool → State → List ℕ → Turn
 unfolding ringTurn rowTurn linkTurn lastTurn
-turn limits judging start l = ringTurn limits (oneIn (readLine ringShape l))
-turn limits judging (rows n rs) l = rowTurn limits judging n rs (sentIn (readLine sentShape l)) (threeIn (readLine cutShape l))
-turn limits judging (links n rs c ks) l =
-    cond (ltb (length ks) n) (linkTurn judging n rs c ks (threeIn (readLine linkShape l))) (lastTurn judging n rs c ks (twoIn (readLine lastShape l)))
+turn limits judging start l = ringTurn limits (twoIn (readLine ringShape l))
+turn limits judging (rows ring rs) l = rowTurn limits judging ring rs (sentIn (readLine sentShape l)) (threeIn (readLine cutShape l))
+turn limits judging (links ring rs c ks) l =
+    cond (ltb (length ks) (ring .n)) (linkTurn judging ring rs c ks (threeIn (readLine linkShape l))) (lastTurn judging ring rs c ks (twoIn (readLine lastShape l)))
 turn limits judging (end x) l = stop Misshapen
 
 -- ---- the lines in order
@@ -128,8 +127,8 @@ unfoldable pub atEnd : Bool → State → ℕ → Result
 unfolding wholeResult when
 atEnd judging (end x) line = wholeResult x (when judging (judgeWhole x))
 atEnd judging start line = refused Misshapen line
-atEnd judging (rows n rs) line = refused Misshapen line
-atEnd judging (links n rs c ks) line = refused Misshapen line
+atEnd judging (rows ring rs) line = refused Misshapen line
+atEnd judging (links ring rs c ks) line = refused Misshapen line
 
 unfoldable pub after : Turn → ℕ → (State → Result) → Result
 after (on next) line rest = rest next

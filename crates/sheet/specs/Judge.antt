@@ -3,7 +3,9 @@ use Prim.Native.Nat.{ℕ, _+_, _*_}
 use mathlib.Core.Bool.{Bool, not, _&&_}
 use mathlib.Core.List.{List}
 use lib.Dec.{eqb}
-use Rattle.sonet.specs.Size.{sonetSize}
+use Rattle.sonet.specs.Size.{sonetSizes}
+use Rattle.ring.specs.Ring.{Ring}
+use Rattle.ring.specs.LineSize.{lineSize}
 use Rattle.ring.specs.Routing.{wayNumber, Sent, Routed, isSplit, splitLoad, unsplitLoad, peak}
 use Rattle.ring.specs.Cut.{Cut, across}
 use Rattle.ring.specs.RuleD.{wholeWay}
@@ -35,10 +37,10 @@ unfoldable pub judgeLink : List Routed → ℕ → Link → Verdict
 unfolding linkVerdict splitLoad unsplitLoad
 judgeLink rs k l = linkVerdict k (splitLoad (sents rs) k) (unsplitLoad rs k) (l .link) (l .split) (l .unsplit)
 
--- 12, by the unsplit peak of the rows
-unfoldable pub judgeLast : ℕ → List Routed → ℕ → ℕ → Verdict
-unfolding lastVerdict unsplitLoad peak
-judgeLast n rs p size = let u = peak (unsplitLoad rs) n in lastVerdict u (sonetSize u) p size
+-- 12, by the unsplit peak of the rows and the fibres
+unfoldable pub judgeLast : Ring → List Routed → ℕ → ℕ → Verdict
+unfolding lastVerdict unsplitLoad peak lineSize
+judgeLast ring rs p size = let u = peak (unsplitLoad rs) (ring .n) in lastVerdict u (lineSize sonetSizes (ring .fibres) u) p size
 
 -- 13 and 14
 unfoldable pub judgeWhole : Sheet → Verdict

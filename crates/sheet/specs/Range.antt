@@ -3,6 +3,7 @@ use Prim.Native.Nat.{ℕ, _+_, _*_, _≤_, _<_}
 use mathlib.Core.Path.{_≡_}
 use lib.ListN.{length}
 use Rattle.ring.specs.Limits.{Limits}
+use Rattle.ring.specs.LineSize.{IsFibres}
 use Rattle.ring.specs.Lists.{Each}
 use Rattle.ring.specs.Row.{Row, TableRows}
 use Rattle.ring.specs.Routing.{Routed}
@@ -31,14 +32,15 @@ pub record Spelled (x : Sheet) : Type 0 where
 
 pub record InRange (limits : Limits) (x : Sheet) : Type 0 where
   -- as in a table
-  pub few : limits .fewest ≤ x .n
-  pub many : x .n ≤ limits .nodes
-  pub rows : TableRows (x .n) (demands (sents (x .rows)))
+  pub few : limits .fewest ≤ x .ring .n
+  pub many : x .ring .n ≤ limits .nodes
+  pub fibres : IsFibres (x .ring .fibres)
+  pub rows : TableRows (x .ring .n) (demands (sents (x .rows)))
   pub count : length (x .rows) ≤ limits .rows
   pub amounts : Each (λ (r : Row). r .d ≤ limits .amount) (demands (sents (x .rows)))
   pub spelled : Spelled x
   -- as many L lines as the ring has links
-  pub links : length (x .links) ≡ x .n
+  pub links : length (x .links) ≡ x .ring .n
   pub short : length (writeSheet x) ≤ limits .bytes
 
 -- no sheet of so many rows and nodes is longer: a field has at most 7 digits and the byte behind them

@@ -4,9 +4,11 @@ use mathlib.Core.List.{List, [], _∷_, _++_}
 use mathlib.Core.Logic.{_⊎_}
 use mathlib.Core.Path.{_≡_}
 use lib.ListN.{length}
-use Rattle.sonet.specs.Size.{sonetSize}
+use Rattle.sonet.specs.Size.{sonetSizes}
 use Rattle.ring.specs.Cut.{Cut, IsCut, across}
 use Rattle.ring.specs.Limits.{Limits}
+use Rattle.ring.specs.Ring.{Ring}
+use Rattle.ring.specs.LineSize.{lineSize}
 use Rattle.ring.specs.Row.{PairBefore}
 use Rattle.ring.specs.Routing.{Routed, splitLoad, unsplitLoad, peak}
 use Rattle.ring.specs.Sheet.{Link, Sheet, sents, demands, splitPeak, unsplitPeak, largestSplitOf}
@@ -15,9 +17,9 @@ use Rattle.text.specs.Number.{limit}
 use Rattle.text.specs.Shapes.{cutLine, lastLine}
 use Rattle.table.specs.Lines.{lines}
 use Rattle.table.specs.Reasons.{rankOf}
-use Rattle.table.specs.Says.{LineIs, RingIs, WrongRing, NoNode}
+use Rattle.table.specs.Says.{LineIs, RingIs, WrongRing, WrongFibres, NoNode}
 use Rattle.table.specs.declared.reason.Reason.{Reason}
-use Rattle.table.specs.declared.reason.Reason.the-variants.{TooLong, Misshapen, RingSize, NoSuchNode, NotBelow, OutOfOrder, TooMany, TooMuch, WrongSum, WrongWay, WrongCut, WrongLink, WrongLast, NotTight, OverBound, NotZero, NotSymmetric, SumTooMuch, NoRoom}
+use Rattle.table.specs.declared.reason.Reason.the-variants.{TooLong, Misshapen, RingSize, Fibres, NoSuchNode, NotBelow, OutOfOrder, TooMany, TooMuch, WrongSum, WrongWay, WrongCut, WrongLink, WrongLast, NotTight, OverBound, NotZero, NotSymmetric, SumTooMuch, NoRoom}
 use Rattle.sheet.specs.WriteSheet.{routedLine, loadLine}
 
 -- ---- lines
@@ -50,40 +52,40 @@ pub record LastIs (t : List ℕ) (line p z : ℕ) : Type 0 where
 -- behind that nothing
 pub data State : Type 0 where
   start : State
-  -- behind R n and rows
-  rows : ℕ → List Routed → State
+  -- behind R n fibres and rows
+  rows : Ring → List Routed → State
   -- behind the cut and links
-  links : ℕ → List Routed → Cut → List Link → State
+  links : Ring → List Routed → Cut → List Link → State
   end : Sheet → State
 
 -- what the lines before this one have said
 pub data At (t : List ℕ) : ℕ → State → Type 0 where
   at-start : At t 1 start
-  behind-ring : {n : ℕ} → RingIs t n → At t 2 (rows n [])
-  behind-row : {line n : ℕ} {rs : List Routed} {r : Routed} → At t line (rows n rs) → SentIs t line r → At t (line + 1) (rows n (rs ++ r ∷ []))
-  behind-cut : {line n : ℕ} {rs : List Routed} {c : Cut} → At t line (rows n rs) → CutIs t line c → At t (line + 1) (links n rs c [])
-  behind-link : {line n : ℕ} {rs : List Routed} {c : Cut} {ks : List Link} {l : Link} → At t line (links n rs c ks) → length ks < n → LinkIs t line l
-      → At t (line + 1) (links n rs c (ks ++ l ∷ []))
-  behind-last : {line n : ℕ} {rs : List Routed} {c : Cut} {ks : List Link} {p z : ℕ} → At t line (links n rs c ks) → n ≤ length ks → LastIs t line p z
-      → At t (line + 1) (end (record { n = n; rows = rs; cut = c; links = ks; peak = p; size = z }))
+  behind-ring : {ring : Ring} → RingIs t ring → At t 2 (rows ring [])
+  behind-row : {line : ℕ} {ring : Ring} {rs : List Routed} {r : Routed} → At t line (rows ring rs) → SentIs t line r → At t (line + 1) (rows ring (rs ++ r ∷ []))
+  behind-cut : {line : ℕ} {ring : Ring} {rs : List Routed} {c : Cut} → At t line (rows ring rs) → CutIs t line c → At t (line + 1) (links ring rs c [])
+  behind-link : {line : ℕ} {ring : Ring} {rs : List Routed} {c : Cut} {ks : List Link} {l : Link} → At t line (links ring rs c ks) → length ks < ring .n → LinkIs t line l
+      → At t (line + 1) (links ring rs c (ks ++ l ∷ []))
+  behind-last : {line : ℕ} {ring : Ring} {rs : List Routed} {c : Cut} {ks : List Link} {p z : ℕ} → At t line (links ring rs c ks) → ring .n ≤ length ks → LastIs t line p z
+      → At t (line + 1) (end (record { ring = ring; rows = rs; cut = c; links = ks; peak = p; size = z }))
 
 -- a D line that is due
 pub record RowAt (t : List ℕ) (line : ℕ) (r : Routed) : Type 0 where
-  pub n : ℕ
+  pub ring : Ring
   pub rs : List Routed
-  pub due : At t line (rows n rs)
+  pub due : At t line (rows ring rs)
   pub is : SentIs t line r
 
 -- ---- the reasons
 
 -- 2: line of the wrong shape, missing, or left over
 pub data WrongLine (t : List ℕ) (line : ℕ) : Type 0 where
-  no-ring : At t line start → ((n : ℕ) → RingIs t n → ⊥) → WrongLine t line
-  no-row-no-cut : {n : ℕ} {rs : List Routed} → At t line (rows n rs) → ((r : Routed) → SentIs t line r → ⊥) → ((c : Cut) → CutIs t line c → ⊥)
+  no-ring : At t line start → ((ring : Ring) → RingIs t ring → ⊥) → WrongLine t line
+  no-row-no-cut : {ring : Ring} {rs : List Routed} → At t line (rows ring rs) → ((r : Routed) → SentIs t line r → ⊥) → ((c : Cut) → CutIs t line c → ⊥)
       → WrongLine t line
-  no-link : {n : ℕ} {rs : List Routed} {c : Cut} {ks : List Link} → At t line (links n rs c ks) → length ks < n → ((l : Link) → LinkIs t line l → ⊥)
+  no-link : {ring : Ring} {rs : List Routed} {c : Cut} {ks : List Link} → At t line (links ring rs c ks) → length ks < ring .n → ((l : Link) → LinkIs t line l → ⊥)
       → WrongLine t line
-  no-last : {n : ℕ} {rs : List Routed} {c : Cut} {ks : List Link} → At t line (links n rs c ks) → n ≤ length ks → ((p z : ℕ) → LastIs t line p z → ⊥)
+  no-last : {ring : Ring} {rs : List Routed} {c : Cut} {ks : List Link} → At t line (links ring rs c ks) → ring .n ≤ length ks → ((p z : ℕ) → LastIs t line p z → ⊥)
       → WrongLine t line
   left-over : {x : Sheet} {l : List ℕ} → At t line (end x) → LineIs (lines t) line l → WrongLine t line
 
@@ -91,7 +93,7 @@ pub data WrongLine (t : List ℕ) (line : ℕ) : Type 0 where
 pub record WrongNode (t : List ℕ) (line : ℕ) : Type 0 where
   pub r : Routed
   pub row : RowAt t line r
-  pub wrong : NoNode (row .n) (r .sent .row .i) ⊎ NoNode (row .n) (r .sent .row .j)
+  pub wrong : NoNode (row .ring .n) (r .sent .row .i) ⊎ NoNode (row .ring .n) (r .sent .row .j)
 
 -- 5: first node not below second
 pub record WrongPair (t : List ℕ) (line : ℕ) : Type 0 where
@@ -135,37 +137,37 @@ pub record WrongDirection (t : List ℕ) (line : ℕ) : Type 0 where
 
 -- 10: not 1 <= g < h <= n, or across number false
 pub record WrongCutLine (t : List ℕ) (line : ℕ) : Type 0 where
-  pub n : ℕ
+  pub ring : Ring
   pub rs : List Routed
-  pub due : At t line (rows n rs)
+  pub due : At t line (rows ring rs)
   pub c : Cut
   pub is : CutIs t line c
-  pub wrong : (IsCut n c → ⊥) ⊎ (c .number ≡ across (demands (sents rs)) (c .g) (c .h) → ⊥)
+  pub wrong : (IsCut (ring .n) c → ⊥) ⊎ (c .number ≡ across (demands (sents rs)) (c .g) (c .h) → ⊥)
 
 -- 11: link out of order, or either load false
 pub record WrongLinkLine (t : List ℕ) (line : ℕ) : Type 0 where
-  pub n : ℕ
+  pub ring : Ring
   pub rs : List Routed
   pub c : Cut
   pub ks : List Link
-  pub due : At t line (links n rs c ks)
-  pub few : length ks < n
+  pub due : At t line (links ring rs c ks)
+  pub few : length ks < ring .n
   pub l : Link
   pub is : LinkIs t line l
   pub wrong : (l .link ≡ length ks + 1 → ⊥) ⊎ ((l .split ≡ splitLoad (sents rs) (length ks + 1) → ⊥) ⊎ (l .unsplit ≡ unsplitLoad rs (length ks + 1) → ⊥))
 
 -- 12: unsplit peak or size false
 pub record WrongLastLine (t : List ℕ) (line : ℕ) : Type 0 where
-  pub n : ℕ
+  pub ring : Ring
   pub rs : List Routed
   pub c : Cut
   pub ks : List Link
-  pub due : At t line (links n rs c ks)
-  pub all : n ≤ length ks
+  pub due : At t line (links ring rs c ks)
+  pub all : ring .n ≤ length ks
   pub p : ℕ
   pub z : ℕ
   pub is : LastIs t line p z
-  pub wrong : (p ≡ peak (unsplitLoad rs) n → ⊥) ⊎ (z ≡ sonetSize (peak (unsplitLoad rs) n) → ⊥)
+  pub wrong : (p ≡ peak (unsplitLoad rs) (ring .n) → ⊥) ⊎ (z ≡ lineSize sonetSizes (ring .fibres) (peak (unsplitLoad rs) (ring .n)) → ⊥)
 
 -- the text is a whole sheet: its lines end behind the Z line
 pub record WholeIs (t : List ℕ) (x : Sheet) : Type 0 where
@@ -190,6 +192,7 @@ unfoldable pub Says : Limits → List ℕ → Reason → ℕ → Type 0
 Says limits t TooLong line = (line ≡ 0) × (limits .bytes < length t)
 Says limits t Misshapen line = WrongLine t line
 Says limits t RingSize line = WrongRing limits t line
+Says limits t Fibres line = WrongFibres t line
 Says limits t NoSuchNode line = WrongNode t line
 Says limits t NotBelow line = WrongPair t line
 Says limits t OutOfOrder line = WrongOrder t line
@@ -217,6 +220,7 @@ stage OverBound = 1
 stage TooLong = 0
 stage Misshapen = 0
 stage RingSize = 0
+stage Fibres = 0
 stage NoSuchNode = 0
 stage NotBelow = 0
 stage OutOfOrder = 0

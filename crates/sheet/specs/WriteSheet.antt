@@ -1,4 +1,4 @@
--- To believe: a sheet as text: R n; D lines; the C line; L lines; Z unsplit-peak size (01, "Table and sheet text").
+-- To believe: a sheet as text: R n fibres; D lines; the C line; L lines; Z unsplit-peak size (01, "Table and sheet text").
 use Prim.Native.Nat.{ℕ}
 use mathlib.Core.List.{List, [], _∷_, _++_}
 use Rattle.ring.specs.Routing.{wayNumber, Routed}
@@ -21,7 +21,7 @@ linesOf line (x ∷ l) = line x ++ linesOf line l
 
 -- the figures of a sheet that are not of a row or of a link
 abbrev pub figuresOf : Sheet → Figures
-figuresOf x = record { n = x .n; g = x .cut .g; h = x .cut .h; across = x .cut .number; peak = x .peak; size = x .size }
+figuresOf x = record { n = x .ring .n; fibres = x .ring .fibres; g = x .cut .g; h = x .cut .h; across = x .cut .number; peak = x .peak; size = x .size }
 
 -- C g h across; L lines; Z unsplit-peak size
 unfoldable pub endText : Figures → List Link → List ℕ
@@ -30,4 +30,4 @@ endText x links = cutLine (x .g) (x .h) (x .across) ++ (linesOf loadLine links +
 
 unfoldable pub writeSheet : Sheet → List ℕ
 unfolding endText
-writeSheet x = ringLine (x .n) ++ (linesOf routedLine (x .rows) ++ endText (figuresOf x) (x .links))
+writeSheet x = ringLine (x .ring .n) (x .ring .fibres) ++ (linesOf routedLine (x .rows) ++ endText (figuresOf x) (x .links))

@@ -68,7 +68,7 @@ pub fn sheet_length<'a>(
     requires { ⌜ (count ≤ desk .rows) × (x .n ≤ desk .nodes) ⌝ }
     ensures { λ r. ⌜ r ≡ length (writeSheet (sheetIn x count (now (first .entry)) (now (second .entry)) (now (amount .entry)) (now (front .entry)) (now (back .entry)) (now (way .entry)) (now (split .entry)) (now (unsplit .entry)))) ⌝ }
 {
-    let ring = text::ring_length(x.n);
+    let ring = text::ring_length(x.n, x.fibres);
     let rows = rows_length(count, first, second, amount, front, back, way);
     let cut = text::cut_length(x.g, x.h, x.across);
     let links = links_length(x.n, split, unsplit);
@@ -166,7 +166,7 @@ pub fn write_sheet<'a>(
     requires { ⌜ (count ≤ desk .rows) × (x .n ≤ desk .nodes) × (length (writeSheet (sheetIn x count (now first) (now second) (now amount) (now front) (now back) (now way) (now split) (now unsplit))) ≤ length (now buf)) ⌝ }
     ensures { λ r. ⌜ Written (now (buf .entry)) 0 (writeSheet (sheetIn x count (now (first .entry)) (now (second .entry)) (now (amount .entry)) (now (front .entry)) (now (back .entry)) (now (way .entry)) (now (split .entry)) (now (unsplit .entry)))) (now (buf .exit)) r ⌝ }
 {
-    let p = text::write_ring(buf, 0, x.n);
+    let p = text::write_ring(buf, 0, x.n, x.fibres);
     let q = write_rows(buf, p, count, first, second, amount, front, back, way);
     write_end(buf, q, x, split, unsplit)
 }
