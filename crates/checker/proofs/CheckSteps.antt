@@ -7,6 +7,9 @@ use native.Mathlib.Omega.{arith}
 use lib.ListN.{length, getD, take, drop}
 use borrow.Author.Tests.{lt-ltb, le-ltb}
 use Rattle.sonet.specs.Size.{sonetSize}
+use Rattle.ring.specs.Ring.{Ring, ringOf}
+use Rattle.ring.specs.LineSize.{needed}
+use Rattle.ring.proofs.SizeRules.{size-in-steps}
 use Rattle.ring.specs.Columns.{column, rowsIn, routedAt, routedIn}
 use Rattle.ring.specs.Cut.{across}
 use Rattle.ring.specs.Limits.{desk}
@@ -18,11 +21,11 @@ use Rattle.router.specs.Rows.{Table}
 use Rattle.router.specs.Arrays.{Halves}
 use Rattle.router.specs.Weighed.{weightIn}
 use Rattle.router.specs.declared.weighing.Weight.{Weight}
-use Rattle.text.specs.Answers.{oneIn, threeIn}
+use Rattle.text.specs.Answers.{twoIn, threeIn}
 use Rattle.text.specs.ReadLine.{readLine}
 use Rattle.text.specs.Shapes.{ringShape, cutShape}
-use Rattle.text.specs.declared.OneNumber.{OneNumber}
-use Rattle.text.specs.declared.OneNumber.the-variants.{Is as IsOne, Bad as NotOne}
+use Rattle.text.specs.declared.TwoNumbers.{TwoNumbers}
+use Rattle.text.specs.declared.TwoNumbers.the-variants.{Are as AreTwo, Bad as NotTwo}
 use Rattle.text.specs.declared.ThreeNumbers.{ThreeNumbers}
 use Rattle.text.specs.declared.ThreeNumbers.the-variants.{Are as AreThree, Bad as NotThree}
 use Rattle.text.proofs.Apart.{clash}
@@ -33,7 +36,7 @@ use Rattle.table.specs.declared.reason.Reason.the-variants.{TooLong, Misshapen}
 use Rattle.table.specs.declared.judge.Verdict.{Verdict}
 use Rattle.table.specs.declared.judge.Verdict.the-variants.{Fine, Fault}
 use Rattle.table.proofs.Columns.{column-length, column-behind}
-use Rattle.table.proofs.Judged.{RingJudged, right-size, ring-judged}
+use Rattle.table.proofs.Judged.{RingJudged, right-ring, ring-judged}
 use Rattle.sheet.specs.Arrays.{linkAt, linksIn}
 use Rattle.checker.specs.Arrays.{checkedIn}
 use Rattle.sheet.specs.Judge.{judgeCut}
@@ -65,7 +68,8 @@ module _ (n : ℕ) (many : n ≤ desk .nodes) (load : ℕ → ℕ) (array split 
       laid figure (linkAt split unsplit) (desk .nodes) n array (ap length is ∙ column-length load (desk .nodes) (numbersFrom 1 n)) many (λ k h. place k)
       (λ k h. ap (λ a. getD a k 0) is ∙ column-behind load (desk .nodes) (numbersFrom 1 n) k (omega arith) (omega arith))
 
-module _ (s : List ℕ) (at line n : ℕ) (rs : List Routed) (g h number : ℕ) (many : n ≤ desk .nodes) (w : Weight) (ew : w ≡ weightIn n rs) (size : ℕ) (ez : size ≡ sonetSize (w .peak)) where
+module _ (s : List ℕ) (at line n fibres : ℕ) (rs : List Routed) (g h number : ℕ) (many : n ≤ desk .nodes) (w : Weight) (ew : w ≡ weightIn n rs) 
+    (carried size : ℕ) (en : carried ≡ needed fibres (w .peak)) (ez : size ≡ sonetSize carried) where
   weights : Weighed n rs (w .split) (w .unsplit) (w .«split_peak») (w .peak) (w .largest)
   unfolding weightIn
   weights =
@@ -79,16 +83,16 @@ module _ (s : List ℕ) (at line n : ℕ) (rs : List Routed) (g h number : ℕ) 
 
   abbrev ending : Step → Ending
   ending t =
-      record { step = t; figures = record { n = n; g = g; h = h; across = number; peak = w .peak; size = size }; split = w .split; unsplit = w .unsplit }
+      record { step = t; figures = record { n = n; fibres = fibres; g = g; h = h; across = number; peak = w .peak; size = size }; split = w .split; unsplit = w .unsplit }
 
   pub weighed-ends : (t : Step) → TailRead s at line n number (w .split) (w .unsplit) (w .«split_peak») (w .peak) size (w .largest) t →
-      WeighedRead s at line n rs g h number (record { step = t; figures = record { n = n; g = g; h = h; across = number; peak = w .peak; size = size }; split = w .split; unsplit = w .unsplit })
-  weighed-ends t tail = go t (tail .means rs g h weights ez)
+      WeighedRead s at line (ringOf n fibres) rs g h number (record { step = t; figures = record { n = n; fibres = fibres; g = g; h = h; across = number; peak = w .peak; size = size }; split = w .split; unsplit = w .unsplit })
+  weighed-ends t tail = go t (tail .means fibres rs g h weights (size-in-steps fibres (w .peak) carried size en ez))
     where
       result : Result
-      result = checkFrom desk true (links n rs (cutOf g h number) []) line (lines (drop at s))
+      result = checkFrom desk true (links (ringOf n fibres) rs (cutOf g h number) []) line (lines (drop at s))
 
-      go : (u : Step) → StepMeans s result (λ p. accepted (sheetWith n rs (cutOf g h number) (w .split) (w .unsplit) (w .peak) size)) u → EndMeans n rs result (ending t) u
+      go : (u : Step) → StepMeans s result (λ p. accepted (sheetWith (ringOf n fibres) rs (cutOf g h number) (w .split) (w .unsplit) (w .peak) size)) u → EndMeans (ringOf n fibres) rs result (ending t) u
       go (On p) (steps-on l e) =
           ends-with {at = p} (cutOf g h number) (w .peak) size e refl
           (loads-column n many (splitLoad (sents rs)) (w .split) (w .split) (w .unsplit) (λ (l : Link). l .split) (weights .splits) (λ k. refl))
@@ -104,18 +108,18 @@ module _ (count : ℕ) (first second amount front back way : List ℕ) where
       ap demands (listed-map (λ (r : Routed). r .sent) (routedAt first second amount front back way) 0 count)
       ∙ listed-map (λ (x : Sent). x .row) (λ k. routedAt first second amount front back way k .sent) 0 count
 
-  module _ (s : List ℕ) (at line n to : ℕ) (ends : NextEnds s at to) (x : ThreeNumbers) (ex : x ≡ threeIn (readLine cutShape (take (to - at) (drop at s)))) where
+  module _ (s : List ℕ) (at line n fibres to : ℕ) (ends : NextEnds s at to) (x : ThreeNumbers) (ex : x ≡ threeIn (readLine cutShape (take (to - at) (drop at s)))) where
     abbrev rs : List Routed
     rs = routedIn count first second amount front back way
 
-    cut-led : cutFrom n rs line (lines (drop at s)) ≡ after (cutTurn true n rs x) line (λ next. checkFrom desk true next (line + 1) (lines (drop to s)))
+    cut-led : cutFrom (ringOf n fibres) rs line (lines (drop at s)) ≡ after (cutTurn true (ringOf n fibres) rs x) line (λ next. checkFrom desk true next (line + 1) (lines (drop to s)))
     unfolding cutFrom
     cut-led =
         let a = next-line s at to ends in
         let b = next-rest s at to ends in
         rw (ex, a, b)
 
-    pub no-cut-line : (p : ℕ) (t : Ending) → x ≡ NotThree p → t .step ≡ StepRefused Misshapen line → EndRead s at line n (routedIn count first second amount front back way) t
+    pub no-cut-line : (p : ℕ) (t : Ending) → x ≡ NotThree p → t .step ≡ StepRefused Misshapen line → EndRead s at line (ringOf n fibres) (routedIn count first second amount front back way) t
     unfolding cutTurn after
     no-cut-line p t q e = rw e (end-refused {reason = Misshapen} {line = line} (cut-led ∙ rw q))
 
@@ -124,25 +128,25 @@ module _ (count : ℕ) (first second amount front back way : List ℕ) where
       unfolding judgeCut
       cut-judged = let d = demands-in in sym (ev ∙ rw (← d))
 
-      pub cut-fault : (reason : Reason) (t : Ending) → v ≡ Fault reason → t .step ≡ StepRefused reason line → EndRead s at line n (routedIn count first second amount front back way) t
+      pub cut-fault : (reason : Reason) (t : Ending) → v ≡ Fault reason → t .step ≡ StepRefused reason line → EndRead s at line (ringOf n fibres) (routedIn count first second amount front back way) t
       unfolding cutTurn unless after when
       cut-fault reason t q e = rw e (end-refused {reason = reason} {line = line} (cut-led ∙ rw (is, cut-judged ∙ q)))
 
-      pub cut-goes : v ≡ Fine → (t : Ending) → WeighedRead s to (line + 1) n (routedIn count first second amount front back way) g h number t
-          → EndRead s at line n (routedIn count first second amount front back way) t
+      pub cut-goes : v ≡ Fine → (t : Ending) → WeighedRead s to (line + 1) (ringOf n fibres) (routedIn count first second amount front back way) g h number t
+          → EndRead s at line (ringOf n fibres) (routedIn count first second amount front back way) t
       unfolding cutTurn unless after when
       cut-goes q t read =
-          let e : cutFrom n rs line (lines (drop at s)) ≡ checkFrom desk true (links n rs (cutOf g h number) []) (line + 1) (lines (drop to s)) = cut-led ∙ rw (is, cut-judged ∙ q) in
-          subst (λ z. EndMeans n rs z t (t .step)) (sym e) read
+          let e : cutFrom (ringOf n fibres) rs line (lines (drop at s)) ≡ checkFrom desk true (links (ringOf n fibres) rs (cutOf g h number) []) (line + 1) (lines (drop to s)) = cut-led ∙ rw (is, cut-judged ∙ q) in
+          subst (λ z. EndMeans (ringOf n fibres) rs z t (t .step)) (sym e) read
 
 -- ---- from the rows on
 
 -- checking behind the R line
-abbrev from-rows : List ℕ → ℕ → ℕ → Result
-from-rows s n from = checkFrom desk true (rows n []) 2 (lines (drop from s))
+abbrev from-rows : List ℕ → Ring → ℕ → Result
+from-rows s ring from = checkFrom desk true (rows ring []) 2 (lines (drop from s))
 
-rows-stopped : {s : List ℕ} {n : ℕ} {result : Result} {first second amount front back way : List ℕ} {end : RowsEnd} {reason : Reason} {line : ℕ} →
-    RowsMean s n result first second amount front back way end → end ≡ RowsRefused reason line → result ≡ refused reason line
+rows-stopped : {s : List ℕ} {ring : Ring} {result : Result} {first second amount front back way : List ℕ} {end : RowsEnd} {reason : Reason} {line : ℕ} →
+    RowsMean s ring result first second amount front back way end → end ≡ RowsRefused reason line → result ≡ refused reason line
 rows-stopped (rows-at rs c e w l t h) q = clash (cc)
 rows-stopped {reason = reason} {line = line} (rows-refused {reason = a} {line = b} e) q =
     let ea : a ≡ reason = cc in
@@ -154,17 +158,17 @@ checked a f l1 l2 l3 l4 l5 l6 l7 l8 =
     record { answer = a; figures = f; first = l1; second = l2; amount = l3; front = l4; back = l5; way = l6; split = l7; unsplit = l8 }
 
 -- what is known where the rows end
-record RowsEnded (s : List ℕ) (n : ℕ) (result : Result) (first second amount front back way : List ℕ) (count at line : ℕ) : Type 0 where
+record RowsEnded (s : List ℕ) (ring : Ring) (result : Result) (first second amount front back way : List ℕ) (count at line : ℕ) : Type 0 where
   rs : List Routed
   columns : Columns rs count first second amount front back way
-  is : result ≡ cutFrom n rs line (lines (drop at s))
+  is : result ≡ cutFrom ring rs line (lines (drop at s))
   within : at ≤ length s
   lined : line ≡ count + 2
-  table : Table n count first second amount
+  table : Table (ring .n) count first second amount
   halves : Halves count front back
 
-rows-ended : {s : List ℕ} {n : ℕ} {result : Result} {first second amount front back way : List ℕ} {end : RowsEnd} {count at line : ℕ} →
-    RowsMean s n result first second amount front back way end → end ≡ At count at line → RowsEnded s n result first second amount front back way count at line
+rows-ended : {s : List ℕ} {ring : Ring} {result : Result} {first second amount front back way : List ℕ} {end : RowsEnd} {count at line : ℕ} →
+    RowsMean s ring result first second amount front back way end → end ≡ At count at line → RowsEnded s ring result first second amount front back way count at line
 rows-ended {count = count} {at = at} {line = line} (rows-at {count = a} {at = b} {line = d} rs c e w l t h) q =
     let ea : a ≡ count = cc in
     let eb : b ≡ at = cc in
@@ -186,59 +190,60 @@ same-checked : {a b : Answer} {f g : Figures} {l1 m1 l2 m2 l3 m3 l4 m4 l5 m5 l6 
 same-checked p q e1 e2 e3 e4 e5 e6 e7 e8 = rw (p, q, e1, e2, e3, e4, e5, e6, e7, e8)
 
 module _ (s : List ℕ) (from n : ℕ) (t : Rows) (read : RowsRead s from n t) where
-  pub rows-stop : (reason : Reason) (line : ℕ) (r : Checked) → t .end ≡ RowsRefused reason line → r ≡ checkedIn (refused reason line) →
-      r ≡ checkedIn (checkFrom desk true (rows n []) 2 (lines (drop from s)))
-  rows-stop reason line r q e = e ∙ ap checkedIn (sym (rows-stopped read q))
+  pub rows-stop : (fibres : ℕ) (reason : Reason) (line : ℕ) (r : Checked) → t .end ≡ RowsRefused reason line → r ≡ checkedIn (refused reason line) →
+      r ≡ checkedIn (checkFrom desk true (rows (ringOf n fibres) []) 2 (lines (drop from s)))
+  rows-stop fibres reason line r q e = e ∙ ap checkedIn (sym (rows-stopped (read .means fibres) q))
 
   module _ (count at line : ℕ) (q : t .end ≡ At count at line) where
-    known : RowsEnded s n (from-rows s n from) (t .first) (t .second) (t .amount) (t .front) (t .back) (t .way) count at line
-    known = rows-ended read q
+    known : (fibres : ℕ) → RowsEnded s (ringOf n fibres) (from-rows s (ringOf n fibres) from) (t .first) (t .second) (t .amount) (t .front) (t .back) (t .way) count at line
+    known fibres = rows-ended (read .means fibres) q
 
+    -- what is known of the columns is known whatever the fibres
     pub place-within : at ≤ length s
-    place-within = known .within
+    place-within = known 0 .within
 
     pub lines-fit : line + n < desk .bytes
-    lines-fit = omega (arith, known .lined, known .table .few, known .table .links)
+    lines-fit = omega (arith, known 0 .lined, known 0 .table .few, known 0 .table .links)
 
     pub rows-table : Table n count (t .first) (t .second) (t .amount)
-    rows-table = known .table
+    rows-table = known 0 .table
 
     pub rows-halves : Halves count (t .front) (t .back)
-    rows-halves = known .halves
+    rows-halves = known 0 .halves
 
-    module _ (e : Ending) (end-read : EndRead s at line n (routedIn count (t .first) (t .second) (t .amount) (t .front) (t .back) (t .way)) e) where
-      is-result : from-rows s n from ≡ cutFrom n (routedIn count (t .first) (t .second) (t .amount) (t .front) (t .back) (t .way)) line (lines (drop at s))
-      is-result = known .is ∙ ap (λ rs. cutFrom n rs line (lines (drop at s))) (sym (known .columns .is))
+    module _ (fibres : ℕ) (e : Ending) (end-read : EndRead s at line (ringOf n fibres) (routedIn count (t .first) (t .second) (t .amount) (t .front) (t .back) (t .way)) e) where
+      is-result : from-rows s (ringOf n fibres) from ≡ cutFrom (ringOf n fibres) (routedIn count (t .first) (t .second) (t .amount) (t .front) (t .back) (t .way)) line (lines (drop at s))
+      is-result = known fibres .is ∙ ap (λ rs. cutFrom (ringOf n fibres) rs line (lines (drop at s))) (sym (known fibres .columns .is))
 
       stops : (reason : Reason) (place : ℕ) (r : Checked) → e .step ≡ StepRefused reason place → r ≡ checkedIn (refused reason place) →
-          r ≡ checkedIn (checkFrom desk true (rows n []) 2 (lines (drop from s)))
+          r ≡ checkedIn (checkFrom desk true (rows (ringOf n fibres) []) 2 (lines (drop from s)))
       stops reason place r f er = er ∙ ap checkedIn (sym (is-result ∙ go end-read f))
         where
-          go : {step : Step} → EndMeans n (routedIn count (t .first) (t .second) (t .amount) (t .front) (t .back) (t .way)) (cutFrom n (routedIn count (t .first) (t .second) (t .amount) (t .front) (t .back) (t .way)) line (lines (drop at s))) e step
-              → step ≡ StepRefused reason place → cutFrom n (routedIn count (t .first) (t .second) (t .amount) (t .front) (t .back) (t .way)) line (lines (drop at s)) ≡ refused reason place
+          go : {step : Step} → EndMeans (ringOf n fibres) (routedIn count (t .first) (t .second) (t .amount) (t .front) (t .back) (t .way)) (cutFrom (ringOf n fibres) (routedIn count (t .first) (t .second) (t .amount) (t .front) (t .back) (t .way)) line (lines (drop at s))) e step
+              → step ≡ StepRefused reason place → cutFrom (ringOf n fibres) (routedIn count (t .first) (t .second) (t .amount) (t .front) (t .back) (t .way)) line (lines (drop at s)) ≡ refused reason place
           go (ends-with c top size a b d u) g = clash (cc)
           go (end-refused {reason = x} {line = y} a) g =
               let ex : x ≡ reason = cc in
               let ey : y ≡ place = cc in
               a ∙ rw (ex, ey)
 
-      pub sheet-ends : (p : ℕ) (r : Checked) → e .step ≡ On p → r ≡ checkedWith count t e → r ≡ checkedIn (checkFrom desk true (rows n []) 2 (lines (drop from s)))
+      pub sheet-ends : (p : ℕ) (r : Checked) → e .step ≡ On p → r ≡ checkedWith count t e → r ≡ checkedIn (checkFrom desk true (rows (ringOf n fibres) []) 2 (lines (drop from s)))
       unfolding checkedIn
       sheet-ends p r f er = er ∙ go end-read f
         where
-          go : {step : Step} → EndMeans n (routedIn count (t .first) (t .second) (t .amount) (t .front) (t .back) (t .way)) (cutFrom n (routedIn count (t .first) (t .second) (t .amount) (t .front) (t .back) (t .way)) line (lines (drop at s))) e step
-              → step ≡ On p → checkedWith count t e ≡ checkedIn (from-rows s n from)
+          go : {step : Step} → EndMeans (ringOf n fibres) (routedIn count (t .first) (t .second) (t .amount) (t .front) (t .back) (t .way)) (cutFrom (ringOf n fibres) (routedIn count (t .first) (t .second) (t .amount) (t .front) (t .back) (t .way)) line (lines (drop at s))) e step
+              → step ≡ On p → checkedWith count t e ≡ checkedIn (from-rows s (ringOf n fibres) from)
           go (ends-with c top size a b d u) g =
-              let k = known .columns in
-              let whole : from-rows s n from ≡ accepted (sheetWith n (known .rs) c (e .split) (e .unsplit) top size) =
-              is-result ∙ a ∙ ap (λ rs. accepted (sheetWith n rs c (e .split) (e .unsplit) top size)) (k .is) in
+              let k = known fibres .columns in
+              let whole : from-rows s (ringOf n fibres) from ≡ accepted (sheetWith (ringOf n fibres) (known fibres .rs) c (e .split) (e .unsplit) top size) =
+              is-result ∙ a ∙ ap (λ rs. accepted (sheetWith (ringOf n fibres) rs c (e .split) (e .unsplit) top size)) (k .is) in
               rw whole (same-checked (ap Is (k .many)) b (k .firsts) (k .seconds) (k .amounts) (k .fronts) (k .backs) (k .ways) d u)
           go (end-refused a) g = clash (cc)
 
-  pub end-stops : (count at line : ℕ) (e : Ending) → EndRead s at line n (routedIn count (t .first) (t .second) (t .amount) (t .front) (t .back) (t .way)) e → t .end ≡ At count at line →
+  pub end-stops : (count at line fibres : ℕ) (e : Ending) → EndRead s at line (ringOf n fibres) (routedIn count (t .first) (t .second) (t .amount) (t .front) (t .back) (t .way)) e → t .end ≡ At count at line →
       (reason : Reason) (place : ℕ) (r : Checked) → e .step ≡ StepRefused reason place → r ≡ checkedIn (refused reason place) →
-      r ≡ checkedIn (checkFrom desk true (rows n []) 2 (lines (drop from s)))
-  end-stops count at line e end-read q = stops count at line q e end-read
+      r ≡ checkedIn (checkFrom desk true (rows (ringOf n fibres) []) 2 (lines (drop from s)))
+  end-stops count at line fibres e end-read q = stops count at line q fibres e end-read
 
 -- ---- the whole sheet
 
@@ -247,37 +252,37 @@ module _ (s : List ℕ) (t : Checked) where
   unfolding check
   too-long h e = e ∙ ap checkedIn (rw (lt-ltb (desk .bytes) (length s) h))
 
-  module _ (short : length s ≤ desk .bytes) (to : ℕ) (ends : NextEnds s 0 to) (x : OneNumber) (ex : x ≡ oneIn (readLine ringShape (take (to - 0) (drop 0 s)))) where
+  module _ (short : length s ≤ desk .bytes) (to : ℕ) (ends : NextEnds s 0 to) (x : TwoNumbers) (ex : x ≡ twoIn (readLine ringShape (take (to - 0) (drop 0 s)))) where
     ring-led : check desk s ≡ after (ringTurn desk x) 1 (λ next. checkFrom desk true next 2 (lines (drop to s)))
     unfolding check turn
     ring-led = rw (le-ltb (desk .bytes) (length s) short) (step-at desk true s 0 to ends start tt 1 ∙ rw (← ex))
 
-    pub no-ring : (p : ℕ) → x ≡ NotOne p → t ≡ checkedIn (refused Misshapen 1) → t ≡ checkedIn (check desk s)
+    pub no-ring : (p : ℕ) → x ≡ NotTwo p → t ≡ checkedIn (refused Misshapen 1) → t ≡ checkedIn (check desk s)
     unfolding ringTurn after
     no-ring p q e = e ∙ ap checkedIn (sym (ring-led ∙ rw q))
 
-    module _ (n : ℕ) (is : x ≡ IsOne n) (v : Verdict) (ev : v ≡ judgeRing desk n) where
+    module _ (n fibres : ℕ) (is : x ≡ AreTwo n fibres) (v : Verdict) (ev : v ≡ judgeRing desk (ringOf n fibres)) where
       pub ring-fault : (reason : Reason) → v ≡ Fault reason → t ≡ checkedIn (refused reason 1) → t ≡ checkedIn (check desk s)
       unfolding ringTurn unless after
       ring-fault reason q e = e ∙ ap checkedIn (sym (ring-led ∙ rw (is, sym ev ∙ q)))
 
-      pub then-rows : v ≡ Fine → t ≡ checkedIn (checkFrom desk true (rows n []) 2 (lines (drop to s))) → t ≡ checkedIn (check desk s)
+      pub then-rows : v ≡ Fine → t ≡ checkedIn (checkFrom desk true (rows (ringOf n fibres) []) 2 (lines (drop to s))) → t ≡ checkedIn (check desk s)
       unfolding ringTurn unless after
       then-rows q e = e ∙ ap checkedIn (sym (ring-led ∙ rw (is, sym ev ∙ q)))
 
 -- a ring that nothing is found against has a size within the limits
-module _ (n : ℕ) (v : Verdict) (ev : v ≡ judgeRing desk n) (fine : v ≡ Fine) where
-  right : RingJudged desk n Fine
-  right = let q = sym ev ∙ fine in rw q at (ring-judged desk n)
+module _ (n fibres : ℕ) (v : Verdict) (ev : v ≡ judgeRing desk (ringOf n fibres)) (fine : v ≡ Fine) where
+  right : RingJudged desk (ringOf n fibres) Fine
+  right = let q = sym ev ∙ fine in rw q at (ring-judged desk (ringOf n fibres))
 
   pub ring-two : desk .fewest ≤ n
   ring-two = go right
     where
-      go : RingJudged desk n Fine → desk .fewest ≤ n
-      go (right-size few many) = few
+      go : RingJudged desk (ringOf n fibres) Fine → desk .fewest ≤ n
+      go (right-ring few many fibred) = few
 
   pub ring-fits : n ≤ desk .nodes
   ring-fits = go right
     where
-      go : RingJudged desk n Fine → n ≤ desk .nodes
-      go (right-size few many) = many
+      go : RingJudged desk (ringOf n fibres) Fine → n ≤ desk .nodes
+      go (right-ring few many fibred) = many

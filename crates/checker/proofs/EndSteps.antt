@@ -9,7 +9,9 @@ use lib.ListN.{length, getD, take, drop, drop-of-length-le, length-drop}
 use mir.Syntax.{w32}
 use mir.Val.{Fits}
 use borrow.Author.Tests.{lt-ltb, le-ltb}
-use Rattle.sonet.specs.Size.{sonetSize}
+use Rattle.sonet.specs.Size.{sonetSizes}
+use Rattle.ring.specs.Ring.{Ring, ringOf}
+use Rattle.ring.specs.LineSize.{lineSize}
 use Rattle.ring.specs.Columns.{column, listed}
 use Rattle.ring.specs.Cut.{Cut}
 use Rattle.ring.specs.Limits.{desk}
@@ -72,13 +74,13 @@ pub record LinksReading (s : List ℕ) (from n start : ℕ) (split unsplit : Lis
   pub lined : line ≡ start + k
   pub many : n ≤ desk .nodes
   pub low : start ≤ desk .bytes
-  pub rest : (rs : List Routed) (c : Cut) (split-peak top largest : ℕ) → Weighed n rs split unsplit split-peak top largest →
-      checkFrom desk true (links n rs c []) start (lines (drop from s)) ≡ checkFrom desk true (links n rs c (linksIn k split unsplit)) line (lines (drop at s))
+  pub rest : (fibres : ℕ) (rs : List Routed) (c : Cut) (split-peak top largest : ℕ) → Weighed n rs split unsplit split-peak top largest →
+      checkFrom desk true (links (ringOf n fibres) rs c []) start (lines (drop from s)) ≡ checkFrom desk true (links (ringOf n fibres) rs c (linksIn k split unsplit)) line (lines (drop at s))
 
 module _ (s : List ℕ) (from n start : ℕ) (split unsplit : List ℕ) where
   pub links-start : from ≤ length s → n ≤ desk .nodes → start ≤ desk .bytes → LinksReading s from n start split unsplit from start 0
   unfolding listed
-  links-start w m l = record { within = w; upto = omega arith; lined = omega arith; many = m; low = l; rest = λ rs c split-peak top largest q. refl }
+  links-start w m l = record { within = w; upto = omega arith; lined = omega arith; many = m; low = l; rest = λ fibres rs c split-peak top largest q. refl }
 
   module _ (at line k : ℕ) (reading : LinksReading s from n start split unsplit at line k) where
     pub links-done : (m : ℕ) → m ≡ n → m ≤ k → LinksRead s from n start split unsplit (On at)
@@ -87,9 +89,9 @@ module _ (s : List ℕ) (from n start : ℕ) (split unsplit : List ℕ) where
         let q : line ≡ start + n = omega (arith, reading .lined) in
         record {
           within = record { place = λ p f. let g : p ≡ at = cc in rw g (reading .within) };
-          means = λ rs c split-peak top largest w. steps-on {at = at} (reading .within)
-              (reading .rest rs c split-peak top largest w ∙ ap (λ m. checkFrom desk true (links n rs c (linksIn m split unsplit)) line (lines (drop at s))) e
-              ∙ ap (λ m. checkFrom desk true (links n rs c (linksIn n split unsplit)) m (lines (drop at s))) q);
+          means = λ fibres rs c split-peak top largest w. steps-on {at = at} (reading .within)
+              (reading .rest fibres rs c split-peak top largest w ∙ ap (λ m. checkFrom desk true (links (ringOf n fibres) rs c (linksIn m split unsplit)) line (lines (drop at s))) e
+              ∙ ap (λ m. checkFrom desk true (links (ringOf n fibres) rs c (linksIn n split unsplit)) m (lines (drop at s))) q);
         }
 
     abbrev ks : List Link
@@ -102,19 +104,19 @@ module _ (s : List ℕ) (from n start : ℕ) (split unsplit : List ℕ) where
     line-fits = omega (arith, reading .lined, reading .upto, reading .many, reading .low)
 
     module _ (m : ℕ) (em : m ≡ n) (below : k < m) (to : ℕ) (ends : NextEnds s at to) (x : ThreeNumbers) (ex : x ≡ threeIn (readLine linkShape (take (to - at) (drop at s)))) where
-      module _ (rs : List Routed) (c : Cut) (split-peak top largest : ℕ) (w : Weighed n rs split unsplit split-peak top largest) where
-        led : checkFrom desk true (links n rs c []) start (lines (drop from s)) ≡ after (linkTurn true n rs c ks x) line (λ next. checkFrom desk true next (line + 1) (lines (drop to s)))
+      module _ (fibres : ℕ) (rs : List Routed) (c : Cut) (split-peak top largest : ℕ) (w : Weighed n rs split unsplit split-peak top largest) where
+        led : checkFrom desk true (links (ringOf n fibres) rs c []) start (lines (drop from s)) ≡ after (linkTurn true (ringOf n fibres) rs c ks x) line (λ next. checkFrom desk true next (line + 1) (lines (drop to s)))
         unfolding turn
         led =
             let few : length ks < n = omega (arith, long) in
-            reading .rest rs c split-peak top largest w ∙ step-at desk true s at to ends (links n rs c ks) tt line ∙ rw (lt-ltb (length ks) n few, ← ex)
+            reading .rest fibres rs c split-peak top largest w ∙ step-at desk true s at to ends (links (ringOf n fibres) rs c ks) tt line ∙ rw (lt-ltb (length ks) n few, ← ex)
 
       pub no-link : (p : ℕ) → x ≡ NotThree p → LinksRead s from n start split unsplit (Refused Misshapen line)
       unfolding linkTurn after
       no-link p q =
           record {
             within = not-on;
-            means = λ rs c split-peak top largest w. step-refused {reason = Misshapen} {line = line} (led rs c split-peak top largest w ∙ rw q);
+            means = λ fibres rs c split-peak top largest w. step-refused {reason = Misshapen} {line = line} (led fibres rs c split-peak top largest w ∙ rw q);
           }
 
       module _ (a b d due : ℕ) (is : x ≡ AreThree a b d) (edue : due ≡ k + 1) (v : Verdict) (ev : v ≡ linkVerdict due (getD split k 0) (getD unsplit k 0) a b d) where
@@ -131,7 +133,7 @@ module _ (s : List ℕ) (from n start : ℕ) (split unsplit : List ℕ) where
         link-fault reason q =
             record {
               within = not-on;
-              means = λ rs c split-peak top largest w. step-refused {reason = reason} {line = line} (led rs c split-peak top largest w ∙ rw (is, judged rs split-peak top largest w ∙ q));
+              means = λ fibres rs c split-peak top largest w. step-refused {reason = reason} {line = line} (led fibres rs c split-peak top largest w ∙ rw (is, judged rs split-peak top largest w ∙ q));
             }
 
         same-link : (rs : List Routed) (split-peak top largest : ℕ) → Weighed n rs split unsplit split-peak top largest → v ≡ Fine → linkOf a b d ≡ linkAt split unsplit k
@@ -152,13 +154,13 @@ module _ (s : List ℕ) (from n start : ℕ) (split unsplit : List ℕ) where
               lined = omega (arith, reading .lined);
               many = reading .many;
               low = reading .low;
-              rest = λ rs c split-peak top largest w.
+              rest = λ fibres rs c split-peak top largest w.
                   let z : 0 + k ≡ k = omega arith in
                   let more : linksIn k split unsplit ++ linkOf a b d ∷ [] ≡ linksIn (k + 1) split unsplit =
                   ap (λ l. linksIn k split unsplit ++ l ∷ []) (same-link rs split-peak top largest w q ∙ ap (linkAt split unsplit) (sym z)) ∙ sym (listed-snoc (linkAt split unsplit) 0 k) in
-                  let turned : after (linkTurn true n rs c ks x) line (λ next. checkFrom desk true next (line + 1) (lines (drop to s))) ≡ checkFrom desk true (links n rs c (ks ++ linkOf a b d ∷ [])) (line + 1) (lines (drop to s)) =
+                  let turned : after (linkTurn true (ringOf n fibres) rs c ks x) line (λ next. checkFrom desk true next (line + 1) (lines (drop to s))) ≡ checkFrom desk true (links (ringOf n fibres) rs c (ks ++ linkOf a b d ∷ [])) (line + 1) (lines (drop to s)) =
                   rw (is, judged rs split-peak top largest w ∙ q) in
-                  led rs c split-peak top largest w ∙ turned ∙ ap (λ l. checkFrom desk true (links n rs c l) (line + 1) (lines (drop to s))) more;
+                  led fibres rs c split-peak top largest w ∙ turned ∙ ap (λ l. checkFrom desk true (links (ringOf n fibres) rs c l) (line + 1) (lines (drop to s))) more;
             }
 
 -- ---- the Z line
@@ -174,54 +176,54 @@ unfolding checkFrom atEnd when lines
 no-line s to h x line = rw (drop-of-length-le s h)
 
 module _ (s : List ℕ) (at line top size : ℕ) (to : ℕ) (ends : NextEnds s at to) (x : TwoNumbers) (ex : x ≡ twoIn (readLine lastShape (take (to - at) (drop at s)))) where
-  module _ (n : ℕ) (rs : List Routed) (c : Cut) (ks : List Link) (all : n ≤ length ks) where
-    last-led : checkFrom desk true (links n rs c ks) line (lines (drop at s)) ≡ after (lastTurn true n rs c ks x) line (λ next. checkFrom desk true next (line + 1) (lines (drop to s)))
+  module _ (ring : Ring) (rs : List Routed) (c : Cut) (ks : List Link) (all : ring .n ≤ length ks) where
+    last-led : checkFrom desk true (links ring rs c ks) line (lines (drop at s)) ≡ after (lastTurn true ring rs c ks x) line (λ next. checkFrom desk true next (line + 1) (lines (drop to s)))
     unfolding turn
-    last-led = step-at desk true s at to ends (links n rs c ks) tt line ∙ rw (le-ltb (length ks) n all, ← ex)
+    last-led = step-at desk true s at to ends (links ring rs c ks) tt line ∙ rw (le-ltb (length ks) (ring .n) all, ← ex)
 
   pub no-last : (p : ℕ) → x ≡ NotTwo p → LastRead s at line top size (Refused Misshapen line)
   unfolding lastTurn after
-  no-last p q = record { within = not-on; means = λ n rs c ks all et ez. step-refused {reason = Misshapen} {line = line} (last-led n rs c ks all ∙ rw q) }
+  no-last p q = record { within = not-on; means = λ ring rs c ks all et ez. step-refused {reason = Misshapen} {line = line} (last-led ring rs c ks all ∙ rw q) }
 
   module _ (p z : ℕ) (is : x ≡ AreTwo p z) (v : Verdict) (ev : v ≡ lastVerdict top size p z) where
-    last-judged : (n : ℕ) (rs : List Routed) → top ≡ peak (unsplitLoad rs) n → size ≡ sonetSize top → judgeLast n rs p z ≡ v
+    last-judged : (ring : Ring) (rs : List Routed) → top ≡ peak (unsplitLoad rs) (ring .n) → size ≡ lineSize sonetSizes (ring .fibres) top → judgeLast ring rs p z ≡ v
     unfolding judgeLast
-    last-judged n rs et ez = sym (ev ∙ rw (ez, et))
+    last-judged ring rs et ez = sym (ev ∙ rw (ez, et))
 
     pub last-fault : (reason : Reason) → v ≡ Fault reason → LastRead s at line top size (Refused reason line)
     unfolding lastTurn unless after when
     last-fault reason q =
         record {
           within = not-on;
-          means = λ n rs c ks all et ez. step-refused {reason = reason} {line = line} (last-led n rs c ks all ∙ rw (is, last-judged n rs et ez ∙ q));
+          means = λ ring rs c ks all et ez. step-refused {reason = reason} {line = line} (last-led ring rs c ks all ∙ rw (is, last-judged ring rs et ez ∙ q));
         }
 
     module _ (q : v ≡ Fine) where
-      ended : (n : ℕ) (rs : List Routed) (c : Cut) (ks : List Link) → n ≤ length ks → top ≡ peak (unsplitLoad rs) n → size ≡ sonetSize top →
-          checkFrom desk true (links n rs c ks) line (lines (drop at s))
-          ≡ checkFrom desk true (end (record { n = n; rows = rs; cut = c; links = ks; peak = top; size = size })) (line + 1) (lines (drop to s))
+      ended : (ring : Ring) (rs : List Routed) (c : Cut) (ks : List Link) → ring .n ≤ length ks → top ≡ peak (unsplitLoad rs) (ring .n) → size ≡ lineSize sonetSizes (ring .fibres) top →
+          checkFrom desk true (links ring rs c ks) line (lines (drop at s))
+          ≡ checkFrom desk true (end (record { ring = ring; rows = rs; cut = c; links = ks; peak = top; size = size })) (line + 1) (lines (drop to s))
       unfolding lastTurn unless after when
-      ended n rs c ks all et ez =
-          let t = last-true n rs p z (last-judged n rs et ez ∙ q) in
+      ended ring rs c ks all et ez =
+          let t = last-true ring rs p z (last-judged ring rs et ez ∙ q) in
           let ep : p ≡ top = t .0 ∙ sym et in
-          let es : z ≡ size = t .1 ∙ ap sonetSize (sym et) ∙ sym ez in
-          let turned : after (lastTurn true n rs c ks x) line (λ next. checkFrom desk true next (line + 1) (lines (drop to s)))
-          ≡ checkFrom desk true (end (record { n = n; rows = rs; cut = c; links = ks; peak = p; size = z })) (line + 1) (lines (drop to s)) =
-          rw (is, last-judged n rs et ez ∙ q) in
-          last-led n rs c ks all ∙ turned ∙ rw (ep, es)
+          let es : z ≡ size = t .1 ∙ ap (lineSize sonetSizes (ring .fibres)) (sym et) ∙ sym ez in
+          let turned : after (lastTurn true ring rs c ks x) line (λ next. checkFrom desk true next (line + 1) (lines (drop to s)))
+          ≡ checkFrom desk true (end (record { ring = ring; rows = rs; cut = c; links = ks; peak = p; size = z })) (line + 1) (lines (drop to s)) =
+          rw (is, last-judged ring rs et ez ∙ q) in
+          last-led ring rs c ks all ∙ turned ∙ rw (ep, es)
 
       pub left-over : to < length s → LastRead s at line top size (Refused Misshapen (line + 1))
       left-over h =
           record {
             within = not-on;
-            means = λ n rs c ks all et ez. step-refused {reason = Misshapen} {line = line + 1} (ended n rs c ks all et ez ∙ some-line s to h (record { n = n; rows = rs; cut = c; links = ks; peak = top; size = size }) (line + 1));
+            means = λ ring rs c ks all et ez. step-refused {reason = Misshapen} {line = line + 1} (ended ring rs c ks all et ez ∙ some-line s to h (record { ring = ring; rows = rs; cut = c; links = ks; peak = top; size = size }) (line + 1));
           }
 
       pub last-done : length s ≤ to → LastRead s at line top size (On to)
       last-done h =
           record {
             within = record { place = λ p f. let g : p ≡ to = cc in rw g (ends .within) };
-            means = λ n rs c ks all et ez. steps-on {at = to} (ends .within) (ended n rs c ks all et ez ∙ no-line s to h (record { n = n; rows = rs; cut = c; links = ks; peak = top; size = size }) (line + 1));
+            means = λ ring rs c ks all et ez. steps-on {at = to} (ends .within) (ended ring rs c ks all et ez ∙ no-line s to h (record { ring = ring; rows = rs; cut = c; links = ks; peak = top; size = size }) (line + 1));
           }
 
 -- ---- a step that was refused is refused, and one that goes on goes on from its place
@@ -241,38 +243,38 @@ step-goes (step-refused e) q = clash (cc)
 
 module _ (s : List ℕ) (at line number split-peak top size largest : ℕ) (r : Step) (last : LastRead s at line top size r) where
   pub whole-stops : (reason : Reason) (place : ℕ) → r ≡ Refused reason place → WholeRead s at line number split-peak top size largest (Refused reason place)
-  whole-stops reason place q = record { means = λ n rs g h ks all es et el ez. step-stops (last .means n rs (cutOf g h number) ks all et ez) q }
+  whole-stops reason place q = record { means = λ ring rs g h ks all es et el ez. step-stops (last .means ring rs (cutOf g h number) ks all et ez) q }
 
   module _ (to : ℕ) (q : r ≡ On to) (v : Verdict) (ev : v ≡ wholeVerdict split-peak number largest top) where
-    module _ (n : ℕ) (rs : List Routed) (g h : ℕ) (ks : List Link) (all : n ≤ length ks) (es : split-peak ≡ peak (splitLoad (sents rs)) n) (et : top ≡ peak (unsplitLoad rs) n)
-        (el : largest ≡ largestSplit (sents rs)) (ez : size ≡ sonetSize top) where
+    module _ (ring : Ring) (rs : List Routed) (g h : ℕ) (ks : List Link) (all : ring .n ≤ length ks) (es : split-peak ≡ peak (splitLoad (sents rs)) (ring .n)) (et : top ≡ peak (unsplitLoad rs) (ring .n))
+        (el : largest ≡ largestSplit (sents rs)) (ez : size ≡ lineSize sonetSizes (ring .fibres) top) where
       abbrev x : Sheet
-      x = record { n = n; rows = rs; cut = cutOf g h number; links = ks; peak = top; size = size }
+      x = record { ring = ring; rows = rs; cut = cutOf g h number; links = ks; peak = top; size = size }
 
       whole-judged : judgeWhole x ≡ v
       unfolding judgeWhole
       whole-judged = sym (ev ∙ rw (es, et, el))
 
-      result : checkFrom desk true (links n rs (cutOf g h number) ks) line (lines (drop at s)) ≡ wholeResult x v
-      result = step-goes (last .means n rs (cutOf g h number) ks all et ez) q ∙ ap (wholeResult x) whole-judged
+      result : checkFrom desk true (links ring rs (cutOf g h number) ks) line (lines (drop at s)) ≡ wholeResult x v
+      result = step-goes (last .means ring rs (cutOf g h number) ks all et ez) q ∙ ap (wholeResult x) whole-judged
 
     pub whole-fault : (reason : Reason) → v ≡ Fault reason → WholeRead s at line number split-peak top size largest (Refused reason 0)
     unfolding wholeResult
     whole-fault reason f =
-        record { means = λ n rs g h ks all es et el ez. step-refused {reason = reason} {line = 0} (result n rs g h ks all es et el ez ∙ ap (wholeResult (x n rs g h ks all es et el ez)) f) }
+        record { means = λ ring rs g h ks all es et el ez. step-refused {reason = reason} {line = 0} (result ring rs g h ks all es et el ez ∙ ap (wholeResult (x ring rs g h ks all es et el ez)) f) }
 
     pub whole-fine : v ≡ Fine → WholeRead s at line number split-peak top size largest (On to)
     unfolding wholeResult
     whole-fine f =
         record {
-          means = λ n rs g h ks all es et el ez. steps-on {at = to} (last .within .place to q) (result n rs g h ks all es et el ez ∙ ap (wholeResult (x n rs g h ks all es et el ez)) f);
+          means = λ ring rs g h ks all es et el ez. steps-on {at = to} (last .within .place to q) (result ring rs g h ks all es et el ez ∙ ap (wholeResult (x ring rs g h ks all es et el ez)) f);
         }
 
 -- ---- the L lines, the Z line and the whole
 
 module _ (s : List ℕ) (at line n number : ℕ) (split unsplit : List ℕ) (split-peak top size largest : ℕ) (r : Step) (read : LinksRead s at n line split unsplit r) where
   pub tail-stops : (reason : Reason) (place : ℕ) → r ≡ Refused reason place → TailRead s at line n number split unsplit split-peak top size largest (Refused reason place)
-  tail-stops reason place q = record { means = λ rs g h w ez. step-stops (read .means rs (cutOf g h number) split-peak top largest w) q }
+  tail-stops reason place q = record { means = λ fibres rs g h w ez. step-stops (read .means fibres rs (cutOf g h number) split-peak top largest w) q }
 
   module _ (behind : ℕ) (q : r ≡ On behind) where
     pub behind-within : behind ≤ length s
@@ -281,9 +283,9 @@ module _ (s : List ℕ) (at line n number : ℕ) (split unsplit : List ℕ) (spl
     pub tail-goes : (t : Step) → WholeRead s behind (line + n) number split-peak top size largest t → TailRead s at line n number split unsplit split-peak top size largest t
     tail-goes t whole =
         record {
-          means = λ rs g h w ez.
+          means = λ fibres rs g h w ez.
               let all : n ≤ length (linksIn n split unsplit) = omega (arith, listed-length (linkAt split unsplit) 0 n) in
-              let e = step-goes (read .means rs (cutOf g h number) split-peak top largest w) q in
-              subst (λ z. StepMeans s z (λ p. accepted (sheetWith n rs (cutOf g h number) split unsplit top size)) t) (sym e)
-              (whole .means n rs g h (linksIn n split unsplit) all (w .split-peaks) (w .tops) (w .largests) ez);
+              let e = step-goes (read .means fibres rs (cutOf g h number) split-peak top largest w) q in
+              subst (λ z. StepMeans s z (λ p. accepted (sheetWith (ringOf n fibres) rs (cutOf g h number) split unsplit top size)) t) (sym e)
+              (whole .means (ringOf n fibres) rs g h (linksIn n split unsplit) all (w .split-peaks) (w .tops) (w .largests) ez);
         }

@@ -11,7 +11,7 @@ use lib.Seq.{drop-drop}
 use Rattle.ring.specs.Limits.{Limits}
 use Rattle.text.specs.ReadLine.{fieldAt, fieldThen, fieldsFrom, readLine}
 use Rattle.text.specs.ReadMark.{markFrom, markAt}
-use Rattle.text.specs.Answers.{oneIn, twoIn, threeIn, sentIn}
+use Rattle.text.specs.Answers.{twoIn, threeIn, sentIn}
 use Rattle.table.specs.Lines.{lines}
 use Rattle.table.specs.LineEnds.{lineLength, LineEnds}
 use Rattle.table.specs.declared.reason.Reason.the-variants.{Misshapen}
@@ -58,15 +58,15 @@ module _ (limits : Limits) (judging : Bool) where
   -- the end of a sheet is the one state that needs no line
   abbrev pub Goes : State → Type 0
   Goes start = Unit {0}
-  Goes (rows n rs) = Unit {0}
-  Goes (links n rs c ks) = Unit {0}
+  Goes (rows ring rs) = Unit {0}
+  Goes (links ring rs c ks) = Unit {0}
   Goes (end x) = ⊥
 
   no-shape : (state : State) → Goes state → turn limits judging state [] ≡ stop Misshapen
-  unfolding turn ringTurn rowTurn cutTurn linkTurn lastTurn oneIn twoIn threeIn sentIn readLine fieldsFrom fieldThen fieldAt markAt markFrom
+  unfolding turn ringTurn rowTurn cutTurn linkTurn lastTurn twoIn threeIn sentIn readLine fieldsFrom fieldThen fieldAt markAt markFrom
   no-shape start g = refl
-  no-shape (rows n rs) g = refl
-  no-shape (links n rs c ks) g = go (ltb (length ks) n)
+  no-shape (rows ring rs) g = refl
+  no-shape (links ring rs c ks) g = go (ltb (length ks) (ring .n))
     where
       go : (t : Bool) → cond t (stop Misshapen) (stop Misshapen) ≡ stop Misshapen
       go true = refl
@@ -76,8 +76,8 @@ module _ (limits : Limits) (judging : Bool) where
   missing : (state : State) → Goes state → (line : ℕ) → atEnd judging state line ≡ refused Misshapen line
   unfolding atEnd
   missing start g line = refl
-  missing (rows n rs) g line = refl
-  missing (links n rs c ks) g line = refl
+  missing (rows ring rs) g line = refl
+  missing (links ring rs c ks) g line = refl
   missing (end x) g line = absurd g
 
   pub step-from : (state : State) → Goes state → (line : ℕ) (ls : List (List ℕ)) →

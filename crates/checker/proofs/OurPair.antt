@@ -5,6 +5,7 @@ use mathlib.Core.Bool.{true≢false}
 use mathlib.Core.List.{List}
 use mathlib.Core.Path.{_≡_, sym, _∙_, subst}
 use Rattle.ring.specs.Lists.{Each, more, Pairs, no-pair, and-pairs}
+use Rattle.ring.specs.Ring.{Ring}
 use Rattle.ring.specs.Row.{Row, TableRows}
 use Rattle.ring.specs.Routing.{Sent}
 use Rattle.ring.specs.Sheet.{sents, plan}
@@ -30,9 +31,10 @@ quiet-none k (and-pairs {a = s} {l = ss} e h) p q x = go (quiet-none (k + 1) h p
     go m (with-head i r c) = not-both (each-at e r) c
     go m (in-tail y) = m y
 
-pub plan-no-pair : (n : ℕ) (rs : List Row) → 2 ≤ n → TableRows n rs → firstPair (sents (plan n rs .rows)) ≡ None
+pub plan-no-pair : (ring : Ring) (rs : List Row) → 2 ≤ ring .n → TableRows (ring .n) rs → firstPair (sents (plan ring rs .rows)) ≡ None
 unfolding plan
-plan-no-pair n rs two table =
+plan-no-pair ring rs two table =
+    let n = ring .n in
     let quiet = untangled n rs two (table .nodes) .quiet in
     let same = directed n rs two (table .nodes) (table-order n rs two table) .same in
-    no-pair-is (sents (plan n rs .rows)) .1 (subst NoPair (sym same) (quiet-none 1 quiet))
+    no-pair-is (sents (plan ring rs .rows)) .1 (subst NoPair (sym same) (quiet-none 1 quiet))

@@ -13,6 +13,7 @@ use mir.Val.{Fits}
 use Rattle.ring.specs.Columns.{column, routedIn}
 use Rattle.ring.specs.Routing.{wayNumber, wayOf, Routed, sent, routed, F}
 use Rattle.ring.specs.Limits.{desk}
+use Rattle.ring.specs.Ring.{ringOf}
 use Rattle.ring.specs.Lists.{Each, none, more}
 use Rattle.ring.specs.Row.{Row, row, OnRing}
 use Rattle.ring.specs.Sheet.{sents, demands}
@@ -156,13 +157,13 @@ module _ (n : ℕ) (rs : List Routed) (few : length rs ≤ desk .rows) (fine : E
 -- ---- the loop
 
 -- checking from the R line on
-abbrev whole : List ℕ → ℕ → ℕ → Result
-whole s n from = checkFrom desk true (rows n []) 2 (lines (drop from s))
+abbrev whole : List ℕ → ℕ → ℕ → ℕ → Result
+whole s n from fibres = checkFrom desk true (rows (ringOf n fibres) []) 2 (lines (drop from s))
 
 -- `count` rows are read, of which the last is a, b; the line `line` begins at the place `at`
 pub record RowsReading (s : List ℕ) (n from line a b count at : ℕ) (first second amount front back way : List ℕ) : Type 0 where
   pub rs : List Routed
-  pub rest : whole s n from ≡ checkFrom desk true (rows n rs) line (lines (drop at s))
+  pub rest : (fibres : ℕ) → whole s n from fibres ≡ checkFrom desk true (rows (ringOf n fibres) rs) line (lines (drop at s))
   pub last : (lastOf rs .i ≡ a) × (lastOf rs .j ≡ b)
   pub many : count ≡ length rs
   pub firsts : first ≡ column (λ (r : Routed). r .sent .row .i) (desk .rows) rs
@@ -187,7 +188,7 @@ unfolding column
 rows-start s n from w two size =
     record {
       rs = [];
-      rest = refl;
+      rest = λ fibres. refl;
       last = (refl, refl);
       many = refl;
       firsts = refl;
@@ -225,7 +226,8 @@ each-more (more q e) p = more q (each-more e p)
 module _ (s : List ℕ) (n from line a b count at : ℕ) (first second amount front back way : List ℕ) (reading : RowsReading s n from line a b count at first second amount front back way) where
   module _ (to : ℕ) (ends : NextEnds s at to) (x : SentRow) (ex : x ≡ sentIn (readLine sentShape (take (to - at) (drop at s)))) where
     -- the next line is no D line: the rows end here
-    pub rows-end : (p : ℕ) → x ≡ NotSent p → RowsMean s n (whole s n from) first second amount front back way (At count at line)
+    pub rows-end : (p : ℕ) → x ≡ NotSent p →
+        RowsRead s from n (record { end = At count at line; first = first; second = second; amount = amount; front = front; back = back; way = way })
     unfolding cutFrom turn rowTurn
     rows-end p q =
         let e = reading .many in
@@ -237,7 +239,7 @@ module _ (s : List ℕ) (n from line a b count at : ℕ) (first second amount fr
         let c4 = reading .fronts in
         let c5 = reading .backs in
         let few : length (reading .rs) ≤ desk .rows = omega (arith, reading .most) in
-        rows-at {count = count} {at = at} {line = line} (reading .rs)
+        record { means = λ fibres. rows-at {count = count} {at = at} {line = line} (reading .rs)
         (record {
           many = e;
           firsts = c1;
@@ -248,26 +250,26 @@ module _ (s : List ℕ) (n from line a b count at : ℕ) (first second amount fr
           ways = reading .ways;
           is = rw (e, c1, c2, c3, c4, c5, reading .ways) (columns-back (reading .rs) few);
         })
-        (reading .rest ∙ step-from desk true (rows n (reading .rs)) tt line (lines (drop at s)) ∙ rw no-row-here)
+        (reading .rest fibres ∙ step-from desk true (rows (ringOf n fibres) (reading .rs)) tt line (lines (drop at s)) ∙ rw no-row-here)
         (reading .within)
         (reading .lined)
         (rw (e, c1, c2, c3) (fine-table n (reading .rs) few (reading .fine) (reading .two) (reading .size)))
-        (rw (e, c4, c5) (fine-halves n (reading .rs) few (reading .fine)))
+        (rw (e, c4, c5) (fine-halves n (reading .rs) few (reading .fine))) }
 
     module _ (i j d f k w : ℕ) (is : x ≡ IsSent i j d f k w) (v : Verdict) (ev : v ≡ sentVerdict desk n count a b (routedOf i j d f k w)) where
       -- what is found against it decides
-      led : whole s n from ≡ after (unless v (rows n (reading .rs ++ routedOf i j d f k w ∷ []))) line (λ next. checkFrom desk true next (line + 1) (lines (drop to s)))
+      led : (fibres : ℕ) → whole s n from fibres ≡ after (unless v (rows (ringOf n fibres) (reading .rs ++ routedOf i j d f k w ∷ []))) line (λ next. checkFrom desk true next (line + 1) (lines (drop to s)))
       unfolding turn rowTurn sentVerdict when
-      led =
+      led fibres =
           let e = reading .many in
           let u = reading .last .0 in
           let w′ = reading .last .1 in
           let found : sentVerdict desk n (length (reading .rs)) (lastOf (reading .rs) .i) (lastOf (reading .rs) .j) (routedOf i j d f k w) ≡ v = rw (← e, u, w′) (sym ev) in
-          reading .rest ∙ step-at desk true s at to ends (rows n (reading .rs)) tt line ∙ rw (← ex, is, found)
+          reading .rest fibres ∙ step-at desk true s at to ends (rows (ringOf n fibres) (reading .rs)) tt line ∙ rw (← ex, is, found)
 
       pub row-stops : (reason : Reason) (t : Rows) → v ≡ Fault reason → t .end ≡ Refused reason line → RowsRead s from n t
       unfolding unless after
-      row-stops reason t q e = rw e (rows-refused {reason = reason} {line = line} (led ∙ rw q))
+      row-stops reason t q e = record { means = λ fibres. rw e (rows-refused {reason = reason} {line = line} (led fibres ∙ rw q)) }
 
       row-here : IsRow (take (to - at) (drop at s)) w
       row-here = go (rw (← ex, is) at (sent-read (take (to - at) (drop at s))))
@@ -301,7 +303,7 @@ module _ (s : List ℕ) (n from line a b count at : ℕ) (first second amount fr
             let ew : w ≡ wayNumber (wayOf w) = way-there w (row-here .way) in
             record {
               rs = rs ++ r ∷ [];
-              rest = led ∙ rw fine;
+              rest = λ fibres. led fibres ∙ rw fine;
               last = (ap (λ (q : Row). q .i) (last-more rs r), ap (λ (q : Row). q .j) (last-more rs r));
               many = omega (arith, e, length-append rs (r ∷ []));
               firsts = ap (λ l. set l count i) (reading .firsts) ∙ column-more (λ (r : Routed). r .sent .row .i) (desk .rows) rs r count e;

@@ -42,7 +42,7 @@ module _ (s : List ℕ) (c : Checked) where
       let h = check-text desk desk-spelled s x .0 q .1 in
       let few : length (x .rows) ≤ desk .rows = h .0 .count in
       let rows = columns-back (x .rows) few in
-      let links = links-back (x .n) (x .links) (h .0 .many) (h .1 .links) in
+      let links = links-back (x .ring .n) (x .links) (h .0 .many) (h .1 .links) in
       let first = sents-in (length (x .rows)) (column (λ (r : Routed). r .sent .row .i) (desk .rows) (x .rows)) (column (λ (r : Routed). r .sent .row .j) (desk .rows) (x .rows)) (column (λ (r : Routed). r .sent .row .d) (desk .rows) (x .rows))
       (column (λ (r : Routed). r .sent .front) (desk .rows) (x .rows)) (column (λ (r : Routed). r .sent .back) (desk .rows) (x .rows)) (column (λ (r : Routed). wayNumber (r .way)) (desk .rows) (x .rows)) in
       record {

@@ -14,7 +14,7 @@ use Rattle.checker.specs.declared.check.Answer.the-variants.{Is, Refused
 
 -- no figure
 abbrev pub noFigures : Figures
-noFigures = record { n = 0; g = 0; h = 0; across = 0; peak = 0; size = 0 }
+noFigures = record { n = 0; fibres = 0; g = 0; h = 0; across = 0; peak = 0; size = 0 }
 
 -- an answer beside the columns of rows and links
 abbrev pub beside : Answer → Figures → List Routed → List Link → Checked

@@ -4,7 +4,9 @@ use mathlib.Core.Bool.{true}
 use mathlib.Core.List.{List, [], _∷_}
 use mathlib.Core.Path.{_≡_}
 use lib.ListN.{length, drop}
-use Rattle.sonet.specs.Size.{sonetSize}
+use Rattle.sonet.specs.Size.{sonetSizes}
+use Rattle.ring.specs.Ring.{Ring, ringOf}
+use Rattle.ring.specs.LineSize.{lineSize}
 use Rattle.ring.specs.Columns.{column, routedIn}
 use Rattle.ring.specs.Routing.{wayNumber, Routed, splitLoad, unsplitLoad, peak}
 use Rattle.ring.specs.Cut.{Cut}
@@ -60,9 +62,9 @@ unfolding orElse
 sentVerdict limits n k a b r = orElse (judgeRow limits n k a b (r .sent .row .i) (r .sent .row .j) (r .sent .row .d)) (judgeHalves r)
 
 -- from the C line on
-unfoldable pub cutFrom : ℕ → List Routed → ℕ → List (List ℕ) → Result
+unfoldable pub cutFrom : Ring → List Routed → ℕ → List (List ℕ) → Result
 unfolding after cutTurn checkFrom firstOf behindFirst
-cutFrom n rs line ls = after (cutTurn true n rs (threeIn (readLine cutShape (firstOf ls)))) line λ next. checkFrom desk true next (line + 1) (behindFirst ls)
+cutFrom ring rs line ls = after (cutTurn true ring rs (threeIn (readLine cutShape (firstOf ls)))) line λ next. checkFrom desk true next (line + 1) (behindFirst ls)
 
 -- the rows rs stand in columns, from place 0 on, and zeros behind them
 pub record Columns (rs : List Routed) (count : ℕ) (first second amount front back way : List ℕ) : Type 0 where
@@ -76,14 +78,15 @@ pub record Columns (rs : List Routed) (count : ℕ) (first second amount front b
   pub is : routedIn count first second amount front back way ≡ rs
 
 -- what the rows that were read lead to, and what is known of their columns
-pub data RowsMean (s : List ℕ) (n : ℕ) (result : Result) (first second amount front back way : List ℕ) : RowsEnd → Type 0 where
-  rows-at : {count at line : ℕ} (rs : List Routed) → Columns rs count first second amount front back way → result ≡ cutFrom n rs line (lines (drop at s))
-      → at ≤ length s → line ≡ count + 2 → Table n count first second amount → Halves count front back → RowsMean s n result first second amount front back way (At count at line)
-  rows-refused : {reason : Reason} {line : ℕ} → result ≡ refused reason line → RowsMean s n result first second amount front back way (RowsRefused reason line)
+pub data RowsMean (s : List ℕ) (ring : Ring) (result : Result) (first second amount front back way : List ℕ) : RowsEnd → Type 0 where
+  rows-at : {count at line : ℕ} (rs : List Routed) → Columns rs count first second amount front back way → result ≡ cutFrom ring rs line (lines (drop at s))
+      → at ≤ length s → line ≡ count + 2 → Table (ring .n) count first second amount → Halves count front back → RowsMean s ring result first second amount front back way (At count at line)
+  rows-refused : {reason : Reason} {line : ℕ} → result ≡ refused reason line → RowsMean s ring result first second amount front back way (RowsRefused reason line)
 
-abbrev pub RowsRead : List ℕ → ℕ → ℕ → Rows → Type 0
-RowsRead s from n r =
-    RowsMean s n (checkFrom desk true (rows n []) 2 (lines (drop from s))) (r .first) (r .second) (r .amount) (r .front) (r .back) (r .way) (r .end)
+-- whatever the fibres: rows are judged by the number of nodes alone
+pub record RowsRead (s : List ℕ) (from n : ℕ) (r : Rows) : Type 0 where
+  pub means : (fibres : ℕ) →
+      RowsMean s (ringOf n fibres) (checkFrom desk true (rows (ringOf n fibres) []) 2 (lines (drop from s))) (r .first) (r .second) (r .amount) (r .front) (r .back) (r .way) (r .end)
 
 -- ---- the lines behind them
 
@@ -105,51 +108,51 @@ pub record Within (s : List ℕ) (r : Step) : Type 0 where
   pub place : (at : ℕ) → r ≡ On at → at ≤ length s
 
 -- the sheet of rows, of a cut and of true figures
-abbrev pub sheetWith : ℕ → List Routed → Cut → List ℕ → List ℕ → ℕ → ℕ → Sheet
-sheetWith n rs c split unsplit top size = record { n = n; rows = rs; cut = c; links = linksIn n split unsplit; peak = top; size = size }
+abbrev pub sheetWith : Ring → List Routed → Cut → List ℕ → List ℕ → ℕ → ℕ → Sheet
+sheetWith ring rs c split unsplit top size = record { ring = ring; rows = rs; cut = c; links = linksIn (ring .n) split unsplit; peak = top; size = size }
 
 -- the L lines: behind the cut and no link, to behind the last link
 pub record LinksRead (s : List ℕ) (from n line : ℕ) (split unsplit : List ℕ) (r : Step) : Type 0 where
   pub within : Within s r
-  pub means : (rs : List Routed) (c : Cut) (split-peak top largest : ℕ) → Weighed n rs split unsplit split-peak top largest →
-      StepMeans s (checkFrom desk true (links n rs c []) line (lines (drop from s)))
-      (λ at. checkFrom desk true (links n rs c (linksIn n split unsplit)) (line + n) (lines (drop at s))) r
+  pub means : (fibres : ℕ) (rs : List Routed) (c : Cut) (split-peak top largest : ℕ) → Weighed n rs split unsplit split-peak top largest →
+      StepMeans s (checkFrom desk true (links (ringOf n fibres) rs c []) line (lines (drop from s)))
+      (λ at. checkFrom desk true (links (ringOf n fibres) rs c (linksIn n split unsplit)) (line + n) (lines (drop at s))) r
 
 -- the Z line, and nothing behind it
 pub record LastRead (s : List ℕ) (at line top size : ℕ) (r : Step) : Type 0 where
   pub within : Within s r
-  pub means : (n : ℕ) (rs : List Routed) (c : Cut) (ks : List Link) → n ≤ length ks → top ≡ peak (unsplitLoad rs) n → size ≡ sonetSize top →
-      let x : Sheet = record { n = n; rows = rs; cut = c; links = ks; peak = top; size = size } in
-      StepMeans s (checkFrom desk true (links n rs c ks) line (lines (drop at s))) (λ p. wholeResult x (judgeWhole x)) r
+  pub means : (ring : Ring) (rs : List Routed) (c : Cut) (ks : List Link) → ring .n ≤ length ks → top ≡ peak (unsplitLoad rs) (ring .n) → size ≡ lineSize sonetSizes (ring .fibres) top →
+      let x : Sheet = record { ring = ring; rows = rs; cut = c; links = ks; peak = top; size = size } in
+      StepMeans s (checkFrom desk true (links ring rs c ks) line (lines (drop at s))) (λ p. wholeResult x (judgeWhole x)) r
 
 -- the Z line, and then the whole sheet
 pub record WholeRead (s : List ℕ) (at line number split-peak top size largest : ℕ) (r : Step) : Type 0 where
-  pub means : (n : ℕ) (rs : List Routed) (g h : ℕ) (ks : List Link) → n ≤ length ks → split-peak ≡ peak (splitLoad (sents rs)) n → top ≡ peak (unsplitLoad rs) n →
-      largest ≡ largestSplit (sents rs) → size ≡ sonetSize top →
-      let x : Sheet = record { n = n; rows = rs; cut = cutOf g h number; links = ks; peak = top; size = size } in
-      StepMeans s (checkFrom desk true (links n rs (cutOf g h number) ks) line (lines (drop at s))) (λ p. accepted x) r
+  pub means : (ring : Ring) (rs : List Routed) (g h : ℕ) (ks : List Link) → ring .n ≤ length ks → split-peak ≡ peak (splitLoad (sents rs)) (ring .n) → top ≡ peak (unsplitLoad rs) (ring .n) →
+      largest ≡ largestSplit (sents rs) → size ≡ lineSize sonetSizes (ring .fibres) top →
+      let x : Sheet = record { ring = ring; rows = rs; cut = cutOf g h number; links = ks; peak = top; size = size } in
+      StepMeans s (checkFrom desk true (links ring rs (cutOf g h number) ks) line (lines (drop at s))) (λ p. accepted x) r
 
 -- all of them
 pub record TailRead (s : List ℕ) (at line n number : ℕ) (split unsplit : List ℕ) (split-peak top size largest : ℕ) (r : Step) : Type 0 where
-  pub means : (rs : List Routed) (g h : ℕ) → Weighed n rs split unsplit split-peak top largest → size ≡ sonetSize top →
-      StepMeans s (checkFrom desk true (links n rs (cutOf g h number) []) line (lines (drop at s)))
-      (λ p. accepted (sheetWith n rs (cutOf g h number) split unsplit top size)) r
+  pub means : (fibres : ℕ) (rs : List Routed) (g h : ℕ) → Weighed n rs split unsplit split-peak top largest → size ≡ lineSize sonetSizes fibres top →
+      StepMeans s (checkFrom desk true (links (ringOf n fibres) rs (cutOf g h number) []) line (lines (drop at s)))
+      (λ p. accepted (sheetWith (ringOf n fibres) rs (cutOf g h number) split unsplit top size)) r
 
 -- what a refusal returns beside its step does not count; else the figures and the loads are those of the sheet
-pub data EndMeans (n : ℕ) (rs : List Routed) (result : Result) (r : Ending) : Step → Type 0 where
-  ends-with : {at : ℕ} (c : Cut) (top size : ℕ) → result ≡ accepted (sheetWith n rs c (r .split) (r .unsplit) top size)
-      → r .figures ≡ figuresOf (sheetWith n rs c (r .split) (r .unsplit) top size)
-      → r .split ≡ column (λ (l : Link). l .split) (desk .nodes) (linksIn n (r .split) (r .unsplit))
-      → r .unsplit ≡ column (λ (l : Link). l .unsplit) (desk .nodes) (linksIn n (r .split) (r .unsplit)) → EndMeans n rs result r (On at)
-  end-refused : {reason : Reason} {line : ℕ} → result ≡ refused reason line → EndMeans n rs result r (StepRefused reason line)
+pub data EndMeans (ring : Ring) (rs : List Routed) (result : Result) (r : Ending) : Step → Type 0 where
+  ends-with : {at : ℕ} (c : Cut) (top size : ℕ) → result ≡ accepted (sheetWith ring rs c (r .split) (r .unsplit) top size)
+      → r .figures ≡ figuresOf (sheetWith ring rs c (r .split) (r .unsplit) top size)
+      → r .split ≡ column (λ (l : Link). l .split) (desk .nodes) (linksIn (ring .n) (r .split) (r .unsplit))
+      → r .unsplit ≡ column (λ (l : Link). l .unsplit) (desk .nodes) (linksIn (ring .n) (r .split) (r .unsplit)) → EndMeans ring rs result r (On at)
+  end-refused : {reason : Reason} {line : ℕ} → result ≡ refused reason line → EndMeans ring rs result r (StepRefused reason line)
 
 -- from the C line on
-abbrev pub EndRead : List ℕ → ℕ → ℕ → ℕ → List Routed → Ending → Type 0
-EndRead s at line n rs r = EndMeans n rs (cutFrom n rs line (lines (drop at s))) r (r .step)
+abbrev pub EndRead : List ℕ → ℕ → ℕ → Ring → List Routed → Ending → Type 0
+EndRead s at line ring rs r = EndMeans ring rs (cutFrom ring rs line (lines (drop at s))) r (r .step)
 
 -- behind the cut g, h
-abbrev pub WeighedRead : List ℕ → ℕ → ℕ → ℕ → List Routed → ℕ → ℕ → ℕ → Ending → Type 0
-WeighedRead s at line n rs g h number r = EndMeans n rs (checkFrom desk true (links n rs (cutOf g h number) []) line (lines (drop at s))) r (r .step)
+abbrev pub WeighedRead : List ℕ → ℕ → ℕ → Ring → List Routed → ℕ → ℕ → ℕ → Ending → Type 0
+WeighedRead s at line ring rs g h number r = EndMeans ring rs (checkFrom desk true (links ring rs (cutOf g h number) []) line (lines (drop at s))) r (r .step)
 
 -- the columns of rows and the figures behind them, side by side
 abbrev pub checkedWith : ℕ → Rows → Ending → Checked

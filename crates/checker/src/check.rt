@@ -13,13 +13,14 @@ use sheet::Figures;
 use table::Reason;
 use table::Verdict;
 use table::judge_ring;
-use text::OneNumber;
+use text::TwoNumbers;
 ghost use mathlib.Core.Bool.{true};
 ghost use mathlib.Core.Path.{_≡_};
 ghost use mathlib.Core.List.{[]};
 ghost use Prim.Native.Nat.{_≤_};
 ghost use lib.ListN.{length, drop};
 ghost use Rattle.ring.specs.Limits.{desk};
+ghost use Rattle.ring.specs.Ring.{ringOf};
 ghost use Rattle.table.specs.Lines.{lines};
 ghost use Rattle.sheet.specs.Check.{refused, checkFrom, check};
 ghost use Rattle.sheet.specs.Says.{rows};
@@ -53,6 +54,7 @@ fn refusal(reason: Reason, line: u32) -> Checked
         answer: Answer::Refused(reason, line),
         figures: Figures {
             n: 0,
+            fibres: 0,
             g: 0,
             h: 0,
             across: 0,
@@ -97,10 +99,10 @@ fn sheet_of(count: usize, t: Rows, e: Ending) -> Checked
     }
 }
 
-// A sheet of a ring of n nodes, from the place `from` behind its R line on.
-fn check_rows(s: &[u8], from: usize, n: u32) -> Checked
+// A sheet of a ring of n nodes and so many fibres, from the place `from` behind its R line on.
+fn check_rows(s: &[u8], from: usize, n: u32, fibres: u32) -> Checked
     requires { ⌜ (from ≤ length (now s)) × ((desk .fewest ≤ n) × (n ≤ desk .nodes)) ⌝ }
-    ensures { λ r. ⌜ r ≡ checkedIn (checkFrom desk true (rows n []) 2 (lines (drop from (now (s .entry))))) ⌝ }
+    ensures { λ r. ⌜ r ≡ checkedIn (checkFrom desk true (rows (ringOf n fibres) []) 2 (lines (drop from (now (s .entry))))) ⌝ }
 {
     let t = read_rows(s, from, n);
     let end = t.end;
@@ -112,6 +114,7 @@ fn check_rows(s: &[u8], from: usize, n: u32) -> Checked
                 at,
                 line,
                 n,
+                fibres,
                 count,
                 &t.first,
                 &t.second,
@@ -137,12 +140,12 @@ pub fn check_sheet(s: &[u8]) -> Checked
     }
     let end = next_end(s, 0);
     let ring = text::read_ring(&s[0..end]);
-    let OneNumber::Is(n) = ring else {
+    let TwoNumbers::Are(n, fibres) = ring else {
         return refusal(Reason::Misshapen, 1);
     };
-    let verdict = judge_ring(n);
+    let verdict = judge_ring(n, fibres);
     if let Verdict::Fault(reason) = verdict {
         return refusal(reason, 1);
     }
-    check_rows(s, end, n)
+    check_rows(s, end, n, fibres)
 }

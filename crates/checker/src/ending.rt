@@ -6,6 +6,7 @@ use crate::judge::judge_whole;
 use crate::next::next_end;
 use ring::LINKS;
 use ring::ROWS;
+use ring::must_carry;
 use ring::wide;
 use sheet::Figures;
 use sonet::Sonet;
@@ -18,6 +19,7 @@ ghost use Prim.Native.Nat.{_+_, _≤_, _<_};
 ghost use lib.ListN.{length};
 ghost use Rattle.ring.specs.Columns.{routedIn};
 ghost use Rattle.ring.specs.Limits.{desk};
+ghost use Rattle.ring.specs.Ring.{ringOf};
 ghost use Rattle.router.specs.Rows.{Table};
 ghost use Rattle.router.specs.Arrays.{Halves};
 ghost use Rattle.checker.specs.Parts.{LinksRead, LastRead, WholeRead, TailRead, EndRead, WeighedRead};
@@ -158,6 +160,7 @@ fn stopped(reason: Reason, line: u32) -> Ending
         step: Step::Refused(reason, line),
         figures: Figures {
             n: 0,
+            fibres: 0,
             g: 0,
             h: 0,
             across: 0,
@@ -175,6 +178,7 @@ fn weighed<'a>(
     at: usize,
     line: u32,
     n: u32,
+    fibres: u32,
     count: usize,
     first: &'a [u32; ROWS],
     second: &'a [u32; ROWS],
@@ -189,13 +193,14 @@ fn weighed<'a>(
     requires { ⌜ (at ≤ length (now s)) × (line + n ≤ desk .bytes) ⌝ }
     requires { ⌜ Table n count (now first) (now second) (now amount) ⌝ }
     requires { ⌜ Halves count (now front) (now back) ⌝ }
-    ensures { λ r. ⌜ WeighedRead (now (s .entry)) at line n (routedIn count (now (first .entry)) (now (second .entry)) (now (amount .entry)) (now (front .entry)) (now (back .entry)) (now (way .entry))) g h number r ⌝ }
+    ensures { λ r. ⌜ WeighedRead (now (s .entry)) at line (ringOf n fibres) (routedIn count (now (first .entry)) (now (second .entry)) (now (amount .entry)) (now (front .entry)) (now (back .entry)) (now (way .entry))) g h number r ⌝ }
 {
     let w = router::weigh(n, count, first, second, amount, front, back, way);
     let split = w.split;
     let unsplit = w.unsplit;
     let peak = w.peak;
-    let size = Sonet::size(peak);
+    let carried = must_carry(fibres, peak);
+    let size = Sonet::size(carried);
     let step = check_tail(
         s,
         at,
@@ -213,6 +218,7 @@ fn weighed<'a>(
         step,
         figures: Figures {
             n,
+            fibres,
             g,
             h,
             across: number,
@@ -230,6 +236,7 @@ pub(crate) fn finish<'a>(
     at: usize,
     line: u32,
     n: u32,
+    fibres: u32,
     count: usize,
     first: &'a [u32; ROWS],
     second: &'a [u32; ROWS],
@@ -241,7 +248,7 @@ pub(crate) fn finish<'a>(
     requires { ⌜ (at ≤ length (now s)) × (line + n < desk .bytes) ⌝ }
     requires { ⌜ Table n count (now first) (now second) (now amount) ⌝ }
     requires { ⌜ Halves count (now front) (now back) ⌝ }
-    ensures { λ r. ⌜ EndRead (now (s .entry)) at line n (routedIn count (now (first .entry)) (now (second .entry)) (now (amount .entry)) (now (front .entry)) (now (back .entry)) (now (way .entry))) r ⌝ }
+    ensures { λ r. ⌜ EndRead (now (s .entry)) at line (ringOf n fibres) (routedIn count (now (first .entry)) (now (second .entry)) (now (amount .entry)) (now (front .entry)) (now (back .entry)) (now (way .entry))) r ⌝ }
 {
     let end = next_end(s, at);
     let cut = text::read_cut(&s[at..end]);
@@ -257,6 +264,7 @@ pub(crate) fn finish<'a>(
         end,
         line + 1,
         n,
+        fibres,
         count,
         first,
         second,

@@ -4,6 +4,7 @@ use mathlib.Core.List.{List}
 use mathlib.Core.Path.{_≡_, ap, _∙_}
 use Rattle.ring.specs.Limits.{desk}
 use Rattle.ring.specs.Columns.{rowsIn}
+use Rattle.ring.specs.Ring.{ringOf}
 use Rattle.table.specs.Table.{writeTable}
 use Rattle.table.specs.ReadTable.{tableOf}
 use Rattle.table.specs.Arrays.{tableIn}
@@ -26,13 +27,13 @@ module _ (s old : List ℕ) (t : Table) (e : t ≡ tableIn (tableOf desk s)) whe
   unfolding tableAfresh ofTable
   table-refused reason line r a = refuses (tableAfresh s) old reason line r (rw (table-told.told-refusal s t e reason line a))
 
-  module _ (n count : ℕ) (a : t .answer ≡ Is n count) where
+  module _ (n fibres count : ℕ) (a : t .answer ≡ Is n fibres count) where
     pub rows-have-room : count ≤ desk .rows
-    rows-have-room = table-told.told-table s t e n count a .room
+    rows-have-room = table-told.told-table s t e n fibres count a .room
 
-    pub table-fills : (new : List ℕ) (r : Reply) → Fills (write (writeTable n (rowsIn count (t .first) (t .second) (t .amount)))) old new r → Fills (tableAfresh s) old new r
+    pub table-fills : (new : List ℕ) (r : Reply) → Fills (write (writeTable (ringOf n fibres) (rowsIn count (t .first) (t .second) (t .amount)))) old new r → Fills (tableAfresh s) old new r
     unfolding tableAfresh ofTable
-    table-fills new r = same-fills old new r (rw (table-told.told-table s t e n count a .is))
+    table-fills new r = same-fills old new r (rw (table-told.told-table s t e n fibres count a .is))
 
 -- ---- from a matrix
 
@@ -41,13 +42,13 @@ module _ (s old : List ℕ) (t : Table) (e : t ≡ tableIn (tableFrom (matrixOf 
   unfolding matrixRead ofTable tableFrom
   matrix-refused reason line r a = refuses (matrixRead s) old reason line r (rw (matrix-told.told-refusal s t e reason line a))
 
-  module _ (n count : ℕ) (a : t .answer ≡ Is n count) where
+  module _ (n fibres count : ℕ) (a : t .answer ≡ Is n fibres count) where
     pub matrix-rows-have-room : count ≤ desk .rows
-    matrix-rows-have-room = matrix-told.told-matrix s t e n count a .room
+    matrix-rows-have-room = matrix-told.told-matrix s t e n fibres count a .room
 
-    pub matrix-fills : (new : List ℕ) (r : Reply) → Fills (write (writeTable n (rowsIn count (t .first) (t .second) (t .amount)))) old new r → Fills (matrixRead s) old new r
+    pub matrix-fills : (new : List ℕ) (r : Reply) → Fills (write (writeTable (ringOf n fibres) (rowsIn count (t .first) (t .second) (t .amount)))) old new r → Fills (matrixRead s) old new r
     unfolding matrixRead ofTable tableFrom
     matrix-fills new r =
-        let told = matrix-told.told-matrix s t e n count a in
+        let told = matrix-told.told-matrix s t e n fibres count a in
         let rows = told .rows in
         same-fills old new r (rw (told .is, rows))

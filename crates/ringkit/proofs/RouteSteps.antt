@@ -6,6 +6,7 @@ use native.Mathlib.Decide.{ℕ-discrete}
 use native.Mathlib.Omega.{arith}
 use lib.ListN.{length}
 use Rattle.ring.specs.Limits.{desk}
+use Rattle.ring.specs.Ring.{ringOf}
 use Rattle.ring.specs.Lists.{Each, more}
 use Rattle.ring.specs.Row.{Row, OnRing}
 use Rattle.ring.specs.Sheet.{Sheet, plan, sents, demands}
@@ -43,15 +44,15 @@ module _ (s old : List ℕ) (t : Table) (e : t ≡ tableIn (tableOf desk s)) whe
   unfolding tableRouted ofTable
   route-refused reason line r a = refuses (tableRouted s) old reason line r (rw (told-refusal s t e reason line a))
 
-  module _ (n count : ℕ) (a : t .answer ≡ Is n count) where
+  module _ (n fibres count : ℕ) (a : t .answer ≡ Is n fibres count) where
     abbrev rows : List Row
     rows = rowsIn count (t .first) (t .second) (t .amount)
 
-    told : Told s n count (t .first) (t .second) (t .amount)
-    told = told-table s t e n count a
+    told : Told s n fibres count (t .first) (t .second) (t .amount)
+    told = told-table s t e n fibres count a
 
-    range : InRange desk n rows
-    range = table-text desk desk-spelled s n rows .0 (told .is) .1
+    range : InRange desk (ringOf n fibres) rows
+    range = table-text desk desk-spelled s (ringOf n fibres) rows .0 (told .is) .1
 
     -- the table's rows, or as many of them as there are up to some place, are what the router takes
     pub router-takes : (some : ℕ) → some ≤ count → router.Table n some (t .first) (t .second) (t .amount)
@@ -71,23 +72,23 @@ module _ (s old : List ℕ) (t : Table) (e : t ≡ tableIn (tableOf desk s)) whe
     links-have-room = range .many
 
     -- the plan is of the table's rows, and its links run from 1 to n
-    same : demands (sents (plan n rows .rows)) ≡ rows
-    same = plan-demands n rows (range .few) (range .rows)
+    same : demands (sents (plan (ringOf n fibres) rows .rows)) ≡ rows
+    same = plan-demands (ringOf n fibres) rows (range .few) (range .rows)
 
-    many : length (plan n rows .rows) ≡ count
+    many : length (plan (ringOf n fibres) rows .rows) ≡ count
     many =
-        sym (demands-length (plan n rows .rows)) ∙ ap length same
+        sym (demands-length (plan (ringOf n fibres) rows .rows)) ∙ ap length same
         ∙ listed-length (rowAt (t .first) (t .second) (t .amount)) 0 count
 
-    module _ (p : Plan) (ep : p ≡ planIn (plan n rows)) where
+    module _ (p : Plan) (ep : p ≡ planIn (plan (ringOf n fibres) rows)) where
       -- the sheet that the router's columns hold
       abbrev pub sheet : Sheet
       sheet =
-          sheetIn (record { n = n; g = p .g; h = p .h; across = p .across; peak = p .peak; size = p .size }) count (t .first) (t .second) (t .amount) (p .front) (p .back) (p .way) (p .split) (p .unsplit)
+          sheetIn (record { n = n; fibres = fibres; g = p .g; h = p .h; across = p .across; peak = p .peak; size = p .size }) count (t .first) (t .second) (t .amount) (p .front) (p .back) (p .way) (p .split) (p .unsplit)
 
-      is-plan : sheet ≡ plan n rows
+      is-plan : sheet ≡ plan (ringOf n fibres) rows
       unfolding planIn plan
-      is-plan = rw ep (sheet-back (plan n rows) count (t .first) (t .second) (t .amount) many (told .room) (range .many) same (plan-true n rows (range .few) (range .rows) .links))
+      is-plan = rw ep (sheet-back (plan (ringOf n fibres) rows) count (t .first) (t .second) (t .amount) many (told .room) (range .many) same (plan-true (ringOf n fibres) rows (range .few) (range .rows) .links))
 
       is-text : tableRouted s ≡ write (writeSheet sheet)
       unfolding tableRouted ofTable

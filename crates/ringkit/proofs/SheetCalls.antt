@@ -219,27 +219,27 @@ parallel-promise t r e =
 -- ---- what routing writes
 
 module _ (t text : List ℕ) (due : TableDue sheetDue t text) where
-  routed-of : SheetOf text (plan (due .n) (due .rs))
+  routed-of : SheetOf text (plan (due .ring) (due .rs))
   routed-of =
       record {
         text = due .is;
-        range = plan-in-range (due .n) (due .rs) (due .of .range);
-        true-sheet = plan-true (due .n) (due .rs) (due .of .range .few) (due .of .range .rows);
+        range = plan-in-range (due .ring) (due .rs) (due .of .range);
+        true-sheet = plan-true (due .ring) (due .rs) (due .of .range .few) (due .of .range .rows);
       }
 
-  accepted-sheet : check desk text ≡ accepted (plan (due .n) (due .rs))
-  accepted-sheet = checked-is text (plan (due .n) (due .rs)) .1 routed-of
+  accepted-sheet : check desk text ≡ accepted (plan (due .ring) (due .rs))
+  accepted-sheet = checked-is text (plan (due .ring) (due .rs)) .1 routed-of
 
   -- the checker accepts the sheet that is due, and it has no parallel split pair
   due-accepted-sheet : Accepted desk text
-  due-accepted-sheet = accepted-as text (plan (due .n) (due .rs)) accepted-sheet
+  due-accepted-sheet = accepted-as text (plan (due .ring) (due .rs)) accepted-sheet
 
   due-no-pair : NoPairOf text
   due-no-pair =
       record {
-        x = plan (due .n) (due .rs);
+        x = plan (due .ring) (due .rs);
         of = routed-of;
-        none = no-pair-is (sents (plan (due .n) (due .rs) .rows)) .0 (plan-no-pair (due .n) (due .rs) (due .of .range .few) (due .of .range .rows));
+        none = no-pair-is (sents (plan (due .ring) (due .rs) .rows)) .0 (plan-no-pair (due .ring) (due .rs) (due .of .range .few) (due .of .range .rows));
       }
 
 -- demands 2 and 3 of each accepted table
@@ -252,8 +252,8 @@ demand-3 t old new r call a =
       sheet = s .text;
       due = d;
       written = λ fits. route-promise t old new r call .succeeds (s .text) .1 (d, fits);
-      best = best-of (s .text) (plan (d .n) (d .rs)) (routed-of t (s .text) d);
-      demands = plan-demands (d .n) (d .rs) (d .of .range .few) (d .of .range .rows);
+      best = best-of (s .text) (plan (d .ring) (d .rs)) (routed-of t (s .text) d);
+      demands = plan-demands (d .ring) (d .rs) (d .of .range .few) (d .of .range .rows);
       checked = due-accepted-sheet t (s .text) d;
       no-pair = due-no-pair t (s .text) d;
     }

@@ -7,6 +7,7 @@ use mathlib.Core.Path.{_≡_, refl, ap, _∙_, sym}
 use native.Mathlib.Omega.{arith}
 use lib.ListN.{length}
 use Rattle.ring.specs.Limits.{desk}
+use Rattle.ring.specs.Ring.{Ring}
 use Rattle.ring.specs.Row.{Row}
 use Rattle.table.specs.Table.{writeTable}
 use Rattle.table.specs.ReadTable.{Result, accepted, refused, tableOf}
@@ -26,31 +27,31 @@ use Rattle.ringkit.proofs.Calls.{Decided, is-due, is-given, One, call-p
 
 module _ (t : List ℕ) where
   -- a table is read to the values that it is the table of
-  pub read-is : (n : ℕ) (rs : List Row) → (tableOf desk t ≡ accepted n rs) ↔ TableOf t n rs
-  read-is n rs = (
-    λ e. let w = table-text desk desk-spelled t n rs .0 e in record { text = w .0; range = w .1 },
-    λ h. table-text desk desk-spelled t n rs .1 (h .text, h .range),
+  pub read-is : (ring : Ring) (rs : List Row) → (tableOf desk t ≡ accepted ring rs) ↔ TableOf t ring rs
+  read-is ring rs = (
+    λ e. let w = table-text desk desk-spelled t ring rs .0 e in record { text = w .0; range = w .1 },
+    λ h. table-text desk desk-spelled t ring rs .1 (h .text, h .range),
   )
 
-  module _ (due : ℕ → List Row → List ℕ) where
+  module _ (due : Ring → List Row → List ℕ) where
     -- something is due exactly to an accepted table
     pub due-accepted : Accepted desk t ↔ SomeDue due t
     due-accepted = (
-      λ a. let r = accepted-is desk t .1 a in record { text = due (r .n) (r .rs); is = record { n = r .n; rs = r .rs; of = read-is (r .n) (r .rs) .0 (r .is); is = refl } },
-      λ s. let d = s .is in accepted-is desk t .0 (record { n = d .n; rs = d .rs; is = read-is (d .n) (d .rs) .1 (d .of) }),
+      λ a. let r = accepted-is desk t .1 a in record { text = due (r .ring) (r .rs); is = record { ring = r .ring; rs = r .rs; of = read-is (r .ring) (r .rs) .0 (r .is); is = refl } },
+      λ s. let d = s .is in accepted-is desk t .0 (record { ring = d .ring; rs = d .rs; is = read-is (d .ring) (d .rs) .1 (d .of) }),
     )
 
     pub decided : (x : Result) → tableOf desk t ≡ x → Decided (TableDue due t) (Given desk t) (ofTable due x)
     unfolding ofTable
-    decided (accepted n rs) e = is-due (record { n = n; rs = rs; of = read-is n rs .0 e; is = refl })
+    decided (accepted ring rs) e = is-due (record { ring = ring; rs = rs; of = read-is ring rs .0 e; is = refl })
     decided (refused reason line) e = is-given (given desk t reason line .0 e)
 
     pub one-due : One (TableDue due t) (Given desk t)
     one-due =
         record {
           text = λ a b.
-              let e = same-table desk desk-spelled (a .n) (b .n) (a .rs) (b .rs) (a .of .range) (b .of .range) (sym (a .of .text) ∙ b .of .text) in
-              let d : due (a .n) (a .rs) ≡ due (b .n) (b .rs) = rw (e .0, e .1) in
+              let e = same-table desk desk-spelled (a .ring) (b .ring) (a .rs) (b .rs) (a .of .range) (b .of .range) (sym (a .of .text) ∙ b .of .text) in
+              let d : due (a .ring) (a .rs) ≡ due (b .ring) (b .rs) = rw (e .0, e .1) in
               a .is ∙ d ∙ sym (b .is);
           refusal = λ f g. one-given f g;
           apart = λ {a} {r} {line} d g. due-accepted .1 (record { text = a; is = d }) r line (g .holds);
@@ -61,8 +62,8 @@ module _ (t : List ℕ) where
 
 afresh : (t : List ℕ) (x : Result) → tableOf desk t ≡ x → Decided (Itself (Accepted desk t) t) (Given desk t) (ofTable writeTable x)
 unfolding ofTable
-afresh t (accepted n rs) e =
-    is-due (record { accepted = accepted-is desk t .0 (record { n = n; rs = rs; is = e }); same = sym (read-is t n rs .0 e .text) })
+afresh t (accepted ring rs) e =
+    is-due (record { accepted = accepted-is desk t .0 (record { ring = ring; rs = rs; is = e }); same = sym (read-is t ring rs .0 e .text) })
 afresh t (refused reason line) e = is-given (given desk t reason line .0 e)
 
 one-itself : (t : List ℕ) → One (Itself (Accepted desk t) t) (Given desk t)
@@ -88,7 +89,7 @@ route-promise t old new r f = call-promise (one-due t sheetDue) (decided t sheet
 
 -- no sheet that is due is longer than `longest`
 pub due-short : (t text : List ℕ) → TableDue sheetDue t text → length text ≤ longest desk
-due-short t text d = omega (arith, ap length (d .is), plan-short (d .n) (d .rs) (d .of .range))
+due-short t text d = omega (arith, ap length (d .is), plan-short (d .ring) (d .rs) (d .of .range))
 
 -- so with `longest` bytes of room every accepted table is routed
 pub always-routed : (t old new : List ℕ) (r : Reply) → Fills (tableRouted t) old new r → Accepted desk t → longest desk ≤ length old → r .reason ≡ 0

@@ -30,7 +30,7 @@ pub record BestSheet (t : List ℕ) : Type 0 where
   pub x : Sheet
   pub of : SheetOf t x
   pub figures : PaperFigures x
-  pub no-lower : (q : ℕ) (ss : List Sent) → Divides q (demands (sents (x .rows))) ss → q * x .cut .number ≤ 2 * peak (splitLoad ss) (x .n)
+  pub no-lower : (q : ℕ) (ss : List Sent) → Divides q (demands (sents (x .rows))) ss → q * x .cut .number ≤ 2 * peak (splitLoad ss) (x .ring .n)
 
 -- a table has a sheet; with room for it, it is written; its demands are the table's rows; the checker accepts it, its figures are the paper's, and it has no
 -- parallel split pair

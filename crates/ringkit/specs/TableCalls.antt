@@ -2,6 +2,7 @@
 use Prim.Native.Nat.{ℕ}
 use mathlib.Core.List.{List}
 use Rattle.ring.specs.Limits.{desk}
+use Rattle.ring.specs.Ring.{Ring}
 use Rattle.ring.specs.Row.{Row}
 use Rattle.table.specs.Table.{writeTable}
 use Rattle.table.specs.ReadTable.{Result, accepted, refused, tableOf}
@@ -9,8 +10,8 @@ use Rattle.ringkit.specs.Texts.{sheetDue}
 use Rattle.ringkit.specs.Outcome.{Outcome, write, refuse}
 
 -- the outcome of a reading, by what is due to the values of an accepted table
-unfoldable pub ofTable : (ℕ → List Row → List ℕ) → Result → Outcome
-ofTable due (accepted n rs) = write (due n rs)
+unfoldable pub ofTable : (Ring → List Row → List ℕ) → Result → Outcome
+ofTable due (accepted ring rs) = write (due ring rs)
 ofTable due (refused reason line) = refuse reason line
 
 -- reading a table and writing its values afresh

@@ -3,6 +3,7 @@ use Prim.Native.Nat.{ℕ}
 use mathlib.Core.List.{List}
 use mathlib.Core.Path.{_≡_}
 use Rattle.ring.specs.Limits.{desk}
+use Rattle.ring.specs.Ring.{Ring}
 use Rattle.ring.specs.Row.{Row}
 use Rattle.ring.specs.Sheet.{Sheet, plan}
 use Rattle.ring.specs.True.{TrueSheet}
@@ -17,9 +18,9 @@ use Rattle.matrix.specs.Matrix.{writeMatrix}
 use Rattle.matrix.specs.Demands.{rowsOfMatrix, matrixOfRows, Passes, PassesAt}
 
 -- t is the table of these values, and they are in the desk's range
-pub record TableOf (t : List ℕ) (n : ℕ) (rs : List Row) : Type 0 where
-  pub text : t ≡ writeTable n rs
-  pub range : InRange desk n rs
+pub record TableOf (t : List ℕ) (ring : Ring) (rs : List Row) : Type 0 where
+  pub text : t ≡ writeTable ring rs
+  pub range : InRange desk ring rs
 
 -- t is the sheet of these values, they are in the desk's range, and the sheet is true
 pub record SheetOf (t : List ℕ) (x : Sheet) : Type 0 where
@@ -46,20 +47,20 @@ pub record MatrixOf (t : List ℕ) (n : ℕ) (m : List (List ℕ)) : Type 0 wher
 -- ---- what is due
 
 -- the text that is due to a table
-pub record TableDue (due : ℕ → List Row → List ℕ) (t text : List ℕ) : Type 0 where
-  pub n : ℕ
+pub record TableDue (due : Ring → List Row → List ℕ) (t text : List ℕ) : Type 0 where
+  pub ring : Ring
   pub rs : List Row
-  pub of : TableOf t n rs
-  pub is : text ≡ due n rs
+  pub of : TableOf t ring rs
+  pub is : text ≡ due ring rs
 
 -- something is due
-pub record SomeDue (due : ℕ → List Row → List ℕ) (t : List ℕ) : Type 0 where
+pub record SomeDue (due : Ring → List Row → List ℕ) (t : List ℕ) : Type 0 where
   pub text : List ℕ
   pub is : TableDue due t text
 
 -- the sheet that the four rules give
-abbrev pub sheetDue : ℕ → List Row → List ℕ
-sheetDue n rs = writeSheet (plan n rs)
+abbrev pub sheetDue : Ring → List Row → List ℕ
+sheetDue ring rs = writeSheet (plan ring rs)
 
 -- the text that is due where an accepted text is read and written again: the same bytes
 pub record Itself (Accepted : Type 0) (t text : List ℕ) : Type 0 where

@@ -23,9 +23,9 @@ ghost use Rattle.ringkit.specs.TableCalls.{tableAfresh, tableRouted};
 ghost use Rattle.ringkit.specs.MatrixCalls.{matrixRead, matrixWritten};
 ghost use Rattle.ringkit.specs.SheetCalls.{sheetChecked, sheetParallel, sheetAfresh};
 
-// A buffer of so many bytes has room for every sheet that routing writes: R has 2 fields, D 7, C 4, L 4, Z 3, and a field takes at most 7 digits and
+// A buffer of so many bytes has room for every sheet that routing writes: R has 3 fields, D 7, C 4, L 4, Z 3, and a field takes at most 7 digits and
 // the byte behind them.
-pub const SHEET_BYTES: usize = 8 * (2 + 7 * ROWS + 4 + 4 * LINKS + 3);
+pub const SHEET_BYTES: usize = 8 * (3 + 7 * ROWS + 4 + 4 * LINKS + 3);
 
 // That constant, as a promise.
 pub fn sheet_bytes() -> usize
@@ -56,19 +56,20 @@ fn refusal(reason: Reason, line: u32) -> Reply
 fn put_table<'a>(
     buf: &mut [u8],
     n: u32,
+    fibres: u32,
     count: usize,
     first: &'a [u32; ROWS],
     second: &'a [u32; ROWS],
     amount: &'a [u32; ROWS],
 ) -> Reply
     requires { ⌜ count ≤ desk .rows ⌝ }
-    ensures { λ r. ⌜ Fills (write (writeTable n (rowsIn count (now (first .entry)) (now (second .entry)) (now (amount .entry))))) (now (buf .entry)) (now (buf .exit)) r ⌝ }
+    ensures { λ r. ⌜ Fills (write (writeTable (ringOf n fibres) (rowsIn count (now (first .entry)) (now (second .entry)) (now (amount .entry))))) (now (buf .entry)) (now (buf .exit)) r ⌝ }
 {
-    let size = table::table_length(n, count, first, second, amount);
+    let size = table::table_length(n, fibres, count, first, second, amount);
     if buf.len() < size {
         return refusal(Reason::NoRoom, 0);
     }
-    let length = table::write_table(buf, n, count, first, second, amount);
+    let length = table::write_table(buf, n, fibres, count, first, second, amount);
     Reply {
         reason: 0,
         line: 0,
@@ -85,7 +86,7 @@ pub extern "C" fn ringkit_rewrite_table(table: &[u8], buffer: &mut [u8]) -> Repl
     let answer = t.answer;
     match answer {
         Answer::Refused(reason, line) => refusal(reason, line),
-        Answer::Is(n, count) => put_table(buffer, n, count, &t.first, &t.second, &t.amount),
+        Answer::Is(n, fibres, count) => put_table(buffer, n, fibres, count, &t.first, &t.second, &t.amount),
     }
 }
 
@@ -98,7 +99,7 @@ pub extern "C" fn ringkit_read_matrix(matrix: &[u8], buffer: &mut [u8]) -> Reply
     let answer = t.answer;
     match answer {
         Answer::Refused(reason, line) => refusal(reason, line),
-        Answer::Is(n, count) => put_table(buffer, n, count, &t.first, &t.second, &t.amount),
+        Answer::Is(n, fibres, count) => put_table(buffer, n, fibres, count, &t.first, &t.second, &t.amount),
     }
 }
 
@@ -135,7 +136,7 @@ pub extern "C" fn ringkit_write_matrix(table: &[u8], buffer: &mut [u8]) -> Reply
     let answer = t.answer;
     match answer {
         Answer::Refused(reason, line) => refusal(reason, line),
-        Answer::Is(n, count) => {
+        Answer::Is(n, _, count) => {
             let sums = matrix::judge_sums(count, &t.first, &t.second, &t.amount);
             match sums {
                 Sums::Pass(line) => refusal(Reason::SumTooMuch, line),
@@ -206,10 +207,11 @@ pub extern "C" fn ringkit_route(table: &[u8], buffer: &mut [u8]) -> Reply
     let answer = t.answer;
     match answer {
         Answer::Refused(reason, line) => refusal(reason, line),
-        Answer::Is(n, count) => {
-            let p = router::route(n, count, &t.first, &t.second, &t.amount);
+        Answer::Is(n, fibres, count) => {
+            let p = router::route(n, fibres, count, &t.first, &t.second, &t.amount);
             let x = Figures {
                 n,
+                fibres,
                 g: p.g,
                 h: p.h,
                 across: p.across,

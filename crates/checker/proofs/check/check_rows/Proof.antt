@@ -27,7 +27,7 @@ refusal-requires-2 c κs = search needs
 
 returns : tie.Need-returns
 returns c =
-    end-stops (c .before .before .before .before .before .before .before .before .before .before .before .before .before .before .before .before .before .args .s .now) (c .before .before .before .before .before .before .before .before .before .before .before .before .before .before .before .before .before .args .from) (c .before .before .before .before .before .before .before .before .before .before .before .before .before .before .before .before .before .args .n) _ (c .before .before .before .before .before .before .before .before .before .before .before .before .before .before .before .read-rows .ensures) _ _ _ _ (c .before .before .before .before .finish .ensures) (c .before .before .before .before .before .before .before .before .before .before .before .before .before .end2 .given .1) _ _ _ (c .before .before .step .given .1) (c .refusal2 .ensures)
+    end-stops (c .before .before .before .before .before .before .before .before .before .before .before .before .before .before .before .before .before .args .s .now) (c .before .before .before .before .before .before .before .before .before .before .before .before .before .before .before .before .before .args .from) (c .before .before .before .before .before .before .before .before .before .before .before .before .before .before .before .before .before .args .n) _ (c .before .before .before .before .before .before .before .before .before .before .before .before .before .before .before .read-rows .ensures) _ _ _ _ _ (c .before .before .before .before .finish .ensures) (c .before .before .before .before .before .before .before .before .before .before .before .before .before .end2 .given .1) _ _ _ (c .before .before .step .given .1) (c .refusal2 .ensures)
 
 enum-told : tie.Need-enum-told
 enum-told c = search needs
@@ -40,7 +40,7 @@ returns-2 c = search rows-stop
 
 returns-3 : tie.Need-returns-3
 returns-3 c =
-    let ends = sheet-ends (c .before .before .before .before .before .before .before .before .before .before .before .before .before .before .before .before .args .s .now) (c .before .before .before .before .before .before .before .before .before .before .before .before .before .before .before .before .args .from) (c .before .before .before .before .before .before .before .before .before .before .before .before .before .before .before .before .args .n) _ (c .before .before .before .before .before .before .before .before .before .before .before .before .before .before .read-rows .ensures) _ _ _ (c .before .before .before .before .before .before .before .before .before .before .before .before .end2 .given .1) _ (c .before .before .before .finish .ensures) in
+    let ends = sheet-ends (c .before .before .before .before .before .before .before .before .before .before .before .before .before .before .before .before .args .s .now) (c .before .before .before .before .before .before .before .before .before .before .before .before .before .before .before .before .args .from) (c .before .before .before .before .before .before .before .before .before .before .before .before .before .before .before .before .args .n) _ (c .before .before .before .before .before .before .before .before .before .before .before .before .before .before .read-rows .ensures) _ _ _ (c .before .before .before .before .before .before .before .before .before .before .before .before .end2 .given .1) _ _ (c .before .before .before .finish .ensures) in
     search ends
 
 pub check-rows-spec : {M : Type 1} → statement M
