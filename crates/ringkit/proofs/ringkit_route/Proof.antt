@@ -29,7 +29,12 @@ same-length : tie.Need-same-length
 same-length c = search needs
 
 returns-2 : tie.Need-returns-2
-returns-2 c = search route-fills
+returns-2 c =
+    let put = c .before .before in
+    let routed = put .before .before .before .before .before .before .before .before .before .before .before .before in
+    let told = routed .before .before .before .before .before .before in
+    let read = told .before .before in
+    route-fills _ _ _ (read .read-table .ensures) _ _ _ (told .answer2 .given .1) _ (routed .route .ensures) _ _ (put .put-sheet .ensures)
 
 pub ringkit-route-spec : {M : Type 1} → statement M
 ringkit-route-spec =
