@@ -68,7 +68,7 @@ module _ (n : ℕ) (many : n ≤ desk .nodes) (load : ℕ → ℕ) (array split 
       laid figure (linkAt split unsplit) (desk .nodes) n array (ap length is ∙ column-length load (desk .nodes) (numbersFrom 1 n)) many (λ k h. place k)
       (λ k h. ap (λ a. getD a k 0) is ∙ column-behind load (desk .nodes) (numbersFrom 1 n) k (omega arith) (omega arith))
 
-module _ (s : List ℕ) (at line n fibres : ℕ) (rs : List Routed) (g h number : ℕ) (many : n ≤ desk .nodes) (w : Weight) (ew : w ≡ weightIn n rs) 
+module _ (s : List ℕ) (at line n fibres : ℕ) (rs : List Routed) (g h number : ℕ) (many : n ≤ desk .nodes) (w : Weight) (ew : w ≡ weightIn n rs)
     (carried size : ℕ) (en : carried ≡ needed fibres (w .peak)) (ez : size ≡ sonetSize carried) where
   weights : Weighed n rs (w .split) (w .unsplit) (w .«split_peak») (w .peak) (w .largest)
   unfolding weightIn

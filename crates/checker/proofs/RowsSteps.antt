@@ -239,22 +239,24 @@ module _ (s : List ℕ) (n from line a b count at : ℕ) (first second amount fr
         let c4 = reading .fronts in
         let c5 = reading .backs in
         let few : length (reading .rs) ≤ desk .rows = omega (arith, reading .most) in
-        record { means = λ fibres. rows-at {count = count} {at = at} {line = line} (reading .rs)
-        (record {
-          many = e;
-          firsts = c1;
-          seconds = c2;
-          amounts = c3;
-          fronts = c4;
-          backs = c5;
-          ways = reading .ways;
-          is = rw (e, c1, c2, c3, c4, c5, reading .ways) (columns-back (reading .rs) few);
-        })
-        (reading .rest fibres ∙ step-from desk true (rows (ringOf n fibres) (reading .rs)) tt line (lines (drop at s)) ∙ rw no-row-here)
-        (reading .within)
-        (reading .lined)
-        (rw (e, c1, c2, c3) (fine-table n (reading .rs) few (reading .fine) (reading .two) (reading .size)))
-        (rw (e, c4, c5) (fine-halves n (reading .rs) few (reading .fine))) }
+        record {
+          means = λ fibres. rows-at {count = count} {at = at} {line = line} (reading .rs)
+              (record {
+                many = e;
+                firsts = c1;
+                seconds = c2;
+                amounts = c3;
+                fronts = c4;
+                backs = c5;
+                ways = reading .ways;
+                is = rw (e, c1, c2, c3, c4, c5, reading .ways) (columns-back (reading .rs) few);
+              })
+              (reading .rest fibres ∙ step-from desk true (rows (ringOf n fibres) (reading .rs)) tt line (lines (drop at s)) ∙ rw no-row-here)
+              (reading .within)
+              (reading .lined)
+              (rw (e, c1, c2, c3) (fine-table n (reading .rs) few (reading .fine) (reading .two) (reading .size)))
+              (rw (e, c4, c5) (fine-halves n (reading .rs) few (reading .fine)));
+        }
 
     module _ (i j d f k w : ℕ) (is : x ≡ IsSent i j d f k w) (v : Verdict) (ev : v ≡ sentVerdict desk n count a b (routedOf i j d f k w)) where
       -- what is found against it decides
