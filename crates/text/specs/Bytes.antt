@@ -19,7 +19,7 @@ digit9 = 57
 
 -- ---- the letters
 
--- R n: how many nodes the ring has
+-- R n fibres: how many nodes and fibres the ring has
 abbrev pub letterR : ℕ
 letterR = 82
 
