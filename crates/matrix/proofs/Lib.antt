@@ -6,7 +6,7 @@ pub mod ReasonsGiven
 pub mod RoundTrip
 pub mod SumsGiven
 pub mod Rooms
-pub mod Texts
+pub mod OneEach
 pub mod Told
 pub mod Unique
 -- how they are shown

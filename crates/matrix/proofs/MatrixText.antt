@@ -21,8 +21,7 @@ use Rattle.text.proofs.Digits.{by-digits, digits-one, digits-more}
 use Rattle.table.specs.Lines.{lines}
 use Rattle.table.specs.declared.reason.Reason.{Reason}
 use Rattle.table.specs.declared.judge.Verdict.{Verdict}
-use Rattle.table.proofs.Judged.{RingJudged, wrong-size, right-size, ring-judged}
-use Rattle.table.proofs.Against.{fine-ring-judged}
+use Rattle.table.proofs.Judged.{SizeJudged, not-so-many, right-size, size-judged, fine-size}
 use Rattle.table.proofs.LinesOf.{join-lines}
 use Rattle.matrix.specs.Matrix.{entry, writeMatrix, Node, InRange}
 use Rattle.matrix.specs.Read.{Matrix, matrix, no-matrix, fieldsIn, numbersOr, unless, linesOf, judgeDown, afterSquare, squareJudged, matrixLines, matrixOf}
@@ -101,16 +100,16 @@ module _ {limits : Limits} {t : List ℕ} (short : length t ≤ limits .bytes) w
   lines-matrix : (ls : List (List ℕ)) → t ≡ flatten ls → MatrixRead limits t (matrixLines limits ls)
   unfolding matrixLines numbersOr unless
   lines-matrix [] whole = matrix-refused
-  lines-matrix (l ∷ ls) whole = go (numbers-read (fieldsIn l) l) (ring-judged limits (fieldsIn l))
+  lines-matrix (l ∷ ls) whole = go (numbers-read (fieldsIn l) l) (size-judged limits (fieldsIn l))
     where
       next : Matrix
       next = squareJudged (linesOf limits (fieldsIn l) 1 (fieldsIn l) [] (l ∷ ls))
 
-      ring : {v : Verdict} → RingJudged limits (fieldsIn l) v → MatrixRead limits t (unless v 1 next)
-      ring (wrong-size w) = matrix-refused
+      ring : {v : Verdict} → SizeJudged limits (fieldsIn l) v → MatrixRead limits t (unless v 1 next)
+      ring (not-so-many w) = matrix-refused
       ring (right-size few many) = square-read few many whole (lines-read (l ∷ ls) 1 (fieldsIn l) [])
 
-      go : {x : Reading} {v : Verdict} → NumbersRead (fieldsIn l) l x → RingJudged limits (fieldsIn l) v → MatrixRead limits t (numbersOr x 1 λ vs. unless v 1 next)
+      go : {x : Reading} {v : Verdict} → NumbersRead (fieldsIn l) l x → SizeJudged limits (fieldsIn l) v → MatrixRead limits t (numbersOr x 1 λ vs. unless v 1 next)
       go (are-numbers e k s) judged = ring judged
       go (no-numbers h) judged = matrix-refused
 
@@ -159,7 +158,7 @@ module _ (limits : Limits) (possible : Possible limits) where
           let some : 1 ≤ length vs = omega (arith, range .few, possible .some) in
           let f : fieldsIn (numbersLine vs) ≡ n = fields-are vs some s ∙ w in
           let head : lines (writeMatrix (vs ∷ m)) ≡ numbersLine vs ∷ lines (writeMatrix m) = numbers-first vs some s (writeMatrix m) in
-          rw (← e, head, f, numbers-line-read n vs w s, fine-ring-judged limits n (range .few) (range .many), lines-back _ head, right-square limits n (vs ∷ m) range)
+          rw (← e, head, f, numbers-line-read n vs w s, fine-size limits n (range .few) (range .many), lines-back _ head, right-square limits n (vs ∷ m) range)
 
   written-read : (n : ℕ) (m : List (List ℕ)) → InRange limits n m → matrixOf limits (writeMatrix m) ≡ matrix n m
   unfolding matrixOf

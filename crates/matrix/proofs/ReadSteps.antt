@@ -10,6 +10,7 @@ use mir.Syntax.{w32}
 use mir.Val.{Fits}
 use borrow.Author.Tests.{lt-ltb, le-ltb}
 use Rattle.ring.specs.Limits.{desk}
+use Rattle.ring.specs.Ring.{ringOf}
 use Rattle.ring.specs.Lists.{Each, none, more}
 use Rattle.ring.specs.Row.{row}
 use Rattle.ring.proofs.Side.{cond-elim}
@@ -20,7 +21,7 @@ use Rattle.text.specs.Shapes.{numbers}
 use Rattle.text.proofs.Apart.{clash}
 use Rattle.table.specs.Lines.{lines}
 use Rattle.table.specs.LineEnds.{LineEnds}
-use Rattle.table.specs.Judge.{judgeRing}
+use Rattle.table.specs.Judge.{judgeSize}
 use Rattle.table.specs.ReadTable.{accepted, refused}
 use Rattle.table.specs.Arrays.{tableIn}
 use Rattle.table.specs.declared.reason.Reason.{Reason}
@@ -28,7 +29,7 @@ use Rattle.table.specs.declared.reason.Reason.the-variants.{TooLong, Misshapen}
 use Rattle.table.specs.declared.judge.Verdict.{Verdict}
 use Rattle.table.specs.declared.judge.Verdict.the-variants.{Fine, Fault}
 use Rattle.table.specs.declared.read.Table.{Table}
-use Rattle.table.proofs.Judged.{RingJudged, right-size, ring-judged}
+use Rattle.table.proofs.Judged.{SizeJudged, right-size, size-judged}
 use Rattle.table.proofs.LineSteps.{line-at}
 use Rattle.matrix.specs.Matrix.{entry, Node}
 use Rattle.matrix.specs.Demands.{pairsFrom, rowsBy}
@@ -113,12 +114,12 @@ record Holds (s : List ℕ) (n : ℕ) (entries : List ℕ) : Type 0 where
   pub is : linesOf desk n 1 n [] (lines s) ≡ matrix n m
   pub same : (i j : ℕ) → Node n i → Node n j → at entries i j ≡ entry m i j
 
-module _ (s : List ℕ) (n : ℕ) (few : n ≤ desk .nodes) where
+module _ (s : List ℕ) (n fibres : ℕ) (few : n ≤ desk .nodes) where
   abbrev whole : Matrix
   whole = linesOf desk n 1 n [] (lines s)
 
   abbrev result : Table
-  result = tableIn (tableFrom (squareJudged whole))
+  result = tableIn (tableFrom fibres (squareJudged whole))
 
   module _ (x : Square) where
     refused-case : (y : Matrix) → x ≡ squareIn y → (reason : Reason) (line : ℕ) → x .lines ≡ Refused reason line → y ≡ no-matrix reason line
@@ -163,9 +164,9 @@ module _ (s : List ℕ) (n : ℕ) (few : n ≤ desk .nodes) where
         unfolding squareJudged tableFrom
         square-refused reason line t g e = e ∙ ap tableIn (sym (rw (holds .is, judged, g)))
 
-        pub rows-made : (t : Table) → found ≡ Read → t ≡ tableIn (accepted n (rowsBy n (at (x .entries)))) → t ≡ result
+        pub rows-made : (t : Table) → found ≡ Read → t ≡ tableIn (accepted (ringOf n fibres) (rowsBy n (at (x .entries)))) → t ≡ result
         unfolding squareJudged tableFrom
-        rows-made t g e = e ∙ ap tableIn (sym (rw (holds .is, judged, g) (ap (accepted n) (sym (rows-same (at (x .entries)) (entry (holds .m)) n (holds .same))))))
+        rows-made t g e = e ∙ ap tableIn (sym (rw (holds .is, judged, g) (ap (accepted (ringOf n fibres)) (sym (rows-same (at (x .entries)) (entry (holds .m)) n (holds .same))))))
 
 -- ---- the whole matrix
 
@@ -177,27 +178,27 @@ fields-small (b ∷ l) = omega (arith, fields-small l, cond-elim (λ x. x ≤ 1)
 pub fields-fit : (s : List ℕ) (end count : ℕ) → length s ≤ desk .bytes → end ≤ length s → count ≡ fieldsIn (take (end - 0) (drop 0 s)) → Fits w32 count
 fields-fit s end count short h e = omega (arith, fields-small (take (end - 0) (drop 0 s)), length-take (end - 0) (drop 0 s))
 
-nothing : (s : List ℕ) → length s ≤ 0 → refused Misshapen 1 ≡ tableFrom (matrixOf desk s)
+nothing : (s : List ℕ) (fibres : ℕ) → length s ≤ 0 → refused Misshapen 1 ≡ tableFrom fibres (matrixOf desk s)
 unfolding matrixOf lines tableFrom
-nothing [] h = refl
-nothing (b ∷ s) h = absurd (omega arith)
+nothing [] fibres h = refl
+nothing (b ∷ s) fibres h = absurd (omega arith)
 
-pub ring-few : (n : ℕ) (v : Verdict) → v ≡ judgeRing desk n → v ≡ Fine → n ≤ desk .nodes
-ring-few n v e f = let q = sym e ∙ f in go (rw q at (ring-judged desk n))
+pub ring-few : (n : ℕ) (v : Verdict) → v ≡ judgeSize desk n → v ≡ Fine → n ≤ desk .nodes
+ring-few n v e f = let q = sym e ∙ f in go (rw q at (size-judged desk n))
   where
-    go : RingJudged desk n Fine → n ≤ desk .nodes
+    go : SizeJudged desk n Fine → n ≤ desk .nodes
     go (right-size few many) = many
 
-module _ (s : List ℕ) (t : Table) where
+module _ (s : List ℕ) (fibres : ℕ) (t : Table) where
   abbrev matrixResult : Table
-  matrixResult = tableIn (tableFrom (matrixOf desk s))
+  matrixResult = tableIn (tableFrom fibres (matrixOf desk s))
 
   pub too-long : desk .bytes < length s → t ≡ tableIn (refused TooLong 0) → t ≡ matrixResult
   unfolding matrixOf tableFrom
   too-long h e = e ∙ ap tableIn (rw (lt-ltb _ _ h))
 
   pub no-line : length s ≤ 0 → t ≡ tableIn (refused Misshapen 1) → t ≡ matrixResult
-  no-line h e = e ∙ ap tableIn (nothing s h)
+  no-line h e = e ∙ ap tableIn (nothing s fibres h)
 
   module _ (short : length s ≤ desk .bytes) (there : 0 < length s) (end : ℕ) (ends : LineEnds s 0 end) where
     abbrev first : List ℕ
@@ -211,7 +212,7 @@ module _ (s : List ℕ) (t : Table) where
       unfolding matrixOf tableFrom
       first-misshapen p f e = e ∙ ap tableIn (sym (rw (le-ltb (desk .bytes) (length s) short, first-line, ← ec, told-bad first count x ex p f)))
 
-      module _ (f : x .spelling ≡ Good) (n : ℕ) (en : n ≡ count) (v : Verdict) (ev : v ≡ judgeRing desk n) where
+      module _ (f : x .spelling ≡ Good) (n : ℕ) (en : n ≡ count) (v : Verdict) (ev : v ≡ judgeSize desk n) where
         abbrev told : ToldGood (readLine (numbers count) first) count (x .values)
         told = told-good first count x ex f
 
@@ -219,6 +220,6 @@ module _ (s : List ℕ) (t : Table) where
         unfolding matrixOf tableFrom
         ring-fault reason g e = e ∙ ap tableIn (sym (rw (le-ltb (desk .bytes) (length s) short, first-line, ← ec, told .is, ← en, ← ev, g)))
 
-        pub then-square : v ≡ Fine → t ≡ tableIn (tableFrom (squareJudged (linesOf desk n 1 n [] (lines s)))) → t ≡ matrixResult
+        pub then-square : v ≡ Fine → t ≡ tableIn (tableFrom fibres (squareJudged (linesOf desk n 1 n [] (lines s)))) → t ≡ matrixResult
         unfolding matrixOf
-        then-square g e = e ∙ ap tableIn (ap tableFrom (rw (le-ltb (desk .bytes) (length s) short, first-line, ← ec, told .is, ← en, ← ev, g)))
+        then-square g e = e ∙ ap tableIn (ap (tableFrom fibres) (rw (le-ltb (desk .bytes) (length s) short, first-line, ← ec, told .is, ← en, ← ev, g)))

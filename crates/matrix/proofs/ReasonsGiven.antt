@@ -21,7 +21,7 @@ use Rattle.table.specs.Says.{LineIs, at-first, behind}
 use Rattle.table.specs.declared.reason.Reason.{Reason}
 use Rattle.table.specs.declared.reason.Reason.the-variants.{TooLong, Misshapen, RingSize, NoSuchNode, NotBelow, OutOfOrder, TooMany, TooMuch, WrongSum, WrongWay, WrongCut, WrongLink, WrongLast, NotTight, OverBound, NotZero, NotSymmetric, SumTooMuch, NoRoom}
 use Rattle.table.specs.declared.judge.Verdict.{Verdict}
-use Rattle.table.proofs.Judged.{RingJudged, wrong-size, right-size, ring-judged}
+use Rattle.table.proofs.Judged.{SizeJudged, not-so-many, right-size, size-judged}
 use Rattle.table.proofs.LineNumbers.{line-one, LinesFrom, from-first, from-next, line-here, no-line-left}
 use Rattle.table.proofs.ReasonNumbers.{same-rank, no-rank-0}
 use Rattle.matrix.specs.Matrix.{entry, Node}
@@ -382,20 +382,20 @@ module _ (limits : Limits) (t : List ℕ) where
   all-right : length t ≤ limits .bytes → (ls : List (List ℕ)) → LinesFrom (lines t) 1 ls → Right limits t (matrixLines limits ls)
   unfolding matrixLines numbersOr unless squareJudged
   all-right short [] from = first-holds (misshapen-here (omega arith) (clean-start short) (first-says (λ vs is. omega (arith, no-line-left from (is .text)))))
-  all-right short (l ∷ ls) from = go (numbers-read (fieldsIn l) l) (ring-judged limits (fieldsIn l))
+  all-right short (l ∷ ls) from = go (numbers-read (fieldsIn l) l) (size-judged limits (fieldsIn l))
     where
       next : Matrix
       next = squareJudged (linesOf limits (fieldsIn l) 1 (fieldsIn l) [] (l ∷ ls))
 
-      ring : (us : List ℕ) {v : Verdict} → NumbersAre t 1 us → length us ≡ fieldsIn l → RingJudged limits (fieldsIn l) v → Right limits t (unless v 1 next)
-      ring us first k (wrong-size w) =
+      ring : (us : List ℕ) {v : Verdict} → NumbersAre t 1 us → length us ≡ fieldsIn l → SizeJudged limits (fieldsIn l) v → Right limits t (unless v 1 next)
+      ring us first k (not-so-many w) =
           first-holds (given-here RingSize refl (clean-start short) (size-says first (subst (λ x. (x < limits .fewest) ⊎ (limits .nodes < x)) (sym k) w)) (λ s l h. size-first limits t us first l h))
       ring us first k (right-size few many) =
           subst (λ x. Right limits t (squareJudged (linesOf limits x 1 x [] (l ∷ ls)))) k
           (lines-right limits t us first (omega arith) (omega arith) (l ∷ ls) 1 (length us) [] (omega arith) (omega arith) from (is-first refl) (clean-start short)
           (record { count = refl; at = λ i p q. absurd (omega arith); wide = λ i p q. absurd (omega arith) }))
 
-      go : {x : Reading} {v : Verdict} → NumbersRead (fieldsIn l) l x → RingJudged limits (fieldsIn l) v → Right limits t (numbersOr x 1 λ vs. unless v 1 next)
+      go : {x : Reading} {v : Verdict} → NumbersRead (fieldsIn l) l x → SizeJudged limits (fieldsIn l) v → Right limits t (numbersOr x 1 λ vs. unless v 1 next)
       go (are-numbers {vs = us} e k s) judged =
           ring us (record { text = subst (LineIs (lines t) 1) e (line-here from); some = omega (arith, fields-some l); spelled = s }) k judged
       go (no-numbers out) judged =

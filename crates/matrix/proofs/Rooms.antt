@@ -5,6 +5,8 @@ use mathlib.Core.Path.{_≡_, _∙_, sym}
 use native.Mathlib.Omega.{arith}
 use native.Mathlib.Decide.{decLt}
 use lib.ListN.{length, length-append}
+use Rattle.ring.specs.LineSize.{IsFibres}
+use Rattle.ring.specs.Ring.{Ring, ringOf}
 use Rattle.ring.specs.Limits.{desk}
 use Rattle.ring.specs.Lists.{Each, none, more}
 use Rattle.ring.specs.Row.{Row}
@@ -54,34 +56,34 @@ pub matrix-room : (n : ℕ) (m : List (List ℕ)) → n ≤ desk .nodes → IsSq
 matrix-room n m few square amounts = omega (arith, matrix-bytes n m few (square .wide) amounts, square .tall)
 
 -- room for the table of every matrix
-pub room-for-table : (n : ℕ) (m : List (List ℕ)) → InRange desk n m → length (writeTable n (rowsOfMatrix n m)) ≤ tableRoom desk
-room-for-table n m range = omega (arith, table-room n m range)
+pub room-for-table : (n fibres : ℕ) (m : List (List ℕ)) → IsFibres fibres → InRange desk n m → length (writeTable (ringOf n fibres) (rowsOfMatrix n m)) ≤ tableRoom desk
+room-for-table n fibres m two-or-four range = omega (arith, table-room n fibres m two-or-four range)
 
 -- ---- the matrix of a table
 
-module _ (n : ℕ) (rs : List Row) (table : TableInRange desk n rs) (fit : judgeSums desk rs ≡ Fit) where
-  square-of-rows : IsSquare n (matrixOfRows n rs)
+module _ (ring : Ring) (rs : List Row) (table : TableInRange desk ring rs) (fit : judgeSums desk rs ≡ Fit) where
+  square-of-rows : IsSquare (ring .n) (matrixOfRows (ring .n) rs)
   square-of-rows = record {
-    tall = listed-length (λ i. listed (sumOf rs i) 1 n) 1 n;
-    wide = each-listed (λ i. listed (sumOf rs i) 1 n) 1 n (λ i p q. listed-length (sumOf rs i) 1 n);
+    tall = listed-length (λ i. listed (sumOf rs i) 1 (ring .n)) 1 (ring .n);
+    wide = each-listed (λ i. listed (sumOf rs i) 1 (ring .n)) 1 (ring .n) (λ i p q. listed-length (sumOf rs i) 1 (ring .n));
   }
 
-  amounts-of-rows : Each (Each (λ v. v ≤ desk .amount)) (matrixOfRows n rs)
-  amounts-of-rows = each-listed (λ i. listed (sumOf rs i) 1 n) 1 n (λ i p q. each-listed (sumOf rs i) 1 n (λ j u v. fit-small desk rs fit i j))
+  amounts-of-rows : Each (Each (λ v. v ≤ desk .amount)) (matrixOfRows (ring .n) rs)
+  amounts-of-rows = each-listed (λ i. listed (sumOf rs i) 1 (ring .n)) 1 (ring .n) (λ i p q. each-listed (sumOf rs i) 1 (ring .n) (λ j u v. fit-small desk rs fit i j))
 
   -- it is accepted
-  pub matrix-in-range : InRange desk n (matrixOfRows n rs)
+  pub matrix-in-range : InRange desk (ring .n) (matrixOfRows (ring .n) rs)
   matrix-in-range =
       record {
         few = table .few;
         many = table .many;
         square = square-of-rows;
         amounts = amounts-of-rows;
-        zeros = λ i p. entry-sum n rs i i p p ∙ sum-diagonal (table .rows .nodes) i;
-        symmetric = λ i j p q. entry-sum n rs i j p q ∙ sum-either rs i j ∙ sym (entry-sum n rs j i q p);
-        short = omega (arith, matrix-room n (matrixOfRows n rs) (table .many) square-of-rows amounts-of-rows);
+        zeros = λ i p. entry-sum (ring .n) rs i i p p ∙ sum-diagonal (table .rows .nodes) i;
+        symmetric = λ i j p q. entry-sum (ring .n) rs i j p q ∙ sum-either rs i j ∙ sym (entry-sum (ring .n) rs j i q p);
+        short = omega (arith, matrix-room (ring .n) (matrixOfRows (ring .n) rs) (table .many) square-of-rows amounts-of-rows);
       }
 
   -- and has room
-  pub room-for-matrix : length (writeMatrix (matrixOfRows n rs)) ≤ matrixRoom desk
-  room-for-matrix = matrix-room n (matrixOfRows n rs) (table .many) square-of-rows amounts-of-rows
+  pub room-for-matrix : length (writeMatrix (matrixOfRows (ring .n) rs)) ≤ matrixRoom desk
+  room-for-matrix = matrix-room (ring .n) (matrixOfRows (ring .n) rs) (table .many) square-of-rows amounts-of-rows

@@ -7,11 +7,14 @@ use mathlib.Core.Path.{_≡_, refl, ap, _∙_, sym, subst}
 use native.Mathlib.Omega.{arith}
 use native.Mathlib.Decide.{decLt, ℕ-discrete}
 use lib.ListN.{length, getD, length-append}
+use Rattle.ring.specs.LineSize.{IsFibres}
+use Rattle.ring.specs.Ring.{ringOf}
 use Rattle.ring.specs.Limits.{Limits, desk}
 use Rattle.ring.specs.Lists.{Each, none, more, Steps, no-member, one-member, step, Pairs, no-pair, and-pairs}
 use Rattle.ring.specs.Row.{Row, OnRing, PairBefore, PairUpTo, InTableOrder, TableRows}
 use Rattle.ring.specs.Columns.{listed}
 use Rattle.ring.proofs.Listed.{listed-same, listed-shift}
+use Rattle.text.specs.Number.{limit}
 use Rattle.text.specs.Shapes.{rowShape, ringShape, ringLine, rowLine}
 use Rattle.text.proofs.Lengths.{line-in-range-short}
 use Rattle.table.specs.Table.{writeRows, writeTable, InRange as TableInRange}
@@ -172,28 +175,33 @@ row-bytes limits n (r ∷ rs) a b (more o os) (more d ds) =
     let s : RowSpelled (r .i) (r .j) (r .d) = (omega (arith, o .order, o .high), (omega (arith, o .high), omega arith)) in
     omega (arith, length-append (rowLine (r .i) (r .j) (r .d)) (writeRows rs), line-in-range-short rowShape (0 ∷ r .i ∷ r .j ∷ r .d ∷ []) (row-in-range (r .i) (r .j) (r .d) s), row-bytes limits n rs a b os ds)
 
--- room for the table of every matrix: an R line of 2 fields and 496 rows of 4, each field of at most 8 bytes
-pub table-room : (n : ℕ) (m : List (List ℕ)) → InRange desk n m → length (writeTable n (rowsOfMatrix n m)) ≤ 8 * 2 + 8 * 4 * desk .rows
+fibres-small : {fibres : ℕ} → IsFibres fibres → fibres < limit
+fibres-small (inl e) = omega arith
+fibres-small (inr e) = omega arith
+
+-- room for the table of every matrix: an R line of 3 fields and 496 rows of 4, each field of at most 8 bytes
+pub table-room : (n fibres : ℕ) (m : List (List ℕ)) → IsFibres fibres → InRange desk n m → length (writeTable (ringOf n fibres) (rowsOfMatrix n m)) ≤ 8 * 3 + 8 * 4 * desk .rows
 unfolding writeTable
-table-room n m range =
+table-room n fibres m two-or-four range =
     omega (
       arith,
-      length-append (ringLine n) (writeRows (rowsOfMatrix n m)),
-      line-in-range-short ringShape (0 ∷ n ∷ []) (ring-in-range n (omega (arith, range .many))),
+      length-append (ringLine n fibres) (writeRows (rowsOfMatrix n m)),
+      line-in-range-short ringShape (0 ∷ n ∷ fibres ∷ []) (ring-in-range n fibres (omega (arith, range .many), fibres-small two-or-four)),
       row-bytes desk n (rowsOfMatrix n m) (omega (arith, range .many)) (omega arith) (rows-on (entry m) n) (rows-small desk n m range),
       rows-few (entry m) n (range .many),
     )
 
 -- so it is accepted: at most one row for a pair, none of amount 0
-pub rows-in-range : (n : ℕ) (m : List (List ℕ)) → InRange desk n m → TableInRange desk n (rowsOfMatrix n m)
-rows-in-range n m range =
+pub rows-in-range : (n fibres : ℕ) (m : List (List ℕ)) → IsFibres fibres → InRange desk n m → TableInRange desk (ringOf n fibres) (rowsOfMatrix n m)
+rows-in-range n fibres m two-or-four range =
     record {
       few = range .few;
       many = range .many;
+      fibres = two-or-four;
       rows = record { nodes = rows-on (entry m) n; order = rising-steps (rows-rising (entry m) n) };
       count = rows-few (entry m) n (range .many);
       amounts = rows-small desk n m range;
-      short = omega (arith, table-room n m range);
+      short = omega (arith, table-room n fibres m two-or-four range);
     }
 
 pub rows-one-each : (n : ℕ) (m : List (List ℕ)) → OneEach (rowsOfMatrix n m)

@@ -9,6 +9,7 @@ use native.Mathlib.Omega.{arith}
 use lib.ListN.{length, replicate, set, length-append}
 use borrow.Author.Tests.{eq-eqb, ne-eqb}
 use Rattle.ring.specs.Limits.{desk}
+use Rattle.ring.specs.Ring.{ringOf}
 use Rattle.ring.specs.Row.{Row, row}
 use Rattle.ring.specs.Columns.{listed, column}
 use Rattle.table.specs.ReadTable.{accepted}
@@ -183,9 +184,9 @@ module _ (n : ℕ) (a : ℕ → ℕ → ℕ) where
             room = omega (arith, g .room);
           }
 
-    pub gathered : n < i → record { answer = Is n count; first = first; second = second; amount = amount } ≡ tableIn (accepted n (rowsBy n a))
+    pub gathered : (fibres : ℕ) → n < i → record { answer = Is n fibres count; first = first; second = second; amount = amount } ≡ tableIn (accepted (ringOf n fibres) (rowsBy n a))
     unfolding tableIn pairsFrom listed aboveZero
-    gathered l =
+    gathered fibres l =
         let f : n + 1 - j ≡ 0 = omega (arith, g .order) in
         let h : n - i ≡ 0 = omega arith in
         let e : rowsBy n a ≡ g .rows = g .rest ∙ rw (f, h) (append-nil (g .rows)) in

@@ -15,10 +15,11 @@ use Rattle.table.specs.declared.read.Table.{Table}
 use Rattle.table.specs.declared.read.Answer.the-variants.{Is, Refused}
 use Rattle.table.proofs.Columns.{rows-back}
 use Rattle.matrix.specs.Demands.{rowsOfMatrix}
+use Rattle.matrix.specs.Matrix.{entry}
 use Rattle.matrix.specs.Read.{Matrix, matrix, no-matrix, matrixOf, tableFrom}
 use Rattle.matrix.specs.Arrays.{Amounts}
 use Rattle.matrix.proofs.MatrixText.{desk-possible, matrix-text}
-use Rattle.matrix.proofs.RoundTrip.{rows-in-range}
+use Rattle.matrix.proofs.RowLaws.{rows-few}
 
 pub record Told (s : List ℕ) (n count : ℕ) (first second amount : List ℕ) : Type 0 where
   pub m : List (List ℕ)
@@ -26,32 +27,32 @@ pub record Told (s : List ℕ) (n count : ℕ) (first second amount : List ℕ) 
   pub rows : rowsIn count first second amount ≡ rowsOfMatrix n m
   pub room : count ≤ desk .rows
 
-module _ (s : List ℕ) (t : Table) where
-  a-matrix : (r : Matrix) → matrixOf desk s ≡ r → t ≡ tableIn (tableFrom r) → (n count : ℕ) → t .answer ≡ Is n count → Told s n count (t .first) (t .second) (t .amount)
+module _ (s : List ℕ) (fibres : ℕ) (t : Table) where
+  a-matrix : (r : Matrix) → matrixOf desk s ≡ r → t ≡ tableIn (tableFrom fibres r) → (n same count : ℕ) → t .answer ≡ Is n same count → Told s n count (t .first) (t .second) (t .amount)
   unfolding tableIn tableFrom
-  a-matrix (matrix k m) q e n count a =
+  a-matrix (matrix k m) q e n same count a =
       let rs : List Row = rowsOfMatrix k m in
-      let p : Is n count ≡ Is k (length rs) = sym a ∙ ap (λ (x : Table). x .answer) e in
+      let p : Is n same count ≡ Is k fibres (length rs) = sym a ∙ ap (λ (x : Table). x .answer) e in
       let kn : n ≡ k = cc in
       let kc : count ≡ length rs = cc in
-      let h : length rs ≤ desk .rows = rows-in-range k m (matrix-text desk desk-possible s k m .0 q .1) .count in
+      let h : length rs ≤ desk .rows = rows-few (entry m) k (matrix-text desk desk-possible s k m .0 q .1 .many) in
       let ef : t .first ≡ column (λ (r : Row). r .i) (desk .rows) rs = ap (λ (x : Table). x .first) e in
       let es : t .second ≡ column (λ (r : Row). r .j) (desk .rows) rs = ap (λ (x : Table). x .second) e in
       let ea : t .amount ≡ column (λ (r : Row). r .d) (desk .rows) rs = ap (λ (x : Table). x .amount) e in
       record { m = m; is = rw kn q; rows = rw (kn, kc, ef, es, ea) (rows-back (desk .rows) rs h); room = omega arith }
-  a-matrix (no-matrix reason line) q e n count a = clash (let p : Is n count ≡ Refused reason line = sym a ∙ ap (λ (x : Table). x .answer) e in cc)
+  a-matrix (no-matrix reason line) q e n same count a = clash (let p : Is n same count ≡ Refused reason line = sym a ∙ ap (λ (x : Table). x .answer) e in cc)
 
-  a-refusal : (r : Matrix) → matrixOf desk s ≡ r → t ≡ tableIn (tableFrom r) → (reason : Reason) (line : ℕ) → t .answer ≡ Refused reason line → matrixOf desk s ≡ no-matrix reason line
+  a-refusal : (r : Matrix) → matrixOf desk s ≡ r → t ≡ tableIn (tableFrom fibres r) → (reason : Reason) (line : ℕ) → t .answer ≡ Refused reason line → matrixOf desk s ≡ no-matrix reason line
   unfolding tableIn tableFrom
-  a-refusal (matrix k m) q e reason line a = clash (let p : Refused reason line ≡ Is k (length (rowsOfMatrix k m)) = sym a ∙ ap (λ (x : Table). x .answer) e in cc)
+  a-refusal (matrix k m) q e reason line a = clash (let p : Refused reason line ≡ Is k fibres (length (rowsOfMatrix k m)) = sym a ∙ ap (λ (x : Table). x .answer) e in cc)
   a-refusal (no-matrix why at) q e reason line a =
       let p : Refused reason line ≡ Refused why at = sym a ∙ ap (λ (x : Table). x .answer) e in
       let kw : why ≡ reason = cc in
       let kl : at ≡ line = cc in
       q ∙ rw (kw, kl)
 
-  module _ (e : t ≡ tableIn (tableFrom (matrixOf desk s))) where
-    pub told-matrix : (n count : ℕ) → t .answer ≡ Is n count → Told s n count (t .first) (t .second) (t .amount)
+  module _ (e : t ≡ tableIn (tableFrom fibres (matrixOf desk s))) where
+    pub told-matrix : (n same count : ℕ) → t .answer ≡ Is n same count → Told s n count (t .first) (t .second) (t .amount)
     told-matrix = a-matrix (matrixOf desk s) refl e
 
     pub told-refusal : (reason : Reason) (line : ℕ) → t .answer ≡ Refused reason line → matrixOf desk s ≡ no-matrix reason line

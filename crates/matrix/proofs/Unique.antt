@@ -15,8 +15,8 @@ use Rattle.matrix.specs.Read.{matrixOf, tableFrom}
 use Rattle.matrix.specs.Judged.{judgeSums}
 use Rattle.matrix.specs.declared.sums.Sums.{Sums}
 
-pub read-matrix-unique : (s : List ℕ) (r q : Table) → r ≡ tableIn (tableFrom (matrixOf desk s)) → q ≡ tableIn (tableFrom (matrixOf desk s)) → r ≡ q
-read-matrix-unique s r q = same-result
+pub read-matrix-unique : (s : List ℕ) (fibres : ℕ) (r q : Table) → r ≡ tableIn (tableFrom fibres (matrixOf desk s)) → q ≡ tableIn (tableFrom fibres (matrixOf desk s)) → r ≡ q
+read-matrix-unique s fibres r q = same-result
 
 module _ (n count : ℕ) (first second amount : List ℕ) where
   pub judge-sums-unique : (r q : Sums) → r ≡ judgeSums desk (rowsIn count first second amount) → q ≡ judgeSums desk (rowsIn count first second amount) → r ≡ q

@@ -5,11 +5,12 @@ use mathlib.Core.List.{List, [], _∷_, _++_}
 use lib.Dec.{ltb, eqb}
 use lib.ListN.{length}
 use Rattle.ring.specs.Limits.{Limits}
+use Rattle.ring.specs.Ring.{ringOf}
 use Rattle.text.specs.Bytes.{tab}
 use Rattle.text.specs.ReadLine.{Reading, good, bad, readLine}
 use Rattle.text.specs.Shapes.{numbers}
 use Rattle.table.specs.Lines.{lines}
-use Rattle.table.specs.Judge.{judgeRing}
+use Rattle.table.specs.Judge.{judgeSize}
 use Rattle.table.specs.ReadTable.{Result, accepted, refused}
 use Rattle.table.specs.declared.reason.Reason.{Reason}
 use Rattle.table.specs.declared.reason.Reason.the-variants.{TooLong, Misshapen, TooMuch, NotZero, NotSymmetric}
@@ -101,14 +102,14 @@ unfolding numbersOr unless linesOf squareJudged fieldsIn
 matrixLines limits [] = no-matrix Misshapen 1
 matrixLines limits (l ∷ ls) =
     numbersOr (readLine (numbers (fieldsIn l)) l) 1 λ vs.
-    unless (judgeRing limits (fieldsIn l)) 1
+    unless (judgeSize limits (fieldsIn l)) 1
     (squareJudged (linesOf limits (fieldsIn l) 1 (fieldsIn l) [] (l ∷ ls)))
 
 unfoldable pub matrixOf : Limits → List ℕ → Matrix
 unfolding matrixLines
 matrixOf limits t = cond (ltb (limits .bytes) (length t)) (no-matrix TooLong 0) (matrixLines limits (lines t))
 
--- as a table
-unfoldable pub tableFrom : Matrix → Result
-tableFrom (matrix n m) = accepted n (rowsOfMatrix n m)
-tableFrom (no-matrix reason line) = refused reason line
+-- as a table, on so many fibres
+unfoldable pub tableFrom : ℕ → Matrix → Result
+tableFrom fibres (matrix n m) = accepted (ringOf n fibres) (rowsOfMatrix n m)
+tableFrom fibres (no-matrix reason line) = refused reason line

@@ -10,7 +10,7 @@ use ring::BYTES;
 use table::Reason;
 use table::Table;
 use table::Verdict;
-use table::judge_ring;
+use table::judge_size;
 use table::line_end;
 use table::refusal;
 ghost use mathlib.Core.Path.{_≡_};
@@ -22,9 +22,9 @@ ghost use Rattle.table.specs.Arrays.{tableIn};
 ghost use Rattle.matrix.specs.Read.{linesOf, squareJudged, matrixOf, tableFrom};
 
 // The lines of a matrix of n nodes, then its entries.
-fn read_square(s: &[u8], n: u32) -> Table
+fn read_square(s: &[u8], n: u32, fibres: u32) -> Table
     requires { ⌜ n ≤ desk .nodes ⌝ }
-    ensures { λ r. ⌜ r ≡ tableIn (tableFrom (squareJudged (linesOf desk n 1 n [] (lines (now (s .entry)))))) ⌝ }
+    ensures { λ r. ⌜ r ≡ tableIn (tableFrom fibres (squareJudged (linesOf desk n 1 n [] (lines (now (s .entry)))))) ⌝ }
 {
     let square = read_lines(s, ring::wide(n));
     let read = square.lines;
@@ -36,12 +36,13 @@ fn read_square(s: &[u8], n: u32) -> Table
     if let Lines::Refused(reason, line) = found {
         return refusal(reason, line);
     }
-    rows_of(n, &entries)
+    rows_of(n, fibres, &entries)
 }
 
-// The first line's size is judged by its fields once it is known to be all numbers, so that it may have any number of them.
-pub fn read_matrix(s: &[u8]) -> Table
-    ensures { λ r. ⌜ r ≡ tableIn (tableFrom (matrixOf desk (now (s .entry)))) ⌝ }
+// The rows of a matrix, on a ring of so many fibres, of which a matrix says nothing. The first line's size is judged by its fields once it is known to be all
+// numbers, so that it may have any number of them.
+pub fn read_matrix(s: &[u8], fibres: u32) -> Table
+    ensures { λ r. ⌜ r ≡ tableIn (tableFrom fibres (matrixOf desk (now (s .entry)))) ⌝ }
 {
     if BYTES < s.len() {
         return refusal(Reason::TooLong, 0);
@@ -57,9 +58,9 @@ pub fn read_matrix(s: &[u8]) -> Table
         return refusal(Reason::Misshapen, 1);
     }
     let n = count as u32;
-    let verdict = judge_ring(n);
+    let verdict = judge_size(n);
     if let Verdict::Fault(reason) = verdict {
         return refusal(reason, 1);
     }
-    read_square(s, n)
+    read_square(s, n, fibres)
 }

@@ -7,15 +7,16 @@ use table::Table;
 ghost use mathlib.Core.Path.{_≡_};
 ghost use Prim.Native.Nat.{_≤_};
 ghost use Rattle.ring.specs.Limits.{desk};
+ghost use Rattle.ring.specs.Ring.{ringOf};
 ghost use Rattle.table.specs.ReadTable.{accepted};
 ghost use Rattle.table.specs.Arrays.{tableIn};
 ghost use Rattle.matrix.specs.Demands.{rowsBy};
 ghost use Rattle.matrix.specs.Arrays.{at};
 
 // One loop over the pairs: behind the last node of a line it goes on with the next line.
-pub(crate) fn rows_of(n: u32, square: &[u32; SQUARE]) -> Table
+pub(crate) fn rows_of(n: u32, fibres: u32, square: &[u32; SQUARE]) -> Table
     requires { ⌜ n ≤ desk .nodes ⌝ }
-    ensures { λ r. ⌜ r ≡ tableIn (accepted n (rowsBy n (at (now (square .entry))))) ⌝ }
+    ensures { λ r. ⌜ r ≡ tableIn (accepted (ringOf n fibres) (rowsBy n (at (now (square .entry))))) ⌝ }
 {
     let mut first = [0u32; ROWS];
     let mut second = [0u32; ROWS];
@@ -41,7 +42,7 @@ pub(crate) fn rows_of(n: u32, square: &[u32; SQUARE]) -> Table
         }
     }
     Table {
-        answer: Answer::Is(n, count),
+        answer: Answer::Is(n, fibres, count),
         first,
         second,
         amount,

@@ -7,6 +7,8 @@ use mathlib.Core.Path.{_≡_, refl, ap, _∙_, sym, subst}
 use native.Mathlib.Omega.{arith}
 use lib.ListN.{length}
 use Rattle.ring.specs.Limits.{desk}
+use Rattle.ring.specs.LineSize.{IsFibres}
+use Rattle.ring.specs.Ring.{Ring, ringOf}
 use Rattle.ring.specs.Row.{Row}
 use Rattle.table.specs.Reasons.{numberOf}
 use Rattle.table.specs.Table.{writeTable}
@@ -14,6 +16,7 @@ use Rattle.table.specs.ReadTable.{Result, accepted, refused, tableOf}
 use Rattle.table.specs.Says as table
 use Rattle.table.specs.declared.reason.Reason.{Reason}
 use Rattle.table.specs.declared.reason.Reason.the-variants.{NoRoom}
+use Rattle.table.proofs.Judged.{Fibred, other, known, fibred}
 use Rattle.table.proofs.ReasonNumbers.{same-reason}
 use Rattle.table.proofs.ReasonsGiven as table-given
 use Rattle.table.proofs.Accepted.{same-table}
@@ -32,12 +35,12 @@ use Rattle.matrix.proofs.ReasonsGiven.{one-given, given, accepted-is}
 use Rattle.matrix.proofs.RoundTrip.{matrix-back, table-back, rows-in-range, rows-one-each}
 use Rattle.matrix.proofs.Rooms.{room-for-table, room-for-matrix, matrix-in-range}
 use Rattle.matrix.proofs.SumsGiven.{sums-given, sums-fit}
-use Rattle.matrix.proofs.Texts.{one-each-fit}
+use Rattle.matrix.proofs.OneEach.{one-each-fit}
 use Rattle.ringkit.specs.Outcome.{Outcome, write, Fills}
 use Rattle.ringkit.specs.TableCalls.{ofTable}
 use Rattle.ringkit.specs.MatrixCalls.{matrixRead, unlessPass, ofRows, matrixWritten}
 use Rattle.ringkit.specs.Says.{Success, CallPromise}
-use Rattle.ringkit.specs.Texts.{TableOf, MatrixOf, MatrixDue, SumsDue, SumsGiven, of-table, of-sums}
+use Rattle.ringkit.specs.Texts.{TableOf, MatrixOf, MatrixDue, MatrixGiven, of-fibres, of-matrix, SumsDue, SumsGiven, of-table, of-sums}
 use Rattle.ringkit.specs.declared.Reply.{Reply}
 use Rattle.ringkit.proofs.Calls.{Decided, is-due, is-given, One, call-promise}
 use Rattle.ringkit.proofs.TableCalls.{read-is, due-accepted}
@@ -52,67 +55,90 @@ module _ (t : List ℕ) where
     λ h. matrix-text desk desk-possible t n m .1 (h .text, h .range),
   )
 
-  decided : (x : Matrix) → matrixOf desk t ≡ x → Decided (MatrixDue t) (Given desk t) (ofTable writeTable (tableFrom x))
+-- the rows of a matrix on 2 or 4 fibres
+module _ (fibres : ℕ) (t : List ℕ) where
+  decided : IsFibres fibres → (x : Matrix) → matrixOf desk t ≡ x → Decided (MatrixDue fibres t) (MatrixGiven fibres t) (ofTable writeTable (tableFrom fibres x))
   unfolding ofTable tableFrom
-  decided (matrix n m) e = is-due (record { n = n; m = m; of = matrix-is n m .0 e; is = refl })
-  decided (no-matrix reason line) e = is-given (given desk t reason line .0 e)
+  decided f (matrix n m) e = is-due (record { two-or-four = f; n = n; m = m; of = matrix-is t n m .0 e; is = refl })
+  decided f (no-matrix reason line) e = is-given (of-matrix f (given desk t reason line .0 e))
 
-  due-accepted-matrix : (text : List ℕ) → MatrixDue t text → Accepted desk t
-  due-accepted-matrix text d = accepted-is desk t .0 (record { n = d .n; m = d .m; is = matrix-is (d .n) (d .m) .1 (d .of) })
+  all-decided : Decided (MatrixDue fibres t) (MatrixGiven fibres t) (matrixRead fibres t)
+  unfolding matrixRead
+  all-decided = go (fibred fibres)
+    where
+      go : Fibred fibres → Decided (MatrixDue fibres t) (MatrixGiven fibres t) (matrixRead fibres t)
+      go (other f e) = rw e (is-given (of-fibres f))
+      go (known f e) = rw e (decided f (matrixOf desk t) refl)
+
+  due-accepted-matrix : (text : List ℕ) → MatrixDue fibres t text → Accepted desk t
+  due-accepted-matrix text d = accepted-is desk t .0 (record { n = d .n; m = d .m; is = matrix-is t (d .n) (d .m) .1 (d .of) })
 
   not-15 : (reason : Reason) (line : ℕ) → Says desk t reason line → numberOf reason ≡ numberOf NoRoom → ⊥
   unfolding Says
   not-15 reason line h e = subst (λ s. Says desk t s line) (same-reason reason NoRoom e) h
 
-  one-due : One (MatrixDue t) (Given desk t)
+  one-given-matrix : {r s : Reason} {line other : ℕ} → MatrixGiven fibres t r line → MatrixGiven fibres t s other → (r ≡ s) × (line ≡ other)
+  one-given-matrix (of-fibres f) (of-fibres g) = (refl, refl)
+  one-given-matrix (of-fibres f) (of-matrix g h) = absurd (f g)
+  one-given-matrix (of-matrix f h) (of-fibres g) = absurd (g f)
+  one-given-matrix (of-matrix f h) (of-matrix g k) = one-given h k
+
+  due-not-given : {text : List ℕ} {r : Reason} {line : ℕ} → MatrixDue fibres t text → MatrixGiven fibres t r line → ⊥
+  due-not-given d (of-fibres f) = f (d .two-or-four)
+  due-not-given {text} d (of-matrix {reason} {line} f g) = due-accepted-matrix text d reason line (g .holds)
+
+  given-not-15 : {r : Reason} {line : ℕ} → MatrixGiven fibres t r line → numberOf r ≡ numberOf NoRoom → ⊥
+  given-not-15 (of-fibres f) e = omega arith
+  given-not-15 (of-matrix {reason} {line} f g) e = not-15 reason line (g .holds) e
+
+  one-due : One (MatrixDue fibres t) (MatrixGiven fibres t)
   one-due =
       record {
         text = λ a b.
-            let e : matrix (a .n) (a .m) ≡ matrix (b .n) (b .m) = sym (matrix-is (a .n) (a .m) .1 (a .of)) ∙ matrix-is (b .n) (b .m) .1 (b .of) in
+            let e : matrix (a .n) (a .m) ≡ matrix (b .n) (b .m) = sym (matrix-is t (a .n) (a .m) .1 (a .of)) ∙ matrix-is t (b .n) (b .m) .1 (b .of) in
             let en : a .n ≡ b .n = cc in
             let em : a .m ≡ b .m = cc in
-            let d : writeTable (a .n) (rowsOfMatrix (a .n) (a .m)) ≡ writeTable (b .n) (rowsOfMatrix (b .n) (b .m)) = rw (en, em) in
+            let d : writeTable (ringOf (a .n) fibres) (rowsOfMatrix (a .n) (a .m)) ≡ writeTable (ringOf (b .n) fibres) (rowsOfMatrix (b .n) (b .m)) = rw (en, em) in
             a .is ∙ d ∙ sym (b .is);
-        refusal = λ f g. one-given f g;
-        apart = λ {a} {r} {line} d g. due-accepted-matrix a d r line (g .holds);
-        other = λ {r} {line} g. not-15 r line (g .holds);
+        refusal = λ f g. one-given-matrix f g;
+        apart = λ d g. due-not-given d g;
+        other = λ g. given-not-15 g;
       }
 
--- the table of a matrix is written, with room for it; else 15 or the matrix's first reason
-pub read-matrix-promise : (t old new : List ℕ) (r : Reply) → Fills (matrixRead t) old new r → CallPromise (MatrixDue t) (Given desk t) old new r
-unfolding matrixRead
-read-matrix-promise t old new r f = call-promise (one-due t) (decided t (matrixOf desk t) refl) f
+-- the table of a matrix is written, with room for it; else 20, the matrix's first reason or 15
+pub read-matrix-promise : (fibres : ℕ) (t old new : List ℕ) (r : Reply) → Fills (matrixRead fibres t) old new r → CallPromise (MatrixDue fibres t) (MatrixGiven fibres t) old new r
+read-matrix-promise fibres t old new r f = call-promise (one-due fibres t) (all-decided fibres t) f
 
-module _ (t text : List ℕ) (d : MatrixDue t text) where
+module _ (fibres : ℕ) (t text : List ℕ) (d : MatrixDue fibres t text) where
   -- the table that is due is a table in range, so that it is accepted and can be routed
-  due-table : TableOf text (d .n) (rowsOfMatrix (d .n) (d .m))
-  due-table = record { text = d .is; range = rows-in-range (d .n) (d .m) (d .of .range) }
+  due-table : TableOf text (ringOf (d .n) fibres) (rowsOfMatrix (d .n) (d .m))
+  due-table = record { text = d .is; range = rows-in-range (d .n) fibres (d .m) (d .two-or-four) (d .of .range) }
 
   pub matrix-table-accepted : table.Accepted desk text
-  matrix-table-accepted = due-accepted text writeTable .1 (record { text = text; is = record { n = d .n; rs = rowsOfMatrix (d .n) (d .m); of = due-table; is = d .is } })
+  matrix-table-accepted = due-accepted text writeTable .1 (record { text = text; is = record { ring = ringOf (d .n) fibres; rs = rowsOfMatrix (d .n) (d .m); of = due-table; is = d .is } })
 
   -- and no longer than `tableRoom`
   pub matrix-table-short : length text ≤ tableRoom desk
-  matrix-table-short = omega (arith, ap length (d .is), room-for-table (d .n) (d .m) (d .of .range))
+  matrix-table-short = omega (arith, ap length (d .is), room-for-table (d .n) fibres (d .m) (d .two-or-four) (d .of .range))
 
 -- ---- writing
 
 -- the same text is the table of one ring and one list of rows
-same-values : {t : List ℕ} {n k : ℕ} {rs qs : List Row} → TableOf t n rs → TableOf t k qs → (n ≡ k) × (rs ≡ qs)
-same-values {n} {k} {rs} {qs} a b = same-table desk desk-spelled n k rs qs (a .range) (b .range) (sym (a .text) ∙ b .text)
+same-values : {t : List ℕ} {ring other : Ring} {rs qs : List Row} → TableOf t ring rs → TableOf t other qs → (ring ≡ other) × (rs ≡ qs)
+same-values {ring} {other} {rs} {qs} a b = same-table desk desk-spelled ring other rs qs (a .range) (b .range) (sym (a .text) ∙ b .text)
 
 -- no reason is given to a text that is a table
-no-reason : {t : List ℕ} {n : ℕ} {rs : List Row} → TableOf t n rs → {reason : Reason} {line : ℕ} → table.Given desk t reason line → ⊥
-no-reason {t} {n} {rs} of {reason} {line} g = due-accepted t writeTable .1 (record { text = t; is = record { n = n; rs = rs; of = of; is = of .text } }) reason line (g .holds)
+no-reason : {t : List ℕ} {ring : Ring} {rs : List Row} → TableOf t ring rs → {reason : Reason} {line : ℕ} → table.Given desk t reason line → ⊥
+no-reason {t} {ring} {rs} of {reason} {line} g = due-accepted t writeTable .1 (record { text = t; is = record { ring = ring; rs = rs; of = of; is = of .text } }) reason line (g .holds)
 
 module _ (t : List ℕ) where
   sums-decided : (x : Result) → tableOf desk t ≡ x → Decided (SumsDue t) (SumsGiven t) (ofRows x)
   unfolding ofRows unlessPass
-  sums-decided (accepted n rs) e = go (judgeSums desk rs) refl
+  sums-decided (accepted ring rs) e = go (judgeSums desk rs) refl
     where
-      go : (x : Sums) → judgeSums desk rs ≡ x → Decided (SumsDue t) (SumsGiven t) (unlessPass x (write (writeMatrix (matrixOfRows n rs))))
-      go Fit f = is-due (record { n = n; rs = rs; of = read-is t n rs .0 e; fit = sums-fit desk rs .0 f; is = refl })
-      go (Pass line) f = is-given (of-sums (read-is t n rs .0 e) (sums-given desk rs line .0 f))
+      go : (x : Sums) → judgeSums desk rs ≡ x → Decided (SumsDue t) (SumsGiven t) (unlessPass x (write (writeMatrix (matrixOfRows (ring .n) rs))))
+      go Fit f = is-due (record { ring = ring; rs = rs; of = read-is t ring rs .0 e; fit = sums-fit desk rs .0 f; is = refl })
+      go (Pass line) f = is-given (of-sums (read-is t ring rs .0 e) (sums-given desk rs line .0 f))
   sums-decided (refused reason line) e = is-given (of-table (table-given.given desk t reason line .0 e))
 
   one-refusal : {r s : Reason} {line other : ℕ} → SumsGiven t r line → SumsGiven t s other → (r ≡ s) × (line ≡ other)
@@ -139,7 +165,7 @@ module _ (t : List ℕ) where
             let e = same-values (a .of) (b .of) in
             let en = e .0 in
             let er = e .1 in
-            let d : writeMatrix (matrixOfRows (a .n) (a .rs)) ≡ writeMatrix (matrixOfRows (b .n) (b .rs)) = rw (en, er) in
+            let d : writeMatrix (matrixOfRows (a .ring .n) (a .rs)) ≡ writeMatrix (matrixOfRows (b .ring .n) (b .rs)) = rw (en, er) in
             a .is ∙ d ∙ sym (b .is);
         refusal = λ f g. one-refusal f g;
         apart = λ d g. due-or-given d g;
@@ -156,29 +182,29 @@ module _ (t text : List ℕ) (d : SumsDue t text) where
   fits = sums-fit desk (d .rs) .1 (d .fit)
 
   -- the matrix that is due is a matrix in range, so that it is accepted
-  due-matrix : MatrixOf text (d .n) (matrixOfRows (d .n) (d .rs))
-  due-matrix = record { text = d .is; range = matrix-in-range (d .n) (d .rs) (d .of .range) fits }
+  due-matrix : MatrixOf text (d .ring .n) (matrixOfRows (d .ring .n) (d .rs))
+  due-matrix = record { text = d .is; range = matrix-in-range (d .ring) (d .rs) (d .of .range) fits }
 
   pub written-matrix-accepted : Accepted desk text
   written-matrix-accepted =
-      accepted-is desk text .0 (record { n = d .n; m = matrixOfRows (d .n) (d .rs); is = matrix-is text (d .n) (matrixOfRows (d .n) (d .rs)) .1 due-matrix })
+      accepted-is desk text .0 (record { n = d .n; m = matrixOfRows (d .n) (d .rs); is = matrix-is text (d .n) (matrixOfRows (d .ring .n) (d .rs)) .1 due-matrix })
 
   -- and no longer than `matrixRoom`
   pub written-matrix-short : length text ≤ matrixRoom desk
-  written-matrix-short = omega (arith, ap length (d .is), room-for-matrix (d .n) (d .rs) (d .of .range) fits)
+  written-matrix-short = omega (arith, ap length (d .is), room-for-matrix (d .ring) (d .rs) (d .of .range) fits)
 
 -- ---- there and back
 
--- matrix to table to matrix: the same bytes, for every accepted matrix
-pub matrix-there-and-back : (t text old new : List ℕ) (r : Reply) → Fills (matrixRead t) old new r → Success text old new r
+-- matrix to table to matrix: the same bytes, for every accepted matrix, whatever the fibres
+pub matrix-there-and-back : (fibres : ℕ) (t text old new : List ℕ) (r : Reply) → Fills (matrixRead fibres t) old new r → Success text old new r
     → (other after : List ℕ) (q : Reply) → Fills (matrixWritten text) other after q → length t ≤ length other → Success t other after q
-matrix-there-and-back t text old new r read done other after q written room =
-    let d = read-matrix-promise t old new r read .succeeds text .0 done .0 in
-    let table = due-table t text d in
-    let one = one-each-fit (d .n) (rowsOfMatrix (d .n) (d .m)) (table .range) (rows-one-each (d .n) (d .m)) in
+matrix-there-and-back fibres t text old new r read done other after q written room =
+    let d = read-matrix-promise fibres t old new r read .succeeds text .0 done .0 in
+    let table = due-table fibres t text d in
+    let one = one-each-fit (ringOf (d .n) fibres) (rowsOfMatrix (d .n) (d .m)) (table .range) (rows-one-each (d .n) (d .m)) in
     let due : SumsDue text t =
     record {
-      n = d .n;
+      ring = ringOf (d .n) fibres;
       rs = rowsOfMatrix (d .n) (d .m);
       of = table;
       fit = sums-fit desk (rowsOfMatrix (d .n) (d .m)) .0 one;
@@ -186,18 +212,22 @@ matrix-there-and-back t text old new r read done other after q written room =
     } in
     write-matrix-promise text other after q written .succeeds t .1 (due, room)
 
--- table to matrix to table: the same bytes, for every accepted table with at most one row for a pair and none of amount 0
-pub table-there-and-back : (t : List ℕ) (n : ℕ) (rs : List Row) → TableOf t n rs → OneEach rs → (text old new : List ℕ) (r : Reply) → Fills (matrixWritten t) old new r → Success text old new r
-    → (other after : List ℕ) (q : Reply) → Fills (matrixRead text) other after q → length t ≤ length other → Success t other after q
-table-there-and-back t n rs of each text old new r written done other after q read room =
+-- table to matrix to table, read with the table's own fibres: the same bytes, for every accepted table with at most one row for a pair and none of amount 0
+pub table-there-and-back : (t : List ℕ) (ring : Ring) (rs : List Row) → TableOf t ring rs → OneEach rs → (text old new : List ℕ) (r : Reply) → Fills (matrixWritten t) old new r → Success text old new r
+    → (other after : List ℕ) (q : Reply) → Fills (matrixRead (ring .fibres) text) other after q → length t ≤ length other → Success t other after q
+table-there-and-back t ring rs of each text old new r written done other after q read room =
     let d = write-matrix-promise t old new r written .succeeds text .0 done .0 in
-    let e = same-values of (d .of) .1 in
-    let back = table-back (d .n) (d .rs) (d .of .range .rows) (rw e at each) in
-    let due : MatrixDue text t =
+    let same = same-values of (d .of) in
+    let er = same .0 in
+    let es = same .1 in
+    let back = table-back (d .ring .n) (d .rs) (d .of .range .rows) (rw es at each) in
+    let fibres : d .ring .fibres ≡ ring .fibres = ap (λ (x : Ring). x .fibres) (sym er) in
+    let due : MatrixDue (d .ring .fibres) text t =
     record {
-      n = d .n;
-      m = matrixOfRows (d .n) (d .rs);
+      two-or-four = d .of .range .fibres;
+      n = d .ring .n;
+      m = matrixOfRows (d .ring .n) (d .rs);
       of = due-matrix t text d;
-      is = d .of .text ∙ sym (ap (writeTable (d .n)) back);
+      is = d .of .text ∙ sym (ap (writeTable (d .ring)) back);
     } in
-    read-matrix-promise text other after q read .succeeds t .1 (due, room)
+    read-matrix-promise (ring .fibres) text other after q read .succeeds t .1 (subst (λ f. MatrixDue f text t) fibres due, room)

@@ -3,6 +3,7 @@ use Prim.Native.Nat.{ℕ, _≤_}
 use mathlib.Core.List.{List}
 use mathlib.Core.Path.{_≡_, ap, _∙_, sym}
 use Rattle.ring.specs.Limits.{desk}
+use Rattle.ring.specs.Ring.{ringOf}
 use Rattle.ring.specs.Row.{Row}
 use Rattle.ring.specs.Columns.{rowsIn}
 use Rattle.table.specs.Table.{InRange}
@@ -31,15 +32,15 @@ module _ (s old : List ℕ) (t : Table) (e : t ≡ tableIn (tableOf desk s)) whe
   unfolding matrixWritten ofRows
   written-refused reason line r a = refuses (matrixWritten s) old reason line r (rw (told-refusal s t e reason line a))
 
-  module _ (n count : ℕ) (a : t .answer ≡ Is n count) where
+  module _ (n fibres count : ℕ) (a : t .answer ≡ Is n fibres count) where
     abbrev rows : List Row
     rows = rowsIn count (t .first) (t .second) (t .amount)
 
-    told : Told s n count (t .first) (t .second) (t .amount)
-    told = told-table s t e n count a
+    told : Told s n fibres count (t .first) (t .second) (t .amount)
+    told = told-table s t e n fibres count a
 
-    range : InRange desk n rows
-    range = table-text desk desk-spelled s n rows .0 (told .is) .1
+    range : InRange desk (ringOf n fibres) rows
+    range = table-text desk desk-spelled s (ringOf n fibres) rows .0 (told .is) .1
 
     pub sums-take : Amounts count (t .amount)
     sums-take = amounts-in count (t .first) (t .second) (t .amount) (told .room) (range .amounts)

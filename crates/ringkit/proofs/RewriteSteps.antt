@@ -1,14 +1,17 @@
 -- A table that was read, from its own text or from a matrix, is written afresh: what reading said gives the outcome, and the outcome each way out of the call.
 use Prim.Native.Nat.{ℕ, _≤_}
 use mathlib.Core.List.{List}
-use mathlib.Core.Path.{_≡_, ap, _∙_}
+use mathlib.Core.Bool.{Bool, true, false}
+use mathlib.Core.Path.{_≡_, sym, _∙_}
 use Rattle.ring.specs.Limits.{desk}
 use Rattle.ring.specs.Columns.{rowsIn}
 use Rattle.ring.specs.Ring.{ringOf}
+use Rattle.table.specs.Judge.{otherFibres}
 use Rattle.table.specs.Table.{writeTable}
 use Rattle.table.specs.ReadTable.{tableOf}
 use Rattle.table.specs.Arrays.{tableIn}
 use Rattle.table.specs.declared.reason.Reason.{Reason}
+use Rattle.table.specs.declared.reason.Reason.the-variants.{Fibres}
 use Rattle.table.specs.declared.read.Table.{Table}
 use Rattle.table.specs.declared.read.Answer.the-variants.{Is, Refused}
 use Rattle.table.proofs.Told as table-told
@@ -35,20 +38,28 @@ module _ (s old : List ℕ) (t : Table) (e : t ≡ tableIn (tableOf desk s)) whe
     unfolding tableAfresh ofTable
     table-fills new r = same-fills old new r (rw (table-told.told-table s t e n fibres count a .is))
 
--- ---- from a matrix
+-- ---- from a matrix, on a ring of so many fibres
 
-module _ (s old : List ℕ) (t : Table) (e : t ≡ tableIn (tableFrom (matrixOf desk s))) where
-  pub matrix-refused : (reason : Reason) (line : ℕ) (r : Reply) → t .answer ≡ Refused reason line → r ≡ replyOf (refuse reason line) → Fills (matrixRead s) old old r
-  unfolding matrixRead ofTable tableFrom
-  matrix-refused reason line r a = refuses (matrixRead s) old reason line r (rw (matrix-told.told-refusal s t e reason line a))
+module _ (s old : List ℕ) (fibres : ℕ) (other : Bool) (eo : other ≡ otherFibres fibres) where
+  pub fibres-refused : (r : Reply) → other ≡ true → r ≡ replyOf (refuse Fibres 0) → Fills (matrixRead fibres s) old old r
+  unfolding matrixRead
+  fibres-refused r o = refuses (matrixRead fibres s) old Fibres 0 r (let f : otherFibres fibres ≡ true = sym eo ∙ o in rw f)
 
-  module _ (n fibres count : ℕ) (a : t .answer ≡ Is n fibres count) where
-    pub matrix-rows-have-room : count ≤ desk .rows
-    matrix-rows-have-room = matrix-told.told-matrix s t e n fibres count a .room
+  module _ (o : other ≡ false) (t : Table) (e : t ≡ tableIn (tableFrom fibres (matrixOf desk s))) where
+    known : otherFibres fibres ≡ false
+    known = sym eo ∙ o
 
-    pub matrix-fills : (new : List ℕ) (r : Reply) → Fills (write (writeTable (ringOf n fibres) (rowsIn count (t .first) (t .second) (t .amount)))) old new r → Fills (matrixRead s) old new r
+    pub matrix-refused : (reason : Reason) (line : ℕ) (r : Reply) → t .answer ≡ Refused reason line → r ≡ replyOf (refuse reason line) → Fills (matrixRead fibres s) old old r
     unfolding matrixRead ofTable tableFrom
-    matrix-fills new r =
-        let told = matrix-told.told-matrix s t e n fibres count a in
-        let rows = told .rows in
-        same-fills old new r (rw (told .is, rows))
+    matrix-refused reason line r a = refuses (matrixRead fibres s) old reason line r (rw (known, matrix-told.told-refusal s fibres t e reason line a))
+
+    module _ (n same count : ℕ) (a : t .answer ≡ Is n same count) where
+      pub matrix-rows-have-room : count ≤ desk .rows
+      matrix-rows-have-room = matrix-told.told-matrix s fibres t e n same count a .room
+
+      pub matrix-fills : (new : List ℕ) (r : Reply) → Fills (write (writeTable (ringOf n fibres) (rowsIn count (t .first) (t .second) (t .amount)))) old new r → Fills (matrixRead fibres s) old new r
+      unfolding matrixRead ofTable tableFrom
+      matrix-fills new r =
+          let told = matrix-told.told-matrix s fibres t e n same count a in
+          let rows = told .rows in
+          same-fills old new r (rw (known, told .is, rows))

@@ -33,8 +33,8 @@ parallel-unique t r q = same-result
 pub rewrite-sheet-unique : (t old new buf : List ℕ) (r q : Reply) → Fills (sheetAfresh t) old new r → Fills (sheetAfresh t) old buf q → (r ≡ q) × (new ≡ buf)
 rewrite-sheet-unique t = fills-unique (sheetAfresh t)
 
-pub read-matrix-unique : (t old new buf : List ℕ) (r q : Reply) → Fills (matrixRead t) old new r → Fills (matrixRead t) old buf q → (r ≡ q) × (new ≡ buf)
-read-matrix-unique t = fills-unique (matrixRead t)
+pub read-matrix-unique : (fibres : ℕ) (t old new buf : List ℕ) (r q : Reply) → Fills (matrixRead fibres t) old new r → Fills (matrixRead fibres t) old buf q → (r ≡ q) × (new ≡ buf)
+read-matrix-unique fibres t = fills-unique (matrixRead fibres t)
 
 pub write-matrix-unique : (t old new buf : List ℕ) (r q : Reply) → Fills (matrixWritten t) old new r → Fills (matrixWritten t) old buf q → (r ≡ q) × (new ≡ buf)
 write-matrix-unique t = fills-unique (matrixWritten t)

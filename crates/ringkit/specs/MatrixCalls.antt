@@ -1,10 +1,12 @@
 -- Internal: the outcome of the calls that read or write a matrix: the text's refusals, and of a table 19 (then 15); or the text that is due.
 use Prim.Native.Nat.{ℕ}
+use mathlib.Core.Bool.{cond}
 use mathlib.Core.List.{List}
 use Rattle.ring.specs.Limits.{desk}
+use Rattle.table.specs.Judge.{otherFibres}
 use Rattle.table.specs.Table.{writeTable}
 use Rattle.table.specs.ReadTable.{Result, accepted, refused, tableOf}
-use Rattle.table.specs.declared.reason.Reason.the-variants.{SumTooMuch}
+use Rattle.table.specs.declared.reason.Reason.the-variants.{Fibres, SumTooMuch}
 use Rattle.matrix.specs.Matrix.{writeMatrix}
 use Rattle.matrix.specs.Demands.{matrixOfRows}
 use Rattle.matrix.specs.Read.{matrixOf, tableFrom}
@@ -14,10 +16,10 @@ use Rattle.matrix.specs.declared.sums.Sums.the-variants.{Fit, Pass}
 use Rattle.ringkit.specs.Outcome.{Outcome, write, refuse}
 use Rattle.ringkit.specs.TableCalls.{ofTable}
 
--- reading a matrix and writing its table
-unfoldable pub matrixRead : List ℕ → Outcome
+-- reading a matrix and writing its table, on a ring of so many fibres: 20 is tried first of all
+unfoldable pub matrixRead : ℕ → List ℕ → Outcome
 unfolding ofTable
-matrixRead t = ofTable writeTable (tableFrom (matrixOf desk t))
+matrixRead fibres t = cond (otherFibres fibres) (refuse Fibres 0) (ofTable writeTable (tableFrom fibres (matrixOf desk t)))
 
 -- 19, where a pair's sum passes the limit
 unfoldable pub unlessPass : Sums → Outcome → Outcome
@@ -26,7 +28,7 @@ unlessPass (Pass line) next = refuse SumTooMuch line
 
 unfoldable pub ofRows : Result → Outcome
 unfolding unlessPass
-ofRows (accepted n rs) = unlessPass (judgeSums desk rs) (write (writeMatrix (matrixOfRows n rs)))
+ofRows (accepted ring rs) = unlessPass (judgeSums desk rs) (write (writeMatrix (matrixOfRows (ring .n) rs)))
 ofRows (refused reason line) = refuse reason line
 
 -- reading a table and writing its matrix

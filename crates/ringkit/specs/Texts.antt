@@ -3,7 +3,8 @@ use Prim.Native.Nat.{ℕ}
 use mathlib.Core.List.{List}
 use mathlib.Core.Path.{_≡_}
 use Rattle.ring.specs.Limits.{desk}
-use Rattle.ring.specs.Ring.{Ring}
+use Rattle.ring.specs.LineSize.{IsFibres}
+use Rattle.ring.specs.Ring.{Ring, ringOf}
 use Rattle.ring.specs.Row.{Row}
 use Rattle.ring.specs.Sheet.{Sheet, plan}
 use Rattle.ring.specs.True.{TrueSheet}
@@ -12,8 +13,9 @@ use Rattle.sheet.specs.WriteSheet.{writeSheet}
 use Rattle.table.specs.Says.{Given}
 use Rattle.table.specs.Table.{writeTable, InRange}
 use Rattle.table.specs.declared.reason.Reason.{Reason}
-use Rattle.table.specs.declared.reason.Reason.the-variants.{SumTooMuch}
+use Rattle.table.specs.declared.reason.Reason.the-variants.{Fibres, SumTooMuch}
 use Rattle.matrix.specs.Matrix as matrix
+use Rattle.matrix.specs.Says as matrix-says
 use Rattle.matrix.specs.Matrix.{writeMatrix}
 use Rattle.matrix.specs.Demands.{rowsOfMatrix, matrixOfRows, Passes, PassesAt}
 
@@ -67,22 +69,28 @@ pub record Itself (Accepted : Type 0) (t text : List ℕ) : Type 0 where
   pub accepted : Accepted
   pub same : text ≡ t
 
--- the text that is due to a matrix that is read: the table with one row for each pair whose entry is above 0
-pub record MatrixDue (t text : List ℕ) : Type 0 where
+-- the text that is due to a matrix that is read on 2 or 4 fibres: the table with one row for each pair whose entry is above 0
+pub record MatrixDue (fibres : ℕ) (t text : List ℕ) : Type 0 where
+  pub two-or-four : IsFibres fibres
   pub n : ℕ
   pub m : List (List ℕ)
   pub of : MatrixOf t n m
-  pub is : text ≡ writeTable n (rowsOfMatrix n m)
+  pub is : text ≡ writeTable (ringOf n fibres) (rowsOfMatrix n m)
+
+-- what is given to a matrix that is read: 20 first of all, with line 0; then the matrix's own reasons
+pub data MatrixGiven (fibres : ℕ) (t : List ℕ) : Reason → ℕ → Type 0 where
+  of-fibres : (IsFibres fibres → ⊥) → MatrixGiven fibres t Fibres 0
+  of-matrix : {reason : Reason} {line : ℕ} → IsFibres fibres → matrix-says.Given desk t reason line → MatrixGiven fibres t reason line
 
 -- the text that is due to a table of which a matrix is written: rows of one pair add up, and no sum passes the limit
 pub record SumsDue (t text : List ℕ) : Type 0 where
-  pub n : ℕ
+  pub ring : Ring
   pub rs : List Row
-  pub of : TableOf t n rs
+  pub of : TableOf t ring rs
   pub fit : (k : ℕ) → Passes desk rs k → ⊥
-  pub is : text ≡ writeMatrix (matrixOfRows n rs)
+  pub is : text ≡ writeMatrix (matrixOfRows (ring .n) rs)
 
 -- what is given to a table of which a matrix is written: the table's own reasons; then 19, on the line of the first row at which a pair's sum passes 9,999
 pub data SumsGiven (t : List ℕ) : Reason → ℕ → Type 0 where
   of-table : {reason : Reason} {line : ℕ} → Given desk t reason line → SumsGiven t reason line
-  of-sums : {n : ℕ} {rs : List Row} {line : ℕ} → TableOf t n rs → PassesAt desk rs line → SumsGiven t SumTooMuch line
+  of-sums : {ring : Ring} {rs : List Row} {line : ℕ} → TableOf t ring rs → PassesAt desk rs line → SumsGiven t SumTooMuch line

@@ -90,16 +90,28 @@ pub extern "C" fn ringkit_rewrite_table(table: &[u8], buffer: &mut [u8]) -> Repl
     }
 }
 
-// Reads a matrix and writes its table.
+// Reads a matrix and writes its table, on a ring of so many fibres, which a matrix does not say.
 #[no_mangle]
-pub extern "C" fn ringkit_read_matrix(matrix: &[u8], buffer: &mut [u8]) -> Reply
-    ensures { λ r. ⌜ Fills (matrixRead (now (matrix .entry))) (now (buffer .entry)) (now (buffer .exit)) r ⌝ }
+pub extern "C" fn ringkit_read_matrix(matrix: &[u8], fibres: u32, buffer: &mut [u8]) -> Reply
+    ensures { λ r. ⌜ Fills (matrixRead fibres (now (matrix .entry))) (now (buffer .entry)) (now (buffer .exit)) r ⌝ }
 {
-    let t = matrix::read_matrix(matrix);
+    let other = table::other_fibres(fibres);
+    if other {
+        return refusal(Reason::Fibres, 0);
+    }
+    let t = matrix::read_matrix(matrix, fibres);
     let answer = t.answer;
     match answer {
         Answer::Refused(reason, line) => refusal(reason, line),
-        Answer::Is(n, fibres, count) => put_table(buffer, n, fibres, count, &t.first, &t.second, &t.amount),
+        Answer::Is(n, _, count) => put_table(
+            buffer,
+            n,
+            fibres,
+            count,
+            &t.first,
+            &t.second,
+            &t.amount,
+        ),
     }
 }
 

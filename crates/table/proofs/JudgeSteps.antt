@@ -5,9 +5,18 @@ use mathlib.Core.Path.{_≡_, sym, _∙_}
 use borrow.Author.Tests.{le-leb, lt-leb, lt-ltb, le-ltb}
 use Rattle.ring.specs.Limits.{desk}
 use Rattle.ring.specs.Ring.{ringOf}
-use Rattle.table.specs.Judge.{wrongSize, otherFibres, judgeRing, outside, isBelow, judgeRow}
+use Rattle.table.specs.Judge.{wrongSize, judgeSize, otherFibres, judgeRing, outside, isBelow, judgeRow}
 use Rattle.table.specs.declared.reason.Reason.the-variants.{RingSize, Fibres, NoSuchNode, NotBelow, OutOfOrder, TooMany, TooMuch}
 use Rattle.table.specs.declared.judge.Verdict.the-variants.{Fine, Fault}
+
+module _ (n : ℕ) (x : Bool) (ex : x ≡ wrongSize desk n) where
+  pub size-alone-wrong : x ≡ true → Fault RingSize ≡ judgeSize desk n
+  unfolding judgeSize
+  size-alone-wrong t = rw (sym ex ∙ t)
+
+  pub size-alone-fine : x ≡ false → Fine ≡ judgeSize desk n
+  unfolding judgeSize
+  size-alone-fine t = rw (sym ex ∙ t)
 
 module _ (n fibres : ℕ) (x : Bool) (ex : x ≡ wrongSize desk n) (y : Bool) (ey : y ≡ otherFibres fibres) where
   pub size-wrong : x ≡ true → Fault RingSize ≡ judgeRing desk (ringOf n fibres)

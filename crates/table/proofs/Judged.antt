@@ -12,7 +12,7 @@ use Rattle.ring.specs.Limits.{Limits}
 use Rattle.ring.specs.Ring.{Ring}
 use Rattle.ring.specs.LineSize.{twoFibres, fourFibres, IsFibres}
 use Rattle.table.specs.Says.{NoNode}
-use Rattle.table.specs.Judge.{wrongSize, otherFibres, judgeRing, outside, isBelow, judgeRow}
+use Rattle.table.specs.Judge.{wrongSize, judgeSize, otherFibres, judgeRing, outside, isBelow, judgeRow}
 use Rattle.table.specs.declared.reason.Reason.the-variants.{RingSize, Fibres, NoSuchNode, NotBelow, OutOfOrder, TooMany, TooMuch}
 use Rattle.table.specs.declared.judge.Verdict.{Verdict}
 use Rattle.table.specs.declared.judge.Verdict.the-variants.{Fine, Fault}
@@ -34,11 +34,31 @@ size limits n =
       ]
     ]
 
-data Fibred (fibres : ℕ) : Type 0 where
+pub data SizeJudged (limits : Limits) (n : ℕ) : Verdict → Type 0 where
+  not-so-many : (n < limits .fewest) ⊎ (limits .nodes < n) → SizeJudged limits n (Fault RingSize)
+  right-size : limits .fewest ≤ n → n ≤ limits .nodes → SizeJudged limits n Fine
+
+pub size-judged : (limits : Limits) (n : ℕ) → SizeJudged limits n (judgeSize limits n)
+unfolding judgeSize
+size-judged limits n = go (size limits n)
+  where
+    go : Size limits n → SizeJudged limits n (judgeSize limits n)
+    go (wrong w e) = rw e (not-so-many w)
+    go (right few many e) = rw e (right-size few many)
+
+pub fine-size : (limits : Limits) (n : ℕ) → limits .fewest ≤ n → n ≤ limits .nodes → judgeSize limits n ≡ Fine
+fine-size limits n few many = go (size-judged limits n)
+  where
+    go : {v : Verdict} → SizeJudged limits n v → v ≡ Fine
+    go (not-so-many w) = absurd (⊎-elim (λ l. omega arith) (λ l. omega arith) w)
+    go (right-size a b) = refl
+
+-- fibres, by their test
+pub data Fibred (fibres : ℕ) : Type 0 where
   other : (IsFibres fibres → ⊥) → otherFibres fibres ≡ true → Fibred fibres
   known : IsFibres fibres → otherFibres fibres ≡ false → Fibred fibres
 
-fibred : (fibres : ℕ) → Fibred fibres
+pub fibred : (fibres : ℕ) → Fibred fibres
 unfolding otherFibres
 fibred fibres =
     elim (ℕ-discrete fibres twoFibres) [

@@ -1,5 +1,6 @@
 -- Any two results that meet a public contract agree, and so do the two buffers: each contract is an equation with one definition.
 use Prim.Native.Nat.{ℕ}
+use mathlib.Core.Bool.{Bool}
 use mathlib.Core.List.{List}
 use mathlib.Core.Path.{_≡_}
 use lib.ListN.{length}
@@ -7,7 +8,7 @@ use Rattle.text.specs.Written.{Written}
 use Rattle.text.proofs.Unique.{same-result, same-written}
 use Rattle.ring.specs.Limits.{desk}
 use Rattle.ring.specs.Ring.{Ring}
-use Rattle.table.specs.Judge.{judgeRing, judgeRow}
+use Rattle.table.specs.Judge.{judgeSize, otherFibres, judgeRing, judgeRow}
 use Rattle.table.specs.LineEnds.{LineEnds}
 use Rattle.table.specs.Reasons.{numberOf}
 use Rattle.table.specs.Table.{writeTable}
@@ -40,6 +41,12 @@ line-end-unique s at r q a b = same-result (a .is) (b .is)
 
 pub judge-ring-unique : (ring : Ring) (r q : Verdict) → r ≡ judgeRing desk ring → q ≡ judgeRing desk ring → r ≡ q
 judge-ring-unique ring r q = same-result
+
+pub judge-size-unique : (n : ℕ) (r q : Verdict) → r ≡ judgeSize desk n → q ≡ judgeSize desk n → r ≡ q
+judge-size-unique n r q = same-result
+
+pub other-fibres-unique : (fibres : ℕ) (r q : Bool) → r ≡ otherFibres fibres → q ≡ otherFibres fibres → r ≡ q
+other-fibres-unique fibres r q = same-result
 
 pub judge-row-unique : (n k a b i j d : ℕ) (r q : Verdict) → r ≡ judgeRow desk n k a b i j d → q ≡ judgeRow desk n k a b i j d → r ≡ q
 judge-row-unique n k a b i j d r q = same-result

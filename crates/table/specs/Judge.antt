@@ -13,6 +13,11 @@ use Rattle.table.specs.declared.judge.Verdict.the-variants.{Fine, Fault}
 unfoldable pub wrongSize : Limits → ℕ → Bool
 wrongSize limits n = ltb n (limits .fewest) || ltb (limits .nodes) n
 
+-- 3 alone, of a matrix, which says no fibres
+unfoldable pub judgeSize : Limits → ℕ → Verdict
+unfolding wrongSize
+judgeSize limits n = cond (wrongSize limits n) (Fault RingSize) Fine
+
 -- fibres neither 2 nor 4
 unfoldable pub otherFibres : ℕ → Bool
 otherFibres fibres = not (eqb fibres twoFibres) && not (eqb fibres fourFibres)

@@ -9,7 +9,7 @@ use ring::TWO_FIBRES;
 ghost use mathlib.Core.Path.{_≡_};
 ghost use Rattle.ring.specs.Limits.{desk};
 ghost use Rattle.ring.specs.Ring.{ringOf};
-ghost use Rattle.table.specs.Judge.{wrongSize, otherFibres, judgeRing, outside, isBelow, judgeRow};
+ghost use Rattle.table.specs.Judge.{wrongSize, judgeSize, otherFibres, judgeRing, outside, isBelow, judgeRow};
 
 pub enum Verdict {
     Fine,
@@ -23,8 +23,19 @@ fn wrong_size(n: u32) -> bool
     n < FEWEST || NODES < n
 }
 
+// The size of a ring alone: a matrix says no fibres.
+pub fn judge_size(n: u32) -> Verdict
+    ensures { λ r. ⌜ r ≡ judgeSize desk n ⌝ }
+{
+    let wrong = wrong_size(n);
+    if wrong {
+        return Verdict::Fault(Reason::RingSize);
+    }
+    Verdict::Fine
+}
+
 // Whether fibres are neither 2 nor 4.
-fn other_fibres(fibres: u32) -> bool
+pub fn other_fibres(fibres: u32) -> bool
     ensures { λ r. ⌜ r ≡ otherFibres fibres ⌝ }
 {
     fibres != TWO_FIBRES && fibres != FOUR_FIBRES

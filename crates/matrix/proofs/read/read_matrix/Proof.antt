@@ -58,8 +58,8 @@ enum-told-2 c = search needs
 cast-n : tie.Need-cast-n
 cast-n c = search (fields-fit, needs)
 
-judge-ring-requires : tie.Need-judge-ring-requires
-judge-ring-requires c κs = search needs
+judge-size-requires : tie.Need-judge-size-requires
+judge-size-requires c κs = search needs
 
 enum-known-verdict : tie.Need-enum-known-verdict
 enum-known-verdict c = search needs
@@ -101,7 +101,7 @@ read-matrix-spec =
     returns-3
     enum-told-2
     cast-n
-    judge-ring-requires
+    judge-size-requires
     enum-known-verdict
     refusal-requires-4
     returns-4

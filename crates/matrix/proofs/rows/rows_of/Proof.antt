@@ -7,10 +7,10 @@ use Rattle.matrix.proofs.rows.rows_of.Statement.{statement}
 use Rattle.matrix.proofs.rows.rows_of.Tie as tie
 
 abbrev Inv-loop : tie.InvT-loop
-Inv-loop n square first₀ second₀ amount₀ count₀ i₀ j₀ first second amount count i j = Gathering n (at square) first second amount count i j
+Inv-loop n fibres square first₀ second₀ amount₀ count₀ i₀ j₀ first second amount count i j = Gathering n (at square) first second amount count i j
 
 abbrev μ-loop : tie.MeasureT-loop
-μ-loop n square first₀ second₀ amount₀ count₀ i₀ j₀ first second amount count i j = (n + 1 - i) * 40 + (n + 1 - j)
+μ-loop n fibres square first₀ second₀ amount₀ count₀ i₀ j₀ first second amount count i j = (n + 1 - i) * 40 + (n + 1 - j)
 
 loop-holds : tie.Need-loop-holds Inv-loop μ-loop
 loop-holds c = gathering-starts _ _ (search needs)
