@@ -1,0 +1,4 @@
+pub mod Triangle
+pub mod Step
+pub mod Lines
+pub mod Answers

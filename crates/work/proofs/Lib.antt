@@ -1,0 +1,10 @@
+pub mod PlaceSteps
+pub mod ChangeSteps
+pub mod RowsHeld
+pub mod Right
+pub mod Views
+pub mod SortSteps
+pub mod SortedRows
+pub mod WriteSteps
+pub mod ByCalls
+pub mod Unique

@@ -1,0 +1,26 @@
+-- To believe: what is kept in a table made by calls, and that a call does what the list of places says.
+use Prim.Native.Nat.{ℕ, _≤_, _<_}
+use mathlib.Core.List.{List}
+use mathlib.Core.Path.{_≡_}
+use Rattle.ring.specs.Row.{Row}
+use Rattle.ring.specs.Cut.{across}
+use Rattle.ring.specs.RuleA.{ruleA}
+use Rattle.across.specs.Triangle.{at}
+use Rattle.work.specs.Places.{rowsHeld}
+use Rattle.work.specs.Calls.{Call, outcome, after, answer}
+use Rattle.work.specs.Made.{calledIn, plainOf}
+use Rattle.work.specs.declared.Work.{Work}
+
+-- the rows that a table holds, by place
+abbrev pub held : Work → List Row
+held w = rowsHeld (plainOf w .places)
+
+-- the across number of every cut is that of the rows held, and the largest and its cut are rule A's
+pub record Keeps (w : Work) : Type 0 where
+  pub numbers : (g h : ℕ) → 1 ≤ g → g < h → h ≤ w .n → at (w .triangle) g h ≡ across (held w) g h
+  pub largest : record { g = w .g; h = w .h; number = w .across } ≡ ruleA (w .n) (held w)
+
+-- a call answers, and leaves a table, as the list of places says
+pub record ByTheList (w : Work) (c : Call) : Type 0 where
+  pub reply : calledIn w c .reply ≡ answer (outcome (plainOf w) c)
+  pub table : plainOf (calledIn w c .work) ≡ after (plainOf w) (outcome (plainOf w) c)

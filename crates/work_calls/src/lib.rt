@@ -1,0 +1,69 @@
+// The calls of the working table as C sees them: lent by `&mut`, and altered by functions by value. Each body has exactly the shape that a law of `walk` is about.
+use work::RowReply;
+use work::TextReply;
+use work::Work;
+use work::WorkReply;
+ghost use mathlib.Core.Path.{_≡_};
+ghost use Rattle.work.specs.Changes.{startedIn, addedIn, changedIn, removedIn, rowIn};
+ghost use Rattle.work.specs.Text.{WritesTable};
+
+#[no_mangle]
+pub extern "C" fn ringkit_work_start(work: &mut Work, n: u32, fibres: u32) -> WorkReply
+    ensures { λ r. ⌜ (r ≡ startedIn (now (work .entry)) n fibres .reply) × (now (work .exit) ≡ startedIn (now (work .entry)) n fibres .work) ⌝ }
+{
+    let done = work::started(*work, n, fibres);
+    *work = done.work;
+    done.reply
+}
+
+#[no_mangle]
+pub extern "C" fn ringkit_work_add(
+    work: &mut Work,
+    first: u32,
+    second: u32,
+    amount: u32,
+) -> WorkReply
+    ensures { λ r. ⌜ (r ≡ addedIn (now (work .entry)) first second amount .reply) × (now (work .exit) ≡ addedIn (now (work .entry)) first second amount .work) ⌝ }
+{
+    let done = work::added(*work, first, second, amount);
+    *work = done.work;
+    done.reply
+}
+
+#[no_mangle]
+pub extern "C" fn ringkit_work_change(
+    work: &mut Work,
+    place: u32,
+    first: u32,
+    second: u32,
+    amount: u32,
+) -> WorkReply
+    ensures { λ r. ⌜ (r ≡ changedIn (now (work .entry)) place first second amount .reply) × (now (work .exit) ≡ changedIn (now (work .entry)) place first second amount .work) ⌝ }
+{
+    let done = work::changed(*work, place, first, second, amount);
+    *work = done.work;
+    done.reply
+}
+
+#[no_mangle]
+pub extern "C" fn ringkit_work_remove(work: &mut Work, place: u32) -> WorkReply
+    ensures { λ r. ⌜ (r ≡ removedIn (now (work .entry)) place .reply) × (now (work .exit) ≡ removedIn (now (work .entry)) place .work) ⌝ }
+{
+    let done = work::removed(*work, place);
+    *work = done.work;
+    done.reply
+}
+
+#[no_mangle]
+pub extern "C" fn ringkit_work_row(work: &Work, place: u32) -> RowReply
+    ensures { λ r. ⌜ r ≡ rowIn (now (work .entry)) place ⌝ }
+{
+    work::row_of(*work, place)
+}
+
+#[no_mangle]
+pub extern "C" fn ringkit_work_write(work: &Work, buffer: &mut [u8]) -> TextReply
+    ensures { λ r. ⌜ WritesTable (now (work .entry)) (now (buffer .entry)) (now (buffer .exit)) r ⌝ }
+{
+    work::written(*work, buffer)
+}
