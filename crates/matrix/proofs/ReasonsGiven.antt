@@ -19,7 +19,7 @@ use Rattle.table.specs.Lines.{lines}
 use Rattle.table.specs.Reasons.{rankOf}
 use Rattle.table.specs.Says.{LineIs, at-first, behind}
 use Rattle.table.specs.declared.reason.Reason.{Reason}
-use Rattle.table.specs.declared.reason.Reason.the-variants.{TooLong, Misshapen, RingSize, NoSuchNode, NotBelow, OutOfOrder, TooMany, TooMuch, WrongSum, WrongWay, WrongCut, WrongLink, WrongLast, NotTight, OverBound, NotZero, NotSymmetric, SumTooMuch, NoRoom}
+use Rattle.table.specs.declared.reason.Reason.the-variants.{TooLong, Misshapen, RingSize, NoRow, NoSuchNode, NotBelow, OutOfOrder, TooMany, TooMuch, Full, WrongSum, WrongWay, WrongCut, WrongLink, WrongLast, NotTight, OverBound, NotZero, NotSymmetric, SumTooMuch, NoRoom}
 use Rattle.table.specs.declared.judge.Verdict.{Verdict}
 use Rattle.table.proofs.Judged.{SizeJudged, not-so-many, right-size, size-judged}
 use Rattle.table.proofs.LineNumbers.{line-one, LinesFrom, from-first, from-next, line-here, no-line-left}
@@ -70,6 +70,8 @@ told WrongLast h = absurd h
 told NotTight h = absurd h
 told OverBound h = absurd h
 told SumTooMuch h = absurd h
+told NoRow h = absurd h
+told Full h = absurd h
 told NoRoom h = absurd h
 
 line-low : {ls : List (List ℕ)} {line : ℕ} {l : List ℕ} → LineIs ls line l → 1 ≤ line

@@ -13,7 +13,7 @@ use Rattle.table.specs.Lines.{lines}
 use Rattle.table.specs.Reasons.{rankOf}
 use Rattle.table.specs.Says.{LineIs}
 use Rattle.table.specs.declared.reason.Reason.{Reason}
-use Rattle.table.specs.declared.reason.Reason.the-variants.{TooLong, Misshapen, RingSize, NoSuchNode, NotBelow, OutOfOrder, TooMany, TooMuch, WrongSum, WrongWay, WrongCut, WrongLink, WrongLast, NotTight, OverBound, NotZero, NotSymmetric, SumTooMuch, NoRoom}
+use Rattle.table.specs.declared.reason.Reason.the-variants.{TooLong, Misshapen, RingSize, NoRow, NoSuchNode, NotBelow, OutOfOrder, TooMany, TooMuch, Full, WrongSum, WrongWay, WrongCut, WrongLink, WrongLast, NotTight, OverBound, NotZero, NotSymmetric, SumTooMuch, NoRoom}
 
 -- ---- lines and entries
 
@@ -102,6 +102,8 @@ Says limits t WrongLast line = ⊥
 Says limits t NotTight line = ⊥
 Says limits t OverBound line = ⊥
 Says limits t SumTooMuch line = ⊥
+Says limits t NoRow line = ⊥
+Says limits t Full line = ⊥
 Says limits t NoRoom line = ⊥
 
 -- ---- which is given
@@ -126,6 +128,8 @@ stage WrongLast = 0
 stage NotTight = 0
 stage OverBound = 0
 stage SumTooMuch = 0
+stage NoRow = 0
+stage Full = 0
 stage NoRoom = 0
 
 -- reason 1, with line 0, is tried first; then lines in order, and in a line the reasons in their order; then 17 or 18

@@ -18,7 +18,7 @@ use Rattle.table.specs.Lines.{lines}
 use Rattle.table.specs.Reasons.{rankOf}
 use Rattle.table.specs.Says.{LineIs, RingIs}
 use Rattle.table.specs.declared.reason.Reason.{Reason}
-use Rattle.table.specs.declared.reason.Reason.the-variants.{TooLong, Misshapen, RingSize, Fibres, NoSuchNode, NotBelow, OutOfOrder, TooMany, TooMuch, WrongSum, WrongWay, WrongCut, WrongLink, WrongLast, NotTight, OverBound, NotZero, NotSymmetric, SumTooMuch, NoRoom}
+use Rattle.table.specs.declared.reason.Reason.the-variants.{TooLong, Misshapen, RingSize, Fibres, NoRow, NoSuchNode, NotBelow, OutOfOrder, TooMany, TooMuch, Full, WrongSum, WrongWay, WrongCut, WrongLink, WrongLast, NotTight, OverBound, NotZero, NotSymmetric, SumTooMuch, NoRoom}
 use Rattle.table.proofs.Against.{AgainstRow, by-nodes, by-pair, by-order, by-count, by-amount, AgainstRing, by-size, by-fibres}
 use Rattle.table.proofs.LineNumbers.{ring-one}
 use Rattle.table.proofs.ReasonNumbers.{same-rank, no-rank-0}
@@ -105,6 +105,8 @@ module _ {limits : Limits} {t : List ℕ} {line : ℕ} where
   said NotZero h = absurd h
   said NotSymmetric h = absurd h
   said SumTooMuch h = absurd h
+  said NoRow h = absurd h
+  said Full h = absurd h
   said NoRoom h = absurd h
 
   -- of a line with a place

@@ -19,7 +19,7 @@ use Rattle.table.specs.Lines.{lines}
 use Rattle.table.specs.Reasons.{rankOf}
 use Rattle.table.specs.Says.{LineIs, RingIs, WrongRing, WrongFibres, NoNode}
 use Rattle.table.specs.declared.reason.Reason.{Reason}
-use Rattle.table.specs.declared.reason.Reason.the-variants.{TooLong, Misshapen, RingSize, Fibres, NoSuchNode, NotBelow, OutOfOrder, TooMany, TooMuch, WrongSum, WrongWay, WrongCut, WrongLink, WrongLast, NotTight, OverBound, NotZero, NotSymmetric, SumTooMuch, NoRoom}
+use Rattle.table.specs.declared.reason.Reason.the-variants.{TooLong, Misshapen, RingSize, Fibres, NoRow, NoSuchNode, NotBelow, OutOfOrder, TooMany, TooMuch, Full, WrongSum, WrongWay, WrongCut, WrongLink, WrongLast, NotTight, OverBound, NotZero, NotSymmetric, SumTooMuch, NoRoom}
 use Rattle.sheet.specs.WriteSheet.{routedLine, loadLine}
 
 -- ---- lines
@@ -209,6 +209,8 @@ Says limits t OverBound line = (line ≡ 0) × WrongBound t
 Says limits t NotZero line = ⊥
 Says limits t NotSymmetric line = ⊥
 Says limits t SumTooMuch line = ⊥
+Says limits t NoRow line = ⊥
+Says limits t Full line = ⊥
 Says limits t NoRoom line = ⊥
 
 -- ---- which is given
@@ -234,6 +236,8 @@ stage WrongLast = 0
 stage NotZero = 0
 stage NotSymmetric = 0
 stage SumTooMuch = 0
+stage NoRow = 0
+stage Full = 0
 stage NoRoom = 0
 
 -- reason 1, with line 0, is tried first; then lines in order, and in a line the reasons in their order; then 13, then 14

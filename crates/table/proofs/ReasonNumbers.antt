@@ -8,17 +8,17 @@ use native.Mathlib.Decide.{decLt}
 use lib.ListN.{getD}
 use Rattle.table.specs.Reasons.{numberOf, rankOf}
 use Rattle.table.specs.declared.reason.Reason.{Reason}
-use Rattle.table.specs.declared.reason.Reason.the-variants.{TooLong, Misshapen, RingSize, Fibres, NoSuchNode, NotBelow, OutOfOrder, TooMany, TooMuch, WrongSum, WrongWay, WrongCut, WrongLink, WrongLast, NotTight, OverBound, NotZero, NotSymmetric, SumTooMuch, NoRoom}
+use Rattle.table.specs.declared.reason.Reason.the-variants.{TooLong, Misshapen, RingSize, Fibres, NoRow, NoSuchNode, NotBelow, OutOfOrder, TooMany, TooMuch, Full, WrongSum, WrongWay, WrongCut, WrongLink, WrongLast, NotTight, OverBound, NotZero, NotSymmetric, SumTooMuch, NoRoom}
 
 -- from place 1 on
 abbrev byNumber : List Reason
 byNumber =
     NoRoom ∷ TooLong ∷ Misshapen ∷ RingSize ∷ NoSuchNode ∷ NotBelow ∷ OutOfOrder ∷ TooMuch ∷ WrongSum ∷ WrongWay ∷ WrongCut ∷ WrongLink ∷ WrongLast
-    ∷ NotTight ∷ OverBound ∷ NoRoom ∷ TooMany ∷ NotZero ∷ NotSymmetric ∷ SumTooMuch ∷ Fibres ∷ []
+    ∷ NotTight ∷ OverBound ∷ NoRoom ∷ TooMany ∷ NotZero ∷ NotSymmetric ∷ SumTooMuch ∷ Fibres ∷ Full ∷ NoRow ∷ []
 
 abbrev byRank : List Reason
 byRank =
-    NoRoom ∷ TooLong ∷ Misshapen ∷ RingSize ∷ Fibres ∷ NoSuchNode ∷ NotBelow ∷ OutOfOrder ∷ TooMany ∷ TooMuch ∷ WrongSum ∷ WrongWay ∷ WrongCut ∷ WrongLink
+    NoRoom ∷ TooLong ∷ Misshapen ∷ RingSize ∷ Fibres ∷ NoRow ∷ NoSuchNode ∷ NotBelow ∷ OutOfOrder ∷ TooMany ∷ TooMuch ∷ Full ∷ WrongSum ∷ WrongWay ∷ WrongCut ∷ WrongLink
     ∷ WrongLast ∷ NotTight ∷ OverBound ∷ NotZero ∷ NotSymmetric ∷ SumTooMuch ∷ NoRoom ∷ []
 
 record InItsPlaces (r : Reason) : Type 0 where
@@ -30,11 +30,13 @@ in-its-places TooLong = record { number = refl; rank = refl }
 in-its-places Misshapen = record { number = refl; rank = refl }
 in-its-places RingSize = record { number = refl; rank = refl }
 in-its-places Fibres = record { number = refl; rank = refl }
+in-its-places NoRow = record { number = refl; rank = refl }
 in-its-places NoSuchNode = record { number = refl; rank = refl }
 in-its-places NotBelow = record { number = refl; rank = refl }
 in-its-places OutOfOrder = record { number = refl; rank = refl }
 in-its-places TooMany = record { number = refl; rank = refl }
 in-its-places TooMuch = record { number = refl; rank = refl }
+in-its-places Full = record { number = refl; rank = refl }
 in-its-places WrongSum = record { number = refl; rank = refl }
 in-its-places WrongWay = record { number = refl; rank = refl }
 in-its-places WrongCut = record { number = refl; rank = refl }

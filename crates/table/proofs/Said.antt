@@ -10,7 +10,7 @@ use Rattle.table.specs.Lines.{lines}
 use Rattle.table.specs.Reasons.{numberOf, rankOf}
 use Rattle.table.specs.Says.{LineIs, NoRingLine, NoRowLine, WrongRing, WrongFibres, WrongNode, WrongPair, WrongOrder, WrongCount, WrongAmount, Says}
 use Rattle.table.specs.declared.reason.Reason.{Reason}
-use Rattle.table.specs.declared.reason.Reason.the-variants.{TooLong, Misshapen, RingSize, Fibres, NoSuchNode, NotBelow, OutOfOrder, TooMany, TooMuch, WrongSum, WrongWay, WrongCut, WrongLink, WrongLast, NotTight, OverBound, NotZero, NotSymmetric, SumTooMuch, NoRoom}
+use Rattle.table.specs.declared.reason.Reason.the-variants.{TooLong, Misshapen, RingSize, Fibres, NoRow, NoSuchNode, NotBelow, OutOfOrder, TooMany, TooMuch, Full, WrongSum, WrongWay, WrongCut, WrongLink, WrongLast, NotTight, OverBound, NotZero, NotSymmetric, SumTooMuch, NoRoom}
 use Rattle.table.proofs.ReasonNumbers.{same-reason}
 
 pub data Said (limits : Limits) (t : List ℕ) (line : ℕ) : Reason → Type 0 where
@@ -48,6 +48,8 @@ module _ {limits : Limits} {t : List ℕ} {line : ℕ} where
   said NotZero h = absurd h
   said NotSymmetric h = absurd h
   said SumTooMuch h = absurd h
+  said NoRow h = absurd h
+  said Full h = absurd h
   said NoRoom h = absurd h
 
 -- reason 1 stands on line 0, and every other on the first line or on a later one that is there

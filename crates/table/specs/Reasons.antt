@@ -1,7 +1,7 @@
--- To believe: 01's numbers of the reasons (01, "Reasons and their order"; 02, K1 to K3), and the order in which they are tried.
+-- To believe: 01's numbers of the reasons (01, "Reasons and their order"; 02, K1 to K4), and the order in which they are tried.
 use Prim.Native.Nat.{ℕ}
 use Rattle.table.specs.declared.reason.Reason.{Reason}
-use Rattle.table.specs.declared.reason.Reason.the-variants.{TooLong, Misshapen, RingSize, Fibres, NoSuchNode, NotBelow, OutOfOrder, TooMany, TooMuch, WrongSum, WrongWay, WrongCut, WrongLink, WrongLast, NotTight, OverBound, NotZero, NotSymmetric, SumTooMuch, NoRoom}
+use Rattle.table.specs.declared.reason.Reason.the-variants.{TooLong, Misshapen, RingSize, Fibres, NoRow, NoSuchNode, NotBelow, OutOfOrder, TooMany, TooMuch, Full, WrongSum, WrongWay, WrongCut, WrongLink, WrongLast, NotTight, OverBound, NotZero, NotSymmetric, SumTooMuch, NoRoom}
 
 abbrev pub numberOf : Reason → ℕ
 -- text over 32,768 bytes
@@ -12,6 +12,8 @@ numberOf Misshapen = 2
 numberOf RingSize = 3
 -- fibres neither 2 nor 4
 numberOf Fibres = 20
+-- the place named holds no row of the working table
+numberOf NoRow = 22
 -- a node outside 1..n
 numberOf NoSuchNode = 4
 -- first node not below second
@@ -22,6 +24,8 @@ numberOf OutOfOrder = 6
 numberOf TooMany = 16
 -- amount over 9,999
 numberOf TooMuch = 7
+-- no place of the working table is free
+numberOf Full = 21
 -- front + back is not 2 x amount
 numberOf WrongSum = 8
 -- direction of an unsplit row differs from rule D
@@ -45,25 +49,27 @@ numberOf SumTooMuch = 19
 -- lent buffer shorter than the text to be written
 numberOf NoRoom = 15
 
--- their order: by rising number, but 20 stands behind 3, 16 between 6 and 7, and 15 behind all
+-- their order: by rising number, but 20 and 22 stand behind 3, 16 between 6 and 7, 21 behind 7, and 15 behind all
 abbrev pub rankOf : Reason → ℕ
 rankOf TooLong = 1
 rankOf Misshapen = 2
 rankOf RingSize = 3
 rankOf Fibres = 4
-rankOf NoSuchNode = 5
-rankOf NotBelow = 6
-rankOf OutOfOrder = 7
-rankOf TooMany = 8
-rankOf TooMuch = 9
-rankOf WrongSum = 10
-rankOf WrongWay = 11
-rankOf WrongCut = 12
-rankOf WrongLink = 13
-rankOf WrongLast = 14
-rankOf NotTight = 15
-rankOf OverBound = 16
-rankOf NotZero = 17
-rankOf NotSymmetric = 18
-rankOf SumTooMuch = 19
-rankOf NoRoom = 20
+rankOf NoRow = 5
+rankOf NoSuchNode = 6
+rankOf NotBelow = 7
+rankOf OutOfOrder = 8
+rankOf TooMany = 9
+rankOf TooMuch = 10
+rankOf Full = 11
+rankOf WrongSum = 12
+rankOf WrongWay = 13
+rankOf WrongCut = 14
+rankOf WrongLink = 15
+rankOf WrongLast = 16
+rankOf NotTight = 17
+rankOf OverBound = 18
+rankOf NotZero = 19
+rankOf NotSymmetric = 20
+rankOf SumTooMuch = 21
+rankOf NoRoom = 22

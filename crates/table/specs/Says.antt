@@ -13,7 +13,7 @@ use Rattle.ring.specs.Row.{PairBefore}
 use Rattle.table.specs.Lines.{lines}
 use Rattle.table.specs.Reasons.{rankOf}
 use Rattle.table.specs.declared.reason.Reason.{Reason}
-use Rattle.table.specs.declared.reason.Reason.the-variants.{TooLong, Misshapen, RingSize, Fibres, NoSuchNode, NotBelow, OutOfOrder, TooMany, TooMuch, WrongSum, WrongWay, WrongCut, WrongLink, WrongLast, NotTight, OverBound, NotZero, NotSymmetric, SumTooMuch, NoRoom}
+use Rattle.table.specs.declared.reason.Reason.the-variants.{TooLong, Misshapen, RingSize, Fibres, NoRow, NoSuchNode, NotBelow, OutOfOrder, TooMany, TooMuch, Full, WrongSum, WrongWay, WrongCut, WrongLink, WrongLast, NotTight, OverBound, NotZero, NotSymmetric, SumTooMuch, NoRoom}
 
 -- ---- lines
 
@@ -134,6 +134,8 @@ Says limits t OverBound line = ⊥
 Says limits t NotZero line = ⊥
 Says limits t NotSymmetric line = ⊥
 Says limits t SumTooMuch line = ⊥
+Says limits t NoRow line = ⊥
+Says limits t Full line = ⊥
 Says limits t NoRoom line = ⊥
 
 -- ---- which is given

@@ -1,4 +1,4 @@
-// The reasons of 01's table and of 02's K1 to K3, in their order. Tables use the first nine and, where a buffer is lent, the last.
+// The reasons of 01's table and of 02's K1 to K4, in their order. Tables use the first ten but NoRow, and, where a buffer is lent, the last; the working table has NoRow and Full.
 ghost use mathlib.Core.Path.{_≡_};
 ghost use Rattle.table.specs.Reasons.{numberOf};
 
@@ -7,11 +7,13 @@ pub enum Reason {
     Misshapen,
     RingSize,
     Fibres,
+    NoRow,
     NoSuchNode,
     NotBelow,
     OutOfOrder,
     TooMany,
     TooMuch,
+    Full,
     WrongSum,
     WrongWay,
     WrongCut,
@@ -35,11 +37,13 @@ impl Reason {
             Reason::Misshapen => 2,
             Reason::RingSize => 3,
             Reason::Fibres => 20,
+            Reason::NoRow => 22,
             Reason::NoSuchNode => 4,
             Reason::NotBelow => 5,
             Reason::OutOfOrder => 6,
             Reason::TooMany => 16,
             Reason::TooMuch => 7,
+            Reason::Full => 21,
             Reason::WrongSum => 8,
             Reason::WrongWay => 9,
             Reason::WrongCut => 10,

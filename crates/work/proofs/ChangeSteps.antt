@@ -18,6 +18,7 @@ use Rattle.across.specs.declared.cut.Cut.{Cut}
 use Rattle.table.specs.Judge.{judgeRing, judgeRow}
 use Rattle.table.specs.Reasons.{numberOf}
 use Rattle.table.specs.declared.reason.Reason.{Reason}
+use Rattle.table.specs.declared.reason.Reason.the-variants.{NoRow, Full}
 use Rattle.table.specs.declared.judge.Verdict.{Verdict}
 use Rattle.table.specs.declared.judge.Verdict.the-variants.{Fine, Fault}
 use Rattle.table.proofs.Judged.{RowJudged, no-such-node, not-below, out-of-order, too-many, too-much, row-fine, row-judged}
@@ -96,9 +97,9 @@ module _ (w : Work) where
         go u q (too-much x y z o c m) = absurd (never q)
 
     module _ (r : Changed) (k : ℕ) (ek : k ≡ freeIn (w .first)) where
-      pub add-full : desk .rows ≤ k → r ≡ refusedIn w 21 → r ≡ addedIn w i j d
+      pub add-full : (number : ℕ) → desk .rows ≤ k → number ≡ numberOf Full → r ≡ refusedIn w number → r ≡ addedIn w i j d
       unfolding addedIn unlessFault
-      add-full l er = rw (is-fine, le-ltb (freeIn (w .first)) (desk .rows) (omega arith)) er
+      add-full number l en er = rw (is-fine, le-ltb (freeIn (w .first)) (desk .rows) (omega arith), ← en) er
 
       pub add-done : (x : Work) → k < desk .rows → x ≡ putIn w k i j d → r ≡ keptIn x (k + 1) → r ≡ addedIn w i j d
       unfolding addedIn unlessFault
@@ -111,13 +112,13 @@ module _ (w : Work) where
 
   -- whether the place holds a row
   module _ (r : Changed) (p : ℕ) (b : Bool) (eb : b ≡ holdsIn (w .first) p) where
-    pub change-none : (i j d : ℕ) → b ≡ false → r ≡ refusedIn w 22 → r ≡ changedIn w p i j d
+    pub change-none : (i j d number : ℕ) → b ≡ false → number ≡ numberOf NoRow → r ≡ refusedIn w number → r ≡ changedIn w p i j d
     unfolding changedIn
-    change-none i j d t er = rw (sym eb ∙ t) er
+    change-none i j d number t en er = rw (sym eb ∙ t, ← en) er
 
-    pub remove-none : b ≡ false → r ≡ refusedIn w 22 → r ≡ removedIn w p
+    pub remove-none : (number : ℕ) → b ≡ false → number ≡ numberOf NoRow → r ≡ refusedIn w number → r ≡ removedIn w p
     unfolding removedIn
-    remove-none t er = rw (sym eb ∙ t) er
+    remove-none number t en er = rw (sym eb ∙ t, ← en) er
 
     pub remove-done : (k : ℕ) (x : Work) → b ≡ true → k ≡ p - 1 → x ≡ clearedIn w k → r ≡ keptIn x p → r ≡ removedIn w p
     unfolding removedIn
@@ -128,6 +129,6 @@ module _ (w : Work) where
     unfolding rowIn
     row-there k t ek = rw (sym eb ∙ t, ek)
 
-    pub row-none : b ≡ false → record { reason = 22; line = 0; first = 0; second = 0; amount = 0 } ≡ rowIn w p
+    pub row-none : (number : ℕ) → b ≡ false → number ≡ numberOf NoRow → record { reason = number; line = 0; first = 0; second = 0; amount = 0 } ≡ rowIn w p
     unfolding rowIn
-    row-none t = rw (sym eb ∙ t)
+    row-none number t en = rw (sym eb ∙ t, en)

@@ -14,6 +14,7 @@ use Rattle.across.specs.Triangle.{mostPairs, at}
 use Rattle.across.specs.Step.{stepRow}
 use Rattle.table.specs.Judge.{judgeRing, judgeRow}
 use Rattle.table.specs.Reasons.{numberOf}
+use Rattle.table.specs.declared.reason.Reason.the-variants.{NoRow, Full}
 use Rattle.table.specs.declared.judge.Verdict.{Verdict}
 use Rattle.table.specs.declared.judge.Verdict.the-variants.{Fine, Fault}
 use Rattle.work.specs.declared.Work.{Work}
@@ -62,7 +63,7 @@ unfoldable pub rowIn : Work → ℕ → RowReply
 rowIn w p =
     cond (holdsIn (w .first) p)
     (record { reason = 0; line = 0; first = getD (w .first) (p - 1) 0; second = getD (w .second) (p - 1) 0; amount = getD (w .amount) (p - 1) 0 })
-    (record { reason = 22; line = 0; first = 0; second = 0; amount = 0 })
+    (record { reason = numberOf NoRow; line = 0; first = 0; second = 0; amount = 0 })
 
 -- ---- a row put at place k+1, and taken off it: its share of every number, and the three columns
 
@@ -117,16 +118,16 @@ judged w i j d = judgeRow desk (ringSize (w .n)) 0 0 0 i j d
 unfoldable pub addedIn : Work → ℕ → ℕ → ℕ → Changed
 addedIn w i j d =
     unlessFault (judged w i j d) w
-    (cond (ltb (freeIn (w .first)) (desk .rows)) (keptIn (putIn w (freeIn (w .first)) i j d) (freeIn (w .first) + 1)) (refusedIn w 21))
+    (cond (ltb (freeIn (w .first)) (desk .rows)) (keptIn (putIn w (freeIn (w .first)) i j d) (freeIn (w .first) + 1)) (refusedIn w (numberOf Full)))
 
 unfoldable pub changedIn : Work → ℕ → ℕ → ℕ → ℕ → Changed
 changedIn w p i j d =
     cond (holdsIn (w .first) p)
     (unlessFault (judged w i j d) w (keptIn (putIn (clearedIn w (p - 1)) (p - 1) i j d) p))
-    (refusedIn w 22)
+    (refusedIn w (numberOf NoRow))
 
 unfoldable pub removedIn : Work → ℕ → Changed
-removedIn w p = cond (holdsIn (w .first) p) (keptIn (clearedIn w (p - 1)) p) (refusedIn w 22)
+removedIn w p = cond (holdsIn (w .first) p) (keptIn (clearedIn w (p - 1)) p) (refusedIn w (numberOf NoRow))
 
 -- what a row must be to stand in the columns
 pub record Fitting (k i j d : ℕ) : Type 0 where

@@ -1,7 +1,5 @@
 // A row added, changed or removed.
 use crate::Changed;
-use crate::FULL;
-use crate::NO_ROW;
 use crate::Work;
 use crate::held::kept;
 use crate::held::refused;
@@ -11,6 +9,7 @@ use crate::place::holds_row;
 use across::step_row;
 use ring::ROWS;
 use ring::wide;
+use table::Reason;
 use table::Verdict;
 use table::judge_row;
 ghost use mathlib.Core.Path.{_≡_};
@@ -63,7 +62,7 @@ pub fn added(work: Work, first: u32, second: u32, amount: u32) -> Changed
         Verdict::Fine => {
             let k = free_place(&work.first);
             if ROWS <= k {
-                return refused(work, FULL);
+                return refused(work, Reason::Full.number());
             }
             let w = put(work, k, first, second, amount);
             kept(w, k as u32 + 1)
@@ -88,7 +87,7 @@ pub fn changed(work: Work, place: u32, first: u32, second: u32, amount: u32) -> 
             }
         }
     } else {
-        refused(work, NO_ROW)
+        refused(work, Reason::NoRow.number())
     }
 }
 
@@ -102,6 +101,6 @@ pub fn removed(work: Work, place: u32) -> Changed
         let w = cleared(work, k);
         kept(w, place)
     } else {
-        refused(work, NO_ROW)
+        refused(work, Reason::NoRow.number())
     }
 }

@@ -36,8 +36,3 @@ pub struct Work {
     pub first: [u8; ROWS],
     pub second: [u8; ROWS],
 }
-
-// The reasons of 02's K4.
-pub(crate) const FULL: u32 = 21;
-
-pub(crate) const NO_ROW: u32 = 22;

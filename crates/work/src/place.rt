@@ -1,8 +1,8 @@
 // Which places hold rows.
-use crate::NO_ROW;
 use crate::Work;
 use ring::ROWS;
 use ring::wide;
+use table::Reason;
 ghost use mathlib.Core.Path.{_≡_};
 ghost use Rattle.work.specs.Changes.{freeIn, holdsIn, rowIn};
 
@@ -60,7 +60,7 @@ pub fn row_of(work: Work, place: u32) -> RowReply
         }
     } else {
         RowReply {
-            reason: NO_ROW,
+            reason: Reason::NoRow.number(),
             line: 0,
             first: 0,
             second: 0,

@@ -25,6 +25,9 @@ enum-told c = search needs
 free-place-requires : tie.Need-free-place-requires
 free-place-requires c κs = search needs
 
+number-requires-2 : tie.Need-number-requires-2
+number-requires-2 c κs = search needs
+
 refused-requires-2 : tie.Need-refused-requires-2
 refused-requires-2 c κs = search needs
 
@@ -60,6 +63,7 @@ added-spec =
     refused-requires
     enum-told
     free-place-requires
+    number-requires-2
     refused-requires-2
     returns
     put-requires

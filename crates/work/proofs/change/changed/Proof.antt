@@ -41,6 +41,9 @@ put-requires c κs = search (fitting, place-high)
 kept-requires : tie.Need-kept-requires
 kept-requires c κs = search needs
 
+number-requires-2 : tie.Need-number-requires-2
+number-requires-2 c κs = search needs
+
 refused-requires-2 : tie.Need-refused-requires-2
 refused-requires-2 c κs = search needs
 
@@ -69,6 +72,7 @@ changed-spec =
     cleared-requires
     put-requires
     kept-requires
+    number-requires-2
     refused-requires-2
     returns
     returns-2

@@ -20,6 +20,9 @@ cleared-requires c κs = search (place-high, place-row)
 kept-requires : tie.Need-kept-requires
 kept-requires c κs = search needs
 
+number-requires : tie.Need-number-requires
+number-requires c κs = search needs
+
 refused-requires : tie.Need-refused-requires
 refused-requires c κs = search needs
 
@@ -38,6 +41,7 @@ removed-spec =
     wide-requires
     cleared-requires
     kept-requires
+    number-requires
     refused-requires
     returns
     returns-2)

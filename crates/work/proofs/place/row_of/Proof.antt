@@ -35,6 +35,9 @@ element-copy-out-t20 c = search place-high
 cast-t21 : tie.Need-cast-t21
 cast-t21 c = search needs
 
+number-requires : tie.Need-number-requires
+number-requires c κs = search needs
+
 returns : tie.Need-returns
 returns c = search row-there
 
@@ -55,5 +58,6 @@ row-of-spec =
     mul-t17
     element-copy-out-t20
     cast-t21
+    number-requires
     returns
     returns-2)
