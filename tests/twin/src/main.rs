@@ -341,7 +341,8 @@ fn print_counts(tally: &Tally) -> (u64, u64) {
         ),
         (
             "every reason of reading a matrix and of writing one seen in random cases",
-            tally.gave(Call::ReadMatrix(4), &OF_READING) && tally.gave(Call::WriteMatrix, &OF_WRITING),
+            tally.gave(Call::ReadMatrix(4), &OF_READING)
+                && tally.gave(Call::WriteMatrix, &OF_WRITING),
         ),
         (
             "full matrices of 20 and of 32 offices seen",

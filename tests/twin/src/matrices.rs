@@ -36,7 +36,11 @@ fn some_trials(rng: &mut Rng, call: Call) -> Vec<(Call, Lend)> {
 /// number.
 fn read_trials(rng: &mut Rng) -> Vec<(Call, Lend)> {
     let wrong = rng.chance(1, 12);
-    let fibres = rng.pick(if wrong { &[0, 1, 3, 5, 6, 258, u32::MAX] } else { &[2, 4, 2, 4, 2, 4, 4] });
+    let fibres = rng.pick(if wrong {
+        &[0, 1, 3, 5, 6, 258, u32::MAX]
+    } else {
+        &[2, 4, 2, 4, 2, 4, 4]
+    });
     some_trials(rng, Call::ReadMatrix(fibres))
 }
 

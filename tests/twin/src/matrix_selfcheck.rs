@@ -28,7 +28,12 @@ pub fn matrices() -> Outcome {
     let long = vec!["0"; 16_384].join("|") + "\n";
     let longer = vec!["0"; 16_385].join("|") + "\n";
     let wanted = [
-        (five, Ok(format!("R|5|4\n{rows}")), "0|0\n0|0\n", Ok("R|2|4\n")),
+        (
+            five,
+            Ok(format!("R|5|4\n{rows}")),
+            "0|0\n0|0\n",
+            Ok("R|2|4\n"),
+        ),
         (
             &most.repeat(32),
             Ok("R|32|4\n".into()),
@@ -46,7 +51,11 @@ pub fn matrices() -> Outcome {
     ];
     for (one, of_one, two, of_two) in wanted {
         same(one, made(Call::ReadMatrix(4), one), of_one)?;
-        same(two, made(Call::ReadMatrix(4), two), of_two.map(str::to_string))?;
+        same(
+            two,
+            made(Call::ReadMatrix(4), two),
+            of_two.map(str::to_string),
+        )?;
     }
     all(
         Call::ReadMatrix(4),
@@ -81,7 +90,10 @@ pub fn sums() -> Outcome {
                 Ok("0|11|0\n11|0|0\n0|0|0\n"),
             ),
             ("R|2|4\nD|1|2|9999\nD|1|2|0\n", Ok("0|9999\n9999|0\n")),
-            ("R|2|4\nD|1|2|9999\nD|1|2|0\nD|1|2|1\nD|1|2|1\n", Err((19, 4))),
+            (
+                "R|2|4\nD|1|2|9999\nD|1|2|0\nD|1|2|1\nD|1|2|1\n",
+                Err((19, 4)),
+            ),
             (
                 "R|3|4\nD|1|2|9999\nD|1|3|9999\nD|1|3|1\nD|2|3|10000\n",
                 Err((7, 5)),

@@ -218,10 +218,7 @@ pub const fn read_matrix(name: &'static str, read: fn(&[u8]) -> Result<Matrix, R
     Mutant { name, how }
 }
 
-pub const fn told(
-    name: &'static str,
-    read: fn(&[u8], u32) -> Result<Matrix, Refusal>,
-) -> Mutant {
+pub const fn told(name: &'static str, read: fn(&[u8], u32) -> Result<Matrix, Refusal>) -> Mutant {
     let how = How::Told(read);
     Mutant { name, how }
 }
@@ -284,7 +281,9 @@ static FAULTS: [Mutant; 143] = [
     read("reading: 20 never", twenty_never),
     read("reading: 20 after all lines", twenty_last),
     read("reading: the R line without fibres taken", old_ring),
-    read_sheet("checking: the R line without fibres taken", |text| check::read(&with_fibres(text))),
+    read_sheet("checking: the R line without fibres taken", |text| {
+        check::read(&with_fibres(text))
+    }),
     on_size("12: once the peak on two fibres", size_once),
     on_size("12: twice the peak on four fibres", size_twice),
     rewrite("rewriting: four fibres for two", four_fibres),
@@ -894,7 +893,10 @@ fn ring_of(text: &[u8]) -> Option<Vec<i64>> {
 fn twenty_before_3(text: &[u8]) -> Result<Table, Refusal> {
     let off = ring_of(text).is_some_and(|ring| !table::known_fibres(ring[1]));
     table::read(text).map_err(|refusal| match refusal.reason {
-        3 if off => Refusal { reason: 20, line: 1 },
+        3 if off => Refusal {
+            reason: 20,
+            line: 1,
+        },
         _ => refusal,
     })
 }
