@@ -197,8 +197,9 @@ pub fn of_text(text: &str, trials: Vec<(Call, Lend)>) -> Option<Case> {
     })
 }
 
-/// Tables of 01's numbers to try, and circuits of 02's K1, tabs shown as |.
-pub const NUMBERS: [&str; 36] = [
+/// Tables of 01's numbers to try, circuits of 02's K1 and fibres of K3, tabs
+/// shown as |.
+pub const NUMBERS: [&str; 42] = [
     "R|4|4\nD|1|3|1\nD|2|4|1\n",
     "R|2|4\n",
     "R|2|4\nD|1|2|5\n",
@@ -235,6 +236,12 @@ pub const NUMBERS: [&str; 36] = [
     "R|2|4\nD|1|2|0\nD|1|2|9999\nD|1|2|0\n",
     "R|4|4\nD|1|3|1\nD|1|3|2\nD|1|2|1\n",
     "R|4|4\nD|2|3|1\nD|2|3|1\nD|1|4|1\n",
+    "R|4|2\nD|1|3|1\nD|2|4|1\n",
+    "R|2|2\nD|1|2|385\n",
+    "R|4\nD|1|3|1\n",
+    "R|4|3\nD|1|3|1\n",
+    "R|33|3\n",
+    "R|4|3\nx\n",
 ];
 
 fn numbers_to_try(_: &mut Rng, case: u64) -> Option<Case> {
