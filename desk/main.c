@@ -3,7 +3,7 @@
  *   desk plan [--sheet] [TABLE]   the plan of the table in words, or its sheet
  *   desk check [SHEET]            whether the sheet is accepted
  *   desk parallel [SHEET]         its first two split rows that are parallel
- *   desk table [MATRIX]           the table of a matrix of demands
+ *   desk table --fibres 2 [MATRIX]    the table of a matrix of demands, on a ring of two fibres; --fibres 4 of four
  *   desk matrix [TABLE]           the matrix of a table, circuits of the same two offices added up
  *
  * A name of - or none at all is standard input. Refusals go to standard error. The exit status is 0 where all is fine, 1 where the text is
@@ -43,10 +43,26 @@ static enum status sheet_of(const struct text *table)
     return pass_on(table, ringkit_route, sheet, sizeof sheet);
 }
 
-static enum status table_of(const struct text *matrix)
+static ringkit_reply read_for_two(const uint8_t *matrix, size_t length, uint8_t *table, size_t room)
+{
+    return ringkit_read_matrix(matrix, length, 2, table, room);
+}
+
+static ringkit_reply read_for_four(const uint8_t *matrix, size_t length, uint8_t *table, size_t room)
+{
+    return ringkit_read_matrix(matrix, length, 4, table, room);
+}
+
+static enum status table_for_two(const struct text *matrix)
 {
     uint8_t table[RINGKIT_TABLE_BYTES];
-    return pass_on(matrix, ringkit_read_matrix, table, sizeof table);
+    return pass_on(matrix, read_for_two, table, sizeof table);
+}
+
+static enum status table_for_four(const struct text *matrix)
+{
+    uint8_t table[RINGKIT_TABLE_BYTES];
+    return pass_on(matrix, read_for_four, table, sizeof table);
 }
 
 static enum status matrix_of(const struct text *table)
@@ -106,78 +122,88 @@ static enum status ask_parallel(const struct text *sheet)
     return FINE;
 }
 
-/* What a command does with its text. */
+/* What a command does with its text: with an option and the word behind it, or without. A command that has no line without an option wants one,
+ * as `table` does: a silent 4 would buy too small a line. */
 static const struct command {
-    const char *name;
+    const char *name, *option, *value;
     enum status (*does)(const struct text *);
-    enum status (*as_sheet)(const struct text *); /* with --sheet; NULL where the command has no such option */
 } COMMANDS[] = {
-    {"plan", plan_table, sheet_of}, {"check", check_sheet, NULL}, {"parallel", ask_parallel, NULL}, {"table", table_of, NULL}, {"matrix", matrix_of, NULL},
+    {"plan", NULL, NULL, plan_table},
+    {"plan", "--sheet", NULL, sheet_of},
+    {"check", NULL, NULL, check_sheet},
+    {"parallel", NULL, NULL, ask_parallel},
+    {"table", "--fibres", "2", table_for_two},
+    {"table", "--fibres", "4", table_for_four},
+    {"matrix", NULL, NULL, matrix_of},
 };
 
-/* What the words of the command line ask for. */
+/* What the words of the command line ask for; NULL where they do not say it. */
 struct order {
-    enum status (*does)(const struct text *);
-    const char *file; /* NULL where none is named */
+    const char *name, *option, *value, *file;
 };
 
 static bool is(const char *word, const char *other)
 {
-    return strcmp(word, other) == 0;
+    return word == other || (word != NULL && other != NULL && strcmp(word, other) == 0);
 }
 
-/* NULL where no command has that name. */
-static const struct command *command_of(const char *name)
+/* Whether a word is an option that a value follows. */
+static bool wants_value(const char *word)
 {
-    for (size_t k = 0; k < sizeof COMMANDS / sizeof *COMMANDS; k++) {
-        if (is(name, COMMANDS[k].name)) {
-            return &COMMANDS[k];
-        }
-    }
-    return NULL;
+    return is(word, "--fibres");
 }
 
 /* False where the words make no order. */
 static bool read_order(struct order *order, int count, char **words)
 {
-    const struct command *command = command_of(count > 1 ? words[1] : "");
-    if (command == NULL) {
-        return false;
-    }
-    *order = (struct order){.does = command->does};
+    *order = (struct order){.name = count > 1 ? words[1] : NULL};
     for (int k = 2; k < count; k++) {
         bool option = words[k][0] == '-' && words[k][1] != '\0';
-        if (command->as_sheet != NULL && is(words[k], "--sheet")) {
-            order->does = command->as_sheet;
-        } else if (option || order->file != NULL) {
+        const char **place = option ? &order->option : &order->file;
+        if (*place != NULL && !(option && is(*place, words[k]))) {
             return false;
-        } else {
-            order->file = words[k];
+        }
+        *place = words[k];
+        if (option && wants_value(words[k])) {
+            order->value = ++k < count ? words[k] : "";
         }
     }
     return true;
 }
 
-static enum status carry_out(const struct order *order)
+/* NULL where no command is carried out by these words. */
+static const struct command *command_of(const struct order *order)
+{
+    for (size_t k = 0; k < sizeof COMMANDS / sizeof *COMMANDS; k++) {
+        const struct command *c = &COMMANDS[k];
+        if (is(order->name, c->name) && is(order->option, c->option) && is(order->value, c->value)) {
+            return c;
+        }
+    }
+    return NULL;
+}
+
+static enum status carry_out(const struct command *command, const char *file)
 {
     struct text text;
-    return read_text(&text, order->file) ? order->does(&text) : TROUBLE;
+    return read_text(&text, file) ? command->does(&text) : TROUBLE;
 }
 
 static const char USAGE[] = "usage: desk plan [--sheet] [TABLE]\n"
                             "       desk check [SHEET]\n"
                             "       desk parallel [SHEET]\n"
-                            "       desk table [MATRIX]\n"
+                            "       desk table --fibres 2|4 [MATRIX]\n"
                             "       desk matrix [TABLE]\n";
 
 int main(int count, char **words)
 {
     struct order order;
+    const struct command *command;
     enum status status = FINE;
     if (count == 2 && is(words[1], "--help")) {
         fputs(USAGE, stdout);
-    } else if (read_order(&order, count, words)) {
-        status = carry_out(&order);
+    } else if (read_order(&order, count, words) && (command = command_of(&order)) != NULL) {
+        status = carry_out(command, order.file);
     } else {
         fputs(USAGE, stderr);
         status = TROUBLE;

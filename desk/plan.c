@@ -63,6 +63,7 @@ bool read_plan(struct plan *plan, const uint8_t *sheet, size_t length)
     if (plan->offices < RINGKIT_MIN_OFFICES || plan->offices > RINGKIT_MAX_OFFICES) {
         return false;
     }
+    plan->fibres = number(&rest);
     for (plan->circuits = 0; plan->circuits < RINGKIT_MAX_ROWS && begins(&rest, 'D'); plan->circuits++) {
         plan->circuit[plan->circuits] = read_circuit(&rest);
     }
@@ -132,17 +133,28 @@ static void tell_links(FILE *out, const struct plan *plan)
     fprintf(out, "   Peak            %7u.%u  %7u\n", peak.whole, peak.tenths, plan->peak);
 }
 
+static void tell_size(FILE *out, const struct plan *plan)
+{
+    bool two = plan->fibres == 2;
+    fputc('\n', out);
+    if (two) {
+        fprintf(out, "On a ring of two fibres half of each line is kept for protection, so the line must have room for\n");
+        fprintf(out, "at least twice the unsplit peak of %u.\n", plan->peak);
+    }
+    if (plan->size > 0) {
+        fprintf(out, "Line size to buy: %u, the smallest SONET size that carries %s%u.\n", plan->size, two ? "" : "the unsplit peak of ", two ? 2 * plan->peak : plan->peak);
+    } else {
+        fprintf(out, "No line to buy: no SONET size is large enough for %s%u.\n", two ? "" : "the unsplit peak of ", two ? 2 * plan->peak : plan->peak);
+    }
+}
+
 void tell_plan(FILE *out, const struct plan *plan)
 {
-    fprintf(out, "Ring of %u offices, %u circuit%s; amounts and loads in %s.\n", plan->offices, plan->circuits, plan->circuits == 1 ? "" : "s", RINGKIT_UNIT);
+    fprintf(out, "Ring of %u offices and %u fibres, %u circuit%s; amounts and loads in %s.\n", plan->offices, plan->fibres, plan->circuits, plan->circuits == 1 ? "" : "s", RINGKIT_UNIT);
     if (plan->circuits > 0) {
         tell_circuits(out, plan);
     }
     tell_cut(out, plan);
     tell_links(out, plan);
-    if (plan->size > 0) {
-        fprintf(out, "\nLine size to buy: %u, the smallest SONET size that carries the unsplit peak of %u.\n", plan->size, plan->peak);
-    } else {
-        fprintf(out, "\nNo line to buy: no SONET size is large enough for the unsplit peak of %u.\n", plan->peak);
-    }
+    tell_size(out, plan);
 }

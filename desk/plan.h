@@ -18,7 +18,7 @@ struct load {
 };
 
 struct plan {
-    unsigned offices, circuits;
+    unsigned offices, fibres, circuits;
     struct circuit circuit[RINGKIT_MAX_ROWS];
     unsigned g, h, across;
     struct load load[RINGKIT_MAX_OFFICES];

@@ -3,7 +3,7 @@
 
 int main(void)
 {
-    static const char table[] = "R\t4\nD\t1\t3\t1\nD\t2\t4\t1\n"; /* four offices and two circuits */
+    static const char table[] = "R\t4\t4\nD\t1\t3\t1\nD\t2\t4\t1\n"; /* four offices, four fibres and two circuits */
     static uint8_t sheet[RINGKIT_SHEET_BYTES];
     ringkit_reply reply = ringkit_route((const uint8_t *)table, sizeof table - 1, sheet, sizeof sheet);
     if (reply.reason != RINGKIT_OK) {

@@ -3,16 +3,19 @@
  * A text is read as a table, as a sheet or as a matrix. Fields are parted by one tab, every line ends with LF, numbers are 1 to 7 digits with no leading
  * zero but 0 itself.
  *
- *   table:  R n             n offices, 1 to n; link k joins k and k+1, link n joins n and 1
+ *   table:  R n fibres      n offices, 1 to n; link k joins k and k+1, link n joins n and 1. The fibres are 2 or 4: with 2, half of a
+ *                           line is kept for protection
  *           D i j amount    a row for each circuit, i < j; no row is below the one before, by i, then j, so circuits of the same
  *                           two offices stand next to each other. Its front is links i to j-1, its back the other links
- *   sheet:  R n             then the rows with what goes each way, in halves, and where the whole circuit goes (F or B),
+ *   sheet:  R n fibres      then the rows with what goes each way, in halves, and where the whole circuit goes (F or B),
  *           D i j amount front back way
  *           C g h across    a cut: two links, and the demand between the offices that they part,
  *           L link split-load unsplit-load     the loads of links 1 to n, split ones in halves,
- *           Z unsplit-peak size                and the line size to buy, 0 where no SONET size is large enough
+ *           Z unsplit-peak size                and the line size to buy: at least the unsplit peak with 4 fibres, at least twice the
+ *                           unsplit peak with 2; 0 where no SONET size is large enough
  *   matrix: n lines of n numbers, and no letters: field j of line i is the demand between offices i and j, so it equals field i of line j,
- *           and field i of line i is 0. The first line says how many offices there are
+ *           and field i of line i is 0. The first line says how many offices there are;
+ *           how many fibres, no line says
  *
  * Each call accepts its text, or refuses it with a reason and a line. What it answers and what it writes is proved to be what the
  * definitions say, for every text and every buffer on these terms:
@@ -39,7 +42,7 @@ extern "C" {
 #endif
 
 /* Grows by 1 whenever a call, an answer or a limit changes. */
-#define RINGKIT_VERSION 2
+#define RINGKIT_VERSION 3
 
 /* The limits of what is accepted. */
 #define RINGKIT_MAX_TEXT_BYTES 32768
@@ -52,17 +55,17 @@ extern "C" {
 #define RINGKIT_UNIT "STS-1"
 
 /* A buffer of so many bytes suffices for every sheet that ringkit_route writes; this is proved. For rewriting, the text's own length suffices. */
-#define RINGKIT_SHEET_BYTES 28872
+#define RINGKIT_SHEET_BYTES 28880
 
 /* The same for every table that ringkit_read_matrix writes, and for every matrix that ringkit_write_matrix writes. */
-#define RINGKIT_TABLE_BYTES 15888
+#define RINGKIT_TABLE_BYTES 15896
 #define RINGKIT_MATRIX_BYTES 5120
 
 /* Enough stack for each call, with some to spare for binding memcpy and memset when they are first called. */
 #define RINGKIT_STACK_BYTES 73728
 
-/* Why a text is refused. Each is given exactly when it holds and nothing before it in this order does: RINGKIT_TOO_LONG; then line by line,
- * and in a line by rising number, but RINGKIT_TOO_MANY_ROWS between 6 and 7; then, when all lines have passed, 13 and 14 of a sheet, the first
+/* Why a text is refused. Each is given exactly when it holds and nothing before it in this order does: the fibres that a matrix is read with; RINGKIT_TOO_LONG; then line by line,
+ * and in a line by rising number, but RINGKIT_FIBRES behind 3 and RINGKIT_TOO_MANY_ROWS between 6 and 7; then, when all lines have passed, 13 and 14 of a sheet, the first
  * entry in reading order that is 17 or 18 of a matrix, and the first row that is 19 of a table to be written as a matrix; then 15. */
 enum ringkit_reason {
     RINGKIT_OK = 0,             /* accepted */
@@ -84,10 +87,11 @@ enum ringkit_reason {
     RINGKIT_TOO_MANY_ROWS = 16, /* more than 496 rows */
     RINGKIT_DIAGONAL = 17,      /* an entry on the diagonal of a matrix is not 0 */
     RINGKIT_NOT_SYMMETRIC = 18, /* an entry (i,j) of a matrix is not equal to (j,i); the line is that of the entry which is read first */
-    RINGKIT_SUM_TOO_MUCH = 19   /* with this row, the sum of the rows of its two nodes passes 9,999, and no entry of a matrix can say it */
+    RINGKIT_SUM_TOO_MUCH = 19,  /* with this row, the sum of the rows of its two nodes passes 9,999, and no entry of a matrix can say it */
+    RINGKIT_FIBRES = 20         /* fibres neither 2 nor 4 */
 };
 
-/* The answer of a call. The line counts from 1, a missing line being the one after the last; it is 0 for reasons 1, 13, 14 and 15. */
+/* The answer of a call. The line counts from 1, a missing line being the one after the last; it is 0 for reasons 1, 13, 14 and 15, and for 20 of a matrix. */
 typedef struct ringkit_reply {
     uint32_t reason; /* an enum ringkit_reason */
     uint32_t line;   /* 0 when accepted */
@@ -118,11 +122,12 @@ ringkit_pair_reply ringkit_parallel(const uint8_t *sheet, size_t sheet_length);
 ringkit_reply ringkit_rewrite_table(const uint8_t *table, size_t table_length, uint8_t *buffer, size_t buffer_length);
 ringkit_reply ringkit_rewrite_sheet(const uint8_t *sheet, size_t sheet_length, uint8_t *buffer, size_t buffer_length);
 
-/* Reads a matrix and writes its table: a row for each pair of offices whose entry is above 0. The table can be routed. */
-ringkit_reply ringkit_read_matrix(const uint8_t *matrix, size_t matrix_length, uint8_t *buffer, size_t buffer_length);
+/* Reads a matrix and writes its table, with the number of fibres that it is told: a row for each pair of offices whose entry is above 0. The table can be routed. */
+ringkit_reply ringkit_read_matrix(const uint8_t *matrix, size_t matrix_length, uint32_t fibres, uint8_t *buffer, size_t buffer_length);
 
 /* Reads a table and writes its matrix: circuits of the same two offices are added up, so what tells them apart is lost. A matrix that is read
- * and then written has the same bytes; so has a table that is written and then read, where no pair has two rows and no row has amount 0. */
+ * and then written has the same bytes; so has a table that is written and then read, where no pair has two rows and no row has amount 0, with the
+ * fibres of its R line. */
 ringkit_reply ringkit_write_matrix(const uint8_t *table, size_t table_length, uint8_t *buffer, size_t buffer_length);
 
 #ifdef __cplusplus

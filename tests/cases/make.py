@@ -1,5 +1,5 @@
 #!/usr/bin/env python3
-"""Writes crates/cases/stdin and stdout: stored cases for the public calls, and the answers that document 01 and K1 and K2 of 02 give them.
+"""Writes crates/cases/stdin and stdout: stored cases for the public calls, and the answers that document 01 and K1 to K3 of 02 give them.
 
 The answers come from the reading of these in reading.py, matrix.py and rules.py and from nothing else: no source of the project is used. Run it by hand after adding a
 case and look at the difference; the tests only compare what the program writes with what is stored."""
@@ -32,15 +32,17 @@ def written(letter, text):
     """The text that a call writes, by the call's letter."""
     if letter == "S":
         return rewritten(text)
-    n, rows = matrix.rows_of(text) if letter == "M" else matrix.table_values(text)
-    return {"R": rules.sheet, "W": matrix.write_matrix}.get(letter, write_table)(n, rows)
+    values = (*matrix.rows_of(text), int(letter)) if letter.isdigit() else matrix.table_values(text)
+    return {"R": rules.sheet, "W": matrix.write_matrix}.get(letter, write_table)(*values)
 
 
-REFUSALS = {"T": first_reason, "R": first_reason, "M": matrix.first_reason_of_matrix, "W": matrix.first_reason_of_sums}
+REFUSALS = {"T": first_reason, "R": first_reason, "W": matrix.first_reason_of_sums}
 
 
 @functools.cache
 def refused(letter, text):
+    if letter.isdigit():
+        return matrix.first_reason_of_matrix(text, int(letter))
     return REFUSALS.get(letter, first_reason_of_sheet)(text)
 
 
@@ -61,11 +63,11 @@ def answer(letter, text, room):
 
 def refusals():
     """Each refusal of a table, on first, middle and last lines."""
-    good = ["R|9", "D|1|2|3", "D|1|4|0", "D|2|3|9999", "D|3|9|17", "D|8|9|1"]
+    good = ["R|9|4", "D|1|2|3", "D|1|4|0", "D|2|3|9999", "D|3|9|17", "D|8|9|1"]
     yield t(*good)
     bad = {
         "shape": ["", " ", "D", "D|", "D|1", "D|1|2", "D|1|2|", "D|1|2|3|", "D|1|2|3|4", "d|1|2|3", "D 1 2 3", "D|1|2|3 ", "D|1|2|3\r", "D||1|2", "D|1||2", "D|01|2|3", "D|1|02|3",
-                  "D|1|2|00", "D|1|2|+3", "D|1|2|-3", "D|1|2|3x", "D|1|2|12345678", "D|1|2|00000001", "R|9", "C|1|2|3", "L|1|2|3", "Z|1|2", "D|1|2|3\0", "\0", "DD|1|2|3"],
+                  "D|1|2|00", "D|1|2|+3", "D|1|2|-3", "D|1|2|3x", "D|1|2|12345678", "D|1|2|00000001", "R|9|4", "C|1|2|3", "L|1|2|3", "Z|1|2", "D|1|2|3\0", "\0", "DD|1|2|3"],
         "values": ["D|0|2|3", "D|1|0|1", "D|9|0|1", "D|1|10|3", "D|5|2|10000", "D|10|11|3", "D|0|0|0", "D|9|9|1", "D|4|3|1", "D|1|2|10000", "D|1|2|9999999", "D|9999999|1|1", "D|8|8|10000", "D|1|1|1"],
     }
     for kind in bad.values():
@@ -110,24 +112,25 @@ def single_faults():
 
 def rings():
     """The first line, and the numbers of 01 on both sides."""
-    for r in ["", "R", "R|", "R|0", "R|1", "R|2", "R|32", "R|33", "R|9999999", "R|10000000", "R|02", "R|2|4", "r|2", "R 2", "R|2 ", " R|2", "X|2", "D|1|2|3", "R|-2", "R||2", "\tR|2"]:
+    for r in ["", "R", "R|", "R|0|4", "R|1|4", "R|2|4", "R|32|4", "R|33|4", "R|9999999|4", "R|10000000|4", "R|02|4", "R|2", "R|2|", "R|2|04", "R|2|4|4", "R|2|4|M", "r|2|4", "R 2 4", "R|2 4", "R|2|4 ", " R|2|4", "X|2|4", "D|1|2|3",
+              "R|-2|4", "R||2|4", "R|2||4", "\tR|2|4", "R|2|2", "R|32|2", "R|2|0", "R|2|1", "R|2|3", "R|2|5", "R|2|24", "R|2|9999999", "R|2|10000000", "R|1|3", "R|33|3", "R|33|2", "R|4|0"]:
         yield t(r)
         yield t(r, end="")
         yield t(r, "D|1|2|1")
     yield b""
     yield b"\n"
     yield b"R"
-    yield t("R|4", "D|5|2|10000")
+    yield t("R|4|4", "D|5|2|10000")
     for n in (1, 2, 32, 33):
-        yield t("R|%d" % n, "D|1|2|9999")
-        yield t("R|%d" % n, "D|1|2|10000")
-        yield t("R|%d" % n, "D|1|%d|1" % n)
-        yield t("R|%d" % n, "D|%d|%d|1" % (n - 1, n))
-        yield t("R|%d" % n, "D|1|0|1")
-        yield t("R|%d" % n, "D|%d|0|1" % n)
-        yield t("R|%d" % n, "D|0|%d|1" % n)
-        yield t("R|%d" % n, "D|1|%d|1" % (n + 1))
-        yield t("R|%d" % n, "D|%d|%d|1" % (n, n + 1))
+        yield t("R|%d|4" % n, "D|1|2|9999")
+        yield t("R|%d|4" % n, "D|1|2|10000")
+        yield t("R|%d|4" % n, "D|1|%d|1" % n)
+        yield t("R|%d|4" % n, "D|%d|%d|1" % (n - 1, n))
+        yield t("R|%d|4" % n, "D|1|0|1")
+        yield t("R|%d|4" % n, "D|%d|0|1" % n)
+        yield t("R|%d|4" % n, "D|0|%d|1" % n)
+        yield t("R|%d|4" % n, "D|1|%d|1" % (n + 1))
+        yield t("R|%d|4" % n, "D|%d|%d|1" % (n, n + 1))
 
 
 def longest():
@@ -136,7 +139,7 @@ def longest():
     for size in (32768, 32769):
         yield body + b"D\t31\t32\t9999\n" * ((size - len(body)) // 13) + b"q" * ((size - len(body)) % 13)
         yield b"\n" * size
-    yield b"R\t4\n" + b"x" * 39996
+    yield b"R\t4\t4\n" + b"x" * 39996
 
 
 def rooms(text):
@@ -150,8 +153,8 @@ def all_cases():
         yield text, 200
     for text in longest():
         yield text, ROOM
-    square = t("R|4", "D|1|3|1", "D|2|4|1")
-    for text in (t("R|2"), square, full(20, lambda k: k * 37 % 10000), full(32, lambda k: k * 7919 % 10000), full(32, lambda k: (0, 1, 9999)[k % 3])):
+    square = t("R|4|4", "D|1|3|1", "D|2|4|1")
+    for text in (t("R|2|4"), square, full(20, lambda k: k * 37 % 10000), full(32, lambda k: k * 7919 % 10000), full(32, lambda k: (0, 1, 9999)[k % 3])):
         yield from rooms(text)
     rng = random.Random(2026)
     for k in range(400):
@@ -179,20 +182,25 @@ def by_chance(rng, k, text):
 def to_route():
     """Tables to route: 01's "Numbers to try" with the figures it states, refusals, and full rings of 20 and 32 offices, with buffers of every kind."""
     stated = [
-        (t("R|4", "D|1|3|1", "D|2|4|1"), t("C|1|3|2", "L|1|2|2", "L|2|2|1", "L|3|2|0", "L|4|2|1", "Z|2|3")),
-        (t("R|2"), t("C|1|2|0", "L|1|0|0", "L|2|0|0", "Z|0|3")),
-        (t("R|2", "D|1|2|5"), t("D|1|2|5|5|5|F", "C|1|2|5", "L|1|5|5", "L|2|5|0", "Z|5|12")),
-        (t("R|4", "D|1|2|1"), t("D|1|2|1|1|1|F", "C|1|2|1", "L|1|1|1", "L|2|1|0", "L|3|1|0", "L|4|1|0", "Z|1|3")),
-        (t("R|5", "D|1|2|2", "D|1|4|5", "D|2|3|9", "D|2|4|11", "D|3|4|4", "D|3|5|3"), t("C|2|4|28", "L|1|16|13", "L|2|28|9", "L|3|24|7", "L|4|28|19", "L|5|22|16", "Z|19|48")),
-        (t("R|8", "D|1|4|1", "D|2|3|1", "D|5|8|2", "D|6|7|2"), t("D|6|7|2|2|2|F", "C|2|6|6")),
-        (t("R|2", "D|1|2|768"), t("Z|768|768")),
-        (t("R|2", "D|1|2|769"), t("Z|769|0")),
+        (t("R|4|4", "D|1|3|1", "D|2|4|1"), t("C|1|3|2", "L|1|2|2", "L|2|2|1", "L|3|2|0", "L|4|2|1", "Z|2|3")),
+        (t("R|2|4"), t("C|1|2|0", "L|1|0|0", "L|2|0|0", "Z|0|3")),
+        (t("R|2|4", "D|1|2|5"), t("D|1|2|5|5|5|F", "C|1|2|5", "L|1|5|5", "L|2|5|0", "Z|5|12")),
+        (t("R|4|4", "D|1|2|1"), t("D|1|2|1|1|1|F", "C|1|2|1", "L|1|1|1", "L|2|1|0", "L|3|1|0", "L|4|1|0", "Z|1|3")),
+        (t("R|5|4", "D|1|2|2", "D|1|4|5", "D|2|3|9", "D|2|4|11", "D|3|4|4", "D|3|5|3"), t("C|2|4|28", "L|1|16|13", "L|2|28|9", "L|3|24|7", "L|4|28|19", "L|5|22|16", "Z|19|48")),
+        (t("R|8|4", "D|1|4|1", "D|2|3|1", "D|5|8|2", "D|6|7|2"), t("D|6|7|2|2|2|F", "C|2|6|6")),
+        (t("R|2|4", "D|1|2|768"), t("Z|768|768")),
+        (t("R|2|4", "D|1|2|769"), t("Z|769|0")),
+    ]
+    stated += [
+        (t("R|5|2", "D|1|2|2", "D|1|4|5", "D|2|3|9", "D|2|4|11", "D|3|4|4", "D|3|5|3"), t("C|2|4|28", "L|1|16|13", "L|2|28|9", "L|3|24|7", "L|4|28|19", "L|5|22|16", "Z|19|48")),
+        (t("R|2|2", "D|1|2|384"), t("Z|384|768")),
+        (t("R|2|2", "D|1|2|385"), t("Z|385|0")),
     ]
     for text, part in stated + circuits.routed_by_hand():
         assert part in written("R", text), text
         for room in around(text):
             yield text, room
-    for text in ("R|1", "R|33", "R|32", "R|4\nD|5|2|10000", "R|4\nD|1|2|9999", "R|4\nD|1|2|10000", "R|4\nD|1|2|0", "R|4\nD|1|2|1\nD|1|2|1", "R|4\nD|2|1|1"):
+    for text in ("R|1|4", "R|33|4", "R|32|4", "R|4|4\nD|5|2|10000", "R|4|4\nD|1|2|9999", "R|4|4\nD|1|2|10000", "R|4|4\nD|1|2|0", "R|4|4\nD|1|2|1\nD|1|2|1", "R|4|4\nD|2|1|1"):
         yield t(text), 200
     yield b"", 200
     yield b"\n" * 32769, ROOM
@@ -250,7 +258,7 @@ def main():
         due.append(letter + " %s\n" % " ".join(map(str, answer(letter, text, room))))
     open("crates/cases/stdin", "wb").write(b"".join(given))
     open("crates/cases/stdout", "w").write("".join(line[2:] for line in due))
-    for letter in "TRCPSMW":
+    for letter in "TRCPSW0123456789":
         mine = [line.split() for line in due if line[0] == letter]
         print(letter, len(mine), "cases, reasons seen:", sorted({int(words[1]) for words in mine}))
     print("pairs seen:", len({line for line in due if line.startswith("P 0") and not line.endswith(" 0 0\n")}))

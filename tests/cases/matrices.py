@@ -212,14 +212,14 @@ def sums():
 def sums_and_others():
     """Every reason of a table comes before 19, on whatever line; of two sums that pass it is the first."""
     passes = ["D|2|3|9999", "D|2|3|1"]
-    for bad, reason in (("D|3|7|1", 4), ("D|3|3|1", 5), ("D|1|2|1", 6), ("D|4|5|10000", 7), ("D|4|5", 2), ("", 2), ("R|6", 2)):
-        yield writes((reason, 4), t("R|6", *passes, bad))
-        yield writes((reason, 5), t("R|6", *passes, "D|2|3|5", bad, "D|5|6|1"))
-    yield writes((7, 3), t("R|6", "D|2|3|9999", "D|2|3|10000"))
-    yield writes((2, 3), t("R|6", *passes, end=""))
-    yield writes((3, 1), t("R|33", *passes))
-    yield writes((19, 3), t("R|6", *passes, "D|3|4|9999", "D|3|4|9999"))
-    yield writes(None, t("R|6", "D|2|3|9999", "D|2|4|1", "D|3|4|9999"))
+    for bad, reason in (("D|3|7|1", 4), ("D|3|3|1", 5), ("D|1|2|1", 6), ("D|4|5|10000", 7), ("D|4|5", 2), ("", 2), ("R|6|4", 2)):
+        yield writes((reason, 4), t("R|6|4", *passes, bad))
+        yield writes((reason, 5), t("R|6|4", *passes, "D|2|3|5", bad, "D|5|6|1"))
+    yield writes((7, 3), t("R|6|4", "D|2|3|9999", "D|2|3|10000"))
+    yield writes((2, 3), t("R|6|4", *passes, end=""))
+    yield writes((3, 1), t("R|33|4", *passes))
+    yield writes((19, 3), t("R|6|4", *passes, "D|3|4|9999", "D|3|4|9999"))
+    yield writes(None, t("R|6|4", "D|2|3|9999", "D|2|4|1", "D|3|4|9999"))
     # the least amounts of which 496 pass, and the largest of which they do not; and a row too many
     for d, reply in ((20, None), (21, (19, 478))):
         yield writes(reply, write_table(2, [(1, 2, d)] * 496))
@@ -246,21 +246,21 @@ def drawn_circuits(rng):
 def stated():
     """Matrices and their tables by hand: document 002's ring, no demand at all, one at either end, and one pair alone."""
     return [
-        (t("0|2|0|5|0", "2|0|9|11|0", "0|9|0|4|3", "5|11|4|0|0", "0|0|3|0|0"), t("R|5", "D|1|2|2", "D|1|4|5", "D|2|3|9", "D|2|4|11", "D|3|4|4", "D|3|5|3")),
-        (t("0|0", "0|0"), t("R|2")),
-        (t("0|0|0", "0|0|0", "0|0|0"), t("R|3")),
-        (t("0|9999", "9999|0"), t("R|2", "D|1|2|9999")),
-        (t("0|1|0", "1|0|10", "0|10|0"), t("R|3", "D|1|2|1", "D|2|3|10")),
-        (t("0|0|7", "0|0|0", "7|0|0"), t("R|3", "D|1|3|7")),
+        (t("0|2|0|5|0", "2|0|9|11|0", "0|9|0|4|3", "5|11|4|0|0", "0|0|3|0|0"), t("R|5|4", "D|1|2|2", "D|1|4|5", "D|2|3|9", "D|2|4|11", "D|3|4|4", "D|3|5|3")),
+        (t("0|0", "0|0"), t("R|2|4")),
+        (t("0|0|0", "0|0|0", "0|0|0"), t("R|3|4")),
+        (t("0|9999", "9999|0"), t("R|2|4", "D|1|2|9999")),
+        (t("0|1|0", "1|0|10", "0|10|0"), t("R|3|4", "D|1|2|1", "D|2|3|10")),
+        (t("0|0|7", "0|0|0", "7|0|0"), t("R|3|4", "D|1|3|7")),
     ]
 
 
 def added_up():
     """Tables with circuits or rows of 0, by hand, and the matrices that their sums make."""
     return [
-        (t("R|3", "D|1|2|5", "D|1|2|6", "D|2|3|0"), t("0|11|0", "11|0|0", "0|0|0")),
-        (t("R|3", "D|1|2|0", "D|1|3|1", "D|1|3|9", "D|1|3|90", "D|2|3|9999"), t("0|0|100", "0|0|9999", "100|9999|0")),
-        (t("R|2", "D|1|2|9998", "D|1|2|1"), t("0|9999", "9999|0")),
+        (t("R|3|4", "D|1|2|5", "D|1|2|6", "D|2|3|0"), t("0|11|0", "11|0|0", "0|0|0")),
+        (t("R|3|4", "D|1|2|0", "D|1|3|1", "D|1|3|9", "D|1|3|90", "D|2|3|9999"), t("0|0|100", "0|0|9999", "100|9999|0")),
+        (t("R|2|4", "D|1|2|9998", "D|1|2|1"), t("0|9999", "9999|0")),
     ]
 
 
@@ -270,7 +270,7 @@ def there_and_back(accepted):
         n, rows = rows_of(matrix)
         assert write_matrix(n, rows) == matrix
         table = write_table(n, rows)
-        assert table_values(table) == (n, tuple(rows)) and first_reason_of_sums(table) is None
+        assert table_values(table) == (n, tuple(rows), 4) and first_reason_of_sums(table) is None
         yield table
 
 
@@ -279,7 +279,7 @@ def rooms(need, most):
 
 
 def cases(refused_tables, most):
-    """Letter, text and room of each case, M for reading a matrix and W for writing one."""
+    """Letter, text and room of each case: a digit, the fibres, for reading a matrix and W for writing one."""
     by_hand = [matrix for matrix, _ in stated()]
     assert all(write_table(*rows_of(matrix)) == table for matrix, table in stated())
     assert all(write_matrix(*table_values(table)) == matrix for table, matrix in added_up())
@@ -287,15 +287,20 @@ def cases(refused_tables, most):
     accepted = [matrix for matrix in read if not first_reason_of_matrix(matrix)]
     circuits = [table for table, _ in added_up()]
     tables = dict.fromkeys([*there_and_back(accepted), *circuits, *sums(), *sums_and_others(), *drawn_circuits(random.Random(19)), *refused_tables, b""])
-    yield from (("M", matrix, most) for matrix in read)
+    yield from (("24"[k % 4 > 0], matrix, most) for k, matrix in enumerate(read))
     yield from (("W", table, most) for table in tables)
     # 15 comes last: the first text of each reason into no room at all, then all rooms for good texts small and large
-    yield from (("M", matrix, 0) for matrix in firsts(read, first_reason_of_matrix))
+    yield from (("4", matrix, 0) for matrix in firsts(read, first_reason_of_matrix))
     yield from (("W", table, 0) for table in firsts(tables, first_reason_of_sums))
     for matrix in [*by_hand, edited(), write_matrix(32, []), write_matrix(32, [pair + (9999,) for pair in pairs(32)]), *accepted[-6:]]:
         table = write_table(*rows_of(matrix))
-        yield from (("M", matrix, room) for room in rooms(len(table), most))
+        yield from (("4", matrix, room) for room in rooms(len(table), most))
         yield from (("W", table, room) for room in rooms(len(matrix), most))
+    # 20 comes before every other reason
+    for fibres, matrix in itertools.product("0123456789", [*firsts(read, first_reason_of_matrix), edited()]):
+        yield fibres, matrix, (most, 0)[fibres == "3"]
+    # a table of two fibres loses them on the way to its matrix
+    yield from (("W", write_table(*rows_of(matrix), fibres), most) for matrix in by_hand for fibres in (2, 3, 4))
     for table in [*circuits, write_table(2, [(1, 2, 20)] * 496)]:
         yield from (("W", table, room) for room in rooms(len(write_matrix(*table_values(table))), most))
 

@@ -1,4 +1,4 @@
-"""A matrix of K2 in 02, read from its sentences alone: which refusal it gets, the table that it is read into, and the matrix that a table is written as."""
+"""A matrix of K2 and K3 in 02, read from their sentences alone: which refusal it gets, the table that it is read into, and the matrix that a table is written as."""
 from reading import LONGEST, fields, first_of, first_reason, lines_of, number, those
 
 
@@ -33,8 +33,11 @@ class Matrix:
                     yield i + 1, j + 1, 18
 
 
-def first_reason_of_matrix(text):
-    """The reason that a matrix gets, and its line: 1, then what holds of lines, then the first faulty entry in reading order."""
+def first_reason_of_matrix(text, fibres=4):
+    """The reason that a matrix gets, and its line: 20 of the fibres that its reader is told, 1, then what holds of lines, then the first faulty entry in
+    reading order."""
+    if fibres not in (2, 4):
+        return 20, 0
     if len(text) > LONGEST:
         return 1, 0
     matrix = Matrix(text)
@@ -52,9 +55,10 @@ def rows_of(text):
 
 
 def table_values(text):
-    """The ring and the rows of an accepted table."""
+    """The ring, the rows and the fibres of an accepted table."""
     ring, *rows = lines_of(text)
-    return fields(ring, b"R", 1)[0], tuple(tuple(fields(row, b"D", 3)) for row in rows)
+    n, fibres = fields(ring, b"R", 2)
+    return n, tuple(tuple(fields(row, b"D", 3)) for row in rows), fibres
 
 
 def first_reason_of_sums(text):
@@ -62,13 +66,13 @@ def first_reason_of_sums(text):
     reply = first_reason(text)
     if reply:
         return reply
-    _, rows = table_values(text)
+    _, rows, _ = table_values(text)
     sums = [sum(d for *pair, d in rows[:k + 1] if pair == [*rows[k][:2]]) for k in range(len(rows))]
     return next(((19, k + 2) for k, s in enumerate(sums) if s > 9999), None)
 
 
-def write_matrix(n, rows):
-    """The square of these rows: each entry is the sum of the rows between its two nodes."""
+def write_matrix(n, rows, _=4):
+    """The square of these rows: each entry is the sum of the rows between its two nodes. It does not say how many fibres there are."""
     nodes = range(1, n + 1)
     sums = {}
     for i, j, d in rows:

@@ -1,12 +1,12 @@
-"""Which refusal a table or a sheet gets, read from 01 and K1 of 02 alone: the reasons that hold of each line are collected, each judged by its own
+"""Which refusal a table or a sheet gets, read from 01 and K1 and K3 of 02 alone: the reasons that hold of each line are collected, each judged by its own
 words, and the one that their order puts first is given."""
 import rules
 
 LONGEST, MOST_ROWS = 32768, 496
-# by rising number, but K1's 16 stands between 6 and 7
-ORDER = (1, 2, 3, 4, 5, 6, 16, 7, 8, 9, 10, 11, 12, 13, 14)
+# by rising number, but K1's 16 stands between 6 and 7 and K3's 20 behind 3
+ORDER = (1, 2, 3, 20, 4, 5, 6, 16, 7, 8, 9, 10, 11, 12, 13, 14)
 # what follows the letter of a sheet's line: numbers, and for a row its way
-SHEET = {"R": 1, "D": 5, "C": 3, "L": 3, "Z": 2}
+SHEET = {"R": 2, "D": 5, "C": 3, "L": 3, "Z": 2}
 
 
 def number(field):
@@ -39,6 +39,11 @@ def lines_of(text):
     return out
 
 
+def of_ring(ring):
+    """3 and 20, which speak of the number of offices and of fibres."""
+    return {3: not 2 <= ring[0] <= 32, 20: ring[1] not in (2, 4)}
+
+
 def of_row(ring, before, at, row):
     """4 to 7 and 16, which speak of a row's nodes, place and amount. Line 2 has the first row."""
     return {
@@ -56,9 +61,9 @@ def those(tests):
 
 def holding(lines, at):
     """The reasons that hold of a table's line."""
-    ring = fields(lines[0], b"R", 1) if lines else None
+    ring = fields(lines[0], b"R", 2) if lines else None
     if at == 1:
-        return those({2: ring is None, 3: ring and not 2 <= ring[0] <= 32})
+        return {2} if ring is None else those(of_ring(ring))
     row = fields(lines[at - 1], b"D", 3)
     before = fields(lines[at - 2], b"D", 3) if at > 2 else None
     return {2} if row is None else those(of_row(ring, before, at, row))
@@ -123,7 +128,7 @@ class Sheet:
         return those(getattr(self, "of_" + self.due(at))(at, said))
 
     def of_R(self, at, ring):
-        return {3: not 2 <= ring[0] <= 32}
+        return of_ring(ring)
 
     def of_D(self, at, row):
         *_, d, front, back, way = row
@@ -148,7 +153,7 @@ class Sheet:
         if not self.known or not 1 <= self.ring[0] <= 32:
             return {}
         peak = self.peaks()[1]
-        return {12: said != [peak, rules.size_for(peak)]}
+        return {12: said != [peak, rules.size_for(peak, self.ring[1])]}
 
     def of_all(self):
         """13 and 14, of a sheet whose lines all pass."""

@@ -85,8 +85,10 @@ def unsplit_load(rows, ways, k):
     return sum(row[2] for row, way in zip(rows, ways) if (k in front_of(row)) == (way == "F"))
 
 
-def size_for(peak):
-    return min((size for size in SIZES if size >= peak), default=0)
+def size_for(peak, fibres):
+    """With two fibres half of the line is kept for protection, so that twice the peak has to fit (02, K3)."""
+    due = 2 * peak if fibres == 2 else peak
+    return min((size for size in SIZES if size >= due), default=0)
 
 
 def crossing(one, two):
@@ -101,15 +103,15 @@ def first_parallel(rows, sent):
     return next(((a + 1, b + 1) for a, b in pairs), (0, 0))
 
 
-def figures(n, rows, cut, sent, ways):
+def figures(n, rows, cut, sent, ways, fibres=4):
     """The lines of a sheet with this split, this cut and these ways, all other figures true. A cut given with its across number keeps it."""
     links = range(1, n + 1)
     unsplit = [unsplit_load(rows, ways, k) for k in links]
-    out = [("R", n)]
+    out = [("R", n, fibres)]
     out += [("D", *row, f, b, way) for row, (f, b), way in zip(rows, sent, ways)]
     out += [("C", *cut) if len(cut) == 3 else ("C", *cut, across(rows, *cut))]
     out += [("L", k, split_load(rows, sent, k), unsplit[k - 1]) for k in links]
-    return out + [("Z", max(unsplit), size_for(max(unsplit)))]
+    return out + [("Z", max(unsplit), size_for(max(unsplit), fibres))]
 
 
 def text_of(lines):
@@ -117,9 +119,9 @@ def text_of(lines):
 
 
 @functools.cache
-def sheet(n, rows):
+def sheet(n, rows, fibres=4):
     """The text of our sheet."""
     cut = rule_a(n, rows)
     sent = rule_b(n, rows, cut[2])
     rule_c(rows, sent)
-    return text_of(figures(n, rows, cut, sent, rule_d(rows, sent)))
+    return text_of(figures(n, rows, cut, sent, rule_d(rows, sent), fibres))

@@ -12,9 +12,9 @@
 
 #include "ringkit.h"
 
-_Static_assert(RINGKIT_SHEET_BYTES == 8 * (2 + 7 * RINGKIT_MAX_ROWS + 4 + 4 * RINGKIT_MAX_OFFICES + 3),
+_Static_assert(RINGKIT_SHEET_BYTES == 8 * (3 + 7 * RINGKIT_MAX_ROWS + 4 + 4 * RINGKIT_MAX_OFFICES + 3),
                "8 bytes for each field of the longest sheet, as in crates/ringkit");
-_Static_assert(RINGKIT_TABLE_BYTES == 8 * (2 + 4 * RINGKIT_MAX_ROWS), "8 bytes for each field of the longest table");
+_Static_assert(RINGKIT_TABLE_BYTES == 8 * (3 + 4 * RINGKIT_MAX_ROWS), "8 bytes for each field of the longest table");
 _Static_assert(RINGKIT_MATRIX_BYTES == 5 * RINGKIT_MAX_OFFICES * RINGKIT_MAX_OFFICES, "4 digits and the byte behind them for each entry");
 
 static unsigned passed, failed;
@@ -64,7 +64,7 @@ static void add(struct text *text, const char *line, ...)
 static void one_row(unsigned offices, unsigned amount)
 {
     table.length = 0;
-    add(&table, "R\t%u\nD\t1\t2\t%u\n", offices, amount);
+    add(&table, "R\t%u\t4\nD\t1\t2\t%u\n", offices, amount);
 }
 
 static unsigned mixed(unsigned i, unsigned j)
@@ -75,7 +75,7 @@ static unsigned mixed(unsigned i, unsigned j)
 static void all_pairs(unsigned offices)
 {
     table.length = 0;
-    add(&table, "R\t%u\n", offices);
+    add(&table, "R\t%u\t4\n", offices);
     for (unsigned i = 1; i < offices; i++) {
         for (unsigned j = i + 1; j <= offices; j++) {
             add(&table, "D\t%u\t%u\t%u\n", i, j, mixed(i, j));
@@ -86,7 +86,7 @@ static void all_pairs(unsigned offices)
 static void equal_rows(unsigned rows)
 {
     table.length = 0;
-    add(&table, "R\t%u\n", RINGKIT_MAX_OFFICES);
+    add(&table, "R\t%u\t4\n", RINGKIT_MAX_OFFICES);
     for (unsigned k = 0; k < rows; k++) {
         add(&table, "D\t15\t31\t%u\n", RINGKIT_MAX_AMOUNT);
     }
@@ -190,7 +190,7 @@ static void test_table(const char *name)
 static void test_pair(void)
 {
     sheet.length = 0;
-    add(&sheet, "R\t4\nD\t1\t2\t1\t1\t1\tF\nD\t1\t2\t0\t0\t0\tF\nD\t1\t2\t1\t1\t1\tB\nC\t1\t2\t2\n");
+    add(&sheet, "R\t4\t4\nD\t1\t2\t1\t1\t1\tF\nD\t1\t2\t0\t0\t0\tF\nD\t1\t2\t1\t1\t1\tB\nC\t1\t2\t2\n");
     add(&sheet, "L\t1\t2\t1\nL\t2\t2\t1\nL\t3\t2\t1\nL\t4\t2\t1\nZ\t1\t3\n");
     ringkit_pair_reply pair = ringkit_parallel(fenced(&sheet), sheet.length);
     expect(pair.reason == RINGKIT_OK && pair.line == 0 && pair.first == 1 && pair.second == 3, "the parallel pair");
@@ -200,6 +200,16 @@ static void test_pair(void)
 }
 
 /* ---- matrices */
+
+static ringkit_reply read_matrix(const uint8_t *text, size_t length, uint8_t *buffer, size_t room)
+{
+    return ringkit_read_matrix(text, length, 4, buffer, room);
+}
+
+static ringkit_reply read_untold(const uint8_t *text, size_t length, uint8_t *buffer, size_t room)
+{
+    return ringkit_read_matrix(text, length, 3, buffer, room);
+}
 
 /* A square with 0 on its diagonal and a demand for every pair. */
 static void fill_matrix(unsigned offices, unsigned (*demand)(unsigned, unsigned))
@@ -226,10 +236,10 @@ static unsigned none(unsigned i, unsigned j)
 /* The matrix is read into its table and written from it, and the table that was made can be routed. */
 static void test_matrix(const char *name)
 {
-    make(name, ringkit_read_matrix, &matrix, &table, RINGKIT_TABLE_BYTES);
+    make(name, read_matrix, &matrix, &table, RINGKIT_TABLE_BYTES);
     ringkit_reply reply = lend(ringkit_write_matrix, &table, RINGKIT_MATRIX_BYTES);
     expect(says(reply, RINGKIT_OK, 0, matrix.length) && holds(RINGKIT_MATRIX_BYTES, &matrix), "%s: another matrix comes back", name);
-    writes(name, ringkit_read_matrix, &matrix, &table);
+    writes(name, read_matrix, &matrix, &table);
     writes(name, ringkit_write_matrix, &table, &matrix);
     route(name);
 }
@@ -247,7 +257,7 @@ static void reads(const char *name, const char *bytes, uint32_t reason, uint32_t
 {
     matrix.length = 0;
     add(&matrix, "%s", bytes);
-    judges(name, ringkit_read_matrix, &matrix, reason, line);
+    judges(name, read_matrix, &matrix, reason, line);
 }
 
 static void test_matrix_limits(void)
@@ -258,12 +268,14 @@ static void test_matrix_limits(void)
     reads("an entry unlike its mirror", "0\t9999\n9998\t0\n", RINGKIT_NOT_SYMMETRIC, 1);
     reads("one office", "0\n", RINGKIT_RING_SIZE, 1);
     fill_matrix(RINGKIT_MAX_OFFICES + 1, none);
-    judges("too many offices in a matrix", ringkit_read_matrix, &matrix, RINGKIT_RING_SIZE, 1);
+    judges("too many offices in a matrix", read_matrix, &matrix, RINGKIT_RING_SIZE, 1);
     memset(matrix.bytes, '0', sizeof matrix.bytes);
     matrix.length = RINGKIT_MAX_TEXT_BYTES;
-    judges("longest matrix", ringkit_read_matrix, &matrix, RINGKIT_MISSHAPEN, 1);
+    judges("longest matrix", read_matrix, &matrix, RINGKIT_MISSHAPEN, 1);
     matrix.length++;
-    judges("too long a matrix", ringkit_read_matrix, &matrix, RINGKIT_TOO_LONG, 0);
+    judges("too long a matrix", read_matrix, &matrix, RINGKIT_TOO_LONG, 0);
+    judges("three fibres, before all else", read_untold, &matrix, RINGKIT_FIBRES, 0);
+    judges("three fibres, before no text", read_untold, &NOTHING, RINGKIT_FIBRES, 0);
     one_row(RINGKIT_MIN_OFFICES, RINGKIT_MAX_AMOUNT);
     add(&table, "D\t1\t2\t0\n");
     judges("the largest sum", ringkit_write_matrix, &table, RINGKIT_OK, 0);
@@ -309,6 +321,13 @@ static void test_limits(void)
     judged("most offices, most rows", RINGKIT_OK, 0);
     equal_rows(RINGKIT_MAX_ROWS + 1);
     judged("too many rows", RINGKIT_TOO_MANY_ROWS, RINGKIT_MAX_ROWS + 2);
+    table.length = 0;
+    add(&table, "R\t2\t3\n");
+    judged("three fibres", RINGKIT_FIBRES, 1);
+    table.length = 0;
+    add(&table, "R\t33\t3\n");
+    judged("too many offices and three fibres", RINGKIT_RING_SIZE, 1);
+    equal_rows(RINGKIT_MAX_ROWS);
     table.length = RINGKIT_MAX_TEXT_BYTES;
     table.bytes[0] = 'r';
     judged("longest text", RINGKIT_MISSHAPEN, 1);
@@ -324,7 +343,7 @@ static void test_no_text(void)
     expect(says(ringkit_route(NULL, 0, NULL, 0), RINGKIT_MISSHAPEN, 1, 0), "route: no text");
     expect(says(ringkit_rewrite_table(NULL, 0, NULL, 0), RINGKIT_MISSHAPEN, 1, 0), "rewrite a table: no text");
     expect(says(ringkit_rewrite_sheet(NULL, 0, NULL, 0), RINGKIT_MISSHAPEN, 1, 0), "rewrite a sheet: no text");
-    expect(says(ringkit_read_matrix(NULL, 0, NULL, 0), RINGKIT_MISSHAPEN, 1, 0), "read a matrix: no text");
+    expect(says(ringkit_read_matrix(NULL, 0, 4, NULL, 0), RINGKIT_MISSHAPEN, 1, 0), "read a matrix: no text");
     expect(says(ringkit_write_matrix(NULL, 0, NULL, 0), RINGKIT_MISSHAPEN, 1, 0), "write a matrix: no text");
 }
 

@@ -11,8 +11,8 @@
 enum { STACK = 256 * 1024, PAINT = 0xa5 };
 
 /* No frame grows with the text, so a small one shows all of them; only writing a number nests, once for each digit, far from the deepest place. */
-static const char TABLE[] = "R\t2\nD\t1\t2\t5\n";
-static const char SHEET[] = "R\t2\nD\t1\t2\t5\t5\t5\tF\nC\t1\t2\t5\nL\t1\t5\t5\nL\t2\t5\t0\nZ\t5\t12\n";
+static const char TABLE[] = "R\t2\t4\nD\t1\t2\t5\n";
+static const char SHEET[] = "R\t2\t4\nD\t1\t2\t5\t5\t5\tF\nC\t1\t2\t5\nL\t1\t5\t5\nL\t2\t5\t0\nZ\t5\t12\n";
 static const char MATRIX[] = "0\t5\n5\t0\n";
 static uint8_t buffer[sizeof SHEET];
 
@@ -48,7 +48,7 @@ static uint32_t parallel(void)
 
 static uint32_t read_matrix(void)
 {
-    return ringkit_read_matrix(bytes(MATRIX), sizeof MATRIX - 1, buffer, sizeof buffer).reason;
+    return ringkit_read_matrix(bytes(MATRIX), sizeof MATRIX - 1, 4, buffer, sizeof buffer).reason;
 }
 
 static uint32_t write_matrix(void)

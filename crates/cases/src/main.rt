@@ -1,6 +1,6 @@
 // Runs stored cases: each is a header of 12 bytes (the letter of the call, the text's length and the buffer's in five digits each, LF) and
 // the text. Each is answered by a line: the reply's numbers, and a sum over every byte of the buffer, which is filled with a pattern before the call.
-// The letter T is `ringkit_rewrite_table`, R is `ringkit_route`, S is `ringkit_rewrite_sheet`, M is `ringkit_read_matrix`, W is `ringkit_write_matrix`. C is
+// The letter T is `ringkit_rewrite_table`, R is `ringkit_route`, S is `ringkit_rewrite_sheet`, W is `ringkit_write_matrix`, and a digit is `ringkit_read_matrix` with so many fibres. C is
 // `ringkit_check` and P is `ringkit_parallel`: these lend no buffer, so their lines have reason and line, and for P the two places. Any other letter ends the run.
 use libc::STDIN_FILENO;
 use libc::STDOUT_FILENO;
@@ -75,13 +75,29 @@ fn lends(letter: u8) -> bool {
     if letter == b'S' {
         return true;
     }
-    if letter == b'M' {
+    if is_digit(letter) {
         return true;
     }
     if letter == b'W' {
         return true;
     }
     letter == b'R'
+}
+
+fn is_digit(letter: u8) -> bool {
+    if letter < b'0' {
+        return false;
+    }
+    letter <= b'9'
+}
+
+// The number that a digit spells.
+fn fibres(letter: u8) -> u32 {
+    if letter < b'0' {
+        return 0;
+    }
+    let d = letter - b'0';
+    d as u32
 }
 
 fn call(letter: u8, text: &[u8], buffer: &mut [u8]) -> Reply {
@@ -91,8 +107,8 @@ fn call(letter: u8, text: &[u8], buffer: &mut [u8]) -> Reply {
     if letter == b'S' {
         return ringkit::ringkit_rewrite_sheet(text, buffer);
     }
-    if letter == b'M' {
-        return ringkit::ringkit_read_matrix(text, buffer);
+    if is_digit(letter) {
+        return ringkit::ringkit_read_matrix(text, fibres(letter), buffer);
     }
     if letter == b'W' {
         return ringkit::ringkit_write_matrix(text, buffer);

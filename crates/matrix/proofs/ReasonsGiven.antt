@@ -19,7 +19,7 @@ use Rattle.table.specs.Lines.{lines}
 use Rattle.table.specs.Reasons.{rankOf}
 use Rattle.table.specs.Says.{LineIs, at-first, behind}
 use Rattle.table.specs.declared.reason.Reason.{Reason}
-use Rattle.table.specs.declared.reason.Reason.the-variants.{TooLong, Misshapen, RingSize, NoRow, NoSuchNode, NotBelow, OutOfOrder, TooMany, TooMuch, Full, WrongSum, WrongWay, WrongCut, WrongLink, WrongLast, NotTight, OverBound, NotZero, NotSymmetric, SumTooMuch, NoRoom}
+use Rattle.table.specs.declared.reason.Reason.the-variants.{TooLong, Misshapen, RingSize, Fibres, NoRow, NoSuchNode, NotBelow, OutOfOrder, TooMany, TooMuch, Full, WrongSum, WrongWay, WrongCut, WrongLink, WrongLast, NotTight, OverBound, NotZero, NotSymmetric, SumTooMuch, NoRoom}
 use Rattle.table.specs.declared.judge.Verdict.{Verdict}
 use Rattle.table.proofs.Judged.{SizeJudged, not-so-many, right-size, size-judged}
 use Rattle.table.proofs.LineNumbers.{line-one, LinesFrom, from-first, from-next, line-here, no-line-left}
@@ -58,6 +58,7 @@ told RingSize h = of-line refl (wrong-n h)
 told TooMuch h = of-line refl (wrong-amount h)
 told NotZero h = of-square refl h
 told NotSymmetric h = of-square refl h
+told Fibres h = absurd h
 told NoSuchNode h = absurd h
 told NotBelow h = absurd h
 told OutOfOrder h = absurd h

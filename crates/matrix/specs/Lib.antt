@@ -1,4 +1,4 @@
--- What a matrix is, and what it says of a table's rows: `Matrix`, `Demands` and `Says` are what to believe.
+-- What a matrix is, what it says of a table's rows, what each reason says of its text, and how much room suffices.
 pub mod Matrix
 pub mod Demands
 pub mod Read

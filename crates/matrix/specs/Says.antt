@@ -13,7 +13,7 @@ use Rattle.table.specs.Lines.{lines}
 use Rattle.table.specs.Reasons.{rankOf}
 use Rattle.table.specs.Says.{LineIs}
 use Rattle.table.specs.declared.reason.Reason.{Reason}
-use Rattle.table.specs.declared.reason.Reason.the-variants.{TooLong, Misshapen, RingSize, NoRow, NoSuchNode, NotBelow, OutOfOrder, TooMany, TooMuch, Full, WrongSum, WrongWay, WrongCut, WrongLink, WrongLast, NotTight, OverBound, NotZero, NotSymmetric, SumTooMuch, NoRoom}
+use Rattle.table.specs.declared.reason.Reason.the-variants.{TooLong, Misshapen, RingSize, Fibres, NoRow, NoSuchNode, NotBelow, OutOfOrder, TooMany, TooMuch, Full, WrongSum, WrongWay, WrongCut, WrongLink, WrongLast, NotTight, OverBound, NotZero, NotSymmetric, SumTooMuch, NoRoom}
 
 -- ---- lines and entries
 
@@ -90,6 +90,7 @@ Says limits t TooMuch line = WrongAmount limits t line
 Says limits t NotZero line = FirstFaulty t NotZero line
 Says limits t NotSymmetric line = FirstFaulty t NotSymmetric line
 -- the others judge no matrix
+Says limits t Fibres line = ⊥
 Says limits t NoSuchNode line = ⊥
 Says limits t NotBelow line = ⊥
 Says limits t OutOfOrder line = ⊥
@@ -115,6 +116,7 @@ stage NotSymmetric = 1
 stage TooLong = 0
 stage Misshapen = 0
 stage RingSize = 0
+stage Fibres = 0
 stage NoSuchNode = 0
 stage NotBelow = 0
 stage OutOfOrder = 0

@@ -23,7 +23,7 @@ use Rattle.table.proofs.Accepted.{same-table}
 use Rattle.table.proofs.Said.{not-15 as table-not-15}
 use Rattle.table.proofs.TableText.{desk-spelled}
 use Rattle.matrix.specs.Matrix.{writeMatrix}
-use Rattle.matrix.specs.Demands.{rowsOfMatrix, matrixOfRows, OneEach}
+use Rattle.matrix.specs.Demands.{rowsOfMatrix, matrixOfRows, Passes, OneEach}
 use Rattle.matrix.specs.Read.{Matrix, matrix, no-matrix, matrixOf, tableFrom}
 use Rattle.matrix.specs.Judged.{judgeSums}
 use Rattle.matrix.specs.Room.{matrixRoom, tableRoom}
@@ -40,7 +40,7 @@ use Rattle.ringkit.specs.Outcome.{Outcome, write, Fills}
 use Rattle.ringkit.specs.TableCalls.{ofTable}
 use Rattle.ringkit.specs.MatrixCalls.{matrixRead, unlessPass, ofRows, matrixWritten}
 use Rattle.ringkit.specs.Says.{Success, CallPromise}
-use Rattle.ringkit.specs.Texts.{TableOf, MatrixOf, MatrixDue, MatrixGiven, of-fibres, of-matrix, SumsDue, SumsGiven, of-table, of-sums}
+use Rattle.ringkit.specs.Texts.{TableOf, MatrixOf, SomeMatrix, MatrixDue, MatrixGiven, of-fibres, of-matrix, SumsDue, SumsGiven, of-table, of-sums}
 use Rattle.ringkit.specs.declared.Reply.{Reply}
 use Rattle.ringkit.proofs.Calls.{Decided, is-due, is-given, One, call-promise}
 use Rattle.ringkit.proofs.TableCalls.{read-is, due-accepted}
@@ -53,6 +53,13 @@ module _ (t : List ℕ) where
   matrix-is n m = (
     λ e. let w = matrix-text desk desk-possible t n m .0 e in record { text = w .0; range = w .1 },
     λ h. matrix-text desk desk-possible t n m .1 (h .text, h .range),
+  )
+
+  -- a text is accepted exactly when it is the matrix, written, of some lines in range
+  pub matrix-accepted : Accepted desk t ↔ SomeMatrix t
+  matrix-accepted = (
+    λ a. let r = accepted-is desk t .1 a in record { n = r .n; m = r .m; of = matrix-is (r .n) (r .m) .0 (r .is) },
+    λ h. accepted-is desk t .0 (record { n = h .n; m = h .m; is = matrix-is (h .n) (h .m) .1 (h .of) }),
   )
 
 -- the rows of a matrix on 2 or 4 fibres
@@ -120,6 +127,14 @@ module _ (fibres : ℕ) (t text : List ℕ) (d : MatrixDue fibres t text) where
   -- and no longer than `tableRoom`
   pub matrix-table-short : length text ≤ tableRoom desk
   matrix-table-short = omega (arith, ap length (d .is), room-for-table (d .n) fibres (d .m) (d .two-or-four) (d .of .range))
+
+-- so with that room every accepted matrix is read
+pub always-read : (fibres : ℕ) (t old new : List ℕ) (r : Reply) → Fills (matrixRead fibres t) old new r → IsFibres fibres → Accepted desk t → tableRoom desk ≤ length old → r .reason ≡ 0
+always-read fibres t old new r call f a room =
+    let h = matrix-accepted t .0 a in
+    let text = writeTable (ringOf (h .n) fibres) (rowsOfMatrix (h .n) (h .m)) in
+    let d : MatrixDue fibres t text = record { two-or-four = f; n = h .n; m = h .m; of = h .of; is = refl } in
+    read-matrix-promise fibres t old new r call .succeeds text .1 (d, omega (arith, matrix-table-short fibres t text d)) .reason
 
 -- ---- writing
 
@@ -192,6 +207,18 @@ module _ (t text : List ℕ) (d : SumsDue t text) where
   -- and no longer than `matrixRoom`
   pub written-matrix-short : length text ≤ matrixRoom desk
   written-matrix-short = omega (arith, ap length (d .is), room-for-matrix (d .ring) (d .rs) (d .of .range) fits)
+
+-- so with that room every accepted table of which no sum passes is written
+pub always-written : (t : List ℕ) (ring : Ring) (rs : List Row) → TableOf t ring rs → ((k : ℕ) → Passes desk rs k → ⊥) → (old new : List ℕ) (r : Reply) → Fills (matrixWritten t) old new r
+    → matrixRoom desk ≤ length old → r .reason ≡ 0
+always-written t ring rs of fit old new r call room =
+    let text = writeMatrix (matrixOfRows (ring .n) rs) in
+    let d : SumsDue t text = record { ring = ring; rs = rs; of = of; fit = fit; is = refl } in
+    write-matrix-promise t old new r call .succeeds text .1 (d, omega (arith, written-matrix-short t text d)) .reason
+
+-- and none passes where there is at most one row for a pair
+pub one-each-written : (t : List ℕ) (ring : Ring) (rs : List Row) → TableOf t ring rs → OneEach rs → (k : ℕ) → Passes desk rs k → ⊥
+one-each-written t ring rs of each = sums-fit desk rs .0 (one-each-fit ring rs (of .range) each)
 
 -- ---- there and back
 

@@ -4,6 +4,7 @@ use mathlib.Core.List.{List}
 use mathlib.Core.Path.{_≡_}
 use Rattle.ring.specs.Limits.{desk}
 use Rattle.text.proofs.Unique.{same-result}
+use Rattle.matrix.specs.Room.{tableRoom, matrixRoom}
 use Rattle.sheet.specs.Range.{longest}
 use Rattle.ringkit.specs.Outcome.{Outcome, Fills}
 use Rattle.ringkit.specs.TableCalls.{tableAfresh, tableRouted}
@@ -23,6 +24,12 @@ route-unique t = fills-unique (tableRouted t)
 
 pub sheet-bytes-unique : (r q : ℕ) → r ≡ longest desk → q ≡ longest desk → r ≡ q
 sheet-bytes-unique r q = same-result
+
+pub table-bytes-unique : (r q : ℕ) → r ≡ tableRoom desk → q ≡ tableRoom desk → r ≡ q
+table-bytes-unique r q = same-result
+
+pub matrix-bytes-unique : (r q : ℕ) → r ≡ matrixRoom desk → q ≡ matrixRoom desk → r ≡ q
+matrix-bytes-unique r q = same-result
 
 pub check-unique : (t : List ℕ) (r q : Reply) → r ≡ sheetChecked t → q ≡ sheetChecked t → r ≡ q
 check-unique t r q = same-result

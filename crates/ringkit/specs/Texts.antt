@@ -1,4 +1,4 @@
--- To believe: which values a text is the table or the sheet of, and which text is due to it.
+-- To believe: which values a text is the table, the sheet or the matrix of, and which text is due to it.
 use Prim.Native.Nat.{ℕ}
 use mathlib.Core.List.{List}
 use mathlib.Core.Path.{_≡_}
@@ -45,6 +45,12 @@ pub record SomeForm (t : List ℕ) : Type 0 where
 pub record MatrixOf (t : List ℕ) (n : ℕ) (m : List (List ℕ)) : Type 0 where
   pub text : t ≡ writeMatrix m
   pub range : matrix.InRange desk n m
+
+-- it is one of some lines
+pub record SomeMatrix (t : List ℕ) : Type 0 where
+  pub n : ℕ
+  pub m : List (List ℕ)
+  pub of : MatrixOf t n m
 
 -- ---- what is due
 

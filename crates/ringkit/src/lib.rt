@@ -15,6 +15,7 @@ ghost use Rattle.table.specs.Table.{writeTable};
 ghost use Rattle.matrix.specs.Matrix.{writeMatrix};
 ghost use Rattle.matrix.specs.Demands.{matrixOfRows};
 ghost use Rattle.matrix.specs.Arrays.{Amounts};
+ghost use Rattle.matrix.specs.Room.{tableRoom, matrixRoom};
 ghost use Rattle.sheet.specs.WriteSheet.{writeSheet};
 ghost use Rattle.sheet.specs.Arrays.{sheetIn};
 ghost use Rattle.sheet.specs.Range.{longest};
@@ -32,6 +33,23 @@ pub fn sheet_bytes() -> usize
     ensures { λ r. ⌜ r ≡ longest desk ⌝ }
 {
     SHEET_BYTES
+}
+
+// The same for every table that is made of a matrix, and for every matrix: each entry has at most 4 digits.
+pub const TABLE_BYTES: usize = 8 * (3 + 4 * ROWS);
+
+pub const MATRIX_BYTES: usize = 5 * LINKS * LINKS;
+
+pub fn table_bytes() -> usize
+    ensures { λ r. ⌜ r ≡ tableRoom desk ⌝ }
+{
+    TABLE_BYTES
+}
+
+pub fn matrix_bytes() -> usize
+    ensures { λ r. ⌜ r ≡ matrixRoom desk ⌝ }
+{
+    MATRIX_BYTES
 }
 
 // reason 0 is success. On a refusal every field but reason and line is 0.

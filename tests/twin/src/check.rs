@@ -80,7 +80,7 @@ fn link(sheet: &Sheet) -> bool {
 /// 12: unsplit peak or size false.
 fn size(sheet: &Sheet) -> bool {
     let peak = rules::peak(&sheet.plan.unsplit);
-    sheet.plan.peak == peak && sheet.plan.size == rules::size(peak)
+    sheet.plan.peak == peak && sheet.plan.size == rules::line_size(&sheet.table, peak)
 }
 
 /// 13: split peak (halves) is not the across number. It is the across number
@@ -134,6 +134,7 @@ fn empty() -> Sheet {
     Sheet {
         table: Table {
             n: 0,
+            fibres: 0,
             rows: Vec::new(),
         },
         plan: Plan {
@@ -184,10 +185,11 @@ impl<'a> Reader<'a> {
         refuse(reason, self.read as u32)
     }
 
-    /// `R n`.
+    /// `R n fibres`.
     fn ring(&mut self) -> Result<(), Refusal> {
         let (line, _) = self.next()?;
-        self.sheet.table.n = table::read_ring(&line)?;
+        let table = &mut self.sheet.table;
+        (table.n, table.fibres) = table::read_ring(&line)?;
         Ok(())
     }
 

@@ -26,7 +26,7 @@ fn blank(text: &[u8]) -> Sheet {
         best: yes,
         bound: yes,
     };
-    let no_rows = b"R\t2\nC\t1\t2\t0\nL\t1\t0\t0\nL\t2\t0\t0\nZ\t0\t3\n";
+    let no_rows = b"R\t2\t4\nC\t1\t2\t0\nL\t1\t0\t0\nL\t2\t0\t0\nZ\t0\t3\n";
     let read = check::read_asking(text, &accept).or(check::read(no_rows));
     read.expect("a sheet with no rows")
 }
@@ -246,7 +246,7 @@ pub fn link_but_last(sheet: &Sheet) -> bool {
 // Faults of checking: peaks, size and bound.
 
 pub fn size_of_named(sheet: &Sheet) -> bool {
-    sheet.plan.size == rules::size(sheet.plan.peak)
+    sheet.plan.size == rules::line_size(&sheet.table, sheet.plan.peak)
 }
 
 pub fn peak_alone(sheet: &Sheet) -> bool {
@@ -255,12 +255,14 @@ pub fn peak_alone(sheet: &Sheet) -> bool {
 
 pub fn size_enough(sheet: &Sheet) -> bool {
     let enough = [3, 12, 48, 192, 768].contains(&sheet.plan.size);
-    let larger = enough && sheet.plan.size >= sheet.plan.peak;
+    let least = rules::least_size(&sheet.table, sheet.plan.peak);
+    let larger = enough && sheet.plan.size >= least;
     peak_alone(sheet) && (larger || (QUESTIONS.size)(sheet))
 }
 
 pub fn size_largest(sheet: &Sheet) -> bool {
-    peak_alone(sheet) && sheet.plan.size == rules::size(sheet.plan.peak.min(768))
+    let least = rules::least_size(&sheet.table, sheet.plan.peak);
+    peak_alone(sheet) && sheet.plan.size == rules::size(least.min(768))
 }
 
 pub fn best_ours(sheet: &Sheet) -> bool {
@@ -438,4 +440,14 @@ pub fn with_our_ways(mut sheet: Sheet) -> Sheet {
 pub fn with_our_plan(mut sheet: Sheet) -> Sheet {
     sheet.plan = rules::plan(&sheet.table);
     sheet
+}
+
+// Faults of the size on two fibres and on four.
+
+pub fn size_once(sheet: &Sheet) -> bool {
+    peak_alone(sheet) && sheet.plan.size == rules::size(sheet.plan.peak)
+}
+
+pub fn size_twice(sheet: &Sheet) -> bool {
+    peak_alone(sheet) && sheet.plan.size == rules::size(2 * sheet.plan.peak)
 }

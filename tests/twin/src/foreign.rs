@@ -59,7 +59,7 @@ fn in_any_order(rng: &mut Rng, table: &Table, m: i64) -> Vec<Sent> {
     let (front, back) = (0, 0);
     let mut sent = vec![Sent { front, back }; order.len()];
     let rows = order.iter().map(|at| table.rows[*at]).collect();
-    let shuffled = Table { n: table.n, rows };
+    let shuffled = Table { rows, ..*table };
     for (at, amounts) in order.iter().zip(rules::rule_b(&shuffled, m)) {
         sent[*at] = amounts;
     }
@@ -131,14 +131,14 @@ fn cut(rng: &mut Rng, table: &Table, largest: Cut) -> Cut {
 /// A row with what the sheet says of it.
 type Filled = (Row, Sent, Way);
 
-/// The sheet of these rows with the cut g, h and true figures.
-fn of_rows(n: i64, g: i64, h: i64, mut filled: Vec<Filled>) -> (Table, Plan) {
+/// The sheet of these rows on a ring with the cut g, h and true figures.
+fn of_rows(ring: &Table, g: i64, h: i64, mut filled: Vec<Filled>) -> (Table, Plan) {
     filled.sort_by_key(|(row, _, _)| (row.i, row.j));
     let rows: Vec<Row> = filled.iter().map(|(row, _, _)| *row).collect();
     let sent = filled.iter().map(|(_, sent, _)| *sent).collect();
     let ways = filled.iter().map(|(_, _, way)| *way).collect();
     let across = rules::across(&rows, g, h);
-    let table = Table { n, rows };
+    let table = Table { rows, ..*ring };
     let plan = rules::figures(&table, Cut { g, h, across }, sent, ways);
     (table, plan)
 }
@@ -166,7 +166,7 @@ pub fn crossing(rng: &mut Rng, n: i64) -> (Table, Plan) {
     if rng.chance(1, 2) {
         whole_rows(rng, n, &mut filled);
     }
-    of_rows(n, half, n, filled)
+    of_rows(&table, half, n, filled)
 }
 
 /// Two whole rows of one amount, whose fronts hold link n/2 and not link n: the
@@ -211,7 +211,7 @@ pub fn all_across(rng: &mut Rng, n: i64, count: usize) -> (Table, Plan) {
     let at = rng.below(table.rows.len());
     table.rows[at].d = rng.between(30, 9_999);
     let filled = turned(rng, &table);
-    of_rows(n, g, h, filled)
+    of_rows(&table, g, h, filled)
 }
 
 /// Each row halved and sent F so many times out of eight. A row of 0 goes F.
@@ -282,11 +282,11 @@ fn figure_off(rng: &mut Rng, table: &Table, plan: &mut Plan) {
         5 => {
             by_one(rng, &mut plan.unsplit[at]);
             plan.peak = rules::peak(&plan.unsplit);
-            plan.size = rules::size(plan.peak);
+            plan.size = rules::line_size(table, plan.peak);
         }
         6 => {
             by_one(rng, &mut plan.peak);
-            plan.size = rules::size(plan.peak);
+            plan.size = rules::line_size(table, plan.peak);
         }
         7 => plan.cut = Cut { g: h, h: g, across },
         8 => (plan.cut.h, plan.cut.across) = (g, 0),

@@ -66,7 +66,12 @@ fn keep(rng: &mut Rng, n: i64, amounts: Amounts, kept: impl Fn(i64, i64) -> bool
             rows.push(Row { i, j, d });
         }
     }
-    Table { n, rows }
+    let fibres = any_fibres(rng);
+    Table { n, fibres, rows }
+}
+
+fn any_fibres(rng: &mut Rng) -> i64 {
+    rng.pick(&[2, 4])
 }
 
 /// Every pair of nodes is a row.
@@ -115,7 +120,8 @@ pub fn circuits(rng: &mut Rng, n: i64, count: usize) -> Table {
         let d = amount(rng, Amounts::Mixed);
         rows.push(Row { i, j, d });
     }
-    let mut table = Table { n, rows };
+    let fibres = any_fibres(rng);
+    let mut table = Table { n, fibres, rows };
     more_circuits(rng, &mut table, count);
     table
 }
@@ -360,7 +366,7 @@ pub fn pad(rng: &mut Rng, text: &mut Vec<u8>, length: usize) {
         b"\t",
         b"D\t1\t2\t1\n",
         b"D\t31\t32\t9999\n",
-        b"R\t2\n",
+        b"R\t2\t4\n",
         b"D\t1\t2\t0\t0\t0\tF\n",
         b"L\t1\t0\t0\n",
         b"Z\t0\t3\n",

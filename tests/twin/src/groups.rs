@@ -197,44 +197,51 @@ pub fn of_text(text: &str, trials: Vec<(Call, Lend)>) -> Option<Case> {
     })
 }
 
-/// Tables of 01's numbers to try, and circuits of 02's K1, tabs shown as |.
-pub const NUMBERS: [&str; 36] = [
-    "R|4\nD|1|3|1\nD|2|4|1\n",
-    "R|2\n",
-    "R|2\nD|1|2|5\n",
-    "R|4\nD|1|2|1\n",
-    "R|5\nD|1|2|2\nD|1|4|5\nD|2|3|9\nD|2|4|11\nD|3|4|4\nD|3|5|3\n",
-    "R|8\nD|1|4|1\nD|2|3|1\nD|5|8|2\nD|6|7|2\n",
-    "R|2\nD|1|2|768\n",
-    "R|2\nD|1|2|769\n",
-    "R|8\nD|1|5|1\nD|2|6|1\nD|3|7|1\nD|4|8|1\n",
-    "R|4\nD|1|2|0\n",
-    "R|1\n",
-    "R|33\n",
-    "R|32\n",
-    "R|2\nD|1|2|9999\n",
-    "R|2\nD|1|2|10000\n",
-    "R|4\nD|5|2|10000\n",
+/// Tables of 01's numbers to try, circuits of 02's K1 and fibres of K3, tabs
+/// shown as |.
+pub const NUMBERS: [&str; 42] = [
+    "R|4|4\nD|1|3|1\nD|2|4|1\n",
+    "R|2|4\n",
+    "R|2|4\nD|1|2|5\n",
+    "R|4|4\nD|1|2|1\n",
+    "R|5|4\nD|1|2|2\nD|1|4|5\nD|2|3|9\nD|2|4|11\nD|3|4|4\nD|3|5|3\n",
+    "R|8|4\nD|1|4|1\nD|2|3|1\nD|5|8|2\nD|6|7|2\n",
+    "R|2|4\nD|1|2|768\n",
+    "R|2|4\nD|1|2|769\n",
+    "R|8|4\nD|1|5|1\nD|2|6|1\nD|3|7|1\nD|4|8|1\n",
+    "R|4|4\nD|1|2|0\n",
+    "R|1|4\n",
+    "R|33|4\n",
+    "R|32|4\n",
+    "R|2|4\nD|1|2|9999\n",
+    "R|2|4\nD|1|2|10000\n",
+    "R|4|4\nD|5|2|10000\n",
     "",
     "\n",
-    "R|4",
-    "R|4\n\n",
-    "R|4\nD|1|2|1",
-    "R|4\r\n",
-    "R|0\n",
-    "R|04\n",
+    "R|4|4",
+    "R|4|4\n\n",
+    "R|4|4\nD|1|2|1",
+    "R|4|4\r\n",
+    "R|0|4\n",
+    "R|04|4\n",
     "R|4|\n",
-    "R|4\nR|4\n",
+    "R|4|4\nR|4\n",
     "D|1|2|1\n",
-    "R|4\nD|1|2|1\nD|1|2|1\n",
-    "R|4\nD|2|2|1\n",
-    "R|4\nD|1|3|1\nD|1|2|10000\n",
-    "R|2\nD|1|2|1\nD|1|2|1\nD|1|2|1\n",
-    "R|2\nD|1|2|3\nD|1|2|5\n",
-    "R|2\nD|1|2|5\nD|1|2|3\n",
-    "R|2\nD|1|2|0\nD|1|2|9999\nD|1|2|0\n",
-    "R|4\nD|1|3|1\nD|1|3|2\nD|1|2|1\n",
-    "R|4\nD|2|3|1\nD|2|3|1\nD|1|4|1\n",
+    "R|4|4\nD|1|2|1\nD|1|2|1\n",
+    "R|4|4\nD|2|2|1\n",
+    "R|4|4\nD|1|3|1\nD|1|2|10000\n",
+    "R|2|4\nD|1|2|1\nD|1|2|1\nD|1|2|1\n",
+    "R|2|4\nD|1|2|3\nD|1|2|5\n",
+    "R|2|4\nD|1|2|5\nD|1|2|3\n",
+    "R|2|4\nD|1|2|0\nD|1|2|9999\nD|1|2|0\n",
+    "R|4|4\nD|1|3|1\nD|1|3|2\nD|1|2|1\n",
+    "R|4|4\nD|2|3|1\nD|2|3|1\nD|1|4|1\n",
+    "R|4|2\nD|1|3|1\nD|2|4|1\n",
+    "R|2|2\nD|1|2|385\n",
+    "R|4\nD|1|3|1\n",
+    "R|4|3\nD|1|3|1\n",
+    "R|33|3\n",
+    "R|4|3\nx\n",
 ];
 
 fn numbers_to_try(_: &mut Rng, case: u64) -> Option<Case> {
@@ -297,7 +304,8 @@ fn all_small(_: &mut Rng, case: u64) -> Option<Case> {
         if case % 8 == 0 {
             trials.push((Call::Rewrite, Lend::Need(0)));
         }
-        return of_table(&Table { n, rows }, trials);
+        let fibres = if case % 3 == 0 { 2 } else { 4 };
+        return of_table(&Table { n, fibres, rows }, trials);
     }
     None
 }
@@ -317,7 +325,7 @@ fn about_496(_: &mut Rng, case: u64) -> Option<Case> {
     let end = gen::sequence(&ends, 3, case)?.concat();
     let rows = ["D|1|2|1\n".repeat(200), "D|2|3|1\n".repeat(295)].concat();
     let trials = vec![(one_call(case), Lend::Need(1))];
-    of_text(&format!("R|3\n{rows}{end}"), trials)
+    of_text(&format!("R|3|4\n{rows}{end}"), trials)
 }
 
 /// The square with each byte given each value, then with bytes put in before
@@ -352,7 +360,7 @@ fn two_fields(_: &mut Rng, case: u64) -> Option<Case> {
     fields[one as usize - 1] = gen::BOUNDARY[choice / numbers];
     fields[two as usize - 1] = gen::BOUNDARY[choice % numbers];
     let [n, a, b, c, d, e, f] = fields;
-    let text = format!("R|{n}\nD|{a}|{b}|{c}\nD|{d}|{e}|{f}\n");
+    let text = format!("R|{n}|4\nD|{a}|{b}|{c}\nD|{d}|{e}|{f}\n");
     of_text(&text, vec![(one_call(case), Lend::Need(1))])
 }
 
@@ -369,7 +377,7 @@ fn every_length(rng: &mut Rng, case: u64) -> Option<Case> {
     }
     match case {
         0..=5 => of_text(NUMBERS[case as usize], trials),
-        6 => of_text("R|4\nD|1|3|1\nD|2|2|1\n", trials),
+        6 => of_text("R|4|4\nD|1|3|1\nD|2|2|1\n", trials),
         7 => of_table(&gen::sparse(rng, 16, 9), trials),
         8 => of_table(&gen::sparse(rng, 32, 20), trials),
         9 => of_table(&gen::full(rng, 9, Amounts::Mixed), trials),

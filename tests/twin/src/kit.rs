@@ -57,6 +57,7 @@ extern "C" {
     fn ringkit_read_matrix(
         matrix_ptr: *const u8,
         matrix_len: usize,
+        fibres: u32,
         buffer_ptr: *mut u8,
         buffer_len: usize,
     ) -> Reply;
@@ -76,12 +77,17 @@ fn library(call: Call, text: &mut [u8], area: &mut [u8], lent: Range<usize>) -> 
         Call::Route => ringkit_route,
         Call::Rewrite => ringkit_rewrite_table,
         Call::RewriteSheet => ringkit_rewrite_sheet,
-        Call::ReadMatrix => ringkit_read_matrix,
         Call::WriteMatrix => ringkit_write_matrix,
         // SAFETY: the pointer comes from a slice of the length given, which
         // lives through the call.
         Call::Check => return Said::Reply(unsafe { ringkit_check(text_ptr, text_len) }),
         Call::Parallel => return Said::Pair(unsafe { ringkit_parallel(text_ptr, text_len) }),
+        // SAFETY: as below.
+        Call::ReadMatrix(fibres) => {
+            let (room, length) = (buffer.as_mut_ptr(), buffer.len());
+            let reply = unsafe { ringkit_read_matrix(text_ptr, text_len, fibres, room, length) };
+            return Said::Reply(reply);
+        }
     };
     // SAFETY: both pointers come from slices of the lengths given, which live
     // through the call and do not overlap.

@@ -1,5 +1,5 @@
 //! The twin: ring routing, the checking of sheets and the reading and writing of
-//! matrices written once more from the sentences of 01 and of 02's K1 and K2
+//! matrices written once more from the sentences of 01 and of 02's K1 to K3
 //! alone, and compared with the library call by call and byte by byte.
 //!
 //! `twin [SEED [COUNT]]` compares: the lists in full and COUNT random
@@ -57,12 +57,12 @@ const COUNT: u64 = 129_000;
 const MUTANT_COUNT: u64 = 15_480;
 /// The run goes on up to so many mismatches, one in a group at most.
 const MISMATCHES: usize = 5;
-/// Reasons 0, which is success, to 19: all must have been seen among the random
+/// Reasons 0, which is success, to 20: all must have been seen among the random
 /// cases.
-const REASONS: usize = 20;
+const REASONS: usize = 21;
 /// What reading a matrix and writing one must have said among the random cases.
-const OF_READING: [usize; 8] = [0, 1, 2, 3, 7, 15, 17, 18];
-const OF_WRITING: [usize; 11] = [0, 1, 2, 3, 4, 5, 6, 7, 15, 16, 19];
+const OF_READING: [usize; 9] = [0, 1, 2, 3, 7, 15, 17, 18, 20];
+const OF_WRITING: [usize; 12] = [0, 1, 2, 3, 4, 5, 6, 7, 15, 16, 19, 20];
 /// The size classes of accepted tables, sheets and matrices, by offices.
 const CLASSES: [(i64, i64); 7] = [
     (2, 3),
@@ -139,7 +139,7 @@ impl Tally {
             self.sheets.count(&sheet.table);
         }
         if let Ok(matrix) = matrix::read(&case.text) {
-            self.matrices.count(&matrix::table_of(&matrix));
+            self.matrices.count(&matrix::table_of(&matrix, 4));
         }
     }
 
@@ -152,7 +152,7 @@ impl Tally {
 
     /// Whether a call gave each of these reasons in random cases.
     fn gave(&self, call: Call, reasons: &[usize]) -> bool {
-        let given = self.random_reasons[call as usize];
+        let given = self.random_reasons[call.place()];
         reasons.iter().all(|reason| given[*reason] > 0)
     }
 
@@ -160,9 +160,9 @@ impl Tally {
         let reason = said.reason() as usize;
         self.comparisons += 1;
         self.large += u64::from(case.offices >= 16);
-        self.calls[call as usize] += 1;
+        self.calls[call.place()] += 1;
         self.reasons[reason] += 1;
-        self.random_reasons[call as usize][reason] += u64::from(random);
+        self.random_reasons[call.place()][reason] += u64::from(random);
         if let (Said::Pair(pair), 0, true) = (said, reason, random) {
             self.pairs[0] += u64::from(pair.first == 0);
             self.pairs[1] += u64::from(pair.first > 0);
@@ -216,10 +216,13 @@ impl Run<'_> {
 
     /// All calls of a case up to the first mismatch, in words.
     fn case(&mut self, case: &Case, number: u64, random: bool, describing: bool) -> Option<String> {
-        let mut answers: [Option<Answer>; CALLS.len()] = Default::default();
+        let mut answers: Vec<(Call, Answer)> = Vec::new();
         for (at, trial) in case.trials.iter().enumerate() {
-            let known = &mut answers[trial.0 as usize];
-            let answer = known.get_or_insert_with(|| twin::answer(trial.0, &case.text));
+            if !answers.iter().any(|(call, _)| *call == trial.0) {
+                answers.push((trial.0, twin::answer(trial.0, &case.text)));
+            }
+            let known = answers.iter().find(|(call, _)| *call == trial.0);
+            let (_, answer) = known.expect("an answer");
             let salt = number.wrapping_mul(1_000) + at as u64;
             match compare(self.kit, *trial, &case.text, answer, salt) {
                 Ok(said) => self.tally.count_said(case, trial.0, said, random),
@@ -317,7 +320,7 @@ fn print_counts(tally: &Tally) -> (u64, u64) {
     let (all, large) = (tally.comparisons, tally.large);
     println!("comparisons: {all}, of these {large} on 16 offices and more");
     for call in CALLS {
-        println!("call {call:?}: {}", tally.calls[call as usize]);
+        println!("call {call:?}: {}", tally.calls[call.place()]);
     }
     for reason in 0..REASONS {
         let (seen, random) = (tally.reasons[reason], tally.random(reason));
@@ -333,12 +336,13 @@ fn print_counts(tally: &Tally) -> (u64, u64) {
     println!("with one: {some}, of these {later} with other than rows 1 and 2");
     let demands = [
         (
-            "every reason of 0 to 19 seen in random cases",
+            "every reason of 0 to 20 seen in random cases",
             (0..REASONS).all(|reason| tally.random(reason) > 0),
         ),
         (
             "every reason of reading a matrix and of writing one seen in random cases",
-            tally.gave(Call::ReadMatrix, &OF_READING) && tally.gave(Call::WriteMatrix, &OF_WRITING),
+            tally.gave(Call::ReadMatrix(4), &OF_READING)
+                && tally.gave(Call::WriteMatrix, &OF_WRITING),
         ),
         (
             "full matrices of 20 and of 32 offices seen",

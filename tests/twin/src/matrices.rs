@@ -25,11 +25,23 @@ fn some_trials(rng: &mut Rng, call: Call) -> Vec<(Call, Lend)> {
         trials.push((call, rng.pick(&SHORT)));
     }
     if rng.chance(1, 12) {
-        let others = [Call::ReadMatrix, Call::WriteMatrix, Call::Rewrite];
+        let others = [Call::ReadMatrix(4), Call::WriteMatrix, Call::Rewrite];
         trials.push((rng.pick(&others), rng.pick(&LENDS)));
         trials.push((Call::Check, NONE));
     }
     trials
+}
+
+/// A matrix read with two or four fibres, or one time out of twelve with another
+/// number.
+fn read_trials(rng: &mut Rng) -> Vec<(Call, Lend)> {
+    let wrong = rng.chance(1, 12);
+    let fibres = rng.pick(if wrong {
+        &[0, 1, 3, 5, 6, 258, u32::MAX]
+    } else {
+        &[2, 4, 2, 4, 2, 4, 4]
+    });
+    some_trials(rng, Call::ReadMatrix(fibres))
 }
 
 /// Document 002's ring, zeros, the limits of n and of an entry, each reason, and
@@ -70,13 +82,19 @@ pub const MATRICES: [&str; 36] = [
     "0|1|2\n1|0|3\n9|3|7\n",
     "0|10000|x\n0|0|0\n0|0|0\n",
     "0|1|2\n1|0\n10000|0|0\n",
-    "R|2\nD|1|2|1\n",
+    "R|2|4\nD|1|2|1\n",
 ];
 
 pub fn by_hand(_: &mut Rng, case: u64) -> Option<Case> {
     let text = MATRICES.get(case as usize)?;
-    let read = LENDS.map(|lend| (Call::ReadMatrix, lend));
-    let write = [(Call::WriteMatrix, Lend::Need(1)), (Call::Check, NONE)];
+    let read = LENDS.map(|lend| (Call::ReadMatrix(4), lend));
+    let write = [
+        (Call::ReadMatrix(2), Lend::Need(0)),
+        (Call::ReadMatrix(3), Lend::Need(0)),
+        (Call::ReadMatrix(0), Lend::Exactly(0)),
+        (Call::WriteMatrix, Lend::Need(1)),
+        (Call::Check, NONE),
+    ];
     of_text(text, [read.as_slice(), &write].concat())
 }
 
@@ -101,7 +119,7 @@ pub fn all_small(_: &mut Rng, case: u64) -> Option<Case> {
     if code > 0 {
         return None;
     }
-    of_text(&text, vec![(Call::ReadMatrix, Lend::Need(0))])
+    of_text(&text, vec![(Call::ReadMatrix(4), Lend::Need(0))])
 }
 
 /// A matrix of three offices with each byte given each value, then with bytes
@@ -112,7 +130,7 @@ pub fn every_byte(_: &mut Rng, case: u64) -> Option<Case> {
     Some(Case {
         offices: 3,
         text,
-        trials: vec![(Call::ReadMatrix, Lend::Need(3))],
+        trials: vec![(Call::ReadMatrix(4), Lend::Need(3))],
     })
 }
 
@@ -129,12 +147,12 @@ pub fn small_sums(_: &mut Rng, case: u64) -> Option<Case> {
     ];
     let rows = gen::sequence(&rows, 5, case)?.concat();
     let trials = vec![(Call::WriteMatrix, Lend::Need(1))];
-    of_text(&format!("R|3\n{rows}"), trials)
+    of_text(&format!("R|3|4\n{rows}"), trials)
 }
 
 /// Every length from 0 to 160, and around the need, of both calls.
 pub fn every_length(rng: &mut Rng, case: u64) -> Option<Case> {
-    let call = [Call::ReadMatrix, Call::WriteMatrix][case as usize % 2];
+    let call = [Call::ReadMatrix(4), Call::WriteMatrix][case as usize % 2];
     let lengths = (0..=160).map(|length| (call, Lend::Exactly(length)));
     let around = (-40..=17).map(|more| (call, Lend::Need(more)));
     let trials = lengths.chain(around).collect();
@@ -176,7 +194,7 @@ fn any_matrix(rng: &mut Rng) -> Matrix {
 
 pub fn any(rng: &mut Rng, _: u64) -> Option<Case> {
     let matrix = any_matrix(rng);
-    of_matrix(&matrix, some_trials(rng, Call::ReadMatrix))
+    of_matrix(&matrix, read_trials(rng))
 }
 
 /// Every pair of 20 offices, or of 32, and of these some with the largest
@@ -189,7 +207,7 @@ pub fn full(rng: &mut Rng, case: u64) -> Option<Case> {
         Amounts::UpTo(9_999),
     ]);
     let matrix = square(&gen::full(rng, n, amounts));
-    of_matrix(&matrix, some_trials(rng, Call::ReadMatrix))
+    of_matrix(&matrix, read_trials(rng))
 }
 
 /// One entry made another: on the diagonal, in one half alone, in both halves
@@ -218,7 +236,7 @@ pub fn spoiled(rng: &mut Rng, _: u64) -> Option<Case> {
     for _ in 0..rng.pick(&[1, 1, 1, 2, 2, 3, 6]) {
         spoil(rng, &mut matrix);
     }
-    of_matrix(&matrix, some_trials(rng, Call::ReadMatrix))
+    of_matrix(&matrix, read_trials(rng))
 }
 
 /// Two lines or two columns changed over, a line turned round, or the whole
@@ -237,7 +255,7 @@ pub fn turned(rng: &mut Rng, _: u64) -> Option<Case> {
             matrix.lines.iter_mut().for_each(columns);
         }
     }
-    of_matrix(&matrix, some_trials(rng, Call::ReadMatrix))
+    of_matrix(&matrix, read_trials(rng))
 }
 
 /// A field put in, taken away, made empty or given another spelling, half of the
@@ -289,7 +307,7 @@ fn damaged(rng: &mut Rng, times: u64, damages: &[Damage]) -> Option<Case> {
     if rng.chance(1, 3) {
         spoil(rng, &mut matrix);
     }
-    let mut case = of_matrix(&matrix, some_trials(rng, Call::ReadMatrix))?;
+    let mut case = of_matrix(&matrix, read_trials(rng))?;
     for _ in 0..times {
         rng.pick(damages)(rng, &mut case.text);
     }

@@ -1,4 +1,4 @@
-//! A matrix, read into a table and written from one: 02, K2.
+//! A matrix, read into a table and written from one: 02, K2 and K3.
 
 use crate::table::{self, refuse, Line, Refusal, Row, Table};
 
@@ -39,6 +39,15 @@ fn faulty(matrix: &Matrix) -> Option<Refusal> {
         }
     }
     None
+}
+
+/// The matrix has no number of fibres; its reader is told it. 20 is tried first,
+/// line 0.
+pub fn read_told(text: &[u8], fibres: u32) -> Result<Matrix, Refusal> {
+    if !table::known_fibres(i64::from(fibres)) {
+        return refuse(20, 0);
+    }
+    read(text)
 }
 
 /// The matrix, or the refusal.
@@ -95,7 +104,7 @@ pub fn entries(line: &Line) -> Option<Vec<i64>> {
 
 /// One row for each pair whose entry is above 0. The ring size is the number of
 /// fields of the first line.
-pub fn table_of(matrix: &Matrix) -> Table {
+pub fn table_of(matrix: &Matrix, fibres: u32) -> Table {
     let n = matrix.lines.len();
     let mut rows = Vec::new();
     for i in 0..n {
@@ -107,7 +116,8 @@ pub fn table_of(matrix: &Matrix) -> Table {
             }
         }
     }
-    Table { n: n as i64, rows }
+    let (n, fibres) = (n as i64, i64::from(fibres));
+    Table { n, fibres, rows }
 }
 
 /// The square of a ring, all 0.

@@ -2,13 +2,13 @@
 //! its own.
 
 use crate::matrix::{self, Matrix, Questions, QUESTIONS};
-use crate::mutant::{pairs, read_matrix, square, sums, Mutant};
+use crate::mutant::{pairs, read_matrix, square, sums, told, Mutant};
 use crate::table::{self, refuse, Line, Refusal, Row, Table};
 use crate::text_faults::*;
 
 type Read = Result<Matrix, Refusal>;
 
-pub static MATRIX_FAULTS: [Mutant; 57] = [
+pub static MATRIX_FAULTS: [Mutant; 61] = [
     read_matrix("matrix: leading zeros", |text| {
         matrix::read(&without_leading_zeros(text))
     }),
@@ -77,6 +77,10 @@ pub static MATRIX_FAULTS: [Mutant; 57] = [
     read_matrix("17, 18: the last faulty entry", |text| {
         searched(text, last_faulty)
     }),
+    told("matrix: 20 never", |text, _| matrix::read(text)),
+    told("matrix: 20 after 1", twenty_after_1),
+    told("matrix: 20 last of all", twenty_last),
+    told("matrix: 20 on line 1", twenty_on_line_1),
     pairs("matrix: zero entries kept", zeros_kept),
     pairs("matrix: rows by second node, then first", by_second),
     pairs("matrix: both halves added", doubled),
@@ -401,6 +405,28 @@ fn in_8_bits(matrix: &Matrix) -> Option<Refusal> {
     (QUESTIONS.faulty)(&shorter)
 }
 
+// Faults of what is told.
+
+fn twenty_after_1(text: &[u8], fibres: u32) -> Read {
+    table::read_length(text)?;
+    matrix::read_told(text, fibres)
+}
+
+fn twenty_last(text: &[u8], fibres: u32) -> Read {
+    matrix::read(text)?;
+    matrix::read_told(text, fibres)
+}
+
+fn twenty_on_line_1(text: &[u8], fibres: u32) -> Read {
+    matrix::read_told(text, fibres).map_err(|refusal| match refusal.reason {
+        20 => Refusal {
+            reason: 20,
+            line: 1,
+        },
+        _ => refusal,
+    })
+}
+
 // Faults of the rows.
 
 /// A row for each pair, with an amount of its own making.
@@ -412,7 +438,8 @@ fn rows_by(matrix: &Matrix, amount: impl Fn(usize, usize) -> i64) -> Table {
         let (i, j) = (i as i64 + 1, j as i64 + 1);
         rows.push(Row { i, j, d });
     }
-    Table { n: n as i64, rows }
+    let (n, fibres) = (n as i64, 4);
+    Table { n, fibres, rows }
 }
 
 fn zeros_kept(matrix: &Matrix) -> Table {
@@ -433,13 +460,13 @@ fn doubled(matrix: &Matrix) -> Table {
 }
 
 fn by_second(matrix: &Matrix) -> Table {
-    let mut table = matrix::table_of(matrix);
+    let mut table = matrix::table_of(matrix, 4);
     table.rows.sort_by_key(|row| (row.j, row.i));
     table
 }
 
 fn without_last(matrix: &Matrix) -> Table {
-    let mut table = matrix::table_of(matrix);
+    let mut table = matrix::table_of(matrix, 4);
     let n = table.n;
     table.rows.retain(|row| row.j < n || row.i < n - 1);
     table

@@ -28,12 +28,17 @@ pub fn matrices() -> Outcome {
     let long = vec!["0"; 16_384].join("|") + "\n";
     let longer = vec!["0"; 16_385].join("|") + "\n";
     let wanted = [
-        (five, Ok(format!("R|5\n{rows}")), "0|0\n0|0\n", Ok("R|2\n")),
+        (
+            five,
+            Ok(format!("R|5|4\n{rows}")),
+            "0|0\n0|0\n",
+            Ok("R|2|4\n"),
+        ),
         (
             &most.repeat(32),
-            Ok("R|32\n".into()),
+            Ok("R|32|4\n".into()),
             "0|1\n1|0\n",
-            Ok("R|2\nD|1|2|1\n"),
+            Ok("R|2|4\nD|1|2|1\n"),
         ),
         (
             &most.repeat(31),
@@ -45,11 +50,15 @@ pub fn matrices() -> Outcome {
         ("", Err((2, 1)), "0\n", Err((3, 1))),
     ];
     for (one, of_one, two, of_two) in wanted {
-        same(one, made(Call::ReadMatrix, one), of_one)?;
-        same(two, made(Call::ReadMatrix, two), of_two.map(str::to_string))?;
+        same(one, made(Call::ReadMatrix(4), one), of_one)?;
+        same(
+            two,
+            made(Call::ReadMatrix(4), two),
+            of_two.map(str::to_string),
+        )?;
     }
     all(
-        Call::ReadMatrix,
+        Call::ReadMatrix(4),
         &[
             // A first line that is badly spelled anywhere is 2, before 3.
             ("0|x|0\n", Err((2, 1))),
@@ -75,22 +84,25 @@ pub fn sums() -> Outcome {
     all(
         Call::WriteMatrix,
         &[
-            ("R|2\n", Ok("0|0\n0|0\n")),
+            ("R|2|4\n", Ok("0|0\n0|0\n")),
             (
-                "R|3\nD|1|2|5\nD|1|2|6\nD|2|3|0\n",
+                "R|3|4\nD|1|2|5\nD|1|2|6\nD|2|3|0\n",
                 Ok("0|11|0\n11|0|0\n0|0|0\n"),
             ),
-            ("R|2\nD|1|2|9999\nD|1|2|0\n", Ok("0|9999\n9999|0\n")),
-            ("R|2\nD|1|2|9999\nD|1|2|0\nD|1|2|1\nD|1|2|1\n", Err((19, 4))),
+            ("R|2|4\nD|1|2|9999\nD|1|2|0\n", Ok("0|9999\n9999|0\n")),
             (
-                "R|3\nD|1|2|9999\nD|1|3|9999\nD|1|3|1\nD|2|3|10000\n",
+                "R|2|4\nD|1|2|9999\nD|1|2|0\nD|1|2|1\nD|1|2|1\n",
+                Err((19, 4)),
+            ),
+            (
+                "R|3|4\nD|1|2|9999\nD|1|3|9999\nD|1|3|1\nD|2|3|10000\n",
                 Err((7, 5)),
             ),
             (
-                "R|3\nD|1|2|9999\nD|1|3|9999\nD|1|3|1\nD|2|3|9999\nD|2|3|1\n",
+                "R|3|4\nD|1|2|9999\nD|1|3|9999\nD|1|3|1\nD|2|3|9999\nD|2|3|1\n",
                 Err((19, 4)),
             ),
-            ("R|3\nD|1|2|1\nD|1|2|9999\nD|1|3", Err((2, 4))),
+            ("R|3|4\nD|1|2|1\nD|1|2|9999\nD|1|3", Err((2, 4))),
         ],
     )
 }

@@ -32,6 +32,7 @@ enum How {
     RewriteSheet(fn(Sheet) -> Sheet),
     Say(fn(&[u8], Said) -> Said),
     ReadMatrix(fn(&[u8]) -> Result<Matrix, Refusal>),
+    Told(fn(&[u8], u32) -> Result<Matrix, Refusal>),
     Pairs(fn(&Matrix) -> Table),
     Sums(fn(&[u8]) -> Result<Matrix, Refusal>),
     Square(fn(&Matrix) -> Vec<u8>),
@@ -41,7 +42,7 @@ impl Mutant {
     pub fn call(&self, call: Call, text: &[u8], area: &mut [u8], lent: Range<usize>) -> Said {
         let answer = match call {
             Call::Route | Call::Rewrite => self.answer_table(call, text),
-            Call::ReadMatrix => self.answer_matrix(text),
+            Call::ReadMatrix(fibres) => self.answer_matrix(text, fibres),
             Call::WriteMatrix => self.answer_sums(text),
             _ => self.answer_sheet(call, text),
         };
@@ -90,15 +91,18 @@ impl Mutant {
         })
     }
 
-    fn answer_matrix(&self, text: &[u8]) -> Answer {
+    fn answer_matrix(&self, text: &[u8], fibres: u32) -> Answer {
+        let told = table::known_fibres(i64::from(fibres));
         let matrix = match self.how {
-            How::ReadMatrix(read) => read(text)?,
-            _ => matrix::read(text)?,
+            How::Told(read) => read(text, fibres)?,
+            How::ReadMatrix(read) if told => read(text)?,
+            _ => matrix::read_told(text, fibres)?,
         };
-        let table = match self.how {
+        let mut table = match self.how {
             How::Pairs(pairs) => pairs(&matrix),
-            _ => matrix::table_of(&matrix),
+            _ => matrix::table_of(&matrix, fibres),
         };
+        table.fibres = i64::from(fibres);
         Ok(twin::written(sheet::table_text(&table)))
     }
 
@@ -214,6 +218,11 @@ pub const fn read_matrix(name: &'static str, read: fn(&[u8]) -> Result<Matrix, R
     Mutant { name, how }
 }
 
+pub const fn told(name: &'static str, read: fn(&[u8], u32) -> Result<Matrix, Refusal>) -> Mutant {
+    let how = How::Told(read);
+    Mutant { name, how }
+}
+
 pub const fn pairs(name: &'static str, pairs: fn(&Matrix) -> Table) -> Mutant {
     let how = How::Pairs(pairs);
     Mutant { name, how }
@@ -230,7 +239,7 @@ pub const fn square(name: &'static str, square: fn(&Matrix) -> Vec<u8>) -> Mutan
 }
 
 /// Faults that change some sheet or reply: each must be caught.
-static FAULTS: [Mutant; 133] = [
+static FAULTS: [Mutant; 143] = [
     write("one byte after the text changed", after_text),
     write("one byte after the buffer changed", after_buffer),
     write("one byte before the buffer changed", before_buffer),
@@ -266,6 +275,18 @@ static FAULTS: [Mutant; 133] = [
     plan("D: amount 0 goes B", d_zero),
     plan("Z: size above the peak", z_above),
     plan("Z: 768 for every larger peak", z_largest),
+    plan("Z: once the peak on two fibres", z_once),
+    plan("Z: twice the peak on four fibres", z_twice),
+    read("reading: 20 before 3", twenty_before_3),
+    read("reading: 20 never", twenty_never),
+    read("reading: 20 after all lines", twenty_last),
+    read("reading: the R line without fibres taken", old_ring),
+    read_sheet("checking: the R line without fibres taken", |text| {
+        check::read(&with_fibres(text))
+    }),
+    on_size("12: once the peak on two fibres", size_once),
+    on_size("12: twice the peak on four fibres", size_twice),
+    rewrite("rewriting: four fibres for two", four_fibres),
     read("reading: leading zeros", |text| {
         table::read(&without_leading_zeros(text))
     }),
@@ -835,17 +856,76 @@ fn d_zero(table: &Table) -> Plan {
 
 fn z_above(table: &Table) -> Plan {
     let mut plan = rules::plan(table);
-    plan.size = rules::size(plan.peak + 1);
+    plan.size = rules::size(rules::least_size(table, plan.peak) + 1);
     plan
 }
 
 fn z_largest(table: &Table) -> Plan {
     let mut plan = rules::plan(table);
-    plan.size = rules::size(plan.peak.min(768));
+    plan.size = rules::size(rules::least_size(table, plan.peak).min(768));
     plan
 }
 
+fn z_once(table: &Table) -> Plan {
+    let mut plan = rules::plan(table);
+    plan.size = rules::size(plan.peak);
+    plan
+}
+
+fn z_twice(table: &Table) -> Plan {
+    let mut plan = rules::plan(table);
+    plan.size = rules::size(2 * plan.peak);
+    plan
+}
+
+fn four_fibres(mut table: Table) -> Table {
+    table.fibres = 4;
+    table
+}
+
 // Faults of reading.
+
+/// The two numbers of the R line, if it has its shape.
+fn ring_of(text: &[u8]) -> Option<Vec<i64>> {
+    table::numbers(table::lines(text).first()?, b"R", 2)
+}
+
+fn twenty_before_3(text: &[u8]) -> Result<Table, Refusal> {
+    let off = ring_of(text).is_some_and(|ring| !table::known_fibres(ring[1]));
+    table::read(text).map_err(|refusal| match refusal.reason {
+        3 if off => Refusal {
+            reason: 20,
+            line: 1,
+        },
+        _ => refusal,
+    })
+}
+
+/// The text with four fibres in the place of another number.
+fn with_four(text: &[u8]) -> Vec<u8> {
+    let rest = text.split_inclusive(|byte| *byte == b'\n').skip(1);
+    match ring_of(text) {
+        Some(ring) if !table::known_fibres(ring[1]) => {
+            let first = format!("R\t{}\t4\n", ring[0]).into_bytes();
+            [first, rest.flatten().copied().collect()].concat()
+        }
+        _ => text.to_vec(),
+    }
+}
+
+fn twenty_never(text: &[u8]) -> Result<Table, Refusal> {
+    table::read_length(text)?;
+    table::read(&with_four(text))
+}
+
+fn twenty_last(text: &[u8]) -> Result<Table, Refusal> {
+    twenty_never(text)?;
+    table::read(text)
+}
+
+fn old_ring(text: &[u8]) -> Result<Table, Refusal> {
+    table::read(&with_fibres(text))
+}
 
 fn ring_32(text: &[u8]) -> Result<Table, Refusal> {
     match table::read(text) {
@@ -855,8 +935,8 @@ fn ring_32(text: &[u8]) -> Result<Table, Refusal> {
 }
 
 fn ring_33(text: &[u8]) -> Result<Table, Refusal> {
-    match text.strip_prefix(b"R\t33\n") {
-        Some(rest) => table::read(&[b"R\t32\n", rest].concat()),
+    match text.strip_prefix(b"R\t33\t4\n") {
+        Some(rest) => table::read(&[b"R\t32\t4\n", rest].concat()),
         None => table::read(text),
     }
 }
@@ -881,7 +961,7 @@ fn doubled(text: &[u8]) -> Result<Table, Refusal> {
 fn shape_first(text: &[u8]) -> Result<Table, Refusal> {
     let lines = text.split_inclusive(|byte| *byte == b'\n');
     for (at, line) in lines.enumerate().skip(1) {
-        let alone = table::read(&[b"R\t32\n", line].concat());
+        let alone = table::read(&[b"R\t32\t4\n", line].concat());
         if text.len() <= 32_768 && alone.is_err_and(|refusal| refusal.reason == 2) {
             return Err(Refusal {
                 reason: 2,

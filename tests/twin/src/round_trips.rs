@@ -30,7 +30,7 @@ fn written(kit: Kit, call: Call, text: &[u8]) -> Result<Vec<u8>, String> {
 /// written afresh as it is where it is a table.
 fn there_and_back(kit: Kit, text: &[u8], there: Call, back: Call) -> Outcome {
     let between = written(kit, there, text)?;
-    if there == Call::ReadMatrix && written(kit, Call::Rewrite, &between)? != between {
+    if matches!(there, Call::ReadMatrix(_)) && written(kit, Call::Rewrite, &between)? != between {
         return Err(format!("another table:\n{}", shown(&between, 40)));
     }
     if written(kit, back, &between)? != text {
@@ -54,12 +54,9 @@ fn table(rng: &mut Rng, case: u64) -> Table {
 pub fn of_tables(kit: Kit, seed: u64) -> Outcome {
     for case in 0..CASES {
         let table = table(&mut Rng::for_case(seed, 2_000, case), case);
-        there_and_back(
-            kit,
-            &table_text(&table),
-            Call::WriteMatrix,
-            Call::ReadMatrix,
-        )?;
+        // Read with the table's own number (02, K3).
+        let read = Call::ReadMatrix(table.fibres as u32);
+        there_and_back(kit, &table_text(&table), Call::WriteMatrix, read)?;
     }
     Ok(())
 }
@@ -68,7 +65,8 @@ pub fn of_matrices(kit: Kit, seed: u64) -> Outcome {
     for case in 0..CASES {
         let table = table(&mut Rng::for_case(seed, 2_001, case), case);
         let text = matrix_text(&matrices::square(&table));
-        there_and_back(kit, &text, Call::ReadMatrix, Call::WriteMatrix)?;
+        let read = Call::ReadMatrix(table.fibres as u32);
+        there_and_back(kit, &text, read, Call::WriteMatrix)?;
     }
     Ok(())
 }

@@ -236,11 +236,24 @@ pub fn unsplit_load(rows: &[Row], ways: &[Way], link: i64) -> i64 {
     sum
 }
 
-/// The size is the smallest that is at least the unsplit peak, 0 if none is.
-pub fn size(peak: i64) -> i64 {
+/// The smallest size that is at least so much, 0 if none is.
+pub fn size(least: i64) -> i64 {
     let sizes = [3, 12, 48, 192, 768];
-    let fitting = sizes.into_iter().filter(|size| *size >= peak);
+    let fitting = sizes.into_iter().filter(|size| *size >= least);
     fitting.min().unwrap_or(0)
+}
+
+/// What the size has to be at least: with 4 fibres the unsplit peak, with 2
+/// twice the unsplit peak (02, K3).
+pub fn least_size(table: &Table, peak: i64) -> i64 {
+    if table.fibres == 2 {
+        return 2 * peak;
+    }
+    peak
+}
+
+pub fn line_size(table: &Table, peak: i64) -> i64 {
+    size(least_size(table, peak))
 }
 
 /// A peak is the largest load.
@@ -262,7 +275,7 @@ pub fn figures(table: &Table, cut: Cut, sent: Vec<Sent>, ways: Vec<Way>) -> Plan
         split,
         unsplit,
         peak,
-        size: size(peak),
+        size: line_size(table, peak),
     }
 }
 

@@ -51,8 +51,8 @@ fn cut(plan: &Plan) -> (i64, i64, i64) {
 
 /// The square: the whole output, M = 2, bound 4 <= 2 + 3.
 pub fn square() -> Outcome {
-    let text = "R\t4\nD\t1\t3\t1\nD\t2\t4\t1\n";
-    let wanted = "R|4\nD|1|3|1|1|1|F\nD|2|4|1|1|1|B\nC|1|3|2\nL|1|2|2\nL|2|2|1\nL|3|2|0\n\
+    let text = "R\t4\t4\nD\t1\t3\t1\nD\t2\t4\t1\n";
+    let wanted = "R|4|4\nD|1|3|1|1|1|F\nD|2|4|1|1|1|B\nC|1|3|2\nL|1|2|2\nL|2|2|1\nL|3|2|0\n\
                   L|4|2|1\nZ|2|3\n";
     let answer = twin::answer(Call::Route, text.as_bytes());
     let got = answer.map(|granted| String::from_utf8_lossy(&granted.text).replace('\t', "|"));
@@ -62,7 +62,7 @@ pub fn square() -> Outcome {
 
 /// Document 002's ring.
 pub fn document_002() -> Outcome {
-    let table = table("R|5\nD|1|2|2\nD|1|4|5\nD|2|3|9\nD|2|4|11\nD|3|4|4\nD|3|5|3\n")?;
+    let table = table("R|5|4\nD|1|2|2\nD|1|4|5\nD|2|3|9\nD|2|4|11\nD|3|4|4\nD|3|5|3\n")?;
     let plan = rules::plan(&table);
     same("cut", cut(&plan), (2, 4, 28))?;
     let sent = splits(&rules::rule_b(&table, 28));
@@ -79,7 +79,7 @@ pub fn document_002() -> Outcome {
 
 /// Document 003's figure 4.1.
 pub fn figure_4_1() -> Outcome {
-    let table = table("R|8\nD|1|4|1\nD|2|3|1\nD|5|8|2\nD|6|7|2\n")?;
+    let table = table("R|8|4\nD|1|4|1\nD|2|3|1\nD|5|8|2\nD|6|7|2\n")?;
     let plan = rules::plan(&table);
     same("cut", cut(&plan), (2, 6, 6))?;
     let split: Vec<bool> = plan.sent.iter().map(rules::is_split).collect();
@@ -93,7 +93,7 @@ pub fn figure_4_1() -> Outcome {
 
 /// n = 2 with no rows, 5, 768 and 769; n = 4, 1-2 of 1.
 pub fn small_rings() -> Outcome {
-    let plan = rules::plan(&table("R|2\n")?);
+    let plan = rules::plan(&table("R|2|4\n")?);
     same("no rows", cut(&plan), (1, 2, 0))?;
     same(
         "no rows",
@@ -101,7 +101,7 @@ pub fn small_rings() -> Outcome {
         (vec![0, 0], vec![0, 0]),
     )?;
     same("no rows", (plan.peak, plan.size), (0, 3))?;
-    let plan = rules::plan(&table("R|2\nD|1|2|5\n")?);
+    let plan = rules::plan(&table("R|2|4\nD|1|2|5\n")?);
     same("1-2 of 5", splits(&plan.sent), vec![(5, 5)])?;
     same("1-2 of 5", letters(&plan.ways).as_str(), "F")?;
     same(
@@ -110,9 +110,9 @@ pub fn small_rings() -> Outcome {
         (vec![5, 5], vec![5, 0]),
     )?;
     same("1-2 of 5", plan.size, 12)?;
-    same("768", rules::plan(&table("R|2\nD|1|2|768\n")?).size, 768)?;
-    same("769", rules::plan(&table("R|2\nD|1|2|769\n")?).size, 0)?;
-    let plan = rules::plan(&table("R|4\nD|1|2|1\n")?);
+    same("768", rules::plan(&table("R|2|4\nD|1|2|768\n")?).size, 768)?;
+    same("769", rules::plan(&table("R|2|4\nD|1|2|769\n")?).size, 0)?;
+    let plan = rules::plan(&table("R|4|4\nD|1|2|1\n")?);
     same("1-2 of 1", splits(&plan.sent), vec![(1, 1)])?;
     same("1-2 of 1", letters(&plan.ways).as_str(), "F")?;
     same("1-2 of 1", cut(&plan), (1, 2, 1))?;
@@ -124,13 +124,13 @@ pub fn small_rings() -> Outcome {
 pub fn refusals() -> Outcome {
     let wanted = [
         ("", 2, 1),
-        ("R|1\n", 3, 1),
-        ("R|33\n", 3, 1),
-        ("R|32\n", 0, 0),
-        ("R|4\nD|1|2|9999\n", 0, 0),
-        ("R|4\nD|1|2|10000\n", 7, 2),
-        ("R|4\nD|5|2|10000\n", 4, 2),
-        ("R|4\nD|1|2|0\n", 15, 0),
+        ("R|1|4\n", 3, 1),
+        ("R|33|4\n", 3, 1),
+        ("R|32|4\n", 0, 0),
+        ("R|4|4\nD|1|2|9999\n", 0, 0),
+        ("R|4|4\nD|1|2|10000\n", 7, 2),
+        ("R|4|4\nD|5|2|10000\n", 4, 2),
+        ("R|4|4\nD|1|2|0\n", 15, 0),
     ];
     for (text, reason, line) in wanted {
         let answer = twin::answer(Call::Route, text.replace('|', "\t").as_bytes());
@@ -182,7 +182,7 @@ pub fn place(refusal: Refusal) -> (u32, u32) {
 /// The rows of a ring of 3, each with the same end.
 fn text_of(rows: &str, end: &str) -> Vec<u8> {
     let rows = rows.replace(' ', &format!("{end}\nD|"));
-    format!("R|3\nD|{rows}{end}\n")
+    format!("R|3|4\nD|{rows}{end}\n")
         .replace('|', "\t")
         .into_bytes()
 }
@@ -220,7 +220,7 @@ pub fn circuits() -> Outcome {
         ("D|1|2|5\nD|1|2|3\n", vec![(8, 2), (0, 6)], "FB"),
     ];
     for (rows, sent, ways) in routed {
-        let table = table(&format!("R|2\n{rows}"))?;
+        let table = table(&format!("R|2|4\n{rows}"))?;
         let plan = rules::plan(&table);
         same(
             rows,
@@ -230,7 +230,7 @@ pub fn circuits() -> Outcome {
         theorems(&table)?;
     }
     // No table has rule B split both, so rule C is given them here.
-    let rows = table("R|3\nD|1|3|3\nD|1|3|2\n")?.rows;
+    let rows = table("R|3|4\nD|1|3|3\nD|1|3|2\n")?.rows;
     let mut sent = [(2, 4), (3, 1)].map(|(front, back)| Sent { front, back });
     rules::rule_c(&rows, &mut sent);
     same(

@@ -17,22 +17,22 @@ fn line(text: &mut String, letter: &str, numbers: &[i64], last: &str) {
     text.push('\n');
 }
 
-/// A table is `R n`, then `D i j amount` lines.
+/// A table is `R n fibres`, then `D i j amount` lines.
 pub fn table_text(table: &Table) -> Vec<u8> {
     let mut text = String::new();
-    line(&mut text, "R", &[table.n], "");
+    line(&mut text, "R", &[table.n, table.fibres], "");
     for row in &table.rows {
         line(&mut text, "D", &[row.i, row.j, row.d], "");
     }
     text.into_bytes()
 }
 
-/// A sheet is `R n`; `D i j amount front back F-or-B` lines; `C g h across`;
+/// A sheet is `R n fibres`; `D i j amount front back F-or-B` lines; `C g h across`;
 /// `L link split-load unsplit-load` for links 1..n in order; `Z unsplit-peak
 /// size`.
 pub fn sheet_text(table: &Table, plan: &Plan) -> Vec<u8> {
     let mut text = String::new();
-    line(&mut text, "R", &[table.n], "");
+    line(&mut text, "R", &[table.n, table.fibres], "");
     for (at, row) in table.rows.iter().enumerate() {
         let sent = plan.sent[at];
         let way = match plan.ways[at] {

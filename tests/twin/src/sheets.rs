@@ -54,35 +54,35 @@ fn of_plan(table: &Table, plan: &Plan, trials: Vec<(Call, Lend)>) -> Option<Case
 /// 02's K1: two circuits whole, both split, split behind a whole one and behind
 /// a row that crosses them; and a row below them.
 pub const SHEETS: [&str; 25] = [
-    "R|4\nD|1|3|1|1|1|F\nD|2|4|1|1|1|B\nC|1|3|2\nL|1|2|2\nL|2|2|1\nL|3|2|0\nL|4|2|1\nZ|2|3\n",
-    "R|2\nC|1|2|0\nL|1|0|0\nL|2|0|0\nZ|0|3\n",
-    "R|2\nD|1|2|5|5|5|F\nC|1|2|5\nL|1|5|5\nL|2|5|0\nZ|5|12\n",
-    "R|4\nD|1|2|1|1|1|F\nC|1|2|1\nL|1|1|1\nL|2|1|0\nL|3|1|0\nL|4|1|0\nZ|1|3\n",
-    "R|5\nD|1|2|2|4|0|F\nD|1|4|5|0|10|B\nD|2|3|9|18|0|F\nD|2|4|11|10|12|B\nD|3|4|4|8|0|F\n\
+    "R|4|4\nD|1|3|1|1|1|F\nD|2|4|1|1|1|B\nC|1|3|2\nL|1|2|2\nL|2|2|1\nL|3|2|0\nL|4|2|1\nZ|2|3\n",
+    "R|2|4\nC|1|2|0\nL|1|0|0\nL|2|0|0\nZ|0|3\n",
+    "R|2|4\nD|1|2|5|5|5|F\nC|1|2|5\nL|1|5|5\nL|2|5|0\nZ|5|12\n",
+    "R|4|4\nD|1|2|1|1|1|F\nC|1|2|1\nL|1|1|1\nL|2|1|0\nL|3|1|0\nL|4|1|0\nZ|1|3\n",
+    "R|5|4\nD|1|2|2|4|0|F\nD|1|4|5|0|10|B\nD|2|3|9|18|0|F\nD|2|4|11|10|12|B\nD|3|4|4|8|0|F\n\
      D|3|5|3|6|0|F\nC|2|4|28\nL|1|16|13\nL|2|28|9\nL|3|24|7\nL|4|28|19\nL|5|22|16\nZ|19|48\n",
-    "R|8\nD|1|4|1|2|0|F\nD|2|3|1|2|0|F\nD|5|8|2|4|0|F\nD|6|7|2|2|2|F\nC|2|6|6\nL|1|4|1\n\
+    "R|8|4\nD|1|4|1|2|0|F\nD|2|3|1|2|0|F\nD|5|8|2|4|0|F\nD|6|7|2|2|2|F\nC|2|6|6\nL|1|4|1\n\
      L|2|6|2\nL|3|4|1\nL|4|2|0\nL|5|6|2\nL|6|6|4\nL|7|6|2\nL|8|2|0\nZ|4|12\n",
-    "R|2\nD|1|2|768|768|768|F\nC|1|2|768\nL|1|768|768\nL|2|768|0\nZ|768|768\n",
-    "R|2\nD|1|2|769|769|769|F\nC|1|2|769\nL|1|769|769\nL|2|769|0\nZ|769|0\n",
-    "R|4\nD|1|2|1|0|2|B\nC|1|2|1\nL|1|0|0\nL|2|2|1\nL|3|2|1\nL|4|2|1\nZ|1|3\n",
-    "R|8\nD|1|5|1|1|1|F\nD|2|6|1|1|1|F\nD|3|7|1|1|1|F\nD|4|8|1|1|1|F\nC|4|8|4\nL|1|4|1\n\
+    "R|2|4\nD|1|2|768|768|768|F\nC|1|2|768\nL|1|768|768\nL|2|768|0\nZ|768|768\n",
+    "R|2|4\nD|1|2|769|769|769|F\nC|1|2|769\nL|1|769|769\nL|2|769|0\nZ|769|0\n",
+    "R|4|4\nD|1|2|1|0|2|B\nC|1|2|1\nL|1|0|0\nL|2|2|1\nL|3|2|1\nL|4|2|1\nZ|1|3\n",
+    "R|8|4\nD|1|5|1|1|1|F\nD|2|6|1|1|1|F\nD|3|7|1|1|1|F\nD|4|8|1|1|1|F\nC|4|8|4\nL|1|4|1\n\
      L|2|4|2\nL|3|4|3\nL|4|4|4\nL|5|4|3\nL|6|4|2\nL|7|4|1\nL|8|4|0\nZ|4|12\n",
-    "R|2\nD|1|2|0|0|0|F\nC|1|2|0\nL|1|0|0\nL|2|0|0\nZ|0|3\n",
-    "R|2\nD|1|2|0|0|0|B\nC|1|2|0\nL|1|0|0\nL|2|0|0\nZ|0|3\n",
-    "R|1\nC|1|1|0\nL|1|0|0\nZ|0|3\n",
-    "R|33\nC|1|2|0\nL|1|0|0\nL|2|0|0\nZ|0|3\n",
-    "R|2\nD|1|2|9999|9999|9999|F\nC|1|2|9999\nL|1|9999|9999\nL|2|9999|0\nZ|9999|0\n",
-    "R|2\nD|1|2|10000|10000|10000|F\nC|1|2|10000\nL|1|10000|10000\nL|2|10000|0\nZ|10000|0\n",
-    "R|4\nD|5|2|10000|0|0|B\nC|1|2|0\nL|1|0|0\n",
+    "R|2|4\nD|1|2|0|0|0|F\nC|1|2|0\nL|1|0|0\nL|2|0|0\nZ|0|3\n",
+    "R|2|4\nD|1|2|0|0|0|B\nC|1|2|0\nL|1|0|0\nL|2|0|0\nZ|0|3\n",
+    "R|1|4\nC|1|1|0\nL|1|0|0\nZ|0|3\n",
+    "R|33|4\nC|1|2|0\nL|1|0|0\nL|2|0|0\nZ|0|3\n",
+    "R|2|4\nD|1|2|9999|9999|9999|F\nC|1|2|9999\nL|1|9999|9999\nL|2|9999|0\nZ|9999|0\n",
+    "R|2|4\nD|1|2|10000|10000|10000|F\nC|1|2|10000\nL|1|10000|10000\nL|2|10000|0\nZ|10000|0\n",
+    "R|4|4\nD|5|2|10000|0|0|B\nC|1|2|0\nL|1|0|0\n",
     "",
-    "R|4\n",
-    "R|3\nD|1|2|1|1|1|F\nD|1|3|1|1|1|B\nC|1|3|2\nL|1|2|1\nL|2|2|0\nL|3|2|1\nZ|1|3\n",
-    "R|2\nD|1|2|1|2|0|F\nD|1|2|1|0|2|B\nC|1|2|2\nL|1|2|1\nL|2|2|1\nZ|1|3\n",
-    "R|2\nD|1|2|1|1|1|F\nD|1|2|1|1|1|B\nC|1|2|2\nL|1|2|1\nL|2|2|1\nZ|1|3\n",
-    "R|2\nD|1|2|1|2|0|F\nD|1|2|2|1|3|B\nD|1|2|1|1|1|F\nC|1|2|4\nL|1|4|2\nL|2|4|2\nZ|2|3\n",
-    "R|4\nD|1|3|1|1|1|F\nD|2|4|1|1|1|F\nD|2|4|1|1|1|B\nC|1|3|3\nL|1|3|2\nL|2|3|2\nL|3|3|1\n\
+    "R|4|4\n",
+    "R|3|4\nD|1|2|1|1|1|F\nD|1|3|1|1|1|B\nC|1|3|2\nL|1|2|1\nL|2|2|0\nL|3|2|1\nZ|1|3\n",
+    "R|2|4\nD|1|2|1|2|0|F\nD|1|2|1|0|2|B\nC|1|2|2\nL|1|2|1\nL|2|2|1\nZ|1|3\n",
+    "R|2|4\nD|1|2|1|1|1|F\nD|1|2|1|1|1|B\nC|1|2|2\nL|1|2|1\nL|2|2|1\nZ|1|3\n",
+    "R|2|4\nD|1|2|1|2|0|F\nD|1|2|2|1|3|B\nD|1|2|1|1|1|F\nC|1|2|4\nL|1|4|2\nL|2|4|2\nZ|2|3\n",
+    "R|4|4\nD|1|3|1|1|1|F\nD|2|4|1|1|1|F\nD|2|4|1|1|1|B\nC|1|3|3\nL|1|3|2\nL|2|3|2\nL|3|3|1\n\
      L|4|3|1\nZ|2|3\n",
-    "R|3\nD|1|3|1|2|0|F\nD|1|3|1|0|2|B\nD|1|2|0|0|0|F\nC|1|3|2\nL|1|2|1\nL|2|2|1\nL|3|2|1\nZ|1|3\n",
+    "R|3|4\nD|1|3|1|2|0|F\nD|1|3|1|0|2|B\nD|1|2|0|0|0|F\nC|1|3|2\nL|1|2|1\nL|2|2|1\nL|3|2|1\nZ|1|3\n",
 ];
 
 pub fn sheets_of_01(_: &mut Rng, case: u64) -> Option<Case> {
@@ -114,7 +114,8 @@ fn small_of_3(code: usize) -> Option<Case> {
             ways.push(if choice < 3 { Way::F } else { Way::B });
         }
     }
-    let table = Table { n: 3, rows };
+    let (n, fibres) = (3, if code % 2 == 0 { 2 } else { 4 });
+    let table = Table { n, fibres, rows };
     let plan = rules::figures(&table, foreign::cuts(&table)[cut], sent, ways);
     let trials = vec![(Call::Check, NONE), (Call::Parallel, NONE)];
     of_plan(&table, &plan, trials)
@@ -134,7 +135,8 @@ fn small_of_4(mut code: usize) -> Option<Case> {
     if code > 0 {
         return None;
     }
-    let table = Table { n: 4, rows };
+    let (n, fibres) = (4, 4);
+    let table = Table { n, fibres, rows };
     let ways = rules::rule_d(&table.rows, &sent);
     let cuts = foreign::cuts(&table).into_iter();
     let cut = cuts.max_by_key(|cut| cut.across).expect("a cut");
@@ -158,7 +160,8 @@ pub fn about_496(_: &mut Rng, case: u64) -> Option<Case> {
     let end = gen::sequence(&ends, 2, case)?.concat();
     let mut rows = vec![Row { i: 1, j: 2, d: 1 }; 200];
     rows.resize(496, Row { i: 2, j: 3, d: 1 });
-    let table = Table { n: 3, rows };
+    let (n, fibres) = (3, 4);
+    let table = Table { n, fibres, rows };
     let text = sheet_text(&table, &rules::plan(&table));
     let mut lines = gen::lines_of(&text);
     lines[496] = end.replace('|', "\t").into_bytes();

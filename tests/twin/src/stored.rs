@@ -35,7 +35,8 @@ fn next_case(cases: &[u8]) -> Option<(Call, &[u8], usize, &[u8])> {
         b'C' => Call::Check,
         b'S' => Call::RewriteSheet,
         b'P' => Call::Parallel,
-        b'M' => Call::ReadMatrix,
+        // The number of fibres that the reader is told.
+        digit @ b'0'..=b'9' => Call::ReadMatrix(u32::from(digit - b'0')),
         b'W' => Call::WriteMatrix,
         _ => return None,
     };

@@ -9,10 +9,11 @@ pub struct Row {
     pub d: i64,
 }
 
-/// Nodes 1..n and the rows in table order.
+/// Nodes 1..n, the fibres (02, K3) and the rows in table order.
 #[derive(Clone, PartialEq, Eq, Debug)]
 pub struct Table {
     pub n: i64,
+    pub fibres: i64,
     pub rows: Vec<Row>,
 }
 
@@ -71,10 +72,9 @@ pub fn read_judging(text: &[u8], reasons: &[RowReason]) -> Result<Table, Refusal
     let Some(first) = lines.first() else {
         return refuse(2, 1);
     };
-    let mut table = Table {
-        n: read_ring(first)?,
-        rows: Vec::new(),
-    };
+    let (n, fibres) = read_ring(first)?;
+    let rows = Vec::new();
+    let mut table = Table { n, fibres, rows };
     for (at, line) in lines.iter().enumerate().skip(1) {
         let row = read_row(line, at as u32 + 1, &table, reasons)?;
         table.rows.push(row);
@@ -130,16 +130,24 @@ pub fn number(field: &[u8]) -> Option<i64> {
     Some(value)
 }
 
-/// `R n`: in the line the rising reason number, 2 then 3.
-pub fn read_ring(line: &Line) -> Result<i64, Refusal> {
-    let Some(numbers) = numbers(line, b"R", 1) else {
+/// `R n fibres`: in the line 2, then 3, then 20.
+pub fn read_ring(line: &Line) -> Result<(i64, i64), Refusal> {
+    let Some(numbers) = numbers(line, b"R", 2) else {
         return refuse(2, 1);
     };
-    let n = numbers[0];
+    let (n, fibres) = (numbers[0], numbers[1]);
     if !(2..=32).contains(&n) {
         return refuse(3, 1);
     }
-    Ok(n)
+    if !known_fibres(fibres) {
+        return refuse(20, 1);
+    }
+    Ok((n, fibres))
+}
+
+/// 20 is given where this is not so.
+pub fn known_fibres(fibres: i64) -> bool {
+    fibres == 2 || fibres == 4
 }
 
 /// `D i j amount`: in the line first 2, then the row's own reasons.

@@ -50,3 +50,14 @@ pub fn within_limit(text: &[u8]) -> Vec<u8> {
     let end = text.len() - usize::from(text.len() == 32_769);
     text[..end].to_vec()
 }
+
+/// An R line with one number, as it was before the fibres, given four of them. A
+/// text too long stays as it is.
+pub fn with_fibres(text: &[u8]) -> Vec<u8> {
+    let first = text.split(|byte| *byte == b'\n').next().unwrap_or(b"");
+    let one = first.iter().filter(|byte| **byte == b'\t').count() == 1;
+    if text.len() > 32_768 || !one || first.len() == text.len() {
+        return text.to_vec();
+    }
+    [first, b"\t4", &text[first.len()..]].concat()
+}

@@ -19,24 +19,30 @@ pub enum Call {
     RewriteSheet,
     /// The first parallel pair of split rows of an accepted sheet.
     Parallel,
-    /// Matrix text in, table text out.
-    ReadMatrix,
+    /// Matrix text in, table text out, with the number of fibres that is told.
+    ReadMatrix(u32),
     /// Table text in, matrix text out.
     WriteMatrix,
 }
 
-/// All calls, each at the place of its number.
+/// All calls, each at its place.
 pub const CALLS: [Call; 7] = [
     Call::Route,
     Call::Rewrite,
     Call::Check,
     Call::RewriteSheet,
     Call::Parallel,
-    Call::ReadMatrix,
+    Call::ReadMatrix(4),
     Call::WriteMatrix,
 ];
 
 impl Call {
+    /// Where the call stands among all calls, whatever it is told.
+    pub fn place(self) -> usize {
+        let same = |call: &Call| std::mem::discriminant(call) == std::mem::discriminant(&self);
+        CALLS.iter().position(same).expect("a call")
+    }
+
     /// Whether a buffer is lent.
     pub fn writes(self) -> bool {
         !matches!(self, Call::Check | Call::Parallel)
@@ -104,8 +110,8 @@ pub fn answer(call: Call, text: &[u8]) -> Answer {
             Ok(written(sheet::sheet_text(&sheet.table, &sheet.plan)))
         }
         Call::Parallel => Ok(found(check::first_parallel(&check::read(text)?))),
-        Call::ReadMatrix => {
-            let table = matrix::table_of(&matrix::read(text)?);
+        Call::ReadMatrix(fibres) => {
+            let table = matrix::table_of(&matrix::read_told(text, fibres)?, fibres);
             Ok(written(sheet::table_text(&table)))
         }
         Call::WriteMatrix => {
