@@ -8,3 +8,4 @@ pub mod Calls
 pub mod TableCalls
 pub mod SheetCalls
 pub mod MatrixCalls
+pub mod WorkTypes

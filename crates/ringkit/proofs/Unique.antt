@@ -6,6 +6,14 @@ use Rattle.ring.specs.Limits.{desk}
 use Rattle.text.proofs.Unique.{same-result}
 use Rattle.matrix.specs.Room.{tableRoom, matrixRoom}
 use Rattle.sheet.specs.Range.{longest}
+use Rattle.work.specs.Changes.{rowIn, startedIn, addedIn, changedIn, removedIn}
+use Rattle.work.specs.Text.{WritesTable}
+use Rattle.work.specs.declared.Work.{Work}
+use Rattle.work.specs.declared.held.WorkReply.{WorkReply}
+use Rattle.work.specs.declared.held.Changed.{Changed}
+use Rattle.work.specs.declared.place.RowReply.{RowReply}
+use Rattle.work.specs.declared.write.TextReply.{TextReply}
+use Rattle.work.proofs.Unique.{written-unique}
 use Rattle.ringkit.specs.Outcome.{Outcome, Fills}
 use Rattle.ringkit.specs.TableCalls.{tableAfresh, tableRouted}
 use Rattle.ringkit.specs.SheetCalls.{sheetChecked, sheetParallel, sheetAfresh}
@@ -45,3 +53,30 @@ read-matrix-unique fibres t = fills-unique (matrixRead fibres t)
 
 pub write-matrix-unique : (t old new buf : List ℕ) (r q : Reply) → Fills (matrixWritten t) old new r → Fills (matrixWritten t) old buf q → (r ≡ q) × (new ≡ buf)
 write-matrix-unique t = fills-unique (matrixWritten t)
+
+-- ---- the working table, for every value of the struct
+
+-- what a call that alters it answers, and what it leaves
+abbrev Is : Changed → WorkReply → Work → Type 0
+Is c r x = (r ≡ c .reply) × (x ≡ c .work)
+
+alters-unique : (c : Changed) (r q : WorkReply) (x y : Work) → Is c r x → Is c q y → (r ≡ q) × (x ≡ y)
+alters-unique c r q x y a b = (same-result (a .0) (b .0), same-result (a .1) (b .1))
+
+pub work-start-unique : (w : Work) (n fibres : ℕ) (r q : WorkReply) (x y : Work) → Is (startedIn w n fibres) r x → Is (startedIn w n fibres) q y → (r ≡ q) × (x ≡ y)
+work-start-unique w n fibres = alters-unique (startedIn w n fibres)
+
+pub work-add-unique : (w : Work) (i j d : ℕ) (r q : WorkReply) (x y : Work) → Is (addedIn w i j d) r x → Is (addedIn w i j d) q y → (r ≡ q) × (x ≡ y)
+work-add-unique w i j d = alters-unique (addedIn w i j d)
+
+pub work-change-unique : (w : Work) (p i j d : ℕ) (r q : WorkReply) (x y : Work) → Is (changedIn w p i j d) r x → Is (changedIn w p i j d) q y → (r ≡ q) × (x ≡ y)
+work-change-unique w p i j d = alters-unique (changedIn w p i j d)
+
+pub work-remove-unique : (w : Work) (p : ℕ) (r q : WorkReply) (x y : Work) → Is (removedIn w p) r x → Is (removedIn w p) q y → (r ≡ q) × (x ≡ y)
+work-remove-unique w p = alters-unique (removedIn w p)
+
+pub work-row-unique : (w : Work) (p : ℕ) (r q : RowReply) → r ≡ rowIn w p → q ≡ rowIn w p → r ≡ q
+work-row-unique w p r q = same-result
+
+pub work-write-unique : (w : Work) (old new buf : List ℕ) (r q : TextReply) → WritesTable w old new r → WritesTable w old buf q → (r ≡ q) × (new ≡ buf)
+work-write-unique w old new buf r q a b = written-unique _ old new buf r q a b

@@ -1,4 +1,6 @@
 // The public calls, as C sees them: byte slices and numbers in, a reply by value out. No call has a `requires`.
+mod working; // the calls of the working table
+
 use checker::Answer as Judged;
 use checker::Pair;
 use matrix::Sums;
@@ -7,6 +9,12 @@ use ring::ROWS;
 use sheet::Figures;
 use table::Answer;
 use table::Reason;
+pub use working::ringkit_work_add;
+pub use working::ringkit_work_change;
+pub use working::ringkit_work_remove;
+pub use working::ringkit_work_row;
+pub use working::ringkit_work_start;
+pub use working::ringkit_work_write;
 ghost use mathlib.Core.Path.{_≡_};
 ghost use Prim.Native.Nat.{_≤_};
 ghost use Rattle.ring.specs.Limits.{desk};

@@ -4,12 +4,12 @@ use mir.Syntax.{w32}
 use Rattle.walk.proofs.Data.{number}
 use Rattle.walk.proofs.Thin as thin
 use Rattle.work.specs.Changes.{startedIn}
-use Rattle.work_calls.proofs.WorkTypes.{Work, Reply, Changed, Changes}
+use Rattle.ringkit.proofs.WorkTypes.{Work, Reply, Changed, Changes}
 use Rattle.work.proofs.started.Symbol as g
 use Rattle.work.proofs.started.Met as g-thm
-use Rattle.work_calls.proofs.ringkit_work_start.Key as key
-use Rattle.work_calls.proofs.ringkit_work_start.Statement as stated
-use Rattle.work_calls.proofs.ringkit_work_start.Code as code
+use Rattle.ringkit.proofs.working.ringkit_work_start.Key as key
+use Rattle.ringkit.proofs.working.ringkit_work_start.Statement as stated
+use Rattle.ringkit.proofs.working.ringkit_work_start.Code as code
 
 pub ringkit-work-start-spec : {M : Type 1} → stated.statement M
 unfolding code.routine

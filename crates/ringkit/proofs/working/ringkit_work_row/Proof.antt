@@ -4,12 +4,12 @@ use mir.Syntax.{w32}
 use Rattle.walk.proofs.Data.{number}
 use Rattle.walk.proofs.ThinRead as thin
 use Rattle.work.specs.Changes.{rowIn}
-use Rattle.work_calls.proofs.WorkTypes.{Work, RowReply}
+use Rattle.ringkit.proofs.WorkTypes.{Work, RowReply}
 use Rattle.work.proofs.row_of.Symbol as g
 use Rattle.work.proofs.row_of.Met as g-thm
-use Rattle.work_calls.proofs.ringkit_work_row.Key as key
-use Rattle.work_calls.proofs.ringkit_work_row.Statement as stated
-use Rattle.work_calls.proofs.ringkit_work_row.Code as code
+use Rattle.ringkit.proofs.working.ringkit_work_row.Key as key
+use Rattle.ringkit.proofs.working.ringkit_work_row.Statement as stated
+use Rattle.ringkit.proofs.working.ringkit_work_row.Code as code
 
 pub ringkit-work-row-spec : {M : Type 1} → stated.statement M
 unfolding code.routine

@@ -1,4 +1,4 @@
-// The calls of the working table as C sees them: lent by `&mut`, and altered by functions by value. Each body has exactly the shape that a law of `walk` is about.
+// The calls of the working table: it is lent by `&mut`, and altered by functions by value. Each body has exactly the shape that a law of `walk` is about.
 use work::RowReply;
 use work::TextReply;
 use work::Work;

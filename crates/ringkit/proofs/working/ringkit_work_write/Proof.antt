@@ -3,12 +3,12 @@ use mir.Syntax.{w8}
 use Rattle.walk.proofs.Data.{number}
 use Rattle.walk.proofs.ThinWrite as thin
 use Rattle.work.specs.Text.{WritesTable}
-use Rattle.work_calls.proofs.WorkTypes.{Work, TextReply}
+use Rattle.ringkit.proofs.WorkTypes.{Work, TextReply}
 use Rattle.work.proofs.written.Symbol as g
 use Rattle.work.proofs.written.Met as g-thm
-use Rattle.work_calls.proofs.ringkit_work_write.Key as key
-use Rattle.work_calls.proofs.ringkit_work_write.Statement as stated
-use Rattle.work_calls.proofs.ringkit_work_write.Code as code
+use Rattle.ringkit.proofs.working.ringkit_work_write.Key as key
+use Rattle.ringkit.proofs.working.ringkit_work_write.Statement as stated
+use Rattle.ringkit.proofs.working.ringkit_work_write.Code as code
 
 pub ringkit-work-write-spec : {M : Type 1} → stated.statement M
 unfolding code.routine
