@@ -10,6 +10,7 @@ use table::Reason;
 ghost use mathlib.Core.Path.{_≡_};
 ghost use Prim.Native.Nat.{_≤_};
 ghost use Rattle.ring.specs.Limits.{desk};
+ghost use Rattle.ring.specs.Ring.{ringOf};
 ghost use Rattle.ring.specs.Columns.{rowsIn};
 ghost use Rattle.table.specs.Table.{writeTable};
 ghost use Rattle.matrix.specs.Matrix.{writeMatrix};
