@@ -165,7 +165,11 @@ static bool read_order(struct order *order, int count, char **words)
         }
         *place = words[k];
         if (option && wants_value(words[k])) {
-            order->value = ++k < count ? words[k] : "";
+            const char *value = ++k < count ? words[k] : "";
+            if (order->value != NULL && !is(order->value, value)) {
+                return false;
+            }
+            order->value = value;
         }
     }
     return true;

@@ -23,8 +23,8 @@ static const char *const SENTENCES[] = {
     [RINGKIT_TOO_MANY_ROWS] = "the text has more than " NUMBER(RINGKIT_MAX_ROWS) " rows",
     [RINGKIT_DIAGONAL] = "an office has a demand with itself: where line and field have the same number, the field must be 0",
     [RINGKIT_NOT_SYMMETRIC] = "a field of the line differs from its mirror: field j of line i must be equal to field i of line j",
-    [RINGKIT_FIBRES] = "the ring has neither 2 nor 4 fibres",
     [RINGKIT_SUM_TOO_MUCH] = "with this row the circuits between its two offices add up to more than " NUMBER(RINGKIT_MAX_AMOUNT),
+    [RINGKIT_FIBRES] = "the ring has neither 2 nor 4 fibres",
 };
 
 static const char *sentence_of(uint32_t reason)
