@@ -43,7 +43,7 @@ static bool lacks_fibres(struct line line)
     return line.length > 2 && line.bytes[0] == 'R' && line.bytes[1] == '\t' && k == line.length;
 }
 
-void tell_refusal(const struct text *text, uint32_t reason, uint32_t line)
+void tell_refusal(const struct text *text, uint32_t reason, uint32_t line, bool has_ring_line)
 {
     fprintf(stderr, "%s: ", text->name);
     if (line != 0) {
@@ -55,7 +55,7 @@ void tell_refusal(const struct text *text, uint32_t reason, uint32_t line)
         show_line(stderr, line_of(text, line));
         fputc('\n', stderr);
     }
-    if (reason == RINGKIT_MISSHAPEN && line == 1 && lacks_fibres(line_of(text, 1))) {
-        fputs("    The number of fibres, 2 or 4, is missing behind the number of offices.\n", stderr);
+    if (has_ring_line && reason == RINGKIT_MISSHAPEN && line == 1 && lacks_fibres(line_of(text, 1))) {
+        fputs("    The number of fibres, " NUMBER(RINGKIT_TWO_FIBRES) " or " NUMBER(RINGKIT_FOUR_FIBRES) ", is missing behind the number of offices.\n", stderr);
     }
 }
