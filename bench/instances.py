@@ -20,7 +20,8 @@ class Table(NamedTuple):
     rows: tuple
 
     def text(self):
-        lines = [("R", self.n), *(("D", *row) for row in self.rows)]
+        # the size is not looked at, so the fibres do not matter
+        lines = [("R", self.n, 4), *(("D", *row) for row in self.rows)]
         return "".join("\t".join(map(str, line)) + "\n" for line in lines)
 
 

@@ -10,6 +10,8 @@
 mod check;
 #[path = "../tests/twin/src/gen.rs"]
 mod gen;
+#[path = "../tests/twin/src/matrix.rs"]
+mod matrix;
 #[path = "../tests/twin/src/rng.rs"]
 mod rng;
 #[path = "../tests/twin/src/rules.rs"]

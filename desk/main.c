@@ -20,7 +20,7 @@ enum status { FINE = 0, REFUSED = 1, TROUBLE = 2 };
 
 static enum status refused(const struct text *text, uint32_t reason, uint32_t line)
 {
-    tell_refusal(text, reason, line);
+    tell_refusal(text, reason, line, true);
     return REFUSED;
 }
 
@@ -43,26 +43,27 @@ static enum status sheet_of(const struct text *table)
     return pass_on(table, ringkit_route, sheet, sizeof sheet);
 }
 
-static ringkit_reply read_for_two(const uint8_t *matrix, size_t length, uint8_t *table, size_t room)
+/* The table of a matrix on a ring of so many fibres. */
+static enum status table_for(const struct text *matrix, uint32_t fibres)
 {
-    return ringkit_read_matrix(matrix, length, 2, table, room);
-}
-
-static ringkit_reply read_for_four(const uint8_t *matrix, size_t length, uint8_t *table, size_t room)
-{
-    return ringkit_read_matrix(matrix, length, 4, table, room);
+    uint8_t table[RINGKIT_TABLE_BYTES];
+    ringkit_reply reply = ringkit_read_matrix(matrix->bytes, matrix->length, fibres, table, sizeof table);
+    if (reply.reason != RINGKIT_OK) {
+        tell_refusal(matrix, reply.reason, reply.line, false);
+        return REFUSED;
+    }
+    fwrite(table, 1, reply.length, stdout);
+    return FINE;
 }
 
 static enum status table_for_two(const struct text *matrix)
 {
-    uint8_t table[RINGKIT_TABLE_BYTES];
-    return pass_on(matrix, read_for_two, table, sizeof table);
+    return table_for(matrix, RINGKIT_TWO_FIBRES);
 }
 
 static enum status table_for_four(const struct text *matrix)
 {
-    uint8_t table[RINGKIT_TABLE_BYTES];
-    return pass_on(matrix, read_for_four, table, sizeof table);
+    return table_for(matrix, RINGKIT_FOUR_FIBRES);
 }
 
 static enum status matrix_of(const struct text *table)
@@ -165,7 +166,11 @@ static bool read_order(struct order *order, int count, char **words)
         }
         *place = words[k];
         if (option && wants_value(words[k])) {
-            order->value = ++k < count ? words[k] : "";
+            const char *value = ++k < count ? words[k] : "";
+            if (order->value != NULL && !is(order->value, value)) {
+                return false;
+            }
+            order->value = value;
         }
     }
     return true;

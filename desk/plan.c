@@ -135,7 +135,7 @@ static void tell_links(FILE *out, const struct plan *plan)
 
 static void tell_size(FILE *out, const struct plan *plan)
 {
-    bool two = plan->fibres == 2;
+    bool two = plan->fibres == RINGKIT_TWO_FIBRES;
     fputc('\n', out);
     if (two) {
         fprintf(out, "On a ring of two fibres half of each line is kept for protection, so the line must have room for\n");

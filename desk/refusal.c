@@ -23,8 +23,8 @@ static const char *const SENTENCES[] = {
     [RINGKIT_TOO_MANY_ROWS] = "the text has more than " NUMBER(RINGKIT_MAX_ROWS) " rows",
     [RINGKIT_DIAGONAL] = "an office has a demand with itself: where line and field have the same number, the field must be 0",
     [RINGKIT_NOT_SYMMETRIC] = "a field of the line differs from its mirror: field j of line i must be equal to field i of line j",
-    [RINGKIT_FIBRES] = "the ring has neither 2 nor 4 fibres",
     [RINGKIT_SUM_TOO_MUCH] = "with this row the circuits between its two offices add up to more than " NUMBER(RINGKIT_MAX_AMOUNT),
+    [RINGKIT_FIBRES] = "the ring has neither 2 nor 4 fibres",
 };
 
 static const char *sentence_of(uint32_t reason)
@@ -43,7 +43,7 @@ static bool lacks_fibres(struct line line)
     return line.length > 2 && line.bytes[0] == 'R' && line.bytes[1] == '\t' && k == line.length;
 }
 
-void tell_refusal(const struct text *text, uint32_t reason, uint32_t line)
+void tell_refusal(const struct text *text, uint32_t reason, uint32_t line, bool has_ring_line)
 {
     fprintf(stderr, "%s: ", text->name);
     if (line != 0) {
@@ -55,7 +55,7 @@ void tell_refusal(const struct text *text, uint32_t reason, uint32_t line)
         show_line(stderr, line_of(text, line));
         fputc('\n', stderr);
     }
-    if (reason == RINGKIT_MISSHAPEN && line == 1 && lacks_fibres(line_of(text, 1))) {
-        fputs("    The number of fibres, 2 or 4, is missing behind the number of offices.\n", stderr);
+    if (has_ring_line && reason == RINGKIT_MISSHAPEN && line == 1 && lacks_fibres(line_of(text, 1))) {
+        fputs("    The number of fibres, " NUMBER(RINGKIT_TWO_FIBRES) " or " NUMBER(RINGKIT_FOUR_FIBRES) ", is missing behind the number of offices.\n", stderr);
     }
 }

@@ -50,6 +50,8 @@ extern "C" {
 #define RINGKIT_MAX_OFFICES 32
 #define RINGKIT_MAX_ROWS 496
 #define RINGKIT_MAX_AMOUNT 9999
+#define RINGKIT_TWO_FIBRES 2
+#define RINGKIT_FOUR_FIBRES 4
 
 /* One unit of an amount, a load or a line size. */
 #define RINGKIT_UNIT "STS-1"

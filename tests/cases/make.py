@@ -8,6 +8,7 @@ import itertools
 import random
 
 import circuits
+import fibres
 import matrices
 import matrix
 import rules
@@ -253,6 +254,7 @@ def of_matrices():
 def main():
     given, due = [], []
     calls = [("T", text, min(room, ROOM)) for text, room in all_cases()] + [("R", *case) for case in to_route()] + [*of_sheets(), *of_matrices()]
+    calls += fibres.cases(lambda table: written("R", table), ROOM)
     for letter, text, room in dict.fromkeys(calls):
         given.append(b"%c%05d%05d\n" % (ord(letter), len(text), room) + text)
         due.append(letter + " %s\n" % " ".join(map(str, answer(letter, text, room))))

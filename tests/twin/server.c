@@ -1,20 +1,22 @@
 /* Makes calls of the library for a twin that cannot link it, one after the other until standard input ends. Numbers on the pipes have 8 bytes, the
- * lowest first. A request is the lengths of a call's name, of its text and of an area, where in the area the lent buffer begins and ends, and then
- * the name, the text and the area. The answer is the reply's four numbers and then text and area as the call leaves them. */
+ * lowest first. A request is the lengths of a call's name, of its text and of an area, where in the area the lent buffer begins and ends, the number
+ * that the call is told beside the text (0 where it is told none), and then the name, the text and the area. The answer is the reply's four numbers and then text and area as the call leaves them. */
 #include <stdio.h>
 #include <stdlib.h>
 #include <string.h>
 
 #include "ringkit.h"
 
-/* A call has one of three forms. */
+/* A call has one of four forms. */
 typedef ringkit_reply writing(const uint8_t *, size_t, uint8_t *, size_t);
+typedef ringkit_reply telling(const uint8_t *, size_t, uint32_t, uint8_t *, size_t);
 typedef ringkit_reply judging(const uint8_t *, size_t);
 typedef ringkit_pair_reply finding(const uint8_t *, size_t);
 
 static const struct call {
     const char *name; /* as the twin has it */
     writing *write;
+    telling *tell;
     judging *judge;
     finding *find;
 } CALLS[] = {
@@ -23,12 +25,12 @@ static const struct call {
     {.name = "Check", .judge = ringkit_check},
     {.name = "RewriteSheet", .write = ringkit_rewrite_sheet},
     {.name = "Parallel", .find = ringkit_parallel},
-    {.name = "ReadMatrix", .write = ringkit_read_matrix},
+    {.name = "ReadMatrix", .tell = ringkit_read_matrix},
     {.name = "WriteMatrix", .write = ringkit_write_matrix},
 };
 
 struct request {
-    uint64_t name_length, text_length, area_length, begin, end;
+    uint64_t name_length, text_length, area_length, begin, end, told;
 };
 
 struct answer {
@@ -65,6 +67,9 @@ static struct answer make(const struct call *call, const struct request *r, cons
 {
     if (call->write != NULL) {
         return reply(call->write(text, r->text_length, area + r->begin, r->end - r->begin));
+    }
+    if (call->tell != NULL) {
+        return reply(call->tell(text, r->text_length, (uint32_t)r->told, area + r->begin, r->end - r->begin));
     }
     return call->judge != NULL ? reply(call->judge(text, r->text_length)) : pair(call->find(text, r->text_length));
 }

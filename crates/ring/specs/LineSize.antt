@@ -5,7 +5,7 @@ use mathlib.Core.List.{List}
 use mathlib.Core.Logic.{_⊎_}
 use mathlib.Core.Path.{_≡_}
 use lib.Dec.{eqb}
-use Rattle.sonet.specs.Size.{smallestIn, Smallest, NoneFits}
+use Rattle.sonet.specs.Size.{smallestIn, Answers}
 
 -- the two numbers of fibres that a ring can have
 abbrev pub twoFibres : ℕ
@@ -29,11 +29,7 @@ lineSize sizes fibres peak = smallestIn sizes (needed fibres peak)
 
 -- ---- what it means of a rising list
 
--- the size is the smallest that is at least what the line must carry, or there is none and it is 0
-abbrev pub SizeFor : List ℕ → ℕ → ℕ → Type 0
-SizeFor sizes carried size = Smallest sizes carried size ⊎ NoneFits sizes carried size
-
 -- with 4 fibres the smallest at least the unsplit peak, with 2 the smallest at least TWICE it
 pub record SizeRule (sizes : List ℕ) (size : ℕ → ℕ → ℕ) : Type 0 where
-  pub four : (peak : ℕ) → SizeFor sizes peak (size fourFibres peak)
-  pub two : (peak : ℕ) → SizeFor sizes (2 * peak) (size twoFibres peak)
+  pub four : (peak : ℕ) → Answers sizes peak (size fourFibres peak)
+  pub two : (peak : ℕ) → Answers sizes (2 * peak) (size twoFibres peak)

@@ -202,7 +202,7 @@ module _ (t text : List ℕ) (d : SumsDue t text) where
 
   pub written-matrix-accepted : Accepted desk text
   written-matrix-accepted =
-      accepted-is desk text .0 (record { n = d .n; m = matrixOfRows (d .n) (d .rs); is = matrix-is text (d .n) (matrixOfRows (d .ring .n) (d .rs)) .1 due-matrix })
+      accepted-is desk text .0 (record { n = d .ring .n; m = matrixOfRows (d .ring .n) (d .rs); is = matrix-is text (d .ring .n) (matrixOfRows (d .ring .n) (d .rs)) .1 due-matrix })
 
   -- and no longer than `matrixRoom`
   pub written-matrix-short : length text ≤ matrixRoom desk

@@ -18,6 +18,7 @@ pub use working::ringkit_work_write;
 ghost use mathlib.Core.Path.{_≡_};
 ghost use Prim.Native.Nat.{_≤_};
 ghost use Rattle.ring.specs.Limits.{desk};
+ghost use Rattle.ring.specs.Ring.{ringOf};
 ghost use Rattle.ring.specs.Columns.{rowsIn};
 ghost use Rattle.table.specs.Table.{writeTable};
 ghost use Rattle.matrix.specs.Matrix.{writeMatrix};

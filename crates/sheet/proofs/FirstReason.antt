@@ -83,7 +83,7 @@ counts-form true s h = tt
 counts-form false s h = h
 
 module _ {P : Reason → Type 0} {v : Verdict} (judging : Bool) where
-  -- 1 to 7 and 16 always count
+  -- 1 to 7, 16 and 20 always count
   pub form-first : ((s : Reason) → P s → rankOf s < rankOf WrongSum) → First P v → First (λ s. Counts judging s × P s) v
   form-first early f = first-as (λ s p. (counts-form judging s (early s p), p)) (λ s p. p .1) f
 

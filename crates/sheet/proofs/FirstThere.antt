@@ -34,7 +34,7 @@ use Rattle.sheet.specs.Says.{State, start, rows, links, end, SentIs, Cut
 use Rattle.sheet.proofs.LineAt.{way-spelled}
 use Rattle.sheet.proofs.SheetLines.{SentRead, is-sent, no-sent, sent-read, CutRead, is-cut, no-cut, cut-read, LinkRead, is-link, no-link, link-read, LastRead, is-last, no-last, last-read}
 use Rattle.sheet.proofs.Places.{sent-spelled}
-use Rattle.sheet.proofs.FirstReason.{Holds, First, first-as, Only, only-rank, only-then, Counts, counts-form, form-first, when-first}
+use Rattle.sheet.proofs.FirstReason.{HoldsAs, First, first-as, Only, only-rank, only-then, Counts, counts-form, form-first, when-first}
 use Rattle.sheet.proofs.SheetJudged.{cut-first, link-first, last-first}
 use Rattle.sheet.proofs.SheetSaid.{said-of-ring, said-of-cut, said-of-link, said-of-last, Counted, Unfit, unfit-wrong, SaidAt, said, said-here, from-2}
 use Rattle.sheet.proofs.RowFirst.{sent-first}
@@ -71,7 +71,7 @@ module _ (limits : Limits) (judging : Bool) {t : List ℕ} {line : ℕ} where
 ring-first : (limits : Limits) (ring : Ring) → First (AgainstRing limits ring) (judgeRing limits ring)
 ring-first limits ring = record { holds = go (ring-judged limits ring); least = λ s a. ring-least (ring-judged limits ring) a }
   where
-    go : {v : Verdict} → RingJudged limits ring v → Holds (AgainstRing limits ring) v
+    go : {v : Verdict} → RingJudged limits ring v → HoldsAs (AgainstRing limits ring) v
     go (wrong-size w) = by-size w
     go (wrong-fibres l m w) = by-fibres w
     go (right-ring l m f) = tt

@@ -27,8 +27,7 @@ fn wrong_size(n: u32) -> bool
 pub fn judge_size(n: u32) -> Verdict
     ensures { λ r. ⌜ r ≡ judgeSize desk n ⌝ }
 {
-    let wrong = wrong_size(n);
-    if wrong {
+    if wrong_size(n) {
         return Verdict::Fault(Reason::RingSize);
     }
     Verdict::Fine

@@ -1,5 +1,5 @@
 //! Checking a sheet: 01, "Table and sheet text" and "Reasons and their order",
-//! reasons 1 to 14, 02's reason 16, and the question for a parallel pair.
+//! reasons 1 to 14, 02's reasons 16 and 20, and the question for a parallel pair.
 
 use crate::rules::{self, Cut, Plan, Sent, Way};
 use crate::table::{self, refuse, Line, Refusal, RowReason, Table, ROW_REASONS};

@@ -2,13 +2,13 @@
 //! its own.
 
 use crate::matrix::{self, Matrix, Questions, QUESTIONS};
-use crate::mutant::{pairs, read_matrix, square, sums, told, Mutant};
+use crate::mutant::{pairs, read_matrix, says_fibres, square, sums, told, Mutant};
 use crate::table::{self, refuse, Line, Refusal, Row, Table};
 use crate::text_faults::*;
 
 type Read = Result<Matrix, Refusal>;
 
-pub static MATRIX_FAULTS: [Mutant; 61] = [
+pub static MATRIX_FAULTS: [Mutant; 63] = [
     read_matrix("matrix: leading zeros", |text| {
         matrix::read(&without_leading_zeros(text))
     }),
@@ -81,6 +81,10 @@ pub static MATRIX_FAULTS: [Mutant; 61] = [
     told("matrix: 20 after 1", twenty_after_1),
     told("matrix: 20 last of all", twenty_last),
     told("matrix: 20 on line 1", twenty_on_line_1),
+    told("matrix: 20 asked in 8 bits", |text, fibres| {
+        matrix::read_told(text, fibres % 256)
+    }),
+    says_fibres("matrix: four fibres whatever is told", 4),
     pairs("matrix: zero entries kept", zeros_kept),
     pairs("matrix: rows by second node, then first", by_second),
     pairs("matrix: both halves added", doubled),

@@ -33,6 +33,8 @@ enum How {
     Say(fn(&[u8], Said) -> Said),
     ReadMatrix(fn(&[u8]) -> Result<Matrix, Refusal>),
     Told(fn(&[u8], u32) -> Result<Matrix, Refusal>),
+    /// The fibres of a matrix's table, whatever is told.
+    Fibres(i64),
     Pairs(fn(&Matrix) -> Table),
     Sums(fn(&[u8]) -> Result<Matrix, Refusal>),
     Square(fn(&Matrix) -> Vec<u8>),
@@ -102,7 +104,10 @@ impl Mutant {
             How::Pairs(pairs) => pairs(&matrix),
             _ => matrix::table_of(&matrix, fibres),
         };
-        table.fibres = i64::from(fibres);
+        table.fibres = match self.how {
+            How::Fibres(fibres) => fibres,
+            _ => i64::from(fibres),
+        };
         Ok(twin::written(sheet::table_text(&table)))
     }
 
@@ -223,6 +228,11 @@ pub const fn told(name: &'static str, read: fn(&[u8], u32) -> Result<Matrix, Ref
     Mutant { name, how }
 }
 
+pub const fn says_fibres(name: &'static str, fibres: i64) -> Mutant {
+    let how = How::Fibres(fibres);
+    Mutant { name, how }
+}
+
 pub const fn pairs(name: &'static str, pairs: fn(&Matrix) -> Table) -> Mutant {
     let how = How::Pairs(pairs);
     Mutant { name, how }
@@ -239,7 +249,7 @@ pub const fn square(name: &'static str, square: fn(&Matrix) -> Vec<u8>) -> Mutan
 }
 
 /// Faults that change some sheet or reply: each must be caught.
-static FAULTS: [Mutant; 143] = [
+static FAULTS: [Mutant; 147] = [
     write("one byte after the text changed", after_text),
     write("one byte after the buffer changed", after_buffer),
     write("one byte before the buffer changed", before_buffer),
@@ -277,16 +287,30 @@ static FAULTS: [Mutant; 143] = [
     plan("Z: 768 for every larger peak", z_largest),
     plan("Z: once the peak on two fibres", z_once),
     plan("Z: twice the peak on four fibres", z_twice),
-    read("reading: 20 before 3", twenty_before_3),
+    read("reading: 20 before 3", |text| {
+        early(text, table::read(text))
+    }),
     read("reading: 20 never", twenty_never),
     read("reading: 20 after all lines", twenty_last),
     read("reading: the R line without fibres taken", old_ring),
     read_sheet("checking: the R line without fibres taken", |text| {
         check::read(&with_fibres(text))
     }),
+    read_sheet("checking: 20 before 3", |text| {
+        early(text, check::read(text))
+    }),
+    read_sheet("checking: 20 never", sheet_twenty_never),
+    read_sheet("checking: 20 after all lines", |text| {
+        sheet_twenty_never(text)?;
+        check::read(text)
+    }),
     on_size("12: once the peak on two fibres", size_once),
     on_size("12: twice the peak on four fibres", size_twice),
     rewrite("rewriting: four fibres for two", four_fibres),
+    rewrite_sheet("rewriting: a sheet's four fibres for two", |mut sheet| {
+        sheet.table.fibres = 4;
+        sheet
+    }),
     read("reading: leading zeros", |text| {
         table::read(&without_leading_zeros(text))
     }),
@@ -890,9 +914,10 @@ fn ring_of(text: &[u8]) -> Option<Vec<i64>> {
     table::numbers(table::lines(text).first()?, b"R", 2)
 }
 
-fn twenty_before_3(text: &[u8]) -> Result<Table, Refusal> {
+/// 20 in the place of 3, where it holds too.
+fn early<T>(text: &[u8], read: Result<T, Refusal>) -> Result<T, Refusal> {
     let off = ring_of(text).is_some_and(|ring| !table::known_fibres(ring[1]));
-    table::read(text).map_err(|refusal| match refusal.reason {
+    read.map_err(|refusal| match refusal.reason {
         3 if off => Refusal {
             reason: 20,
             line: 1,
@@ -921,6 +946,11 @@ fn twenty_never(text: &[u8]) -> Result<Table, Refusal> {
 fn twenty_last(text: &[u8]) -> Result<Table, Refusal> {
     twenty_never(text)?;
     table::read(text)
+}
+
+fn sheet_twenty_never(text: &[u8]) -> Result<Sheet, Refusal> {
+    table::read_length(text)?;
+    check::read(&with_four(text))
 }
 
 fn old_ring(text: &[u8]) -> Result<Table, Refusal> {

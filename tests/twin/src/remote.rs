@@ -55,10 +55,13 @@ impl Server {
         area: &mut [u8],
         lent: Range<usize>,
     ) -> Result<Said> {
-        let name = format!("{call:?}");
-        for number in [name.len(), text.len(), area.len(), lent.start, lent.end] {
-            self.requests.write_all(&(number as u64).to_le_bytes())?;
+        let name = call.name();
+        let lengths = [name.len(), text.len(), area.len(), lent.start, lent.end];
+        for number in lengths.map(|length| length as u64) {
+            self.requests.write_all(&number.to_le_bytes())?;
         }
+        let told = u64::from(call.told());
+        self.requests.write_all(&told.to_le_bytes())?;
         for bytes in [name.as_bytes(), text, area] {
             self.requests.write_all(bytes)?;
         }

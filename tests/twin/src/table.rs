@@ -1,5 +1,5 @@
 //! A table and its reading: 01, "Table and sheet text" and "Reasons and their
-//! order", reasons 1 to 7; 02, K1, reasons 6 and 16.
+//! order", reasons 1 to 7; 02, K1, reasons 6 and 16, and K3, reason 20.
 
 /// A demand has nodes i < j and an amount d.
 #[derive(Clone, Copy, PartialEq, Eq, Debug)]

@@ -43,6 +43,22 @@ impl Call {
         CALLS.iter().position(same).expect("a call")
     }
 
+    /// The call by itself, whatever it is told.
+    #[cfg(remote)]
+    pub fn name(self) -> String {
+        let words = format!("{self:?}");
+        words.split('(').next().unwrap_or_default().to_owned()
+    }
+
+    /// The number that the call is told beside the text; 0 where it is told none.
+    #[cfg(remote)]
+    pub fn told(self) -> u32 {
+        match self {
+            Call::ReadMatrix(fibres) => fibres,
+            _ => 0,
+        }
+    }
+
     /// Whether a buffer is lent.
     pub fn writes(self) -> bool {
         !matches!(self, Call::Check | Call::Parallel)
