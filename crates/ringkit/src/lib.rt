@@ -105,7 +105,15 @@ pub extern "C" fn ringkit_rewrite_table(table: &[u8], buffer: &mut [u8]) -> Repl
     let answer = t.answer;
     match answer {
         Answer::Refused(reason, line) => refusal(reason, line),
-        Answer::Is(n, fibres, count) => put_table(buffer, n, fibres, count, &t.first, &t.second, &t.amount),
+        Answer::Is(n, fibres, count) => put_table(
+            buffer,
+            n,
+            fibres,
+            count,
+            &t.first,
+            &t.second,
+            &t.amount,
+        ),
     }
 }
 

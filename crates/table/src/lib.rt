@@ -7,9 +7,9 @@ mod write; // rows in arrays to a text
 
 pub use judge::Verdict;
 pub use judge::judge_ring;
+pub use judge::judge_row;
 pub use judge::judge_size;
 pub use judge::other_fibres;
-pub use judge::judge_row;
 pub use lines::line_end;
 pub use read::Answer;
 pub use read::Table;
