@@ -140,7 +140,7 @@ def longest():
     for size in (32768, 32769):
         yield body + b"D\t31\t32\t9999\n" * ((size - len(body)) // 13) + b"q" * ((size - len(body)) % 13)
         yield b"\n" * size
-    yield b"R\t4\t4\n" + b"x" * 39996
+    yield (b"R\t4\t4\n" + b"x" * ROOM)[:ROOM]
 
 
 def rooms(text):
@@ -256,6 +256,8 @@ def main():
     calls = [("T", text, min(room, ROOM)) for text, room in all_cases()] + [("R", *case) for case in to_route()] + [*of_sheets(), *of_matrices()]
     calls += fibres.cases(lambda table: written("R", table), ROOM)
     for letter, text, room in dict.fromkeys(calls):
+        # the program that runs the cases has no more memory
+        assert len(text) <= ROOM and room <= ROOM
         given.append(b"%c%05d%05d\n" % (ord(letter), len(text), room) + text)
         due.append(letter + " %s\n" % " ".join(map(str, answer(letter, text, room))))
     open("crates/cases/stdin", "wb").write(b"".join(given))

@@ -16,7 +16,7 @@ use Rattle.table.specs.ReadTable.{Result, accepted, refused, tableOf}
 use Rattle.table.specs.Says as table
 use Rattle.table.specs.declared.reason.Reason.{Reason}
 use Rattle.table.specs.declared.reason.Reason.the-variants.{NoRoom}
-use Rattle.table.proofs.Judged.{Fibred, other, known, fibred}
+use Rattle.table.proofs.Judged.{Fibred, other as not-fibres, known as are-fibres, fibred}
 use Rattle.table.proofs.ReasonNumbers.{same-reason}
 use Rattle.table.proofs.ReasonsGiven as table-given
 use Rattle.table.proofs.Accepted.{same-table}
@@ -74,8 +74,8 @@ module _ (fibres : ℕ) (t : List ℕ) where
   all-decided = go (fibred fibres)
     where
       go : Fibred fibres → Decided (MatrixDue fibres t) (MatrixGiven fibres t) (matrixRead fibres t)
-      go (other f e) = rw e (is-given (of-fibres f))
-      go (known f e) = rw e (decided f (matrixOf desk t) refl)
+      go (not-fibres f e) = rw e (is-given (of-fibres f))
+      go (are-fibres f e) = rw e (decided f (matrixOf desk t) refl)
 
   due-accepted-matrix : (text : List ℕ) → MatrixDue fibres t text → Accepted desk t
   due-accepted-matrix text d = accepted-is desk t .0 (record { n = d .n; m = d .m; is = matrix-is t (d .n) (d .m) .1 (d .of) })

@@ -34,7 +34,7 @@ pub const SHARES: u64 = {
 };
 
 pub const GROUPS: [Group; 68] = [
-    group("numbers to try of 01 and K1", 0, numbers_to_try),
+    group("numbers to try of 01, K1 and K3", 0, numbers_to_try),
     group("all small tables", 0, all_small),
     group("about 496 rows", 0, about_496),
     group("every byte of the square", 0, every_byte),
@@ -59,7 +59,7 @@ pub const GROUPS: [Group; 68] = [
     group("damaged several times", 240, damaged_often),
     group("padded texts", 104, padded),
     group("noise", 56, noise),
-    group("sheets: of 01", 0, sheets::sheets_of_01),
+    group("sheets: of 01, K1 and K3", 0, sheets::sheets_of_01),
     group("sheets: all small ones", 0, sheets::all_small),
     group("sheets: every byte of the square's", 0, sheets::every_byte),
     group(
@@ -349,18 +349,18 @@ fn one_call(case: u64) -> Call {
 
 /// Each two of the square's seven numbers replaced by boundary numbers.
 fn two_fields(_: &mut Rng, case: u64) -> Option<Case> {
-    let places = gen::pairs(7);
+    let places = gen::pairs(8);
     let numbers = gen::BOUNDARY.len();
     let (place, choice) = (
         case as usize / numbers.pow(2),
         case as usize % numbers.pow(2),
     );
     let (one, two) = *places.get(place)?;
-    let mut fields = ["4", "1", "3", "1", "2", "4", "1"];
+    let mut fields = ["4", "4", "1", "3", "1", "2", "4", "1"];
     fields[one as usize - 1] = gen::BOUNDARY[choice / numbers];
     fields[two as usize - 1] = gen::BOUNDARY[choice % numbers];
-    let [n, a, b, c, d, e, f] = fields;
-    let text = format!("R|{n}|4\nD|{a}|{b}|{c}\nD|{d}|{e}|{f}\n");
+    let [n, fibres, a, b, c, d, e, f] = fields;
+    let text = format!("R|{n}|{fibres}\nD|{a}|{b}|{c}\nD|{d}|{e}|{f}\n");
     of_text(&text, vec![(one_call(case), Lend::Need(1))])
 }
 

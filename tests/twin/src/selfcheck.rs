@@ -131,6 +131,11 @@ pub fn refusals() -> Outcome {
         ("R|4|4\nD|1|2|10000\n", 7, 2),
         ("R|4|4\nD|5|2|10000\n", 4, 2),
         ("R|4|4\nD|1|2|0\n", 15, 0),
+        ("R|4|2\n", 0, 0),
+        ("R|4|3\nD|5|2|1\n", 20, 1),
+        ("R|33|3\n", 3, 1),
+        ("R|4\n", 2, 1),
+        ("R|4|4|4\n", 2, 1),
     ];
     for (text, reason, line) in wanted {
         let answer = twin::answer(Call::Route, text.replace('|', "\t").as_bytes());
@@ -142,9 +147,9 @@ pub fn refusals() -> Outcome {
     Ok(())
 }
 
-/// The sheets of 01 and of K1: reason, line, and the parallel pair.
+/// The sheets of 01, of K1 and of K3: reason, line, and the parallel pair.
 pub fn sheets() -> Outcome {
-    let accepted = [0, 1, 2, 3, 4, 5, 6, 7, 10, 14, 20];
+    let accepted = [0, 1, 2, 3, 4, 5, 6, 7, 10, 14, 20, 25, 26, 27];
     let refused = [
         (8, 13, 0),
         (9, 14, 0),
@@ -156,6 +161,12 @@ pub fn sheets() -> Outcome {
         (17, 2, 1),
         (18, 2, 2),
         (24, 6, 4),
+        (28, 12, 6),
+        (29, 20, 1),
+        (30, 3, 1),
+        (31, 3, 1),
+        (32, 2, 1),
+        (33, 2, 1),
     ];
     let yes = accepted.map(|at| (at, 0, 0, 0, 0));
     let no = refused.map(|(at, reason, line)| (at, reason, line, 0, 0));

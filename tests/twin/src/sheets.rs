@@ -53,7 +53,7 @@ fn of_plan(table: &Table, plan: &Plan, trials: Vec<(Call, Lend)>) -> Option<Case
 /// 14; amount 0 with F and with B; rings of 1, 33 and 32; a parallel pair. Then
 /// 02's K1: two circuits whole, both split, split behind a whole one and behind
 /// a row that crosses them; and a row below them.
-pub const SHEETS: [&str; 25] = [
+pub const SHEETS: [&str; 34] = [
     "R|4|4\nD|1|3|1|1|1|F\nD|2|4|1|1|1|B\nC|1|3|2\nL|1|2|2\nL|2|2|1\nL|3|2|0\nL|4|2|1\nZ|2|3\n",
     "R|2|4\nC|1|2|0\nL|1|0|0\nL|2|0|0\nZ|0|3\n",
     "R|2|4\nD|1|2|5|5|5|F\nC|1|2|5\nL|1|5|5\nL|2|5|0\nZ|5|12\n",
@@ -83,6 +83,15 @@ pub const SHEETS: [&str; 25] = [
     "R|4|4\nD|1|3|1|1|1|F\nD|2|4|1|1|1|F\nD|2|4|1|1|1|B\nC|1|3|3\nL|1|3|2\nL|2|3|2\nL|3|3|1\n\
      L|4|3|1\nZ|2|3\n",
     "R|3|4\nD|1|3|1|2|0|F\nD|1|3|1|0|2|B\nD|1|2|0|0|0|F\nC|1|3|2\nL|1|2|1\nL|2|2|1\nL|3|2|1\nZ|1|3\n",
+    "R|2|2\nC|1|2|0\nL|1|0|0\nL|2|0|0\nZ|0|3\n",
+    "R|2|2\nD|1|2|384|384|384|F\nC|1|2|384\nL|1|384|384\nL|2|384|0\nZ|384|768\n",
+    "R|2|2\nD|1|2|385|385|385|F\nC|1|2|385\nL|1|385|385\nL|2|385|0\nZ|385|0\n",
+    "R|2|2\nD|1|2|2|2|2|F\nC|1|2|2\nL|1|2|2\nL|2|2|0\nZ|2|3\n",
+    "R|2|3\nC|1|2|0\nL|1|0|0\nL|2|0|0\nZ|0|3\n",
+    "R|33|3\nC|1|2|0\nL|1|0|0\nL|2|0|0\nZ|0|3\n",
+    "R|1|0\nC|1|1|0\nL|1|0|0\nZ|0|3\n",
+    "R|2\nC|1|2|0\nL|1|0|0\nL|2|0|0\nZ|0|3\n",
+    "R|2|4|4\nC|1|2|0\nL|1|0|0\nL|2|0|0\nZ|0|3\n",
 ];
 
 pub fn sheets_of_01(_: &mut Rng, case: u64) -> Option<Case> {
