@@ -9,3 +9,4 @@ pub mod TableCalls
 pub mod SheetCalls
 pub mod MatrixCalls
 pub mod WorkTypes
+pub mod WorkCalls
