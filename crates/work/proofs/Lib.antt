@@ -7,4 +7,5 @@ pub mod SortSteps
 pub mod SortedRows
 pub mod WriteSteps
 pub mod ByCalls
+pub mod Answers
 pub mod Unique

@@ -1,4 +1,4 @@
--- To believe: what is kept in a table made by calls, and that a call does what the list of places says.
+-- To believe: what is kept in a table made by calls, that a call does what the list of places says, and what is so on every table, whatever its bytes.
 use Prim.Native.Nat.{ℕ, _≤_, _<_}
 use mathlib.Core.List.{List}
 use mathlib.Core.Path.{_≡_}
@@ -24,3 +24,8 @@ pub record Keeps (w : Work) : Type 0 where
 pub record ByTheList (w : Work) (c : Call) : Type 0 where
   pub reply : calledIn w c .reply ≡ answer (outcome (plainOf w) c)
   pub table : plainOf (calledIn w c .work) ≡ after (plainOf w) (outcome (plainOf w) c)
+
+-- on every table: a refused call changes no byte and answers its reason alone; an accepted one names the cut that is kept from then on
+pub data Answered (w : Work) (c : Call) : Type 0 where
+  refused : (reason : ℕ) → (reason ≡ 0 → ⊥) → calledIn w c .reply ≡ record { reason = reason; line = 0; place = 0; g = 0; h = 0; across = 0 } → calledIn w c .work ≡ w → Answered w c
+  accepted : (place : ℕ) → calledIn w c .reply ≡ record { reason = 0; line = 0; place = place; g = calledIn w c .work .g; h = calledIn w c .work .h; across = calledIn w c .work .across } → Answered w c
