@@ -25,6 +25,8 @@ static const char *const SENTENCES[] = {
     [RINGKIT_NOT_SYMMETRIC] = "a field of the line differs from its mirror: field j of line i must be equal to field i of line j",
     [RINGKIT_SUM_TOO_MUCH] = "with this row the circuits between its two offices add up to more than " NUMBER(RINGKIT_MAX_AMOUNT),
     [RINGKIT_FIBRES] = "the ring has neither 2 nor 4 fibres",
+    [RINGKIT_FULL] = "all " NUMBER(RINGKIT_MAX_ROWS) " places are taken",
+    [RINGKIT_NO_ROW] = "no row is at that place",
 };
 
 static const char *sentence_of(uint32_t reason)
