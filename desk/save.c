@@ -73,7 +73,7 @@ static bool replace_named(const char *file, const uint8_t *bytes, size_t length)
         return errno == ENOENT && replace_in_place(file, rights_of_new(), bytes, length);
     }
     if (!S_ISREG(old.st_mode)) {
-        errno = S_ISDIR(old.st_mode) ? EISDIR : EINVAL;
+        errno = S_ISDIR(old.st_mode) ? EISDIR : ENOTSUP;
         return false;
     }
     char *whole = realpath(file, NULL);

@@ -61,7 +61,7 @@ extern "C" {
 /* A buffer of so many bytes suffices for every sheet that ringkit_route writes; this is proved. For rewriting, the text's own length suffices. */
 #define RINGKIT_SHEET_BYTES 28880
 
-/* The same for every table that ringkit_read_matrix writes and that ringkit_work_write writes of rows held, and for every matrix that
+/* The same for every table that ringkit_read_matrix writes, and ringkit_work_write of a working table that calls made; and for every matrix that
  * ringkit_write_matrix writes. */
 #define RINGKIT_TABLE_BYTES 15896
 #define RINGKIT_MATRIX_BYTES 5120
@@ -72,7 +72,8 @@ extern "C" {
 /* Why a text is refused. Each is given exactly when it holds and nothing before it in this order does: the fibres that a matrix is read with; RINGKIT_TOO_LONG; then line by line,
  * and in a line by rising number, but RINGKIT_FIBRES behind 3 and RINGKIT_TOO_MANY_ROWS between 6 and 7; then, when all lines have passed, 13 and 14 of a sheet, the first
  * entry in reading order that is 17 or 18 of a matrix, and the first row that is 19 of a table to be written as a matrix; then 15.
- * The calls of a working table have no text: starting one tries 3, then 20; writing it 15; any other call 22, where it names a place, then 4, 5 and 7 of the row it is given, and for adding 21. */
+ * The calls of a working table have no text. Starting one tries 3, then 20, and writing it 15; the others try 22 of the place that is named, then 4, 5 and 7 of the row that
+ * is given, and for adding 21. */
 enum ringkit_reason {
     RINGKIT_OK = 0,             /* accepted */
     RINGKIT_TOO_LONG = 1,       /* text over 32,768 bytes */
