@@ -5,18 +5,19 @@
  *   desk parallel [SHEET]         its first two split rows that are parallel
  *   desk table --fibres 2 [MATRIX]    the table of a matrix of demands, on a ring of two fibres; --fibres 4 of four
  *   desk matrix [TABLE]           the matrix of a table, circuits of the same two offices added up
+ *   desk work TABLE               a dialogue in which circuits are added, changed and removed one by one
+ *   desk work --ring N --fibres F     the same, beginning with no circuit
  *
- * A name of - or none at all is standard input. Refusals go to standard error. The exit status is 0 where all is fine, 1 where the text is
- * refused, and 2 where the words are wrong or a file cannot be read or written.
+ * A name of - or none at all is standard input, but for work. Refusals go to standard error. The exit status is 0 where all is fine, 1 where the text is
+ * refused, and 2 where the words are wrong or a file cannot be read or written; of a dialogue, the highest that one of its lines would have.
  */
 #include <errno.h>
 #include <string.h>
 
+#include "fields.h"
 #include "plan.h"
 #include "refusal.h"
-#include "text.h"
-
-enum status { FINE = 0, REFUSED = 1, TROUBLE = 2 };
+#include "work.h"
 
 static enum status refused(const struct text *text, uint32_t reason, uint32_t line)
 {
@@ -72,22 +73,6 @@ static enum status matrix_of(const struct text *table)
     return pass_on(table, ringkit_write_matrix, matrix, sizeof matrix);
 }
 
-static enum status plan_table(const struct text *table)
-{
-    uint8_t sheet[RINGKIT_SHEET_BYTES];
-    struct plan plan;
-    ringkit_reply reply = ringkit_route(table->bytes, table->length, sheet, sizeof sheet);
-    if (reply.reason != RINGKIT_OK) {
-        return refused(table, reply.reason, reply.line);
-    }
-    if (!read_plan(&plan, sheet, reply.length)) {
-        fputs("desk: the library's sheet is not one that this desk can read\n", stderr);
-        return TROUBLE;
-    }
-    tell_plan(stdout, &plan);
-    return FINE;
-}
-
 static enum status check_sheet(const struct text *sheet)
 {
     ringkit_reply reply = ringkit_check(sheet->bytes, sheet->length);
@@ -123,24 +108,24 @@ static enum status ask_parallel(const struct text *sheet)
     return FINE;
 }
 
-/* What a command does with its text: with an option and the word behind it, or without. A command that has no line without an option wants one,
- * as `table` does: a silent 4 would buy too small a line. */
+/* What a command does with its text, by what its options say; NULL where one is not said. A command that has no line without an option wants
+ * one, as `table` does: a silent 4 would buy too small a line. */
 static const struct command {
-    const char *name, *option, *value;
+    const char *name, *sheet, *fibres;
     enum status (*does)(const struct text *);
 } COMMANDS[] = {
     {"plan", NULL, NULL, plan_table},
     {"plan", "--sheet", NULL, sheet_of},
     {"check", NULL, NULL, check_sheet},
     {"parallel", NULL, NULL, ask_parallel},
-    {"table", "--fibres", "2", table_for_two},
-    {"table", "--fibres", "4", table_for_four},
+    {"table", NULL, "2", table_for_two},
+    {"table", NULL, "4", table_for_four},
     {"matrix", NULL, NULL, matrix_of},
 };
 
-/* What the words of the command line ask for; NULL where they do not say it. */
+/* What the words of the command line ask for; NULL where they do not say it. An option that no value follows is kept as --sheet is. */
 struct order {
-    const char *name, *option, *value, *file;
+    const char *name, *sheet, *ring, *fibres, *file;
 };
 
 static bool is(const char *word, const char *other)
@@ -148,10 +133,10 @@ static bool is(const char *word, const char *other)
     return word == other || (word != NULL && other != NULL && strcmp(word, other) == 0);
 }
 
-/* Whether a word is an option that a value follows. */
-static bool wants_value(const char *word)
+/* Where the order keeps the value behind an option; NULL where none follows it. */
+static const char **value_of(struct order *order, const char *option)
 {
-    return is(word, "--fibres");
+    return is(option, "--ring") ? &order->ring : is(option, "--fibres") ? &order->fibres : NULL;
 }
 
 /* False where the words make no order. */
@@ -160,18 +145,13 @@ static bool read_order(struct order *order, int count, char **words)
     *order = (struct order){.name = count > 1 ? words[1] : NULL};
     for (int k = 2; k < count; k++) {
         bool option = words[k][0] == '-' && words[k][1] != '\0';
-        const char **place = option ? &order->option : &order->file;
-        if (*place != NULL && !(option && is(*place, words[k]))) {
+        const char **value = value_of(order, words[k]);
+        const char **place = value != NULL ? value : option ? &order->sheet : &order->file;
+        const char *word = value == NULL ? words[k] : ++k < count ? words[k] : "";
+        if (*place != NULL && !(option && is(*place, word))) {
             return false;
         }
-        *place = words[k];
-        if (option && wants_value(words[k])) {
-            const char *value = ++k < count ? words[k] : "";
-            if (order->value != NULL && !is(order->value, value)) {
-                return false;
-            }
-            order->value = value;
-        }
+        *place = word;
     }
     return true;
 }
@@ -181,35 +161,60 @@ static const struct command *command_of(const struct order *order)
 {
     for (size_t k = 0; k < sizeof COMMANDS / sizeof *COMMANDS; k++) {
         const struct command *c = &COMMANDS[k];
-        if (is(order->name, c->name) && is(order->option, c->option) && is(order->value, c->value)) {
+        if (is(order->name, c->name) && is(order->sheet, c->sheet) && is(order->fibres, c->fibres) && order->ring == NULL) {
             return c;
         }
     }
     return NULL;
 }
 
-static enum status carry_out(const struct command *command, const char *file)
+/* Work begins with a file, or with a ring and its fibres; not with standard input, which is its dialogue. False where the words say neither. */
+static bool begin_work(const struct order *order, enum status *status)
+{
+    uint32_t offices, fibres;
+    if (order->sheet != NULL) {
+        return false;
+    }
+    if (order->file == NULL && read_typed(&offices, order->ring) && read_typed(&fibres, order->fibres)) {
+        *status = work_afresh(offices, fibres);
+        return true;
+    }
+    if (order->file != NULL && !is(order->file, "-") && order->ring == NULL && order->fibres == NULL) {
+        *status = work_on(order->file);
+        return true;
+    }
+    return false;
+}
+
+/* False where no command is carried out by these words. */
+static bool carry_out(const struct order *order, enum status *status)
 {
     struct text text;
-    return read_text(&text, file) ? command->does(&text) : TROUBLE;
+    const struct command *command = command_of(order);
+    if (is(order->name, "work")) {
+        return begin_work(order, status);
+    }
+    if (command != NULL) {
+        *status = read_text(&text, order->file) ? command->does(&text) : TROUBLE;
+    }
+    return command != NULL;
 }
 
 static const char USAGE[] = "usage: desk plan [--sheet] [TABLE]\n"
                             "       desk check [SHEET]\n"
                             "       desk parallel [SHEET]\n"
                             "       desk table --fibres 2|4 [MATRIX]\n"
-                            "       desk matrix [TABLE]\n";
+                            "       desk matrix [TABLE]\n"
+                            "       desk work TABLE\n"
+                            "       desk work --ring N --fibres 2|4\n";
 
 int main(int count, char **words)
 {
     struct order order;
-    const struct command *command;
     enum status status = FINE;
     if (count == 2 && is(words[1], "--help")) {
         fputs(USAGE, stdout);
-    } else if (read_order(&order, count, words) && (command = command_of(&order)) != NULL) {
-        status = carry_out(command, order.file);
-    } else {
+    } else if (!read_order(&order, count, words) || !carry_out(&order, &status)) {
         fputs(USAGE, stderr);
         status = TROUBLE;
     }

@@ -1,32 +1,25 @@
 #include "plan.h"
 
-/* What is left of a sheet. */
-struct rest {
-    const uint8_t *at, *end;
+#include "fields.h"
+#include "refusal.h"
+
+/* Front, back and split loads are in halves. */
+struct circuit {
+    unsigned first, second, amount, front, back;
+    bool goes_back;
 };
 
-/* Goes past the letter of the line and its tab, where that is the letter. */
-static bool begins(struct rest *rest, char letter)
-{
-    if (rest->end - rest->at < 2 || rest->at[0] != letter) {
-        return false;
-    }
-    rest->at += 2;
-    return true;
-}
+struct load {
+    unsigned split, unsplit;
+};
 
-/* Goes past a number and the byte behind it. */
-static unsigned number(struct rest *rest)
-{
-    unsigned n = 0;
-    while (rest->at < rest->end && rest->at[0] >= '0' && rest->at[0] <= '9') {
-        n = 10 * n + (unsigned)(*rest->at++ - '0');
-    }
-    if (rest->at < rest->end) {
-        rest->at++;
-    }
-    return n;
-}
+struct plan {
+    unsigned offices, fibres, circuits;
+    struct circuit circuit[RINGKIT_MAX_ROWS];
+    unsigned g, h, across;
+    struct load load[RINGKIT_MAX_OFFICES];
+    unsigned peak, size;
+};
 
 static struct circuit read_circuit(struct rest *rest)
 {
@@ -56,7 +49,8 @@ static bool read_loads(struct plan *plan, struct rest *rest)
     return true;
 }
 
-bool read_plan(struct plan *plan, const uint8_t *sheet, size_t length)
+/* Takes a sheet apart that the library wrote; false where it is no sheet. */
+static bool read_plan(struct plan *plan, const uint8_t *sheet, size_t length)
 {
     struct rest rest = {sheet, sheet + length};
     plan->offices = begins(&rest, 'R') ? number(&rest) : 0;
@@ -107,16 +101,21 @@ static void tell_circuits(FILE *out, const struct plan *plan)
     }
 }
 
-/* A cut parts offices g+1 to h from the others. */
+void tell_parted(FILE *out, unsigned g, unsigned h)
+{
+    fprintf(out, "office%s %u", g + 1 < h ? "s" : "", g + 1);
+    if (g + 1 < h) {
+        fprintf(out, " to %u", h);
+    }
+    fprintf(out, " from the rest of the ring.\n");
+}
+
 static void tell_cut(FILE *out, const struct plan *plan)
 {
     struct units least = in_units(plan->across);
     fprintf(out, "\nCut: links %u and %u, across %u.\n", plan->g, plan->h, plan->across);
-    fprintf(out, "They part office%s %u", plan->g + 1 < plan->h ? "s" : "", plan->g + 1);
-    if (plan->g + 1 < plan->h) {
-        fprintf(out, " to %u", plan->h);
-    }
-    fprintf(out, " from the rest of the ring.\n");
+    fprintf(out, "They part ");
+    tell_parted(out, plan->g, plan->h);
     fprintf(out, "The circuits between the two parts add up to %u, all of it over these two links.\n", plan->across);
     fprintf(out, "So in every routing, however finely circuits are divided, one of the two links\n");
     fprintf(out, "carries at least %u.%u. The split peak is just that: no routing has a lower one.\n", least.whole, least.tenths);
@@ -148,7 +147,8 @@ static void tell_size(FILE *out, const struct plan *plan)
     }
 }
 
-void tell_plan(FILE *out, const struct plan *plan)
+/* Which way each circuit goes, the cut and what it means, the links' loads, and the line size to buy. */
+static void tell_plan(FILE *out, const struct plan *plan)
 {
     fprintf(out, "Ring of %u offices and %u fibres, %u circuit%s; amounts and loads in %s.\n", plan->offices, plan->fibres, plan->circuits, plan->circuits == 1 ? "" : "s", RINGKIT_UNIT);
     if (plan->circuits > 0) {
@@ -157,4 +157,21 @@ void tell_plan(FILE *out, const struct plan *plan)
     tell_cut(out, plan);
     tell_links(out, plan);
     tell_size(out, plan);
+}
+
+enum status plan_table(const struct text *table)
+{
+    uint8_t sheet[RINGKIT_SHEET_BYTES];
+    struct plan plan;
+    ringkit_reply reply = ringkit_route(table->bytes, table->length, sheet, sizeof sheet);
+    if (reply.reason != RINGKIT_OK) {
+        tell_refusal(table, reply.reason, reply.line, true);
+        return REFUSED;
+    }
+    if (!read_plan(&plan, sheet, reply.length)) {
+        fputs("desk: the library's sheet is not one that this desk can read\n", stderr);
+        return TROUBLE;
+    }
+    tell_plan(stdout, &plan);
+    return FINE;
 }

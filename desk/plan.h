@@ -2,33 +2,13 @@
 #ifndef DESK_PLAN_H
 #define DESK_PLAN_H
 
-#include <stdbool.h>
-#include <stdio.h>
+#include "status.h"
+#include "text.h"
 
-#include "ringkit.h"
+/* Routes the table and tells its plan: which way each circuit goes, the cut and what it means, the links' loads, and the line size to buy. */
+enum status plan_table(const struct text *table);
 
-/* Front, back and split loads are in halves. */
-struct circuit {
-    unsigned first, second, amount, front, back;
-    bool goes_back;
-};
-
-struct load {
-    unsigned split, unsplit;
-};
-
-struct plan {
-    unsigned offices, fibres, circuits;
-    struct circuit circuit[RINGKIT_MAX_ROWS];
-    unsigned g, h, across;
-    struct load load[RINGKIT_MAX_OFFICES];
-    unsigned peak, size;
-};
-
-/* Takes a sheet apart that the library wrote; false where it is no sheet. */
-bool read_plan(struct plan *plan, const uint8_t *sheet, size_t length);
-
-/* Which way each circuit goes, the cut and what it means, the links' loads, and the line size to buy. */
-void tell_plan(FILE *out, const struct plan *plan);
+/* Ends a sentence on a cut of links g and h by what they part: offices g+1 to h from the others. */
+void tell_parted(FILE *out, unsigned g, unsigned h);
 
 #endif

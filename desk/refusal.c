@@ -25,12 +25,19 @@ static const char *const SENTENCES[] = {
     [RINGKIT_NOT_SYMMETRIC] = "a field of the line differs from its mirror: field j of line i must be equal to field i of line j",
     [RINGKIT_SUM_TOO_MUCH] = "with this row the circuits between its two offices add up to more than " NUMBER(RINGKIT_MAX_AMOUNT),
     [RINGKIT_FIBRES] = "the ring has neither 2 nor 4 fibres",
+    [RINGKIT_FULL] = "all " NUMBER(RINGKIT_MAX_ROWS) " places are taken",
+    [RINGKIT_NO_ROW] = "the place named holds no row",
 };
 
 static const char *sentence_of(uint32_t reason)
 {
     const char *sentence = reason < sizeof SENTENCES / sizeof *SENTENCES ? SENTENCES[reason] : NULL;
     return sentence != NULL ? sentence : "refused for a reason that this desk has no sentence for";
+}
+
+void tell_reason(uint32_t reason)
+{
+    fprintf(stderr, "%s (reason %u)\n", sentence_of(reason), (unsigned)reason);
 }
 
 /* Whether an R line has one number, as it had before it named the fibres. */
@@ -49,7 +56,7 @@ void tell_refusal(const struct text *text, uint32_t reason, uint32_t line, bool 
     if (line != 0) {
         fprintf(stderr, "line %u: ", (unsigned)line);
     }
-    fprintf(stderr, "%s (reason %u)\n", sentence_of(reason), (unsigned)reason);
+    tell_reason(reason);
     if (line != 0) {
         fputs("    ", stderr);
         show_line(stderr, line_of(text, line));

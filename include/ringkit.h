@@ -1,4 +1,4 @@
-/* ringkit: plans a ring of offices, and checks plans. For C11 and C++11, x86-64 Linux.
+/* ringkit: plans a ring of offices, checks plans, and keeps a table at work. For C11 and C++11, x86-64 Linux.
  *
  * A text is read as a table, as a sheet or as a matrix. Fields are parted by one tab, every line ends with LF, numbers are 1 to 7 digits with no leading
  * zero but 0 itself.
@@ -23,10 +23,12 @@
  *   - A pointer and the length behind it name bytes that may be read (a text) or written (a buffer) until the call returns, fewer than
  *     2^63 of them. A length may be 0; its pointer is then not used, and may be NULL. No text needs a NUL at its end.
  *   - Text and buffer do not overlap, and nobody else writes to either during the call.
+ *   - A pointer to a working table names a whole struct ringkit_work, whatever bytes are in it. It does not overlap the buffer, and nobody else
+ *     writes to it during the call, nor reads it while a call alters it.
  *   - RINGKIT_STACK_BYTES of stack are free. That figure is measured and not proved.
  *
- * No call keeps anything from one call to the next, allocates, touches a file or errno, or changes the text. Calls may run in any number of
- * threads at the same time.
+ * No call keeps anything from one call to the next but in the working table that it is lent, allocates, touches a file or errno, or changes the
+ * text. Calls may run in any number of threads at the same time.
  *
  * Later versions will add a field to the answers (the byte of the line at which a fault begins), calls (judging rows without a text) and
  * reasons. So recompile with the header of the library that is linked, and take any reason but RINGKIT_OK for a refusal.
@@ -42,7 +44,7 @@ extern "C" {
 #endif
 
 /* Grows by 1 whenever a call, an answer or a limit changes. */
-#define RINGKIT_VERSION 3
+#define RINGKIT_VERSION 4
 
 /* The limits of what is accepted. */
 #define RINGKIT_MAX_TEXT_BYTES 32768
@@ -59,7 +61,8 @@ extern "C" {
 /* A buffer of so many bytes suffices for every sheet that ringkit_route writes; this is proved. For rewriting, the text's own length suffices. */
 #define RINGKIT_SHEET_BYTES 28880
 
-/* The same for every table that ringkit_read_matrix writes, and for every matrix that ringkit_write_matrix writes. */
+/* The same for every table that ringkit_read_matrix writes, and ringkit_work_write of a working table that calls made; and for every matrix that
+ * ringkit_write_matrix writes. */
 #define RINGKIT_TABLE_BYTES 15896
 #define RINGKIT_MATRIX_BYTES 5120
 
@@ -68,7 +71,9 @@ extern "C" {
 
 /* Why a text is refused. Each is given exactly when it holds and nothing before it in this order does: the fibres that a matrix is read with; RINGKIT_TOO_LONG; then line by line,
  * and in a line by rising number, but RINGKIT_FIBRES behind 3 and RINGKIT_TOO_MANY_ROWS between 6 and 7; then, when all lines have passed, 13 and 14 of a sheet, the first
- * entry in reading order that is 17 or 18 of a matrix, and the first row that is 19 of a table to be written as a matrix; then 15. */
+ * entry in reading order that is 17 or 18 of a matrix, and the first row that is 19 of a table to be written as a matrix; then 15.
+ * The calls of a working table have no text. Starting one tries 3, then 20, and writing it 15; the others try 22 of the place that is named, then 4, 5 and 7 of the row that
+ * is given, and for adding 21. */
 enum ringkit_reason {
     RINGKIT_OK = 0,             /* accepted */
     RINGKIT_TOO_LONG = 1,       /* text over 32,768 bytes */
@@ -90,7 +95,9 @@ enum ringkit_reason {
     RINGKIT_DIAGONAL = 17,      /* an entry on the diagonal of a matrix is not 0 */
     RINGKIT_NOT_SYMMETRIC = 18, /* an entry (i,j) of a matrix is not equal to (j,i); the line is that of the entry which is read first */
     RINGKIT_SUM_TOO_MUCH = 19,  /* with this row, the sum of the rows of its two nodes passes 9,999, and no entry of a matrix can say it */
-    RINGKIT_FIBRES = 20         /* fibres neither 2 nor 4 */
+    RINGKIT_FIBRES = 20,        /* fibres neither 2 nor 4 */
+    RINGKIT_FULL = 21,          /* all 496 places of a working table are taken */
+    RINGKIT_NO_ROW = 22         /* the place named holds no row of the working table, as 0 and 497 never do */
 };
 
 /* The answer of a call. The line counts from 1, a missing line being the one after the last; it is 0 for reasons 1, 13, 14 and 15, and for 20 of a matrix. */
@@ -107,6 +114,37 @@ typedef struct ringkit_pair_reply {
     size_t first;    /* the two rows by their places among all rows, counted from 1, */
     size_t second;   /* first < second; both 0 where there is no such pair, and when refused */
 } ringkit_pair_reply;
+
+/* A table at work, lent by the caller, who makes it by ringkit_work_start: rows at places 1 to 496, and kept beside them the largest cut. Its fields
+ * are the library's. They are unsigned integers and arrays of them with no padding, so any bytes are a value: copies may be kept and put back, and a call
+ * on bytes that no call made still ends, with an answer that the bytes alone decide. */
+typedef struct ringkit_work {
+    uint32_t triangle[RINGKIT_MAX_OFFICES * (RINGKIT_MAX_OFFICES - 1) / 2];
+    uint32_t n, fibres;
+    uint32_t g, h, across;
+    uint16_t amount[RINGKIT_MAX_ROWS];
+    uint8_t first[RINGKIT_MAX_ROWS];
+    uint8_t second[RINGKIT_MAX_ROWS];
+} ringkit_work;
+
+/* The answer of a call that alters a working table. When refused, all but the reason is 0, and no byte of the table is changed. */
+typedef struct ringkit_work_reply {
+    uint32_t reason; /* as above */
+    uint32_t line;   /* always 0 */
+    uint32_t place;  /* of the row that was added, changed or removed, counted from 1; 0 of ringkit_work_start */
+    uint32_t g;      /* the largest cut of the rows held now: its two links, g < h, by rule A's ties, */
+    uint32_t h;
+    uint32_t across; /* and the demand between the offices that they part: what the C line says when the written table is routed */
+} ringkit_work_reply;
+
+/* The answer of ringkit_work_row. When refused, all but the reason is 0. */
+typedef struct ringkit_work_row_reply {
+    uint32_t reason; /* as above */
+    uint32_t line;   /* always 0 */
+    uint32_t first;  /* the row's nodes, */
+    uint32_t second;
+    uint32_t amount; /* and its amount */
+} ringkit_work_row_reply;
 
 /* Calls that lend a buffer write their text at its start and keep the bytes behind it; one that refuses changes no byte. */
 
@@ -131,6 +169,24 @@ ringkit_reply ringkit_read_matrix(const uint8_t *matrix, size_t matrix_length, u
  * and then written has the same bytes; so has a table that is written and then read, where no pair has two rows and no row has amount 0, with the
  * fibres of its R line. */
 ringkit_reply ringkit_write_matrix(const uint8_t *table, size_t table_length, uint8_t *buffer, size_t buffer_length);
+
+/* Makes the working table one of n offices and so many fibres that holds no row, whatever it was. */
+ringkit_work_reply ringkit_work_start(ringkit_work *work, uint32_t n, uint32_t fibres);
+
+/* Adds a row at the lowest free place. A row of amount 0 holds its place like any other. */
+ringkit_work_reply ringkit_work_add(ringkit_work *work, uint32_t first, uint32_t second, uint32_t amount);
+
+/* Puts another row in place of the one that the place holds. */
+ringkit_work_reply ringkit_work_change(ringkit_work *work, uint32_t place, uint32_t first, uint32_t second, uint32_t amount);
+
+/* Removes the row that the place holds; the place is free again, and no other row moves. */
+ringkit_work_reply ringkit_work_remove(ringkit_work *work, uint32_t place);
+
+/* The row at a place. */
+ringkit_work_row_reply ringkit_work_row(const ringkit_work *work, uint32_t place);
+
+/* Writes the table of the rows held: by nodes, and rows of the same two nodes by place. The table can be routed. */
+ringkit_reply ringkit_work_write(const ringkit_work *work, uint8_t *buffer, size_t buffer_length);
 
 #ifdef __cplusplus
 }

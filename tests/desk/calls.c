@@ -296,6 +296,207 @@ static void test_matrices(void)
     test_matrix("the largest demands of 32 offices");
 }
 
+/* ---- a working table, the last bytes before its fence */
+
+_Static_assert(sizeof(ringkit_work) == 4 * (RINGKIT_MAX_OFFICES * (RINGKIT_MAX_OFFICES - 1) / 2 + 5) + 4 * RINGKIT_MAX_ROWS, "no padding");
+
+enum { RING = 6 };
+
+/* The same rows by place, in a plain list; a first node of 0 is a free place. */
+static struct row {
+    uint32_t first, second, amount;
+} list[RINGKIT_MAX_ROWS + 1];
+
+static uint8_t *work_area;
+static ringkit_work *work;
+static ringkit_work before;
+
+static uint32_t lowest_free(void)
+{
+    uint32_t place = 1;
+    while (place <= RINGKIT_MAX_ROWS && list[place].first != 0) {
+        place++;
+    }
+    return place;
+}
+
+static bool between(uint32_t node, uint32_t g, uint32_t h)
+{
+    return g < node && node <= h;
+}
+
+static uint32_t across(uint32_t g, uint32_t h)
+{
+    uint32_t sum = 0;
+    for (uint32_t place = 1; place <= RINGKIT_MAX_ROWS; place++) {
+        const struct row *row = &list[place];
+        sum += between(row->first, g, h) != between(row->second, g, h) ? row->amount : 0;
+    }
+    return sum;
+}
+
+/* Whether an answer has that place, and the first of the largest cuts of the list. */
+static bool answers(ringkit_work_reply reply, uint32_t place)
+{
+    uint32_t g = 1, h = 2, most_across = across(1, 2);
+    for (uint32_t a = 1; a < RING; a++) {
+        for (uint32_t b = a + 1; b <= RING; b++) {
+            uint32_t sum = across(a, b);
+            if (sum > most_across) {
+                g = a;
+                h = b;
+                most_across = sum;
+            }
+        }
+    }
+    return reply.reason == RINGKIT_OK && reply.line == 0 && reply.place == place && reply.g == g && reply.h == h && reply.across == most_across;
+}
+
+/* Whether a call refused for that reason, and changed no byte. */
+static bool refuses(ringkit_work_reply reply, uint32_t reason)
+{
+    return reply.reason == reason && reply.line == 0 && reply.place == 0 && reply.g == 0 && reply.h == 0 && reply.across == 0 && memcmp(work, &before, sizeof before) == 0;
+}
+
+static struct row some_row(unsigned seed)
+{
+    uint32_t first = 1 + seed % (RING - 1);
+    return (struct row){first, first + 1 + seed / 7 % (RING - first), mixed(seed, 3)};
+}
+
+static void add_row(unsigned seed)
+{
+    struct row row = some_row(seed);
+    uint32_t place = lowest_free();
+    list[place] = row;
+    expect(answers(ringkit_work_add(work, row.first, row.second, row.amount), place), "work: adding at place %u", (unsigned)place);
+}
+
+static void change_row(uint32_t place, unsigned seed)
+{
+    list[place] = some_row(seed);
+    expect(answers(ringkit_work_change(work, place, list[place].first, list[place].second, list[place].amount), place), "work: changing place %u", (unsigned)place);
+}
+
+static void remove_row(uint32_t place)
+{
+    list[place] = (struct row){0, 0, 0};
+    expect(answers(ringkit_work_remove(work, place), place), "work: removing place %u", (unsigned)place);
+}
+
+/* Every place holds the row of the list; the table cannot be written to meanwhile. */
+static void test_work_rows(void)
+{
+    bool good = true;
+    need(mprotect(work_area, AREA, PROT_READ) == 0, "mprotect");
+    for (uint32_t place = 0; place <= RINGKIT_MAX_ROWS + 1; place++) {
+        bool taken = place >= 1 && place <= RINGKIT_MAX_ROWS && list[place].first != 0;
+        struct row due = taken ? list[place] : (struct row){0, 0, 0};
+        ringkit_work_row_reply row = ringkit_work_row(work, place);
+        good = good && row.reason == (taken ? RINGKIT_OK : RINGKIT_NO_ROW) && row.line == 0 && row.first == due.first && row.second == due.second && row.amount == due.amount;
+    }
+    expect(good, "work: the row at a place");
+    need(mprotect(work_area, AREA, PROT_READ | PROT_WRITE) == 0, "mprotect");
+}
+
+/* Writes without a text; it is not looked at. */
+static ringkit_reply write_work(const uint8_t *text, size_t length, uint8_t *buffer, size_t room)
+{
+    (void)text;
+    (void)length;
+    return ringkit_work_write(work, buffer, room);
+}
+
+/* The table of the list: by nodes, then by place. */
+static void list_to_table(void)
+{
+    table.length = 0;
+    add(&table, "R\t%u\t2\n", (unsigned)RING);
+    for (uint32_t i = 1; i < RING; i++) {
+        for (uint32_t j = i + 1; j <= RING; j++) {
+            for (uint32_t place = 1; place <= RINGKIT_MAX_ROWS; place++) {
+                if (list[place].first == i && list[place].second == j) {
+                    add(&table, "D\t%u\t%u\t%u\n", (unsigned)i, (unsigned)j, (unsigned)list[place].amount);
+                }
+            }
+        }
+    }
+}
+
+static void test_work_text(const char *name)
+{
+    list_to_table();
+    need(mprotect(work_area, AREA, PROT_READ) == 0, "mprotect");
+    writes(name, write_work, &NOTHING, &table);
+    expect(says(lend(write_work, &NOTHING, RINGKIT_TABLE_BYTES), RINGKIT_OK, 0, table.length), "%s: the room that suffices does not", name);
+    need(mprotect(work_area, AREA, PROT_READ | PROT_WRITE) == 0, "mprotect");
+    route(name);
+}
+
+static void test_work_refusals(void)
+{
+    before = *work;
+    expect(refuses(ringkit_work_start(work, RINGKIT_MAX_OFFICES + 1, 3), RINGKIT_RING_SIZE), "work: 33 offices");
+    expect(refuses(ringkit_work_start(work, RINGKIT_MIN_OFFICES, 3), RINGKIT_FIBRES), "work: three fibres");
+    expect(refuses(ringkit_work_change(work, 0, 9, 9, 10000), RINGKIT_NO_ROW), "work: place 0");
+    expect(refuses(ringkit_work_change(work, RINGKIT_MAX_ROWS + 1, 9, 9, 10000), RINGKIT_NO_ROW), "work: place 497");
+    expect(refuses(ringkit_work_remove(work, UINT32_MAX), RINGKIT_NO_ROW), "work: the last place of all");
+    expect(refuses(ringkit_work_change(work, 1, RING + 1, 1, 10000), RINGKIT_NO_SUCH_NODE), "work: no such node");
+    expect(refuses(ringkit_work_add(work, 2, 257, 10000), RINGKIT_NO_SUCH_NODE), "work: a node of more than 8 bits");
+    expect(refuses(ringkit_work_add(work, 2, 2, 10000), RINGKIT_NOT_BELOW), "work: not below");
+    expect(refuses(ringkit_work_add(work, 1, 2, 65537), RINGKIT_TOO_MUCH), "work: an amount of more than 16 bits");
+    expect(refuses(ringkit_work_add(work, 1, 2, 10000), RINGKIT_TOO_MUCH), "work: too much");
+    expect(refuses(ringkit_work_add(work, 1, 2, 1), RINGKIT_FULL), "work: a full table");
+}
+
+/* A struct of any bytes: two calls on equal bytes give equal bytes and equal answers. */
+static void test_any_bytes(unsigned seed)
+{
+    uint8_t *bytes = (uint8_t *)work;
+    for (size_t k = 0; k < sizeof *work; k++) {
+        seed = seed * 1664525 + 1013904223;
+        bytes[k] = (uint8_t)(seed >> 24);
+    }
+    before = *work;
+    ringkit_work_reply once = ringkit_work_change(work, 7, 1, 2, 3);
+    ringkit_work_reply again = ringkit_work_change(&before, 7, 1, 2, 3);
+    expect(memcmp(&once, &again, sizeof once) == 0 && memcmp(work, &before, sizeof before) == 0, "work: any bytes, altered");
+    ringkit_reply written = lend(write_work, &NOTHING, AREA);
+    expect(written.line == 0 && written.length <= AREA, "work: any bytes, written");
+    expect(memcmp(work, &before, sizeof before) == 0, "work: writing alters the table");
+}
+
+static void test_work(void)
+{
+    work = (ringkit_work *)(void *)(work_area + AREA - sizeof *work);
+    memset(work_area, PATTERN, AREA);
+    expect(answers(ringkit_work_start(work, RING, RINGKIT_TWO_FIBRES), 0), "work: starting");
+    test_work_text("an empty working table");
+    for (unsigned k = 0; k < RINGKIT_MAX_ROWS; k++) {
+        add_row(k * 31);
+    }
+    test_work_refusals();
+    test_work_rows();
+    test_work_text("a full working table");
+    for (uint32_t place = 3; place <= RINGKIT_MAX_ROWS; place += 5) {
+        change_row(place, place * 17);
+        remove_row(place - 1);
+    }
+    test_work_rows();
+    test_work_text("a working table with gaps");
+    add_row(5);
+    for (uint32_t place = RINGKIT_MAX_ROWS; place >= 1; place--) {
+        if (list[place].first != 0) {
+            remove_row(place);
+        }
+    }
+    test_work_text("a working table emptied");
+    expect(untouched(work_area, (uint8_t *)work), "work: bytes before the table are touched");
+    for (unsigned seed = 0; seed < 20; seed++) {
+        test_any_bytes(seed);
+    }
+}
+
 /* ---- what the header says of limits, and of no text at all */
 
 /* Both calls that route or rewrite give the table that reason and line. */
@@ -357,6 +558,7 @@ static void *test_texts(void *unused)
     test_pair();
     test_limits();
     test_matrices();
+    test_work();
     all_pairs(20);
     test_table("all pairs of 20 offices");
     all_pairs(RINGKIT_MAX_OFFICES);
@@ -414,6 +616,7 @@ int main(void)
 {
     text_area = fenced_area();
     buffer_area = fenced_area();
+    work_area = fenced_area();
     test_small_stack();
     test_side_by_side();
     printf("%u passed, %u failed\n", passed, failed);

@@ -15,6 +15,7 @@ static const char TABLE[] = "R\t2\t4\nD\t1\t2\t5\n";
 static const char SHEET[] = "R\t2\t4\nD\t1\t2\t5\t5\t5\tF\nC\t1\t2\t5\nL\t1\t5\t5\nL\t2\t5\t0\nZ\t5\t12\n";
 static const char MATRIX[] = "0\t5\n5\t0\n";
 static uint8_t buffer[sizeof SHEET];
+static ringkit_work work;
 
 static const uint8_t *bytes(const char *text)
 {
@@ -56,12 +57,43 @@ static uint32_t write_matrix(void)
     return ringkit_write_matrix(bytes(TABLE), sizeof TABLE - 1, buffer, sizeof buffer).reason;
 }
 
+static uint32_t work_start(void)
+{
+    return ringkit_work_start(&work, 2, 4).reason;
+}
+
+static uint32_t work_add(void)
+{
+    return ringkit_work_add(&work, 1, 2, 5).reason;
+}
+
+static uint32_t work_change(void)
+{
+    return ringkit_work_change(&work, 1, 1, 2, 5).reason;
+}
+
+static uint32_t work_remove(void)
+{
+    return ringkit_work_remove(&work, 1).reason;
+}
+
+static uint32_t work_row(void)
+{
+    return ringkit_work_row(&work, 1).reason;
+}
+
+static uint32_t work_write(void)
+{
+    return ringkit_work_write(&work, buffer, sizeof buffer).reason;
+}
+
 static const struct named {
     const char *name;
     uint32_t (*call)(void);
 } CALLS[] = {
     {"ringkit_route", route}, {"ringkit_rewrite_table", rewrite_table}, {"ringkit_rewrite_sheet", rewrite_sheet}, {"ringkit_check", check}, {"ringkit_parallel", parallel},
-    {"ringkit_read_matrix", read_matrix}, {"ringkit_write_matrix", write_matrix},
+    {"ringkit_read_matrix", read_matrix}, {"ringkit_write_matrix", write_matrix}, {"ringkit_work_start", work_start}, {"ringkit_work_add", work_add},
+    {"ringkit_work_change", work_change}, {"ringkit_work_remove", work_remove}, {"ringkit_work_row", work_row}, {"ringkit_work_write", work_write},
 };
 
 struct dive {
@@ -110,6 +142,8 @@ int main(int count, char **words)
         fputs("usage: stack CALL\n", stderr);
         return 2;
     }
+    /* one row of two offices at place 1, as calls would make it: they may not be made, since the one that is measured is the first */
+    work = (ringkit_work){.n = 2, .fibres = 4, .g = 1, .h = 2, .across = 5, .triangle = {5}, .first = {1}, .second = {2}, .amount = {5}};
     size_t depth = touched(&d);
     printf("%s: %zu bytes of stack\n", d.named->name, depth);
     return d.reason == RINGKIT_OK && depth > 0 && depth <= RINGKIT_STACK_BYTES ? 0 : 1;
