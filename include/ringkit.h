@@ -132,6 +132,34 @@ ringkit_reply ringkit_read_matrix(const uint8_t *matrix, size_t matrix_length, u
  * fibres of its R line. */
 ringkit_reply ringkit_write_matrix(const uint8_t *table, size_t table_length, uint8_t *buffer, size_t buffer_length);
 
+/* The working table: lent by the desk, 496 places; its fields are the library's. */
+typedef struct ringkit_work {
+    uint32_t triangle[496];
+    uint32_t n;
+    uint32_t fibres;
+    uint32_t g;
+    uint32_t h;
+    uint32_t across;
+    uint16_t amount[496];
+    uint8_t first[496];
+    uint8_t second[496];
+} ringkit_work;
+
+typedef struct ringkit_work_reply {
+    uint32_t reason, line, place, g, h, across;
+} ringkit_work_reply;
+
+typedef struct ringkit_work_row_reply {
+    uint32_t reason, line, first, second, amount;
+} ringkit_work_row_reply;
+
+ringkit_work_reply ringkit_work_start(ringkit_work *work, uint32_t n, uint32_t fibres);
+ringkit_work_reply ringkit_work_add(ringkit_work *work, uint32_t first, uint32_t second, uint32_t amount);
+ringkit_work_reply ringkit_work_change(ringkit_work *work, uint32_t place, uint32_t first, uint32_t second, uint32_t amount);
+ringkit_work_reply ringkit_work_remove(ringkit_work *work, uint32_t place);
+ringkit_work_row_reply ringkit_work_row(const ringkit_work *work, uint32_t place);
+ringkit_reply ringkit_work_write(const ringkit_work *work, uint8_t *buffer, size_t buffer_length);
+
 #ifdef __cplusplus
 }
 #endif
