@@ -11,7 +11,8 @@
 //! `--cfg mock` and no library, the twin stands in for the library. Built with
 //! `--cfg remote`, it asks a process that has the library.
 //!
-//! `twin --working [SEED [COUNT]]` compares the working table alone.
+//! `twin --working [SEED [COUNT]]` compares the working table alone, and `twin
+//! --working-mutants [SEED [COUNT]]` lists which of its faults are caught.
 //!
 //! `twin --cases` answers the stored cases given on standard input by itself,
 //! without the library, so that its reading is compared with the one that wrote
@@ -420,11 +421,13 @@ fn working_places(mutant: &'static Mutant, seed: u64, count: u64) -> usize {
     places
 }
 
-/// Which faults are caught, and where. True when all are, and when what comes
-/// to the same never differs.
-fn mutants(seed: u64, count: u64) -> bool {
-    let (mut caught, mut equal) = (0, 0);
+/// How many of the faults asked for are caught, and where.
+fn caught(seed: u64, count: u64, asked: fn(&Mutant) -> bool) -> usize {
+    let mut caught = 0;
     for (at, mutant) in faults().into_iter().enumerate() {
+        if !asked(mutant) {
+            continue;
+        }
         println!("{}. {}", at + 1, mutant.name);
         let places = places(mutant, seed, count);
         let word = if places > 0 { "caught" } else { "MISSED" };
@@ -436,6 +439,22 @@ fn mutants(seed: u64, count: u64) -> bool {
         println!("    {word}: {places} of {groups} groups");
         caught += usize::from(places > 0);
     }
+    caught
+}
+
+/// Those of the working table alone. True when all are caught.
+fn working_mutants(seed: u64, count: u64) -> bool {
+    let all = faults().iter().filter(|fault| fault.of_working()).count();
+    let caught = caught(seed, count, Mutant::of_working);
+    println!("{caught} of {all} faults of the working table caught");
+    caught == all
+}
+
+/// Which faults are caught, and where. True when all are, and when what comes
+/// to the same never differs.
+fn mutants(seed: u64, count: u64) -> bool {
+    let mut equal = 0;
+    let caught = caught(seed, count, |_| true);
     for mutant in &SAME {
         println!("comes to the same: {}", mutant.name);
         let places = places(mutant, seed, count);
@@ -466,7 +485,7 @@ fn asked() -> Option<Asked> {
     let words: Vec<String> = std::env::args().skip(1).collect();
     let mode = words.first().map_or("", |word| word.as_str());
     let taken = match mode {
-        "--cases" | "--mutants" | "--working" => 1,
+        "--cases" | "--mutants" | "--working" | "--working-mutants" => 1,
         "--mutant" => 2,
         _ => 0,
     };
@@ -479,8 +498,8 @@ fn asked() -> Option<Asked> {
     }
     (numbers.len() <= 2).then_some(Asked {
         cases: mode == "--cases",
-        mutants: mode == "--mutants",
-        working: mode == "--working",
+        mutants: mode.ends_with("mutants"),
+        working: mode.starts_with("--working"),
         kit,
         seed: numbers.first().copied().unwrap_or(SEED),
         count: numbers.get(1).copied(),
@@ -489,7 +508,7 @@ fn asked() -> Option<Asked> {
 
 fn main() -> ExitCode {
     let Some(asked) = asked() else {
-        eprintln!("usage: twin --cases | twin [--working | --mutants | --mutant K] [SEED [COUNT]]");
+        eprintln!("usage: twin --cases | twin [--working | --mutants | --working-mutants | --mutant K] [SEED [COUNT]]");
         return ExitCode::from(2);
     };
     if asked.cases {
@@ -497,7 +516,12 @@ fn main() -> ExitCode {
     }
     let seed = asked.seed;
     if asked.mutants {
-        let good = mutants(seed, asked.count.unwrap_or(MUTANT_COUNT));
+        let count = asked.count.unwrap_or(MUTANT_COUNT);
+        let good = if asked.working {
+            working_mutants(seed, count)
+        } else {
+            mutants(seed, count)
+        };
         return ExitCode::from(u8::from(!good));
     }
     let count = asked.count.unwrap_or(COUNT);

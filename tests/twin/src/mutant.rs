@@ -13,7 +13,7 @@ use crate::table::{self, Refusal, Row, RowReason, Table};
 use crate::text_faults::*;
 use crate::twin::{self, Answer, Call, Reply, Said};
 use crate::working::{Ask, Told};
-use crate::working_faults::{stand_in, Habits, SOUND, WORKING_FAULTS};
+use crate::working_faults::{stand_in, Habits, BY_H, SOUND, WORKING_FAULTS};
 use std::ops::Range;
 
 pub struct Mutant {
@@ -469,7 +469,8 @@ static FAULTS: [Mutant; 147] = [
 ///   peak is never below a true across number.
 ///
 /// - A matrix that is accepted is symmetric, so either half says the same.
-pub static SAME: [Mutant; 9] = [
+pub static SAME: [Mutant; 10] = [
+    working("working: equal cuts by h, then g", BY_H),
     plan("A: tie to the smallest h, then g", a_by_h),
     plan("C: disjoint fronts skipped", c_disjoint),
     plan("C: fronts that touch taken for crossing", c_touching),

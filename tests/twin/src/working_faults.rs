@@ -238,13 +238,14 @@ fn amount_alone(kept: &mut Kept, ask: &Ask) -> u32 {
     }
 }
 
-/// A later start that leaves some of the old table.
+/// A later start that leaves some of the old table, where calls have made it.
 fn starting(kept: &mut Kept, ask: &Ask, keep_rows: bool) -> u32 {
     let (rows, across) = (kept.table.places.clone(), kept.across.clone());
+    let later = (1..=32).contains(&kept.cut.g);
     let place = keep(kept, ask);
     match ask {
-        Ask::Start { .. } if keep_rows => kept.table.places = rows,
-        Ask::Start { .. } => kept.across = across,
+        Ask::Start { .. } if later && keep_rows => kept.table.places = rows,
+        Ask::Start { .. } if later => kept.across = across,
         _ => (),
     }
     place
@@ -342,10 +343,14 @@ const fn writing(write: fn(&Answer, &mut [u8]) -> Reply) -> Habits {
 
 const FULL_AT_495: Question = (21, |table, _, _| table.taken().len() >= PLACES - 1);
 const TOO_MUCH_LATE: Question = (7, |_, _, row| row[2] > 10_000);
-const ONE_OFFICE: Question = (3, |_, _, ring| ring[0] < 1 || ring[0] > 32);
+const TWO_OFFICES: Question = (3, |_, _, ring| ring[0] < 3 || ring[0] > 32);
+const MORE_OFFICES: Question = (3, |_, _, ring| ring[0] < 2 || ring[0] > 33);
 const NO_ROW_OF_0: Question = (22, |table, place, _| {
     table.at(place).is_none_or(|row| row.d == 0)
 });
+
+/// Comes to the same.
+pub const BY_H: Habits = cutting(smallest_h);
 
 pub static WORKING_FAULTS: [Mutant; 39] = [
     working(
@@ -390,7 +395,6 @@ pub static WORKING_FAULTS: [Mutant; 39] = [
         "working: the last of equal cuts",
         cutting(|kept| largest(kept, |across, best| across >= best)),
     ),
-    working("working: equal cuts by h, then g", cutting(smallest_h)),
     working(
         "working: the old cut while it is as large",
         cutting(|kept| {
@@ -478,7 +482,14 @@ pub static WORKING_FAULTS: [Mutant; 39] = [
     ),
     working("working: 20 before 3", started(&[FIBRES, RING_SIZE])),
     working("working: 20 never", started(&[RING_SIZE])),
-    working("working: one office taken", started(&[ONE_OFFICE, FIBRES])),
+    working(
+        "working: two offices refused",
+        started(&[TWO_OFFICES, FIBRES]),
+    ),
+    working(
+        "working: 33 offices taken",
+        started(&[MORE_OFFICES, FIBRES]),
+    ),
     working(
         "working: places in 16 bits",
         hearing(|ask| narrow(ask, 0xffff, !0, !0)),
