@@ -14,7 +14,7 @@ use crate::working::{RowReply, WorkReply};
 #[cfg(not(any(mock, remote)))]
 use crate::working_compare::GUARD_WORDS;
 #[cfg(mock)]
-use crate::working_faults::{stand_in, SOUND};
+use crate::working_stand_in::{stand_in, SOUND};
 use std::ops::Range;
 
 /// What answers the calls.

@@ -50,6 +50,7 @@ mod working_faults;
 mod working_groups;
 mod working_run;
 mod working_selfcheck;
+mod working_stand_in;
 
 use compare::{compare, describe, shrink, Case};
 use groups::{Group, GROUPS, SHARES};

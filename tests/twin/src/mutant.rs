@@ -13,7 +13,8 @@ use crate::table::{self, Refusal, Row, RowReason, Table};
 use crate::text_faults::*;
 use crate::twin::{self, Answer, Call, Reply, Said};
 use crate::working::{Ask, Told};
-use crate::working_faults::{stand_in, Habits, BY_H, SOUND, WORKING_FAULTS};
+use crate::working_faults::{BY_H, WORKING_FAULTS};
+use crate::working_stand_in::{stand_in, Habits, SOUND};
 use std::ops::Range;
 
 pub struct Mutant {
