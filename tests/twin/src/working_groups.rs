@@ -252,7 +252,7 @@ fn every_place(desk: &mut Desk, rng: &mut Rng) -> Compared<()> {
 }
 
 /// Every length up to two more than the need of a few rows, two of them of the
-/// same nodes, and the lengths about the need of more.
+/// same nodes, and the lengths about the need of more and of the most.
 fn every_length(desk: &mut Desk, rng: &mut Rng) -> Compared<()> {
     let n = desk.table.n as u32;
     for row in [[1, n, 9_999], [1, 2, 5], [1, 2, 0], [1, 2, 4]] {
@@ -269,6 +269,20 @@ fn every_length(desk: &mut Desk, rng: &mut Rng) -> Compared<()> {
         for lend in LENDS {
             desk.ask(Ask::Write(lend))?;
         }
+    }
+    desk.routed()?;
+    longest(desk)
+}
+
+/// The longest text there is, and the largest across number.
+fn longest(desk: &mut Desk) -> Compared<()> {
+    let (n, fibres) = (32, 4);
+    desk.ask(Ask::Start { n, fibres })?;
+    for _ in 0..PLACES {
+        desk.ask(Ask::Add([31, 32, 9_999]))?;
+    }
+    for lend in LENDS {
+        desk.ask(Ask::Write(lend))?;
     }
     desk.routed()
 }
