@@ -19,7 +19,7 @@ pub enum Lend {
 pub const NONE: Lend = Lend::Exactly(0);
 
 impl Lend {
-    fn length(self, answer: &Answer) -> usize {
+    pub fn length(self, answer: &Answer) -> usize {
         let need = answer.as_ref().map_or(40, |granted| granted.text.len());
         match self {
             Lend::Exactly(length) => length,
@@ -49,7 +49,7 @@ pub struct Mismatch {
 }
 
 /// The pattern that fills the buffer before a call.
-fn pattern(length: usize, salt: u64) -> Vec<u8> {
+pub fn pattern(length: usize, salt: u64) -> Vec<u8> {
     let mut bytes = Vec::with_capacity(length);
     for at in 0..length as u64 {
         let mixed = (at + 1).wrapping_mul(salt.wrapping_mul(2) + 0x9e37_79b9_7f4a_7c15);

@@ -4,10 +4,17 @@
 
 use crate::mutant::Mutant;
 #[cfg(remote)]
-use crate::remote::library;
+use crate::remote::{library, library_work};
 use crate::twin::{Call, Said};
 #[cfg(not(any(mock, remote)))]
 use crate::twin::{Pair, Reply};
+use crate::working::{Ask, Told};
+#[cfg(not(any(mock, remote)))]
+use crate::working::{RowReply, WorkReply};
+#[cfg(not(any(mock, remote)))]
+use crate::working_compare::GUARD_WORDS;
+#[cfg(mock)]
+use crate::working_stand_in::{stand_in, SOUND};
 use std::ops::Range;
 
 /// What answers the calls.
@@ -25,6 +32,15 @@ impl Kit {
         match self {
             Kit::Library => library(call, text, area, lent),
             Kit::Mutant(mutant) => mutant.call(call, text, area, lent),
+        }
+    }
+
+    /// One call of the working table, which lies in `words` between those that
+    /// are not lent.
+    pub fn work(self, ask: &Ask, words: &mut [u32], area: &mut [u8], lent: Range<usize>) -> Told {
+        match self {
+            Kit::Library => library_work(ask, words, area, lent),
+            Kit::Mutant(mutant) => mutant.work(ask, words, &mut area[lent]),
         }
     }
 }
@@ -67,6 +83,18 @@ extern "C" {
         buffer_ptr: *mut u8,
         buffer_len: usize,
     ) -> Reply;
+    fn ringkit_work_start(work: *mut u32, n: u32, fibres: u32) -> WorkReply;
+    fn ringkit_work_add(work: *mut u32, first: u32, second: u32, amount: u32) -> WorkReply;
+    fn ringkit_work_change(
+        work: *mut u32,
+        place: u32,
+        first: u32,
+        second: u32,
+        amount: u32,
+    ) -> WorkReply;
+    fn ringkit_work_remove(work: *mut u32, place: u32) -> WorkReply;
+    fn ringkit_work_row(work: *const u32, place: u32) -> RowReply;
+    fn ringkit_work_write(work: *const u32, buffer_ptr: *mut u8, buffer_len: usize) -> Reply;
 }
 
 #[cfg(not(any(mock, remote)))]
@@ -92,6 +120,31 @@ fn library(call: Call, text: &mut [u8], area: &mut [u8], lent: Range<usize>) -> 
     // SAFETY: both pointers come from slices of the lengths given, which live
     // through the call and do not overlap.
     Said::Reply(unsafe { write(text_ptr, text_len, buffer.as_mut_ptr(), buffer.len()) })
+}
+
+#[cfg(not(any(mock, remote)))]
+fn library_work(ask: &Ask, words: &mut [u32], area: &mut [u8], lent: Range<usize>) -> Told {
+    let buffer = &mut area[lent];
+    let work = words[GUARD_WORDS..].as_mut_ptr();
+    // SAFETY: the table's words lie at the pointer, which is aligned as they are,
+    // and live through the call; the buffer is another slice.
+    unsafe {
+        match *ask {
+            Ask::Start { n, fibres } => Told::Work(ringkit_work_start(work, n, fibres)),
+            Ask::Add([i, j, d]) => Told::Work(ringkit_work_add(work, i, j, d)),
+            Ask::Change(place, [i, j, d]) => Told::Work(ringkit_work_change(work, place, i, j, d)),
+            Ask::Remove(place) => Told::Work(ringkit_work_remove(work, place)),
+            Ask::Row(place) => Told::Row(ringkit_work_row(work, place)),
+            Ask::Write(_) => {
+                Told::Text(ringkit_work_write(work, buffer.as_mut_ptr(), buffer.len()))
+            }
+        }
+    }
+}
+
+#[cfg(mock)]
+fn library_work(ask: &Ask, words: &mut [u32], area: &mut [u8], lent: Range<usize>) -> Told {
+    stand_in(&SOUND, ask, words, &mut area[lent])
 }
 
 #[cfg(mock)]

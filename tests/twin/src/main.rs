@@ -1,6 +1,6 @@
 //! The twin: ring routing, the checking of sheets and the reading and writing of
-//! matrices written once more from the sentences of 01 and of 02's K1 to K3
-//! alone, and compared with the library call by call and byte by byte.
+//! matrices written once more from the sentences of 01 and of 02's K1 to K4
+//! alone, the working table among them, and compared with the library call by call and byte by byte.
 //!
 //! `twin [SEED [COUNT]]` compares: the lists in full and COUNT random
 //! comparisons. The exit status is 0 only when nothing failed.
@@ -10,6 +10,9 @@
 //! [COUNT]]` puts the K-th fault in the library's place, from 1. Built with
 //! `--cfg mock` and no library, the twin stands in for the library. Built with
 //! `--cfg remote`, it asks a process that has the library.
+//!
+//! `twin --working [SEED [COUNT]]` compares the working table alone, and `twin
+//! --working-mutants [SEED [COUNT]]` lists which of its faults are caught.
 //!
 //! `twin --cases` answers the stored cases given on standard input by itself,
 //! without the library, so that its reading is compared with the one that wrote
@@ -40,6 +43,14 @@ mod stored;
 mod table;
 mod text_faults;
 mod twin;
+mod working;
+mod working_bytes;
+mod working_compare;
+mod working_faults;
+mod working_groups;
+mod working_run;
+mod working_selfcheck;
+mod working_stand_in;
 
 use compare::{compare, describe, shrink, Case};
 use groups::{Group, GROUPS, SHARES};
@@ -51,6 +62,8 @@ use std::process::ExitCode;
 use std::time::Instant;
 use table::Table;
 use twin::{Answer, Call, Said, CALLS};
+use working_compare::WorkTally;
+use working_groups::WORKING_GROUPS;
 
 const SEED: u64 = 20_010_496;
 const COUNT: u64 = 129_000;
@@ -249,6 +262,8 @@ fn self_checks(seed: u64) -> (u64, u64) {
         ("self-check: circuits", selfcheck::circuits()),
         ("self-check: matrices", matrix_selfcheck::matrices()),
         ("self-check: sums", matrix_selfcheck::sums()),
+        ("self-check: working table", working_selfcheck::square()),
+        ("self-check: full working table", working_selfcheck::full()),
         ("self-check: theorems", selfcheck::random_theorems(seed)),
     ])
 }
@@ -364,8 +379,19 @@ fn print_counts(tally: &Tally) -> (u64, u64) {
     (passed, demands.len() as u64 - passed)
 }
 
+/// The groups of the working table and their counts: how many passed and failed.
+fn working_table(kit: Kit, seed: u64, count: u64) -> (u64, u64) {
+    let mut tally = WorkTally::default();
+    let (passed, failed) = working_run::all_groups(kit, (seed, count), &mut tally);
+    let (seen, unseen) = working_run::print_counts(&tally);
+    (passed + seen, failed + unseen)
+}
+
 /// The groups that catch a mutant: in how many places.
 fn places(mutant: &'static Mutant, seed: u64, count: u64) -> usize {
+    if mutant.of_working() {
+        return working_places(mutant, seed, count);
+    }
     let mut places = 0;
     for (at, group) in GROUPS.iter().enumerate() {
         let mut run = Run {
@@ -383,17 +409,53 @@ fn places(mutant: &'static Mutant, seed: u64, count: u64) -> usize {
     places
 }
 
-/// Which faults are caught, and where. True when all are, and when what comes
-/// to the same never differs.
-fn mutants(seed: u64, count: u64) -> bool {
-    let (mut caught, mut equal) = (0, 0);
+/// The same of a fault that no text shows.
+fn working_places(mutant: &'static Mutant, seed: u64, count: u64) -> usize {
+    let mut places = 0;
+    for (at, group) in WORKING_GROUPS.iter().enumerate() {
+        let (kit, tally) = (Kit::Mutant(mutant), &mut WorkTally::default());
+        if let Some((number, _)) = working_run::group(kit, (seed, count), at, false, tally) {
+            println!("    caught by {}, case {number}", group.name);
+            places += 1;
+        }
+    }
+    places
+}
+
+/// How many of the faults asked for are caught, and where.
+fn caught(seed: u64, count: u64, asked: fn(&Mutant) -> bool) -> usize {
+    let mut caught = 0;
     for (at, mutant) in faults().into_iter().enumerate() {
+        if !asked(mutant) {
+            continue;
+        }
         println!("{}. {}", at + 1, mutant.name);
         let places = places(mutant, seed, count);
         let word = if places > 0 { "caught" } else { "MISSED" };
-        println!("    {word}: {places} of {} groups", GROUPS.len());
+        let groups = if mutant.of_working() {
+            WORKING_GROUPS.len()
+        } else {
+            GROUPS.len()
+        };
+        println!("    {word}: {places} of {groups} groups");
         caught += usize::from(places > 0);
     }
+    caught
+}
+
+/// Those of the working table alone. True when all are caught.
+fn working_mutants(seed: u64, count: u64) -> bool {
+    let all = faults().iter().filter(|fault| fault.of_working()).count();
+    let caught = caught(seed, count, Mutant::of_working);
+    println!("{caught} of {all} faults of the working table caught");
+    caught == all
+}
+
+/// Which faults are caught, and where. True when all are, and when what comes
+/// to the same never differs.
+fn mutants(seed: u64, count: u64) -> bool {
+    let mut equal = 0;
+    let caught = caught(seed, count, |_| true);
     for mutant in &SAME {
         println!("comes to the same: {}", mutant.name);
         let places = places(mutant, seed, count);
@@ -414,6 +476,7 @@ fn mutants(seed: u64, count: u64) -> bool {
 struct Asked {
     cases: bool,
     mutants: bool,
+    working: bool,
     kit: Kit,
     seed: u64,
     count: Option<u64>,
@@ -423,7 +486,7 @@ fn asked() -> Option<Asked> {
     let words: Vec<String> = std::env::args().skip(1).collect();
     let mode = words.first().map_or("", |word| word.as_str());
     let taken = match mode {
-        "--cases" | "--mutants" => 1,
+        "--cases" | "--mutants" | "--working" | "--working-mutants" => 1,
         "--mutant" => 2,
         _ => 0,
     };
@@ -436,7 +499,8 @@ fn asked() -> Option<Asked> {
     }
     (numbers.len() <= 2).then_some(Asked {
         cases: mode == "--cases",
-        mutants: mode == "--mutants",
+        mutants: mode.ends_with("mutants"),
+        working: mode.starts_with("--working"),
         kit,
         seed: numbers.first().copied().unwrap_or(SEED),
         count: numbers.get(1).copied(),
@@ -445,7 +509,7 @@ fn asked() -> Option<Asked> {
 
 fn main() -> ExitCode {
     let Some(asked) = asked() else {
-        eprintln!("usage: twin --cases | twin [--mutants | --mutant K] [SEED [COUNT]]");
+        eprintln!("usage: twin --cases | twin [--working | --mutants | --working-mutants | --mutant K] [SEED [COUNT]]");
         return ExitCode::from(2);
     };
     if asked.cases {
@@ -453,18 +517,29 @@ fn main() -> ExitCode {
     }
     let seed = asked.seed;
     if asked.mutants {
-        let good = mutants(seed, asked.count.unwrap_or(MUTANT_COUNT));
+        let count = asked.count.unwrap_or(MUTANT_COUNT);
+        let good = if asked.working {
+            working_mutants(seed, count)
+        } else {
+            mutants(seed, count)
+        };
         return ExitCode::from(u8::from(!good));
     }
     let count = asked.count.unwrap_or(COUNT);
+    if asked.working {
+        let (passed, failed) = working_table(asked.kit, seed, count);
+        println!("{passed} passed, {failed} failed");
+        return ExitCode::from(u8::from(failed > 0));
+    }
     println!("seed {seed}, {count} random comparisons and the lists");
     let mut tally = Tally::default();
     let (own_passed, own_failed) = self_checks(seed);
     let (back, not_back) = ways_there_and_back(asked.kit, seed);
     let (passed, failed) = all_groups(asked.kit, seed, count, &mut tally);
     let (seen, unseen) = print_counts(&tally);
-    let passed = own_passed + back + passed + seen;
-    let failed = own_failed + not_back + failed + unseen;
+    let (worked, not_worked) = working_table(asked.kit, seed, count);
+    let passed = own_passed + back + passed + seen + worked;
+    let failed = own_failed + not_back + failed + unseen + not_worked;
     println!("{passed} passed, {failed} failed");
     ExitCode::from(u8::from(failed > 0))
 }

@@ -12,6 +12,9 @@ use crate::sheet;
 use crate::table::{self, Refusal, Row, RowReason, Table};
 use crate::text_faults::*;
 use crate::twin::{self, Answer, Call, Reply, Said};
+use crate::working::{Ask, Told};
+use crate::working_faults::{BY_H, WORKING_FAULTS};
+use crate::working_stand_in::{stand_in, Habits, SOUND};
 use std::ops::Range;
 
 pub struct Mutant {
@@ -38,6 +41,7 @@ enum How {
     Pairs(fn(&Matrix) -> Table),
     Sums(fn(&[u8]) -> Result<Matrix, Refusal>),
     Square(fn(&Matrix) -> Vec<u8>),
+    Working(Habits),
 }
 
 impl Mutant {
@@ -55,6 +59,19 @@ impl Mutant {
             }
             _ => twin::say(call, &answer, &mut area[lent]),
         }
+    }
+
+    /// One call of the working table.
+    pub fn work(&self, ask: &Ask, words: &mut [u32], buffer: &mut [u8]) -> Told {
+        match &self.how {
+            How::Working(habits) => stand_in(habits, ask, words, buffer),
+            _ => stand_in(&SOUND, ask, words, buffer),
+        }
+    }
+
+    /// Whether the fault lies in the working table.
+    pub fn of_working(&self) -> bool {
+        matches!(self.how, How::Working(_))
     }
 
     fn read_table(&self, text: &[u8]) -> Result<Table, Refusal> {
@@ -123,9 +140,16 @@ impl Mutant {
     }
 }
 
-/// All faults, those of a matrix last.
+/// All faults, those of a matrix behind the others and those of the working table
+/// last.
 pub fn faults() -> Vec<&'static Mutant> {
-    FAULTS.iter().chain(&MATRIX_FAULTS).collect()
+    let texts = FAULTS.iter().chain(&MATRIX_FAULTS);
+    texts.chain(&WORKING_FAULTS).collect()
+}
+
+pub const fn working(name: &'static str, habits: Habits) -> Mutant {
+    let how = How::Working(habits);
+    Mutant { name, how }
 }
 
 const fn plan(name: &'static str, plan: fn(&Table) -> Plan) -> Mutant {
@@ -446,7 +470,8 @@ static FAULTS: [Mutant; 147] = [
 ///   peak is never below a true across number.
 ///
 /// - A matrix that is accepted is symmetric, so either half says the same.
-pub static SAME: [Mutant; 9] = [
+pub static SAME: [Mutant; 10] = [
+    working("working: equal cuts by h, then g", BY_H),
     plan("A: tie to the smallest h, then g", a_by_h),
     plan("C: disjoint fronts skipped", c_disjoint),
     plan("C: fronts that touch taken for crossing", c_touching),

@@ -3,6 +3,8 @@
 //! says what goes over the pipes) makes the calls; it is started by the first.
 
 use crate::twin::{Call, Pair, Reply, Said};
+use crate::working::{Ask, RowReply, Told, WorkReply, ASK_NAMES};
+use crate::working_compare::GUARD_WORDS;
 use std::io::{BufReader, BufWriter, Error, Read, Result, Write};
 use std::ops::Range;
 use std::process::{ChildStdin, ChildStdout, Command, Stdio};
@@ -24,6 +26,16 @@ pub fn library(call: Call, text: &mut [u8], area: &mut [u8], lent: Range<usize>)
     match server.ask(call, text, area, lent) {
         Ok(said) => said,
         Err(error) => give_up(&format!("was lost in the call {call:?}"), &error),
+    }
+}
+
+/// One call of the working table, of which words and area come back as the
+/// library left them.
+pub fn library_work(ask: &Ask, words: &mut [u32], area: &mut [u8], lent: Range<usize>) -> Told {
+    let mut server = SERVER.lock().expect("the twin has one thread");
+    match server.ask_work(ask, words, area, lent) {
+        Ok(told) => told,
+        Err(error) => give_up(&format!("was lost in the call {ask:?}"), &error),
     }
 }
 
@@ -55,26 +67,10 @@ impl Server {
         area: &mut [u8],
         lent: Range<usize>,
     ) -> Result<Said> {
-        let name = call.name();
-        let lengths = [name.len(), text.len(), area.len(), lent.start, lent.end];
-        for number in lengths.map(|length| length as u64) {
-            self.requests.write_all(&number.to_le_bytes())?;
-        }
-        let told = u64::from(call.told());
-        self.requests.write_all(&told.to_le_bytes())?;
-        for bytes in [name.as_bytes(), text, area] {
-            self.requests.write_all(bytes)?;
-        }
-        self.requests.flush()?;
-        let said = self.said(call)?;
-        self.answers.read_exact(text)?;
-        self.answers.read_exact(area)?;
-        Ok(said)
-    }
-
-    fn said(&mut self, call: Call) -> Result<Said> {
-        let (reason, line) = (self.number()? as u32, self.number()? as u32);
-        let (first, second) = (self.number()? as usize, self.number()? as usize);
+        let (name, told) = (call.name(), [call.told(), 0, 0, 0]);
+        let [reason, line, first, second, ..] = self.made(&name, told, (text, 0), area, lent)?;
+        let (reason, line) = (reason as u32, line as u32);
+        let (first, second) = (first as usize, second as usize);
         Ok(match call {
             Call::Parallel => Said::Pair(Pair {
                 reason,
@@ -88,6 +84,79 @@ impl Server {
                 length: first,
             }),
         })
+    }
+
+    fn ask_work(
+        &mut self,
+        ask: &Ask,
+        words: &mut [u32],
+        area: &mut [u8],
+        lent: Range<usize>,
+    ) -> Result<Told> {
+        let mut bytes: Vec<u8> = words.iter().flat_map(|word| word.to_le_bytes()).collect();
+        let (name, work) = (ASK_NAMES[ask.place()], 4 * GUARD_WORDS);
+        let said = self.made(name, ask.told(), (&mut bytes, work), area, lent)?;
+        for (word, four) in words.iter_mut().zip(bytes.chunks_exact(4)) {
+            *word = u32::from_le_bytes([four[0], four[1], four[2], four[3]]);
+        }
+        let [reason, line, one, two, three, four] = said.map(|number| number as u32);
+        Ok(match ask {
+            Ask::Row(_) => Told::Row(RowReply {
+                reason,
+                line,
+                first: one,
+                second: two,
+                amount: three,
+            }),
+            Ask::Write(_) => Told::Text(Reply {
+                reason,
+                line,
+                length: said[2] as usize,
+            }),
+            _ => Told::Work(WorkReply {
+                reason,
+                line,
+                place: one,
+                g: two,
+                h: three,
+                across: four,
+            }),
+        })
+    }
+
+    /// One request and its answer. A working table is handed over as a text, and
+    /// begins at `work` in it.
+    fn made(
+        &mut self,
+        name: &str,
+        told: [u32; 4],
+        (text, work): (&mut [u8], usize),
+        area: &mut [u8],
+        lent: Range<usize>,
+    ) -> Result<[u64; 6]> {
+        let lengths = [
+            name.len(),
+            text.len(),
+            area.len(),
+            lent.start,
+            lent.end,
+            work,
+        ];
+        let numbers = lengths.map(|length| length as u64).into_iter();
+        for number in numbers.chain(told.map(u64::from)) {
+            self.requests.write_all(&number.to_le_bytes())?;
+        }
+        for bytes in [name.as_bytes(), text, area] {
+            self.requests.write_all(bytes)?;
+        }
+        self.requests.flush()?;
+        let mut said = [0; 6];
+        for number in &mut said {
+            *number = self.number()?;
+        }
+        self.answers.read_exact(text)?;
+        self.answers.read_exact(area)?;
+        Ok(said)
     }
 
     fn number(&mut self) -> Result<u64> {
