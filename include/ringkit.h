@@ -185,7 +185,7 @@ ringkit_work_reply ringkit_work_remove(ringkit_work *work, uint32_t place);
 /* The row at a place. */
 ringkit_work_row_reply ringkit_work_row(const ringkit_work *work, uint32_t place);
 
-/* Writes the table of the rows held: by nodes, and rows of the same two nodes by place. The table can be routed. */
+/* Writes the table of the rows held: by nodes, and rows of the same two nodes by place. Of a working table that calls made it can be routed. */
 ringkit_reply ringkit_work_write(const ringkit_work *work, uint8_t *buffer, size_t buffer_length);
 
 #ifdef __cplusplus
