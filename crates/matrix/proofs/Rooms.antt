@@ -5,8 +5,7 @@ use mathlib.Core.Path.{_≡_, _∙_, sym}
 use native.Mathlib.Omega.{arith}
 use native.Mathlib.Decide.{decLt}
 use lib.ListN.{length, length-append}
-use Rattle.ring.specs.LineSize.{IsFibres}
-use Rattle.ring.specs.Ring.{Ring, ringOf}
+use Rattle.ring.specs.Ring.{Ring}
 use Rattle.ring.specs.Limits.{desk}
 use Rattle.ring.specs.Lists.{Each, none, more}
 use Rattle.ring.specs.Row.{Row}
@@ -17,15 +16,15 @@ use Rattle.text.specs.Field.{spell}
 use Rattle.text.specs.WriteLine.{endOf, writeLine}
 use Rattle.text.specs.Shapes.{numbers, numbersLine}
 use Rattle.text.proofs.Lengths.{one-long, more-long}
-use Rattle.table.specs.Table.{writeTable, InRange as TableInRange}
+use Rattle.table.specs.Table.{InRange as TableInRange}
 use Rattle.matrix.specs.Matrix.{writeMatrix, IsSquare, InRange}
-use Rattle.matrix.specs.Demands.{sumOf, rowsOfMatrix, matrixOfRows}
+use Rattle.matrix.specs.Demands.{sumOf, matrixOfRows}
 use Rattle.matrix.specs.Judged.{judgeSums}
-use Rattle.matrix.specs.Room.{matrixRoom, tableRoom}
+use Rattle.matrix.specs.Room.{matrixRoom}
 use Rattle.matrix.specs.declared.sums.Sums.the-variants.{Fit}
 use Rattle.matrix.proofs.SumLaws.{sum-either, sum-diagonal}
 use Rattle.matrix.proofs.SumsGiven.{fit-small}
-use Rattle.matrix.proofs.RoundTrip.{entry-sum, table-room}
+use Rattle.matrix.proofs.RoundTrip.{entry-sum}
 
 -- ---- an amount has at most 4 digits
 
@@ -54,10 +53,6 @@ matrix-bytes n (vs ∷ m) few (more w ws) (more h hs) = omega (arith, length-app
 -- room for every matrix
 pub matrix-room : (n : ℕ) (m : List (List ℕ)) → n ≤ desk .nodes → IsSquare n m → Each (Each (λ v. v ≤ desk .amount)) m → length (writeMatrix m) ≤ matrixRoom desk
 matrix-room n m few square amounts = omega (arith, matrix-bytes n m few (square .wide) amounts, square .tall)
-
--- room for the table of every matrix
-pub room-for-table : (n fibres : ℕ) (m : List (List ℕ)) → IsFibres fibres → InRange desk n m → length (writeTable (ringOf n fibres) (rowsOfMatrix n m)) ≤ tableRoom desk
-room-for-table n fibres m two-or-four range = omega (arith, table-room n fibres m two-or-four range)
 
 -- ---- the matrix of a table
 

@@ -6,7 +6,7 @@ use mathlib.Core.Logic.{_⊎_, inl, inr}
 use mathlib.Core.Path.{_≡_, refl, ap, _∙_, sym, subst}
 use native.Mathlib.Omega.{arith}
 use native.Mathlib.Decide.{decLt, ℕ-discrete}
-use lib.ListN.{length, getD, length-append}
+use lib.ListN.{length, getD}
 use Rattle.ring.specs.LineSize.{IsFibres}
 use Rattle.ring.specs.Ring.{ringOf}
 use Rattle.ring.specs.Limits.{Limits, desk}
@@ -14,12 +14,10 @@ use Rattle.ring.specs.Lists.{Each, none, more, Steps, no-member, one-member, st
 use Rattle.ring.specs.Row.{Row, OnRing, PairBefore, PairUpTo, InTableOrder, TableRows}
 use Rattle.ring.specs.Columns.{listed}
 use Rattle.ring.proofs.Listed.{listed-same, listed-shift}
-use Rattle.text.specs.Number.{limit}
-use Rattle.text.specs.Shapes.{rowShape, ringShape, ringLine, rowLine}
-use Rattle.text.proofs.Lengths.{line-in-range-short}
-use Rattle.table.specs.Table.{writeRows, writeTable, InRange as TableInRange}
+use Rattle.table.specs.Table.{writeTable, tableRoom, InRange as TableInRange}
 use Rattle.table.proofs.Columns.{listed-members}
-use Rattle.table.proofs.LineRead.{RowSpelled, ring-in-range, row-in-range}
+use Rattle.table.proofs.TableText.{desk-spelled}
+use Rattle.table.proofs.Short.{table-short}
 use Rattle.matrix.specs.Matrix.{entry, IsSquare, Node, InRange}
 use Rattle.matrix.specs.Demands.{rowsOfMatrix, sumOf, matrixOfRows, OneEach}
 use Rattle.matrix.proofs.SumLaws.{part-other, sum-either, sum-diagonal, Rising, no-row, next-row, same-sums}
@@ -168,28 +166,10 @@ table-back n rs table each =
 
 -- ---- the table is in range
 
-row-bytes : (limits : Limits) (n : ℕ) (rs : List Row) → n ≤ 9999 → limits .amount ≤ 9999 → Each (OnRing n) rs → Each (λ r. r .d ≤ limits .amount) rs → length (writeRows rs) ≤ 32 * length rs
-unfolding writeRows
-row-bytes limits n [] a b none none = omega arith
-row-bytes limits n (r ∷ rs) a b (more o os) (more d ds) =
-    let s : RowSpelled (r .i) (r .j) (r .d) = (omega (arith, o .order, o .high), (omega (arith, o .high), omega arith)) in
-    omega (arith, length-append (rowLine (r .i) (r .j) (r .d)) (writeRows rs), line-in-range-short rowShape (0 ∷ r .i ∷ r .j ∷ r .d ∷ []) (row-in-range (r .i) (r .j) (r .d) s), row-bytes limits n rs a b os ds)
-
-fibres-small : {fibres : ℕ} → IsFibres fibres → fibres < limit
-fibres-small (inl e) = omega arith
-fibres-small (inr e) = omega arith
-
--- room for the table of every matrix: an R line of 3 fields and 496 rows of 4, each field of at most 8 bytes
-pub table-room : (n fibres : ℕ) (m : List (List ℕ)) → IsFibres fibres → InRange desk n m → length (writeTable (ringOf n fibres) (rowsOfMatrix n m)) ≤ 8 * 3 + 8 * 4 * desk .rows
-unfolding writeTable
+-- room for the table of every matrix
+pub table-room : (n fibres : ℕ) (m : List (List ℕ)) → IsFibres fibres → InRange desk n m → length (writeTable (ringOf n fibres) (rowsOfMatrix n m)) ≤ tableRoom desk
 table-room n fibres m two-or-four range =
-    omega (
-      arith,
-      length-append (ringLine n fibres) (writeRows (rowsOfMatrix n m)),
-      line-in-range-short ringShape (0 ∷ n ∷ fibres ∷ []) (ring-in-range n fibres (omega (arith, range .many), fibres-small two-or-four)),
-      row-bytes desk n (rowsOfMatrix n m) (omega (arith, range .many)) (omega arith) (rows-on (entry m) n) (rows-small desk n m range),
-      rows-few (entry m) n (range .many),
-    )
+    table-short desk desk-spelled (ringOf n fibres) (rowsOfMatrix n m) (range .many) two-or-four (rows-on (entry m) n) (rows-few (entry m) n (range .many)) (rows-small desk n m range)
 
 -- so it is accepted: at most one row for a pair, none of amount 0
 pub rows-in-range : (n fibres : ℕ) (m : List (List ℕ)) → IsFibres fibres → InRange desk n m → TableInRange desk (ringOf n fibres) (rowsOfMatrix n m)

@@ -11,7 +11,7 @@ use Rattle.ring.specs.LineSize.{IsFibres}
 use Rattle.ring.specs.Ring.{Ring, ringOf}
 use Rattle.ring.specs.Row.{Row}
 use Rattle.table.specs.Reasons.{numberOf}
-use Rattle.table.specs.Table.{writeTable}
+use Rattle.table.specs.Table.{writeTable, tableRoom}
 use Rattle.table.specs.ReadTable.{Result, accepted, refused, tableOf}
 use Rattle.table.specs.Says as table
 use Rattle.table.specs.declared.reason.Reason.{Reason}
@@ -26,14 +26,14 @@ use Rattle.matrix.specs.Matrix.{writeMatrix}
 use Rattle.matrix.specs.Demands.{rowsOfMatrix, matrixOfRows, Passes, OneEach}
 use Rattle.matrix.specs.Read.{Matrix, matrix, no-matrix, matrixOf, tableFrom}
 use Rattle.matrix.specs.Judged.{judgeSums}
-use Rattle.matrix.specs.Room.{matrixRoom, tableRoom}
+use Rattle.matrix.specs.Room.{matrixRoom}
 use Rattle.matrix.specs.Says.{Says, Given, Accepted}
 use Rattle.matrix.specs.declared.sums.Sums.{Sums}
 use Rattle.matrix.specs.declared.sums.Sums.the-variants.{Fit, Pass}
 use Rattle.matrix.proofs.MatrixText.{desk-possible, matrix-text}
 use Rattle.matrix.proofs.ReasonsGiven.{one-given, given, accepted-is}
-use Rattle.matrix.proofs.RoundTrip.{matrix-back, table-back, rows-in-range, rows-one-each}
-use Rattle.matrix.proofs.Rooms.{room-for-table, room-for-matrix, matrix-in-range}
+use Rattle.matrix.proofs.RoundTrip.{matrix-back, table-back, table-room, rows-in-range, rows-one-each}
+use Rattle.matrix.proofs.Rooms.{room-for-matrix, matrix-in-range}
 use Rattle.matrix.proofs.SumsGiven.{sums-given, sums-fit}
 use Rattle.matrix.proofs.OneEach.{one-each-fit}
 use Rattle.ringkit.specs.Outcome.{Outcome, write, Fills}
@@ -126,7 +126,7 @@ module _ (fibres : ℕ) (t text : List ℕ) (d : MatrixDue fibres t text) where
 
   -- and no longer than `tableRoom`
   pub matrix-table-short : length text ≤ tableRoom desk
-  matrix-table-short = omega (arith, ap length (d .is), room-for-table (d .n) fibres (d .m) (d .two-or-four) (d .of .range))
+  matrix-table-short = omega (arith, ap length (d .is), table-room (d .n) fibres (d .m) (d .two-or-four) (d .of .range))
 
 -- so with that room every accepted matrix is read
 pub always-read : (fibres : ℕ) (t old new : List ℕ) (r : Reply) → Fills (matrixRead fibres t) old new r → IsFibres fibres → Accepted desk t → tableRoom desk ≤ length old → r .reason ≡ 0

@@ -4,7 +4,8 @@ use mathlib.Core.List.{List}
 use mathlib.Core.Path.{_≡_}
 use Rattle.ring.specs.Limits.{desk}
 use Rattle.text.proofs.Unique.{same-result}
-use Rattle.matrix.specs.Room.{tableRoom, matrixRoom}
+use Rattle.table.specs.Table.{tableRoom}
+use Rattle.matrix.specs.Room.{matrixRoom}
 use Rattle.sheet.specs.Range.{longest}
 use Rattle.work.specs.Changes.{rowIn, startedIn, addedIn, changedIn, removedIn}
 use Rattle.work.specs.Text.{WritesTable}

@@ -8,13 +8,12 @@ use lib.ListN.{length}
 use borrow.Author.Tests.{le-ltb}
 use Rattle.ring.specs.Limits.{desk}
 use Rattle.ring.specs.Sheet.{plan}
-use Rattle.table.specs.Table.{writeTable}
+use Rattle.table.specs.Table.{writeTable, tableRoom}
 use Rattle.table.specs.Says.{Accepted}
 use Rattle.sheet.specs.Range.{longest}
 use Rattle.sheet.proofs.Short.{plan-short}
 use Rattle.work.specs.Made.{Made, ringIn}
 use Rattle.work.specs.Keys.{sortedRows}
-use Rattle.work.specs.Sorted.{tableRoom}
 use Rattle.work.specs.Text.{WritesTable}
 use Rattle.work.specs.declared.Work.{Work}
 use Rattle.work.specs.declared.write.TextReply.{TextReply}

@@ -4,6 +4,7 @@
 pub mod TableText
 pub mod ReasonsGiven
 pub mod Accepted
+pub mod Short
 pub mod Unique
 -- how they are shown
 pub mod Judged

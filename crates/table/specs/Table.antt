@@ -1,5 +1,5 @@
--- To believe: a table as text, and what a table can hold.
-use Prim.Native.Nat.{ℕ, _≤_, _<_}
+-- To believe: a table as text, what a table can hold, and how many bytes suffice for every table.
+use Prim.Native.Nat.{ℕ, _+_, _*_, _≤_, _<_}
 use mathlib.Core.List.{List, [], _∷_, _++_}
 use lib.ListN.{length}
 use Rattle.ring.specs.Limits.{Limits}
@@ -7,8 +7,8 @@ use Rattle.ring.specs.Ring.{Ring}
 use Rattle.ring.specs.LineSize.{IsFibres}
 use Rattle.ring.specs.Lists.{Each}
 use Rattle.ring.specs.Row.{Row, TableRows}
-use Rattle.text.specs.Number.{limit}
-use Rattle.text.specs.Shapes.{ringLine, rowLine}
+use Rattle.text.specs.Number.{limit, mostDigits}
+use Rattle.text.specs.Shapes.{ringShape, rowShape, ringLine, rowLine}
 
 -- R n fibres, then D lines
 unfoldable pub writeRows : List Row → List ℕ
@@ -33,3 +33,7 @@ pub record InRange (limits : Limits) (ring : Ring) (rs : List Row) : Type 0 wher
   pub count : length rs ≤ limits .rows
   pub amounts : Each (λ r. r .d ≤ limits .amount) rs
   pub short : length (writeTable ring rs) ≤ limits .bytes
+
+-- the R line and as many rows as there may be, each field of at most 7 digits and the byte behind them
+abbrev pub tableRoom : Limits → ℕ
+tableRoom limits = (mostDigits + 1) * (length ringShape + length rowShape * limits .rows)

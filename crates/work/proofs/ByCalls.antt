@@ -33,7 +33,7 @@ use Rattle.work.specs.Sorted.{WritesOut}
 use Rattle.work.specs.declared.Work.{Work}
 use Rattle.work.proofs.PlaceSteps.{holding}
 use Rattle.work.proofs.Right.{Good, Right, size-is, count, place-is, put-places, put-right, clear-places, clear-right, fresh-places, fresh-right, cut-is}
-use Rattle.work.proofs.SortedRows.{rows-sorted, rows-range, rows-cut, table-short}
+use Rattle.work.proofs.SortedRows.{rows-sorted, rows-range, rows-cut, rows-room}
 use Rattle.work.proofs.Views.{Demand, bad, good, demand, within, same-place, same-free, free-is-free}
 
 -- a table that is right, with its largest cut
@@ -218,4 +218,4 @@ made-row {w} m p = row-is w (made-sound m .right) p
 pub made-writes-out : {w : Work} → Made w → WritesOut w (sortedRows w)
 made-writes-out {w} m =
     let s = made-sound m .right in
-    record { sorted = rows-sorted w s; range = rows-range w s; cut = rows-cut w s; short = table-short w s }
+    record { sorted = rows-sorted w s; range = rows-range w s; cut = rows-cut w s; short = rows-room w s }
