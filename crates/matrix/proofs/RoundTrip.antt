@@ -1,6 +1,6 @@
 -- Matrix to table to matrix gives the same lines, and table to matrix to table the same rows where they are one for a pair and none of amount 0: the sums of the rows
 -- are the entries, and rows that rise are told by their sums.
-use Prim.Native.Nat.{ℕ, zero, suc, _+_, _-_, _*_, _≤_, _<_}
+use Prim.Native.Nat.{ℕ, zero, suc, _+_, _-_, _≤_, _<_}
 use mathlib.Core.List.{List, [], _∷_}
 use mathlib.Core.Logic.{_⊎_, inl, inr}
 use mathlib.Core.Path.{_≡_, refl, ap, _∙_, sym, subst}

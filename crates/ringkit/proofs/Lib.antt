@@ -9,4 +9,5 @@ pub mod TableCalls
 pub mod SheetCalls
 pub mod MatrixCalls
 pub mod WorkTypes
+pub mod WorkSteps
 pub mod WorkCalls

@@ -8,15 +8,12 @@ use Rattle.table.specs.Table.{tableRoom}
 use Rattle.matrix.specs.Room.{matrixRoom}
 use Rattle.sheet.specs.Range.{longest}
 use Rattle.work.specs.Changes.{rowIn, startedIn, addedIn, changedIn, removedIn}
-use Rattle.work.specs.Text.{WritesTable}
 use Rattle.work.specs.declared.Work.{Work}
 use Rattle.work.specs.declared.held.WorkReply.{WorkReply}
 use Rattle.work.specs.declared.held.Changed.{Changed}
 use Rattle.work.specs.declared.place.RowReply.{RowReply}
-use Rattle.work.specs.declared.write.TextReply.{TextReply}
-use Rattle.work.proofs.Unique.{written-unique}
 use Rattle.ringkit.specs.Outcome.{Outcome, Fills}
-use Rattle.ringkit.specs.TableCalls.{tableAfresh, tableRouted}
+use Rattle.ringkit.specs.TableCalls.{tableAfresh, tableRouted, workWritten}
 use Rattle.ringkit.specs.SheetCalls.{sheetChecked, sheetParallel, sheetAfresh}
 use Rattle.ringkit.specs.MatrixCalls.{matrixRead, matrixWritten}
 use Rattle.ringkit.specs.declared.Reply.{Reply}
@@ -79,5 +76,5 @@ work-remove-unique w p = alters-unique (removedIn w p)
 pub work-row-unique : (w : Work) (p : ℕ) (r q : RowReply) → r ≡ rowIn w p → q ≡ rowIn w p → r ≡ q
 work-row-unique w p r q = same-result
 
-pub work-write-unique : (w : Work) (old new buf : List ℕ) (r q : TextReply) → WritesTable w old new r → WritesTable w old buf q → (r ≡ q) × (new ≡ buf)
-work-write-unique w old new buf r q a b = written-unique _ old new buf r q a b
+pub work-write-unique : (w : Work) (old new buf : List ℕ) (r q : Reply) → Fills (workWritten w) old new r → Fills (workWritten w) old buf q → (r ≡ q) × (new ≡ buf)
+work-write-unique w = fills-unique (workWritten w)

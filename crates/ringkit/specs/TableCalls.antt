@@ -1,4 +1,4 @@
--- Internal: the outcome of the calls that read a table: its refusals (then 15), or the text that is due to its values.
+-- Internal: the outcome of the calls that read a table: its refusals (then 15), or the text that is due to its values; and of writing a working table out.
 use Prim.Native.Nat.{ℕ}
 use mathlib.Core.List.{List}
 use Rattle.ring.specs.Limits.{desk}
@@ -6,6 +6,9 @@ use Rattle.ring.specs.Ring.{Ring}
 use Rattle.ring.specs.Row.{Row}
 use Rattle.table.specs.Table.{writeTable}
 use Rattle.table.specs.ReadTable.{Result, accepted, refused, tableOf}
+use Rattle.work.specs.Made.{ringIn}
+use Rattle.work.specs.Keys.{sortedRows}
+use Rattle.work.specs.declared.Work.{Work}
 use Rattle.ringkit.specs.Texts.{sheetDue}
 use Rattle.ringkit.specs.Outcome.{Outcome, write, refuse}
 
@@ -23,3 +26,7 @@ tableAfresh t = ofTable writeTable (tableOf desk t)
 unfoldable pub tableRouted : List ℕ → Outcome
 unfolding ofTable
 tableRouted t = ofTable sheetDue (tableOf desk t)
+
+-- writing out a working table, whatever its bytes
+abbrev pub workWritten : Work → Outcome
+workWritten w = write (writeTable (ringIn w) (sortedRows w))

@@ -1,11 +1,13 @@
 // The calls of the working table: it is lent by `&mut`, and altered by functions by value. Each body has exactly the shape that a law of `walk` is about.
+use crate::Reply;
+use crate::put_table;
 use work::RowReply;
-use work::TextReply;
 use work::Work;
 use work::WorkReply;
 ghost use mathlib.Core.Path.{_≡_};
 ghost use Rattle.work.specs.Changes.{startedIn, addedIn, changedIn, removedIn, rowIn};
-ghost use Rattle.work.specs.Text.{WritesTable};
+ghost use Rattle.ringkit.specs.Outcome.{Fills};
+ghost use Rattle.ringkit.specs.TableCalls.{workWritten};
 
 #[no_mangle]
 pub extern "C" fn ringkit_work_start(work: &mut Work, n: u32, fibres: u32) -> WorkReply
@@ -61,9 +63,27 @@ pub extern "C" fn ringkit_work_row(work: &Work, place: u32) -> RowReply
     work::row_of(*work, place)
 }
 
-#[no_mangle]
-pub extern "C" fn ringkit_work_write(work: &Work, buffer: &mut [u8]) -> TextReply
-    ensures { λ r. ⌜ WritesTable (now (work .entry)) (now (buffer .entry)) (now (buffer .exit)) r ⌝ }
+// Writes the rows held, by nodes, then by place, at the start of a buffer that has room for them.
+fn written(work: Work, buffer: &mut [u8]) -> Reply
+    ensures { λ r. ⌜ Fills (workWritten work) (now (buffer .entry)) (now (buffer .exit)) r ⌝ }
 {
-    work::written(*work, buffer)
+    let n = work.n;
+    let fibres = work.fibres;
+    let rows = work::sorted(work);
+    put_table(
+        buffer,
+        n,
+        fibres,
+        rows.count,
+        &rows.first,
+        &rows.second,
+        &rows.amount,
+    )
+}
+
+#[no_mangle]
+pub extern "C" fn ringkit_work_write(work: &Work, buffer: &mut [u8]) -> Reply
+    ensures { λ r. ⌜ Fills (workWritten (now (work .entry))) (now (buffer .entry)) (now (buffer .exit)) r ⌝ }
+{
+    written(*work, buffer)
 }

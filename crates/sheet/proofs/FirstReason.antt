@@ -15,7 +15,7 @@ use Rattle.table.proofs.Against.{NoLater}
 use Rattle.sheet.specs.Verdicts.{faultIf, orElse}
 use Rattle.sheet.specs.Check.{when}
 use Rattle.sheet.specs.Says.{Any, OfForm}
-use Rattle.sheet.proofs.Tested.{Tested, is-so, not-so}
+use Rattle.table.proofs.Tested.{Tested, is-so, not-so}
 
 -- ---- the first of the reasons that hold
 

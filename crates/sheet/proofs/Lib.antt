@@ -4,7 +4,6 @@ pub mod Back
 pub mod Unique
 pub mod SheetLines
 pub mod Short
-pub mod Tested
 pub mod FirstReason
 pub mod SheetJudged
 pub mod Last

@@ -21,7 +21,7 @@ use Rattle.table.specs.declared.reason.Reason.the-variants.{WrongSum, WrongWay,
 use Rattle.sheet.specs.Verdicts.{noCut, cutVerdict, linkVerdict, lastVerdict, wholeVerdict}
 use Rattle.sheet.specs.Judge.{wrongSum, wrongWay, judgeHalves, judgeCut, judgeLink, judgeLast, judgeWhole}
 use Rattle.sheet.proofs.Back.{way-back}
-use Rattle.sheet.proofs.Tested.{Tested, test-of, test-not, test-or, test-and, test-less, test-most, test-other}
+use Rattle.table.proofs.Tested.{Tested, test-of, test-not, test-or, test-and, test-less, test-most, test-other}
 use Rattle.sheet.proofs.FirstReason.{First, or-else-first, Only, only-rank, either-late, fault-first}
 
 -- ---- 8 and 9: a row's halves and its way

@@ -7,6 +7,7 @@ pub mod Accepted
 pub mod Short
 pub mod Unique
 -- how they are shown
+pub mod Tested
 pub mod Judged
 pub mod Against
 pub mod FineRows

@@ -6,40 +6,41 @@ use mathlib.Core.List.{List}
 use mathlib.Core.Logic.{inl, inr}
 use mathlib.Core.Path.{_≡_, refl, sym, _∙_, ap}
 use native.Mathlib.Omega.{arith}
-use native.Mathlib.Decide.{decLt, ℕ-discrete}
+use native.Mathlib.Decide.{decLt}
 use lib.Dec.{ltb, eqb}
-use lib.ListN.{length, getD, set}
+use lib.ListN.{getD, set}
 use lib.Seq.{set-set, getD-set-same}
 use borrow.Author.Tests.{lt-ltb, le-ltb, eq-eqb, ne-eqb}
 use Rattle.ring.specs.Limits.{desk}
 use Rattle.ring.specs.Ring.{ringOf}
 use Rattle.ring.specs.LineSize.{IsFibres}
-use Rattle.ring.specs.Row.{row}
+use Rattle.ring.specs.Row.{Row, row}
 use Rattle.ring.specs.RuleA.{ruleA}
 use Rattle.table.specs.Judge.{judgeRing, judgeRow}
 use Rattle.table.specs.Reasons.{numberOf}
 use Rattle.table.specs.declared.reason.Reason.{Reason}
 use Rattle.table.specs.declared.judge.Verdict.{Verdict}
-use Rattle.table.specs.declared.judge.Verdict.the-variants.{Fine, Fault}
+use Rattle.table.specs.declared.judge.Verdict.the-variants.{Fine}
 use Rattle.table.proofs.ReasonNumbers.{no-reason-0}
 use Rattle.table.proofs.Judged.{RingJudged, wrong-size, wrong-fibres, right-ring, ring-judged}
-use Rattle.work.specs.Places.{Place, empty, holds, Plain, lowestFree, holdsRow}
-use Rattle.work.specs.Calls.{Call, start, add, change, remove, Outcome, refuses, makes, judgeStart, judgeDemand, judgePlace, judgeRoom, withPlace, outcome, after, answer, rowSaid, rowAnswer}
+use Rattle.work.specs.Places.{empty, holds, Plain}
+use Rattle.work.specs.Calls.{Call, start, add, change, remove, refuses, makes, judgeStart, judgePlace, judgeRoom, withPlace, outcome, after, answer, rowSaid, rowAnswer}
 use Rattle.work.specs.Made.{placeIn, calledIn, Made, begun, called, plainOf}
-use Rattle.work.specs.Kept.{held, Keeps, ByTheList}
-use Rattle.work.specs.Changes.{refusedIn, cutOf, withCut, keptIn, freeIn, holdsIn, rowIn, putIn, clearedIn, unlessFault, freshIn, startedIn, judged, addedIn, changedIn, removedIn}
+use Rattle.work.specs.Kept.{held, keptCut, Keeps, ByTheList}
+use Rattle.work.specs.Changes.{refusedIn, keptIn, freeIn, holdsIn, rowIn, putIn, clearedIn, unlessFault, freshIn, startedIn, judged, addedIn, changedIn, removedIn}
 use Rattle.work.specs.Keys.{sortedRows}
-use Rattle.work.specs.Sorted.{WritesOut}
+use Rattle.work.specs.Sorted.{Sorted, WritesOut}
 use Rattle.work.specs.declared.Work.{Work}
 use Rattle.work.proofs.PlaceSteps.{holding}
 use Rattle.work.proofs.Right.{Good, Right, size-is, count, place-is, put-places, put-right, clear-places, clear-right, fresh-places, fresh-right, cut-is}
+use Rattle.work.proofs.OneOrder.{one-order}
 use Rattle.work.proofs.SortedRows.{rows-sorted, rows-range, rows-cut, rows-room}
 use Rattle.work.proofs.Views.{Demand, bad, good, demand, within, same-place, same-free, free-is-free}
 
 -- a table that is right, with its largest cut
 pub record Sound (w : Work) : Type 0 where
   pub right : Right w
-  pub largest : record { g = w .g; h = w .h; number = w .across } ≡ ruleA (w .n) (held w)
+  pub largest : keptCut w ≡ ruleA (w .n) (held w)
 
 -- what a call is, in the struct and in the list: refused by both for one reason, or a table by both
 pub data Step (w : Work) (c : Call) : Type 0 where
@@ -82,7 +83,7 @@ module _ (w : Work) (n fibres : ℕ) where
       both-make 0 (freshIn n fibres) (fresh-right n fibres l h o) (rw v)
       (rw (le-ltb n (desk .fewest) l, le-ltb (desk .nodes) n h, known-fibres o) (ap (λ ps. makes 0 (record { n = n; fibres = fibres; places = ps })) (sym (fresh-places n fibres))))
 
-  start-step : Step w (start n fibres)
+  pub start-step : Step w (start n fibres)
   unfolding startedIn unlessFault outcome judgeStart
   start-step = go (judgeRing desk (ringOf n fibres)) refl (ring-judged desk (ringOf n fibres))
     where
@@ -174,7 +175,7 @@ module _ (w : Work) (s : Right w) where
             both-make p (clearedIn w (p - 1)) (clear-right w s (p - 1) (row-there .high) (row-there .row)) (rw h)
             (rw (same-place w s p ∙ h) (removed-plain (p - 1) (row-there .high) (row-there .row) p))
 
-  call-step : (c : Call) → Step w c
+  pub call-step : (c : Call) → Step w c
   call-step (start n fibres) = start-step w n fibres
   call-step (add i j d) = add-step i j d
   call-step (change p i j d) = change-step p i j d
@@ -182,20 +183,17 @@ module _ (w : Work) (s : Right w) where
 
 -- ---- the theorems
 
-made-sound : {w : Work} → Made w → Sound w
+pub made-sound : {cs : List Call} {w : Work} → Made cs w → Sound w
 made-sound (begun any n fibres a) = accepted-sound (start-step any n fibres) a
 made-sound (called {w = w} m c) = let s = made-sound m in stays-sound (call-step w (s .right) c) s
 
--- the across number of every cut, the largest and its cut are kept
-pub made-keeps : {w : Work} → Made w → Keeps w
-made-keeps m = let s = made-sound m in record { numbers = s .right .kept; largest = s .largest }
+-- 496 places, the across number of every cut, the largest and its cut are kept
+pub made-keeps : {cs : List Call} {w : Work} → Made cs w → Keeps w
+made-keeps {w} m = let s = made-sound m in record { places = count w (s .right); numbers = s .right .kept; largest = s .largest }
 
--- every call on a table made by calls does what the list says; and so does a start on whatever bytes
-pub made-by-the-list : {w : Work} → Made w → (c : Call) → ByTheList w c
+-- every call on a table made by calls does what the list says
+pub made-by-the-list : {cs : List Call} {w : Work} → Made cs w → (c : Call) → ByTheList w c
 made-by-the-list {w} m c = by-the-list (call-step w (made-sound m .right) c)
-
-pub start-by-the-list : (any : Work) (n fibres : ℕ) → ByTheList any (start n fibres)
-start-by-the-list any n fibres = by-the-list (start-step any n fibres)
 
 -- the row at a place is the list's
 module _ (w : Work) (s : Right w) where
@@ -211,11 +209,15 @@ module _ (w : Work) (s : Right w) where
       go zero j d = refl
       go (suc i) j d = rw (lt-ltb 0 (suc i) (omega arith))
 
-pub made-row : {w : Work} → Made w → (p : ℕ) → rowIn w p ≡ rowAnswer (plainOf w) p
+pub made-row : {cs : List Call} {w : Work} → Made cs w → (p : ℕ) → rowIn w p ≡ rowAnswer (plainOf w) p
 made-row {w} m p = row-is w (made-sound m .right) p
 
 -- what is written out: the rows held, by nodes, then by place, an accepted table with the cut of the rows held
-pub made-writes-out : {w : Work} → Made w → WritesOut w (sortedRows w)
+pub made-writes-out : {cs : List Call} {w : Work} → Made cs w → WritesOut w (sortedRows w)
 made-writes-out {w} m =
     let s = made-sound m .right in
     record { sorted = rows-sorted w s; range = rows-range w s; cut = rows-cut w s; short = rows-room w s }
+
+-- there is one such order only
+pub made-one-order : {cs : List Call} {w : Work} → Made cs w → {rs qs : List Row} → Sorted (plainOf w .places) rs → Sorted (plainOf w .places) qs → rs ≡ qs
+made-one-order {w = w} m = one-order w (made-sound m .right)

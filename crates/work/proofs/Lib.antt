@@ -5,7 +5,9 @@ pub mod Right
 pub mod Views
 pub mod SortSteps
 pub mod SortedRows
-pub mod WriteSteps
+pub mod OneOrder
+pub mod Reasons
 pub mod ByCalls
+pub mod Promised
 pub mod Answers
 pub mod Unique

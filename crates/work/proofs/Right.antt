@@ -1,29 +1,28 @@
 -- A table whose rows and kept numbers are right stays so when a row is put at a free place or taken off, and the largest cut is then rule A's.
-use Prim.Native.Nat.{ℕ, zero, suc, _+_, _*_, _-_, _≤_, _<_, min, max}
+use Prim.Native.Nat.{ℕ, zero, suc, _+_, _*_, _≤_, _<_}
 use mathlib.Core.Bool.{true, false}
-use mathlib.Core.List.{List, []}
-use mathlib.Core.Path.{_≡_, refl, sym, _∙_, ap}
+use mathlib.Core.List.{[]}
+use mathlib.Core.Path.{_≡_, refl, _∙_, ap}
 use native.Mathlib.Omega.{arith}
 use lib.ListN.{length, getD, set, replicate, length-set, length-replicate}
 use Rattle.ring.specs.Limits.{desk}
 use Rattle.ring.specs.LineSize.{IsFibres}
-use Rattle.ring.specs.Lists.{Each, none, more}
+use Rattle.ring.specs.Lists.{Each, none}
 use Rattle.ring.specs.Row.{Row, row, OnRing}
 use Rattle.ring.specs.Cut.{part, across}
-use Rattle.ring.specs.RuleA.{largestCut, ruleA}
+use Rattle.ring.specs.RuleA.{ruleA}
 use Rattle.ring.specs.Columns.{rowAt}
 use Rattle.ring.proofs.Lists.{each}
 use Rattle.ring.proofs.Totals.{across-total, total-most, part-small}
 use Rattle.ring.proofs.Laid.{zeros-at}
 use Rattle.across.specs.Triangle.{mostPairs, placeOf, at}
-use Rattle.across.specs.Step.{mostNumber, step, stepRow}
 use Rattle.across.specs.Lines.{Pairwise}
-use Rattle.across.proofs.Kept.{row-size, row-at}
+use Rattle.across.proofs.Kept.{row-at}
 use Rattle.across.proofs.CutSteps.{same-cut}
-use Rattle.work.specs.Places.{Place, empty, holds, rowsHeld}
-use Rattle.work.specs.Made.{placeIn, placesIn, plainOf}
+use Rattle.work.specs.Places.{empty, holds}
+use Rattle.work.specs.Made.{placeIn, plainOf}
 use Rattle.work.specs.Kept.{held}
-use Rattle.work.specs.Changes.{ringSize, withCut, cutOf, putIn, clearedIn, freshIn}
+use Rattle.work.specs.Changes.{ringSize, cutOf, putIn, clearedIn, freshIn}
 use Rattle.work.specs.declared.Work.{Work}
 use Rattle.work.proofs.RowsHeld.{across-set, held-few, each-set, held-fresh, places-set, places-length, places-at, places-fresh}
 

@@ -1,12 +1,12 @@
 -- Lists of places: what putting a row at a place, or taking it off, does to the rows held and to every sum over them; by recursion over the places.
-use Prim.Native.Nat.{ℕ, zero, suc, _+_, _-_, _≤_, _<_}
+use Prim.Native.Nat.{ℕ, zero, suc, _+_, _≤_, _<_}
 use mathlib.Core.List.{List, [], _∷_}
 use mathlib.Core.Path.{_≡_, refl, sym, _∙_, ap}
 use native.Mathlib.Omega.{arith}
 use native.Mathlib.Decide.{ℕ-discrete}
 use borrow.Author.Tests.{eq-eqb, ne-eqb}
 use lib.ListN.{length, getD, set, replicate}
-use Rattle.ring.specs.Lists.{Each, none, more}
+use Rattle.ring.specs.Lists.{Each, more}
 use Rattle.ring.specs.Row.{Row}
 use Rattle.ring.specs.Cut.{part, across}
 use Rattle.work.specs.Places.{Place, empty, holds, rowsHeld, lowestFree}

@@ -1,13 +1,10 @@
 -- Any two results of a public function's contract agree, for every value of the struct: both are the one value that it names.
 use Prim.Native.Nat.{ℕ}
-use mathlib.Core.List.{List}
 use mathlib.Core.Path.{_≡_, sym, _∙_}
 use Rattle.work.specs.Changes.{rowIn, startedIn, addedIn, changedIn, removedIn}
 use Rattle.work.specs.Keys.{sortedRows, sortedIn}
 use Rattle.work.specs.declared.Work.{Work}
 use Rattle.work.specs.declared.held.Changed.{Changed}
-use Rattle.work.specs.Text.{Writes}
-use Rattle.work.specs.declared.write.TextReply.{TextReply}
 use Rattle.work.specs.declared.sort.ByNodes.{ByNodes}
 use Rattle.work.specs.declared.place.RowReply.{RowReply}
 
@@ -28,6 +25,3 @@ row-of-unique w place a b p q = p ∙ sym q
 
 pub sorted-unique : (w : Work) (a b : ByNodes) → a ≡ sortedIn (sortedRows w) → b ≡ sortedIn (sortedRows w) → a ≡ b
 sorted-unique w a b p q = p ∙ sym q
-
-pub written-unique : (text old : List ℕ) (new new′ : List ℕ) (a b : TextReply) → Writes text old new a → Writes text old new′ b → (a ≡ b) × (new ≡ new′)
-written-unique text old new new′ a b p q = (p .reply ∙ sym (q .reply), p .buffer ∙ sym (q .buffer))

@@ -1,13 +1,13 @@
 -- The tests of the code and of the list of places say the same: a row's verdict, the place named, the lowest free place.
 use Prim.Native.Nat.{ℕ, zero, suc, _+_, _-_, _≤_, _<_}
-use mathlib.Core.Bool.{Bool, true, false, cond, _&&_, _||_, or-true, and-false}
+use mathlib.Core.Bool.{_&&_, _||_, or-true, and-false}
 use mathlib.Core.List.{List}
 use mathlib.Core.Logic.{inl, inr}
 use mathlib.Core.Path.{_≡_, refl, sym, _∙_, ap}
 use native.Mathlib.Omega.{arith}
 use native.Mathlib.Decide.{decLt, ℕ-discrete}
 use lib.Dec.{ltb}
-use lib.ListN.{length, getD, List·getD-eq-default}
+use lib.ListN.{getD, List·getD-eq-default}
 use borrow.Author.Tests.{lt-ltb, le-ltb, le-leb, lt-leb, eq-eqb, ne-eqb}
 use Rattle.ring.specs.Limits.{desk}
 use Rattle.ring.specs.Row.{row}
@@ -17,7 +17,7 @@ use Rattle.table.specs.declared.reason.Reason.{Reason}
 use Rattle.table.specs.declared.judge.Verdict.{Verdict}
 use Rattle.table.specs.declared.judge.Verdict.the-variants.{Fine, Fault}
 use Rattle.table.proofs.Judged.{RowJudged, no-such-node, not-below, out-of-order, too-many, too-much, row-fine, row-judged}
-use Rattle.work.specs.Places.{Place, empty, holds, isRow, lowestFree, holdsRow}
+use Rattle.work.specs.Places.{isRow, lowestFree, holdsRow}
 use Rattle.work.specs.Calls.{Outcome, refuses, judgeDemand}
 use Rattle.work.specs.Made.{placeIn, plainOf}
 use Rattle.work.specs.Changes.{freeFrom, freeIn, holdsIn}

@@ -4,7 +4,7 @@ use mathlib.Core.Bool.{cond, _||_}
 use lib.Dec.{ltb, leb, eqb}
 use lib.ListN.{length, getD, set, replicate}
 use Rattle.ring.specs.Limits.{desk}
-use Rattle.ring.specs.Row.{row}
+use Rattle.ring.specs.Row.{Row, row}
 use Rattle.ring.specs.RuleA.{ruleA}
 use Rattle.work.specs.Places.{Place, empty, holds, Plain, rowsHeld, lowestFree, holdsRow}
 use Rattle.work.specs.declared.held.WorkReply.{WorkReply}
@@ -66,16 +66,28 @@ after t (refuses reason) = t
 after t (makes p u) = u
 
 -- an accepted one answers the place and rule A's cut of the rows then held; line is always 0, and on a refusal the rest too
-unfoldable pub answer : Outcome → WorkReply
-answer (refuses reason) = record { reason = reason; line = 0; place = 0; g = 0; h = 0; across = 0 }
-answer (makes p u) =
+abbrev pub refusal : ℕ → WorkReply
+refusal reason = record { reason = reason; line = 0; place = 0; g = 0; h = 0; across = 0 }
+
+abbrev pub acceptance : ℕ → Plain → WorkReply
+acceptance p u =
     let c = ruleA (u .n) (rowsHeld (u .places)) in
     record { reason = 0; line = 0; place = p; g = c .g; h = c .h; across = c .number }
 
+unfoldable pub answer : Outcome → WorkReply
+answer (refuses reason) = refusal reason
+answer (makes p u) = acceptance p u
+
 -- the row at a place, or 22
+abbrev pub noRow : RowReply
+noRow = record { reason = 22; line = 0; first = 0; second = 0; amount = 0 }
+
+abbrev pub theRow : Row → RowReply
+theRow r = record { reason = 0; line = 0; first = r .i; second = r .j; amount = r .d }
+
 unfoldable pub rowSaid : Place → RowReply
-rowSaid empty = record { reason = 22; line = 0; first = 0; second = 0; amount = 0 }
-rowSaid (holds r) = record { reason = 0; line = 0; first = r .i; second = r .j; amount = r .d }
+rowSaid empty = noRow
+rowSaid (holds r) = theRow r
 
 unfoldable pub rowAnswer : Plain → ℕ → RowReply
 unfolding rowSaid

@@ -1,7 +1,7 @@
 -- Internal: what each call answers and leaves, for every value of the struct; over tables made by calls the list of places (Places, Calls) says it in plain words.
 use Prim.Native.Nat.{ℕ, zero, suc, _+_, _-_, _≤_, _<_, min, max}
 use mathlib.Core.Bool.{Bool, true, false, cond, _&&_}
-use mathlib.Core.List.{List, [], _∷_}
+use mathlib.Core.List.{List}
 use lib.Dec.{ltb, eqb}
 use lib.ListN.{getD, set, replicate}
 use Rattle.ring.specs.Limits.{desk}

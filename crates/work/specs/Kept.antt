@@ -2,8 +2,10 @@
 use Prim.Native.Nat.{ℕ, _≤_, _<_}
 use mathlib.Core.List.{List}
 use mathlib.Core.Path.{_≡_}
+use lib.ListN.{length}
 use Rattle.ring.specs.Row.{Row}
-use Rattle.ring.specs.Cut.{across}
+use Rattle.ring.specs.Limits.{desk}
+use Rattle.ring.specs.Cut.{Cut, across}
 use Rattle.ring.specs.RuleA.{ruleA}
 use Rattle.across.specs.Triangle.{at}
 use Rattle.work.specs.Places.{rowsHeld}
@@ -15,10 +17,15 @@ use Rattle.work.specs.declared.Work.{Work}
 abbrev pub held : Work → List Row
 held w = rowsHeld (plainOf w .places)
 
--- the across number of every cut is that of the rows held, and the largest and its cut are rule A's
+-- the cut that it keeps
+abbrev pub keptCut : Work → Cut
+keptCut w = record { g = w .g; h = w .h; number = w .across }
+
+-- there are 496 places; the across number of every cut is that of the rows held, and the largest and its cut are rule A's
 pub record Keeps (w : Work) : Type 0 where
+  pub places : length (plainOf w .places) ≡ desk .rows
   pub numbers : (g h : ℕ) → 1 ≤ g → g < h → h ≤ w .n → at (w .triangle) g h ≡ across (held w) g h
-  pub largest : record { g = w .g; h = w .h; number = w .across } ≡ ruleA (w .n) (held w)
+  pub largest : keptCut w ≡ ruleA (w .n) (held w)
 
 -- a call answers, and leaves a table, as the list of places says
 pub record ByTheList (w : Work) (c : Call) : Type 0 where

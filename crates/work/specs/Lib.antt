@@ -3,6 +3,7 @@ pub mod Calls
 pub mod Changes
 pub mod Made
 pub mod Kept
+pub mod Played
 pub mod Keys
 pub mod Sorted
-pub mod Text
+pub mod Promises

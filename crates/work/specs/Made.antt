@@ -17,10 +17,10 @@ calledIn w (add i j d) = addedIn w i j d
 calledIn w (change p i j d) = changedIn w p i j d
 calledIn w (remove p) = removedIn w p
 
--- from whatever bytes, a start that is accepted; then any calls, refused ones and later starts among them
-pub data Made : Work → Type 0 where
-  begun : (any : Work) (n fibres : ℕ) → startedIn any n fibres .reply .reason ≡ 0 → Made (startedIn any n fibres .work)
-  called : {w : Work} → Made w → (c : Call) → Made (calledIn w c .work)
+-- the table behind a list of calls, the last of them first: from whatever bytes a start that is accepted; then any calls, refused ones and later starts among them
+pub data Made : List Call → Work → Type 0 where
+  begun : (any : Work) (n fibres : ℕ) → startedIn any n fibres .reply .reason ≡ 0 → Made (start n fibres ∷ []) (startedIn any n fibres .work)
+  called : {cs : List Call} {w : Work} → Made cs w → (c : Call) → Made (c ∷ cs) (calledIn w c .work)
 
 -- a place as it stands in the columns: a first node of 0 says that it is empty
 abbrev pub placeIn : ℕ → ℕ → ℕ → Place

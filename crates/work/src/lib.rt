@@ -6,7 +6,6 @@ mod held; // what is kept, and what is answered
 mod place; // which places hold rows
 mod sort; // the rows by nodes, then by place
 mod start; // an empty table
-mod write; // the table as text
 
 use across::PAIRS;
 pub use change::added;
@@ -20,8 +19,6 @@ use ring::ROWS;
 pub use sort::ByNodes;
 pub use sort::sorted;
 pub use start::started;
-pub use write::TextReply;
-pub use write::written;
 
 // Place p has its row at p-1 of the three columns; a first node of 0 says that it is empty. g, h and across are the largest cut.
 #[repr(C)]
