@@ -1,5 +1,5 @@
--- Over every sequence of calls from a start: places and rows are those of the list, each answer is the list's, and the kept numbers, the largest and its cut
--- are those of the rows held; by one step for each call, from a table that is right to one that is right.
+-- Over every sequence of calls from a start the kept numbers, the largest and its cut are those of the rows held, and each call does what the list of places says; by one step for each call, from
+-- a table that is right to one that is right.
 use Prim.Native.Nat.{ℕ, zero, suc, _+_, _-_, _≤_, _<_}
 use mathlib.Core.Bool.{Bool, true, false, cond, _||_, or-true}
 use mathlib.Core.List.{List}
@@ -24,9 +24,9 @@ use Rattle.table.specs.declared.judge.Verdict.the-variants.{Fine}
 use Rattle.table.proofs.ReasonNumbers.{no-reason-0}
 use Rattle.table.proofs.Judged.{RingJudged, wrong-size, wrong-fibres, right-ring, ring-judged}
 use Rattle.work.specs.Places.{empty, holds, Plain}
-use Rattle.work.specs.Calls.{Call, start, add, change, remove, refuses, makes, judgeStart, judgePlace, judgeRoom, withPlace, outcome, after, answer, rowSaid, rowAnswer}
+use Rattle.work.specs.Calls.{Call, start, add, change, remove, refuses, makes, judgeStart, judgePlace, judgeRoom, withPlace, outcome, answer, rowSaid, rowAnswer}
 use Rattle.work.specs.Made.{placeIn, calledIn, Made, begun, called, plainOf}
-use Rattle.work.specs.Kept.{held, keptCut, Keeps, ByTheList}
+use Rattle.work.specs.Kept.{held, keptCut, Keeps}
 use Rattle.work.specs.Changes.{refusedIn, keptIn, freeIn, holdsIn, rowIn, putIn, clearedIn, unlessFault, freshIn, startedIn, judged, addedIn, changedIn, removedIn}
 use Rattle.work.specs.Keys.{sortedRows}
 use Rattle.work.specs.Sorted.{Sorted, WritesOut}
@@ -56,10 +56,11 @@ kept-sound p x s =
     }
 
 module _ {w : Work} {c : Call} where
-  by-the-list : Step w c → ByTheList w c
-  unfolding answer after keptIn
-  by-the-list (both-refuse reason z e f) = record { reply = rw (e, f); table = rw (e, f) }
-  by-the-list (both-make p x s e f) = record { reply = rw (e, f, cut-is x s); table = rw (e, f) }
+  -- the reply is the list's
+  pub replied : Step w c → calledIn w c .reply ≡ answer (outcome (plainOf w) c)
+  unfolding answer keptIn
+  replied (both-refuse reason z e f) = rw (e, f)
+  replied (both-make p x s e f) = rw (e, f, cut-is x s)
 
   stays-sound : Step w c → Sound w → Sound (calledIn w c .work)
   stays-sound (both-refuse reason z e f) s = rw e s
@@ -190,10 +191,6 @@ made-sound (called {w = w} m c) = let s = made-sound m in stays-sound (call-step
 -- 496 places, the across number of every cut, the largest and its cut are kept
 pub made-keeps : {cs : List Call} {w : Work} → Made cs w → Keeps w
 made-keeps {w} m = let s = made-sound m in record { places = count w (s .right); numbers = s .right .kept; largest = s .largest }
-
--- every call on a table made by calls does what the list says
-pub made-by-the-list : {cs : List Call} {w : Work} → Made cs w → (c : Call) → ByTheList w c
-made-by-the-list {w} m c = by-the-list (call-step w (made-sound m .right) c)
 
 -- the row at a place is the list's
 module _ (w : Work) (s : Right w) where

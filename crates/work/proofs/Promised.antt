@@ -24,7 +24,7 @@ use Rattle.work.specs.declared.held.Changed.{Changed}
 use Rattle.work.specs.declared.place.RowReply.{RowReply}
 use Rattle.work.proofs.Right.{Right, cut-is}
 use Rattle.work.proofs.Reasons.{Ends, stops, goes, call-ends, one-given, none-given, one-made}
-use Rattle.work.proofs.ByCalls.{Step, both-refuse, both-make, start-step, call-step, made-sound, made-by-the-list, made-row}
+use Rattle.work.proofs.ByCalls.{Step, both-refuse, both-make, start-step, call-step, replied, made-sound, made-row}
 
 -- ---- one call
 
@@ -164,6 +164,6 @@ behind (called {cs = cs} {w = w} m c) =
     next (played cs) (lastNamed cs) (call-step w (made-sound m .right) c) (ap (λ t. outcome t c) (b .0)) (λ reason z e. b)
 
 pub made-as-played : {cs : List Call} {w : Work} → Made cs w → AsPlayed cs w
-made-as-played m =
+made-as-played {w = w} m =
     let b = behind m in
-    record { table = b .0; cut = b .1; replies = λ c. made-by-the-list m c .reply ∙ ap (λ t. answer (outcome t c)) (b .0) }
+    record { table = b .0; cut = b .1; replies = λ c. replied (call-step w (made-sound m .right) c) ∙ ap (λ t. answer (outcome t c)) (b .0) }

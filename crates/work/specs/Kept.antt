@@ -1,4 +1,4 @@
--- To believe: what is kept in a table made by calls, that a call does what the list of places says, and what is so on every table, whatever its bytes.
+-- To believe: what is kept in a table made by calls, and what is so on every table, whatever its bytes.
 use Prim.Native.Nat.{ℕ, _≤_, _<_}
 use mathlib.Core.List.{List}
 use mathlib.Core.Path.{_≡_}
@@ -9,7 +9,7 @@ use Rattle.ring.specs.Cut.{Cut, across}
 use Rattle.ring.specs.RuleA.{ruleA}
 use Rattle.across.specs.Triangle.{at}
 use Rattle.work.specs.Places.{rowsHeld}
-use Rattle.work.specs.Calls.{Call, outcome, after, answer}
+use Rattle.work.specs.Calls.{Call, refusal}
 use Rattle.work.specs.Made.{calledIn, plainOf}
 use Rattle.work.specs.declared.Work.{Work}
 
@@ -27,12 +27,7 @@ pub record Keeps (w : Work) : Type 0 where
   pub numbers : (g h : ℕ) → 1 ≤ g → g < h → h ≤ w .n → at (w .triangle) g h ≡ across (held w) g h
   pub largest : keptCut w ≡ ruleA (w .n) (held w)
 
--- a call answers, and leaves a table, as the list of places says
-pub record ByTheList (w : Work) (c : Call) : Type 0 where
-  pub reply : calledIn w c .reply ≡ answer (outcome (plainOf w) c)
-  pub table : plainOf (calledIn w c .work) ≡ after (plainOf w) (outcome (plainOf w) c)
-
 -- on every table: a refused call changes no byte and answers its reason alone; an accepted one names the cut that is kept from then on
 pub data Answered (w : Work) (c : Call) : Type 0 where
-  refused : (reason : ℕ) → (reason ≡ 0 → ⊥) → calledIn w c .reply ≡ record { reason = reason; line = 0; place = 0; g = 0; h = 0; across = 0 } → calledIn w c .work ≡ w → Answered w c
+  refused : (reason : ℕ) → (reason ≡ 0 → ⊥) → calledIn w c .reply ≡ refusal reason → calledIn w c .work ≡ w → Answered w c
   accepted : (place : ℕ) → calledIn w c .reply ≡ record { reason = 0; line = 0; place = place; g = calledIn w c .work .g; h = calledIn w c .work .h; across = calledIn w c .work .across } → Answered w c

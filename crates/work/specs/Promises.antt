@@ -1,4 +1,4 @@
--- To believe: all that the calls of the working table promise: each reason exactly when it holds and none before it in the order does, and else the place, the cut and the table; and the row at a place.
+-- To believe: what the calls of the working table promise: each reason exactly when it holds and none before it does; else the place, the cut and the table, or the row at a place.
 use Prim.Native.Nat.{ℕ, _-_, _≤_, _<_}
 use mathlib.Core.List.{List}
 use mathlib.Core.Logic.{_⊎_, _↔_}
@@ -28,12 +28,14 @@ pub record Taken (ps : List Place) (p : ℕ) : Type 0 where
   pub r : Row
   pub there : RowAt ps p r
 
+-- it holds none
 abbrev pub NoRow : List Place → ℕ → Type 0
 NoRow ps p = Taken ps p → ⊥
 
 abbrev pub AllTaken : List Place → Type 0
 AllTaken ps = (p : ℕ) → 1 ≤ p → p ≤ length ps → Taken ps p
 
+-- it is free, and all places below it are taken
 pub record LowestFree (ps : List Place) (p : ℕ) : Type 0 where
   pub from-1 : 1 ≤ p
   pub to-last : p ≤ length ps
