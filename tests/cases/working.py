@@ -309,6 +309,7 @@ def main():
     lines = [line for s in sequences for line in s.lines]
     open("tests/cases/working.calls", "w").write("".join(line + "\n" for line in lines))
     calls = [line.split(" = ") for line in lines if line[0] != "#"]
+    assert {int(reply.split()[0]) for _, reply in calls} == {0, 3, 4, 5, 7, 15, 20, 21, 22}
     print(len(sequences), "sequences,", len(calls), "calls")
     for word in ("start", "add", "change", "remove", "row", "write"):
         mine = [reply.split() for call, reply in calls if call.startswith(word)]
