@@ -69,6 +69,15 @@ fn amount_alone(kept: &mut Kept, ask: &Ask) -> u32 {
     }
 }
 
+/// Calls of one kind leave the old row's share in the numbers.
+fn left_on(kept: &mut Kept, ask: &Ask, kind: fn(&Ask) -> bool) -> u32 {
+    if kind(ask) {
+        add_new(kept, ask)
+    } else {
+        keep(kept, ask)
+    }
+}
+
 /// A later start that leaves some of the old table, where calls have made it.
 fn starting(kept: &mut Kept, ask: &Ask, keep_rows: bool) -> u32 {
     let (rows, across) = (kept.table.places.clone(), kept.across.clone());
@@ -202,17 +211,11 @@ pub static WORKING_FAULTS: [Mutant; 39] = [
     ),
     working(
         "working: the old row's share not taken off",
-        altering(|kept, ask| match ask {
-            Ask::Change(..) => add_new(kept, ask),
-            _ => keep(kept, ask),
-        }),
+        altering(|kept, ask| left_on(kept, ask, |ask| matches!(ask, Ask::Change(..)))),
     ),
     working(
         "working: a removed row's share not taken off",
-        altering(|kept, ask| match ask {
-            Ask::Remove(_) => add_new(kept, ask),
-            _ => keep(kept, ask),
-        }),
+        altering(|kept, ask| left_on(kept, ask, |ask| matches!(ask, Ask::Remove(_)))),
     ),
     working(
         "working: a later start keeps the rows",
