@@ -30,12 +30,12 @@ pub data AgainstRow (limits : Limits) (n k a b i j d : ℕ) : Reason → Type 0 
   by-count : limits .rows ≤ k → AgainstRow limits n k a b i j d TooMany
   by-amount : limits .amount < d → AgainstRow limits n k a b i j d TooMuch
 
-has-node : {n i : ℕ} → HasNode n i → NoNode n i → ⊥
-has-node h (inl l) = omega (arith, h .0)
-has-node h (inr l) = omega (arith, h .1)
+pub no-node-there : {n i : ℕ} → HasNode n i → NoNode n i → ⊥
+no-node-there h (inl l) = omega (arith, h .0)
+no-node-there h (inr l) = omega (arith, h .1)
 
 has-nodes : {n i j : ℕ} → HasNode n i → HasNode n j → NoNode n i ⊎ NoNode n j → ⊥
-has-nodes h k = ⊎-elim (has-node h) (has-node k)
+has-nodes h k = ⊎-elim (no-node-there h) (no-node-there k)
 
 in-order : {a b i j : ℕ} → PairUpTo a b i j → PairBefore i j a b → ⊥
 in-order (inl l) (inl m) = omega arith

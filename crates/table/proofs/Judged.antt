@@ -89,11 +89,11 @@ ring-judged limits ring = go (size limits (ring .n)) (fibred (ring .fibres))
 abbrev pub HasNode : ℕ → ℕ → Type 0
 HasNode n i = (1 ≤ i) × (i ≤ n)
 
-data Node (n i : ℕ) : Type 0 where
+pub data Node (n i : ℕ) : Type 0 where
   no-node : NoNode n i → outside n i ≡ true → Node n i
   has-node : HasNode n i → outside n i ≡ false → Node n i
 
-node : (n i : ℕ) → Node n i
+pub node : (n i : ℕ) → Node n i
 unfolding outside
 node n i =
     elim (decLt i 1) [

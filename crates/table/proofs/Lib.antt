@@ -17,8 +17,10 @@ pub mod LineNumbers
 pub mod ReasonNumbers
 pub mod Said
 pub mod FirstOnLine
+pub mod BytesGiven
 -- for the functions
 pub mod JudgeSteps
+pub mod ByteSteps
 pub mod LineSteps
 pub mod Columns
 pub mod ReadSteps

@@ -4,12 +4,13 @@ use Prim.Native.Nat.{ℕ, _+_, _-_, _≤_, _<_}
 use mathlib.Core.List.{List, [], _∷_, _++_}
 use mathlib.Core.Path.{_≡_, refl, ap, _∙_, sym}
 use native.Mathlib.Omega.{arith}
-use lib.ListN.{length, replicate, set, take, drop, drop-of-length-le, length-append}
+use lib.ListN.{length, replicate, set, take, drop, drop-of-length-le, length-append, length-take}
 use borrow.Author.Tests.{lt-ltb, le-ltb}
 use Rattle.ring.specs.Row.{Row, row}
 use Rattle.text.specs.ReadLine.{readLine}
 use Rattle.text.specs.Answers.{twoIn, threeIn}
 use Rattle.text.specs.Shapes.{ringShape, rowShape}
+use Rattle.text.proofs.AnswerLaws.{two-within, three-within}
 use Rattle.text.specs.declared.TwoNumbers.{TwoNumbers}
 use Rattle.text.specs.declared.TwoNumbers.the-variants.{Are as AreTwo, Bad as NotTwo}
 use Rattle.text.specs.declared.ThreeNumbers.{ThreeNumbers}
@@ -19,6 +20,7 @@ use Rattle.ring.specs.Ring.{ringOf}
 use Rattle.table.specs.Lines.{lines}
 use Rattle.table.specs.LineEnds.{LineEnds}
 use Rattle.table.specs.Judge.{judgeRing, judgeRow}
+use Rattle.table.specs.Fields.{ringFault, rowFault}
 use Rattle.table.specs.ReadTable.{Result, refused, rowsOf, tableOf}
 use Rattle.ring.specs.Columns.{column}
 use Rattle.table.specs.Arrays.{tableIn}
@@ -82,18 +84,22 @@ module _ (s : List ℕ) (n fibres from line a b count at : ℕ) (first second am
 
   module _ (end : ℕ) (there : at < length s) (ends : LineEnds s at end) (x : ThreeNumbers) (ex : x ≡ threeIn (readLine rowShape (take (end - at) (drop at s)))) where
     -- the next line is no row
-    pub no-row : (p : ℕ) (t : Table) → x ≡ NotThree p → t ≡ tableIn (refused Misshapen line) → t ≡ tableIn (whole s n fibres from)
+    pub no-row : (p byte : ℕ) (t : Table) → x ≡ NotThree p → byte ≡ p + 1 → t ≡ tableIn (refused Misshapen line byte) → t ≡ tableIn (whole s n fibres from)
     unfolding rowsOf
-    no-row p t q e = e ∙ ap tableIn (rw (reading .rest, line-at s at end there ends, ← ex, q))
+    no-row p byte t q b e = e ∙ ap tableIn (rw (reading .rest, line-at s at end there ends, ← ex, q, b))
+
+    -- its faulty byte is within the text
+    pub row-place : (p : ℕ) → x ≡ NotThree p → length s ≤ desk .bytes → p ≤ desk .bytes
+    row-place p q short = omega (arith, three-within rowShape (take (end - at) (drop at s)) p (sym ex ∙ q), length-take (end - at) (drop at s), ends .within)
 
     module _ (i j d : ℕ) (is : x ≡ AreThree i j d) (v : Verdict) (ev : v ≡ judgeRow desk n count a b i j d) where
       found : judgeRow desk n (length (reading .rows)) a b i j d ≡ v
       found = let e = reading .many in rw (← e) (sym ev)
 
       -- something is found against it
-      pub row-fault : (reason : Reason) (t : Table) → v ≡ Fault reason → t ≡ tableIn (refused reason line) → t ≡ tableIn (whole s n fibres from)
+      pub row-fault : (reason : Reason) (byte : ℕ) (t : Table) → v ≡ Fault reason → byte ≡ rowFault n i j d reason → t ≡ tableIn (refused reason line byte) → t ≡ tableIn (whole s n fibres from)
       unfolding rowsOf
-      row-fault reason t q e = e ∙ ap tableIn (rw (reading .rest, line-at s at end there ends, ← ex, is, found, q))
+      row-fault reason byte t q b e = e ∙ ap tableIn (rw (reading .rest, line-at s at end there ends, ← ex, is, found, q, b))
 
       module _ (fine : v ≡ Fine) where
         pub room : count < desk .rows
@@ -116,31 +122,36 @@ module _ (s : List ℕ) (n fibres from line a b count at : ℕ) (first second am
 
 -- ---- the whole table
 
-nothing : (s : List ℕ) → length s ≤ 0 → refused Misshapen 1 ≡ tableOf desk s
+nothing : (s : List ℕ) → length s ≤ 0 → refused Misshapen 1 1 ≡ tableOf desk s
 unfolding tableOf lines
 nothing [] h = refl
 nothing (b ∷ s) h = absurd (omega arith)
 
+-- the first line's faulty byte is within the text
+pub ring-place : (s : List ℕ) (end : ℕ) → length s ≤ desk .bytes → LineEnds s 0 end → (x : TwoNumbers) → x ≡ twoIn (readLine ringShape (take (end - 0) (drop 0 s))) → (p : ℕ) → x ≡ NotTwo p
+    → p ≤ desk .bytes
+ring-place s end short ends x ex p q = omega (arith, two-within ringShape (take (end - 0) (drop 0 s)) p (sym ex ∙ q), length-take (end - 0) (drop 0 s), ends .within)
+
 module _ (s : List ℕ) (t : Table) where
-  pub too-long : desk .bytes < length s → t ≡ tableIn (refused TooLong 0) → t ≡ tableIn (tableOf desk s)
+  pub too-long : desk .bytes < length s → t ≡ tableIn (refused TooLong 0 0) → t ≡ tableIn (tableOf desk s)
   unfolding tableOf
   too-long h e = e ∙ ap tableIn (rw (lt-ltb _ _ h))
 
-  pub no-line : length s ≤ 0 → t ≡ tableIn (refused Misshapen 1) → t ≡ tableIn (tableOf desk s)
+  pub no-line : length s ≤ 0 → t ≡ tableIn (refused Misshapen 1 1) → t ≡ tableIn (tableOf desk s)
   no-line h e = e ∙ ap tableIn (nothing s h)
 
   module _ (short : length s ≤ desk .bytes) (there : 0 < length s) (end : ℕ) (ends : LineEnds s 0 end) (x : TwoNumbers) (ex : x ≡ twoIn (readLine ringShape (take (end - 0) (drop 0 s)))) where
     first-line : lines s ≡ take (end - 0) (drop 0 s) ∷ lines (drop end s)
     first-line = line-at s 0 end there ends
 
-    pub no-ring : (p : ℕ) → x ≡ NotTwo p → t ≡ tableIn (refused Misshapen 1) → t ≡ tableIn (tableOf desk s)
+    pub no-ring : (p byte : ℕ) → x ≡ NotTwo p → byte ≡ p + 1 → t ≡ tableIn (refused Misshapen 1 byte) → t ≡ tableIn (tableOf desk s)
     unfolding tableOf
-    no-ring p q e = e ∙ ap tableIn (rw (le-ltb (desk .bytes) (length s) short, first-line, ← ex, q))
+    no-ring p byte q b e = e ∙ ap tableIn (rw (le-ltb (desk .bytes) (length s) short, first-line, ← ex, q, b))
 
     module _ (n fibres : ℕ) (is : x ≡ AreTwo n fibres) (v : Verdict) (ev : v ≡ judgeRing desk (ringOf n fibres)) where
-      pub ring-fault : (reason : Reason) → v ≡ Fault reason → t ≡ tableIn (refused reason 1) → t ≡ tableIn (tableOf desk s)
+      pub ring-fault : (reason : Reason) (byte : ℕ) → v ≡ Fault reason → byte ≡ ringFault (ringOf n fibres) reason → t ≡ tableIn (refused reason 1 byte) → t ≡ tableIn (tableOf desk s)
       unfolding tableOf
-      ring-fault reason q e = e ∙ ap tableIn (rw (le-ltb (desk .bytes) (length s) short, first-line, ← ex, is, ← ev, q))
+      ring-fault reason byte q b e = e ∙ ap tableIn (rw (le-ltb (desk .bytes) (length s) short, first-line, ← ex, is, ← ev, q, b))
 
       pub then-rows : v ≡ Fine → t ≡ tableIn (whole s n fibres end) → t ≡ tableIn (tableOf desk s)
       unfolding tableOf

@@ -19,6 +19,7 @@ use Rattle.ring.specs.LineSize.{IsFibres}
 use Rattle.table.specs.Lines.{lines}
 use Rattle.table.specs.Judge.{judgeRing, judgeRow}
 use Rattle.table.specs.Table.{writeRows, writeTable, LimitsSpelled, InRange}
+use Rattle.table.specs.Fields.{ringFault, rowFault}
 use Rattle.table.specs.ReadTable.{Result, accepted, refused, ringOr, rowOr, unless, rowsOf, tableLines, tableOf}
 use Rattle.table.specs.declared.reason.Reason.{Reason}
 use Rattle.table.specs.declared.judge.Verdict.{Verdict}
@@ -38,18 +39,18 @@ desk-spelled = record { nodes = omega arith; amount = omega arith }
 data RowsRead (limits : Limits) (ring : Ring) (a b : ℕ) (rs : List Row) (ls : List (List ℕ)) : Result → Type 0 where
   rows-are : {all : List Row} (more : List Row) → all ≡ rs ++ more → flatten ls ≡ writeRows more → FineRows limits (ring .n) (length rs) a b more
       → RowsRead limits ring a b rs ls (accepted ring all)
-  rows-refused : {r : Reason} {line : ℕ} → RowsRead limits ring a b rs ls (refused r line)
+  rows-refused : {r : Reason} {line byte : ℕ} → RowsRead limits ring a b rs ls (refused r line byte)
 
 module _ {limits : Limits} {ring : Ring} where
   -- one row more in front
-  row-more : (line : ℕ) {a b i j d : ℕ} {rs : List Row} {l : List ℕ} {ls : List (List ℕ)} {v : Verdict} {x : Result} → l ≡ rowLine i j d
-      → RowJudged limits (ring .n) (length rs) a b i j d v → RowsRead limits ring i j (rs ++ row i j d ∷ []) ls x → RowsRead limits ring a b rs (l ∷ ls) (unless v line x)
+  row-more : (line : ℕ) (byte : Reason → ℕ) {a b i j d : ℕ} {rs : List Row} {l : List ℕ} {ls : List (List ℕ)} {v : Verdict} {x : Result} → l ≡ rowLine i j d
+      → RowJudged limits (ring .n) (length rs) a b i j d v → RowsRead limits ring i j (rs ++ row i j d ∷ []) ls x → RowsRead limits ring a b rs (l ∷ ls) (unless v line byte x)
   unfolding unless writeRows flatten
-  row-more line {v = Fault r} e w rest = rows-refused
-  row-more line {i} {j} {d} {rs} {v = Fine} e (row-fine o up c m) (rows-are more whole text fine) =
+  row-more line byte {v = Fault r} e w rest = rows-refused
+  row-more line byte {i} {j} {d} {rs} {v = Fine} e (row-fine o up c m) (rows-are more whole text fine) =
       let one = length-append rs (row i j d ∷ []) in
       rows-are (row i j d ∷ more) (whole ∙ append-assoc rs (row i j d ∷ []) more) (rw (e, text)) (fine-row o up c m (subst (λ k. FineRows limits (ring .n) k i j more) one fine))
-  row-more line {v = Fine} e w rows-refused = rows-refused
+  row-more line byte {v = Fine} e w rows-refused = rows-refused
 
   rows-read : (ls : List (List ℕ)) (line a b : ℕ) (rs : List Row) → RowsRead limits ring a b rs ls (rowsOf limits ring line a b rs ls)
   unfolding rowsOf rowOr writeRows flatten
@@ -60,21 +61,21 @@ module _ {limits : Limits} {ring : Ring} where
       next i j d = rowsOf limits ring (line + 1) i j (rs ++ row i j d ∷ []) ls
 
       go : {x : ThreeNumbers} → RowRead l x → ((i j d : ℕ) → RowsRead limits ring i j (rs ++ row i j d ∷ []) ls (next i j d))
-          → RowsRead limits ring a b rs (l ∷ ls) (rowOr x line λ i j d. unless (judgeRow limits (ring .n) (length rs) a b i j d) line (next i j d))
-      go (is-row {i} {j} {d} e w) rest = row-more line e (row-judged limits (ring .n) (length rs) a b i j d) (rest i j d)
-      go (no-row-line none) rest = rows-refused
+          → RowsRead limits ring a b rs (l ∷ ls) (rowOr x line λ i j d. unless (judgeRow limits (ring .n) (length rs) a b i j d) line (rowFault (ring .n) i j d) (next i j d))
+      go (is-row {i} {j} {d} e w) rest = row-more line (rowFault (ring .n) i j d) e (row-judged limits (ring .n) (length rs) a b i j d) (rest i j d)
+      go (no-row-line none fault) rest = rows-refused
 
 -- what a text is read to
 data TableRead (limits : Limits) (t : List ℕ) : Result → Type 0 where
   table-is : {ring : Ring} {rs : List Row} → t ≡ writeTable ring rs → InRange limits ring rs → TableRead limits t (accepted ring rs)
-  table-refused : {r : Reason} {line : ℕ} → TableRead limits t (refused r line)
+  table-refused : {r : Reason} {line byte : ℕ} → TableRead limits t (refused r line byte)
 
 module _ {limits : Limits} {t : List ℕ} (short : length t ≤ limits .bytes) where
-  ring-more : {ring : Ring} {l : List ℕ} {ls : List (List ℕ)} {v : Verdict} {x : Result} → t ≡ l ++ flatten ls → l ≡ ringLine (ring .n) (ring .fibres)
-      → RingJudged limits ring v → RowsRead limits ring 0 0 [] ls x → TableRead limits t (unless v 1 x)
+  ring-more : (byte : Reason → ℕ) {ring : Ring} {l : List ℕ} {ls : List (List ℕ)} {v : Verdict} {x : Result} → t ≡ l ++ flatten ls → l ≡ ringLine (ring .n) (ring .fibres)
+      → RingJudged limits ring v → RowsRead limits ring 0 0 [] ls x → TableRead limits t (unless v 1 byte x)
   unfolding unless writeTable
-  ring-more {v = Fault r} whole e w rows = table-refused
-  ring-more {ring} {v = Fine} whole e (right-ring few many fibres) (rows-are {all} rs is text fine) =
+  ring-more byte {v = Fault r} whole e w rows = table-refused
+  ring-more byte {ring} {v = Fine} whole e (right-ring few many fibres) (rows-are {all} rs is text fine) =
       let written : t ≡ writeTable ring all = whole ∙ rw (e, text, is) in
       table-is {rs = all} written (record {
         few = few;
@@ -85,16 +86,16 @@ module _ {limits : Limits} {t : List ℕ} (short : length t ≤ limits .bytes) w
         amounts = rw is (amounts-fine fine);
         short = omega (arith, ap length written);
       })
-  ring-more {v = Fine} whole e w rows-refused = table-refused
+  ring-more byte {v = Fine} whole e w rows-refused = table-refused
 
   lines-read : (ls : List (List ℕ)) → t ≡ flatten ls → TableRead limits t (tableLines limits ls)
   unfolding tableLines ringOr flatten
   lines-read [] whole = table-refused
   lines-read (l ∷ ls) whole = go (ring-read l)
     where
-      go : {x : TwoNumbers} → RingRead l x → TableRead limits t (ringOr x 1 λ ring. unless (judgeRing limits ring) 1 (rowsOf limits ring 2 0 0 [] ls))
-      go (is-ring {n} {fibres} e w) = ring-more whole e (ring-judged limits (ringOf n fibres)) (rows-read ls 2 0 0 [])
-      go (no-ring none) = table-refused
+      go : {x : TwoNumbers} → RingRead l x → TableRead limits t (ringOr x 1 λ ring. unless (judgeRing limits ring) 1 (ringFault ring) (rowsOf limits ring 2 0 0 [] ls))
+      go (is-ring {n} {fibres} e w) = ring-more (ringFault (ringOf n fibres)) whole e (ring-judged limits (ringOf n fibres)) (rows-read ls 2 0 0 [])
+      go (no-ring none fault) = table-refused
 
 table-read : (limits : Limits) (t : List ℕ) → TableRead limits t (tableOf limits t)
 unfolding tableOf

@@ -35,20 +35,21 @@ module _ (s : List ℕ) (t : Table) where
       let es : t .second ≡ column (λ (r : Row). r .j) (desk .rows) rs = ap (λ (x : Table). x .second) e in
       let ea : t .amount ≡ column (λ (r : Row). r .d) (desk .rows) rs = ap (λ (x : Table). x .amount) e in
       record { is = q ∙ sym (rw (kn, kf, kc, ef, es, ea, rows-back (desk .rows) rs h)); room = omega arith }
-  a-table (refused reason line) q e n fibres count a = clash (let p : Is n fibres count ≡ Refused reason line = sym a ∙ ap (λ (x : Table). x .answer) e in cc)
+  a-table (refused reason line byte) q e n fibres count a = clash (let p : Is n fibres count ≡ Refused reason line byte = sym a ∙ ap (λ (x : Table). x .answer) e in cc)
 
-  a-refusal : (r : Result) → tableOf desk s ≡ r → t ≡ tableIn r → (reason : Reason) (line : ℕ) → t .answer ≡ Refused reason line → tableOf desk s ≡ refused reason line
+  a-refusal : (r : Result) → tableOf desk s ≡ r → t ≡ tableIn r → (reason : Reason) (line byte : ℕ) → t .answer ≡ Refused reason line byte → tableOf desk s ≡ refused reason line byte
   unfolding tableIn
-  a-refusal (accepted ring rs) q e reason line a = clash (let p : Refused reason line ≡ Is (ring .n) (ring .fibres) (length rs) = sym a ∙ ap (λ (x : Table). x .answer) e in cc)
-  a-refusal (refused why at) q e reason line a =
-      let p : Refused reason line ≡ Refused why at = sym a ∙ ap (λ (x : Table). x .answer) e in
+  a-refusal (accepted ring rs) q e reason line byte a = clash (let p : Refused reason line byte ≡ Is (ring .n) (ring .fibres) (length rs) = sym a ∙ ap (λ (x : Table). x .answer) e in cc)
+  a-refusal (refused why at on) q e reason line byte a =
+      let p : Refused reason line byte ≡ Refused why at on = sym a ∙ ap (λ (x : Table). x .answer) e in
       let kw : why ≡ reason = cc in
       let kl : at ≡ line = cc in
-      q ∙ rw (kw, kl)
+      let kb : on ≡ byte = cc in
+      q ∙ rw (kw, kl, kb)
 
   module _ (e : t ≡ tableIn (tableOf desk s)) where
     pub told-table : (n fibres count : ℕ) → t .answer ≡ Is n fibres count → Told s n fibres count (t .first) (t .second) (t .amount)
     told-table = a-table (tableOf desk s) refl e
 
-    pub told-refusal : (reason : Reason) (line : ℕ) → t .answer ≡ Refused reason line → tableOf desk s ≡ refused reason line
+    pub told-refusal : (reason : Reason) (line byte : ℕ) → t .answer ≡ Refused reason line byte → tableOf desk s ≡ refused reason line byte
     told-refusal = a-refusal (tableOf desk s) refl e

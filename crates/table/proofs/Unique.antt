@@ -1,5 +1,5 @@
 -- Any two results that meet a public contract agree, and so do the two buffers: each contract is an equation with one definition.
-use Prim.Native.Nat.{ℕ}
+use Prim.Native.Nat.{ℕ, _+_}
 use mathlib.Core.Bool.{Bool}
 use mathlib.Core.List.{List}
 use mathlib.Core.Path.{_≡_}
@@ -12,6 +12,7 @@ use Rattle.table.specs.Judge.{judgeSize, otherFibres, judgeRing, judgeRo
 use Rattle.table.specs.LineEnds.{LineEnds}
 use Rattle.table.specs.Reasons.{numberOf}
 use Rattle.table.specs.Table.{writeTable}
+use Rattle.table.specs.Fields.{ringFault, rowFault}
 use Rattle.table.specs.ReadTable.{refused, tableOf}
 use Rattle.ring.specs.Columns.{rowsIn}
 use Rattle.table.specs.Arrays.{tableIn}
@@ -25,8 +26,17 @@ number-unique reason r q = same-result
 pub read-table-unique : (s : List ℕ) (r q : Table) → r ≡ tableIn (tableOf desk s) → q ≡ tableIn (tableOf desk s) → r ≡ q
 read-table-unique s r q = same-result
 
-pub refusal-unique : (reason : Reason) (line : ℕ) (r q : Table) → r ≡ tableIn (refused reason line) → q ≡ tableIn (refused reason line) → r ≡ q
-refusal-unique reason line r q = same-result
+pub refusal-unique : (reason : Reason) (line byte : ℕ) (r q : Table) → r ≡ tableIn (refused reason line byte) → q ≡ tableIn (refused reason line byte) → r ≡ q
+refusal-unique reason line byte r q = same-result
+
+pub byte-at-unique : (p r q : ℕ) → r ≡ p + 1 → q ≡ p + 1 → r ≡ q
+byte-at-unique p r q = same-result
+
+pub ring-fault-unique : (ring : Ring) (reason : Reason) (r q : ℕ) → r ≡ ringFault ring reason → q ≡ ringFault ring reason → r ≡ q
+ring-fault-unique ring reason r q = same-result
+
+pub row-fault-unique : (n i j d : ℕ) (reason : Reason) (r q : ℕ) → r ≡ rowFault n i j d reason → q ≡ rowFault n i j d reason → r ≡ q
+row-fault-unique n i j d reason r q = same-result
 
 module _ (ring : Ring) (count : ℕ) (first second amount : List ℕ) where
   pub table-length-unique : (r q : ℕ) → r ≡ length (writeTable ring (rowsIn count first second amount)) → q ≡ length (writeTable ring (rowsIn count first second amount)) → r ≡ q

@@ -19,8 +19,8 @@ beside answer rs =
       amount = column (λ (r : Row). r .d) (desk .rows) rs;
     }
 
--- the answer beside its rows; a refusal returns only reason and line
+-- the answer beside its rows; a refusal returns only reason, line and byte
 unfoldable pub tableIn : Result → Table
 unfolding column
 tableIn (accepted ring rs) = beside (Is (ring .n) (ring .fibres) (length rs)) rs
-tableIn (refused reason line) = beside (Refused reason line) []
+tableIn (refused reason line byte) = beside (Refused reason line byte) []

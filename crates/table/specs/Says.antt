@@ -5,7 +5,9 @@ use mathlib.Core.Logic.{_⊎_}
 use mathlib.Core.Path.{_≡_}
 use lib.ListN.{length}
 use Rattle.text.specs.Number.{limit}
-use Rattle.text.specs.Shapes.{ringLine, rowLine}
+use Rattle.text.specs.FieldByte.{ringByte, rowByte}
+use Rattle.text.specs.FirstFault.{FirstFault}
+use Rattle.text.specs.Shapes.{ringShape, rowShape, ringLine, rowLine}
 use Rattle.ring.specs.Limits.{Limits}
 use Rattle.ring.specs.Ring.{Ring}
 use Rattle.ring.specs.LineSize.{IsFibres}
@@ -138,16 +140,73 @@ Says limits t NoRow line = ⊥
 Says limits t Full line = ⊥
 Says limits t NoRoom line = ⊥
 
+-- ---- the byte of the line that is given with a reason (02, K5), counted from 1
+
+-- where a line of this shape is due: 1 where it is missing; else the first byte at which no line of the shape goes on like this
+pub data ShapeByte (t shape : List ℕ) (line : ℕ) : ℕ → Type 0 where
+  line-missing : ((l : List ℕ) → LineIs (lines t) line l → ⊥) → ShapeByte t shape line 1
+  line-faulty : {l : List ℕ} {p : ℕ} → LineIs (lines t) line l → FirstFault shape l p → ShapeByte t shape line (p + 1)
+
+-- 2: by the shape that is due
+pub data LineByte (t : List ℕ) (line byte : ℕ) : Type 0 where
+  ring-due : line ≡ 1 → ShapeByte t ringShape line byte → LineByte t line byte
+  row-due : 2 ≤ line → ShapeByte t rowShape line byte → LineByte t line byte
+
+-- 3: where n starts, which is field 1; 20: where fibres starts, which is field 2
+pub record RingField (t : List ℕ) (k byte : ℕ) : Type 0 where
+  pub ring : Ring
+  pub said : RingIs t ring
+  pub is : byte ≡ ringByte (ring .n) (ring .fibres) k
+
+-- 4: where the first of the two nodes that is outside starts
+pub data NodeByte (t : List ℕ) (line : ℕ) : ℕ → Type 0 where
+  first-node : {ring : Ring} {i j d : ℕ} → RingIs t ring → RowIs t line i j d → NoNode (ring .n) i → NodeByte t line (rowByte i j d 1)
+  second-node : {ring : Ring} {i j d : ℕ} → RingIs t ring → RowIs t line i j d → (NoNode (ring .n) i → ⊥) → NodeByte t line (rowByte i j d 2)
+
+-- 7: where the amount starts
+pub data AmountByte (t : List ℕ) (line : ℕ) : ℕ → Type 0 where
+  at-amount : {i j d : ℕ} → RowIs t line i j d → AmountByte t line (rowByte i j d 3)
+
+-- the byte of a reason that holds on a line
+unfoldable pub ByteIs : List ℕ → Reason → ℕ → ℕ → Type 0
+-- a reason with line 0
+ByteIs t TooLong line byte = byte ≡ 0
+ByteIs t Misshapen line byte = LineByte t line byte
+-- a reason about one field
+ByteIs t RingSize line byte = RingField t 1 byte
+ByteIs t Fibres line byte = RingField t 2 byte
+ByteIs t NoSuchNode line byte = NodeByte t line byte
+ByteIs t TooMuch line byte = AmountByte t line byte
+-- a reason that judges the line as a whole
+ByteIs t NotBelow line byte = byte ≡ 1
+ByteIs t OutOfOrder line byte = byte ≡ 1
+ByteIs t TooMany line byte = byte ≡ 1
+-- the others judge no table
+ByteIs t WrongSum line byte = ⊥
+ByteIs t WrongWay line byte = ⊥
+ByteIs t WrongCut line byte = ⊥
+ByteIs t WrongLink line byte = ⊥
+ByteIs t WrongLast line byte = ⊥
+ByteIs t NotTight line byte = ⊥
+ByteIs t OverBound line byte = ⊥
+ByteIs t NotZero line byte = ⊥
+ByteIs t NotSymmetric line byte = ⊥
+ByteIs t SumTooMuch line byte = ⊥
+ByteIs t NoRow line byte = ⊥
+ByteIs t Full line byte = ⊥
+ByteIs t NoRoom line byte = ⊥
+
 -- ---- which is given
 
 -- reason 1, with line 0, is tried first; then lines in order, and in a line the reasons in their order
 abbrev pub Earlier : Reason → ℕ → Reason → ℕ → Type 0
 Earlier r line s other = (line < other) ⊎ ((line ≡ other) × (rankOf r < rankOf s))
 
--- each reason is given exactly when it holds and nothing before it in the order does
-pub record Given (limits : Limits) (t : List ℕ) (r : Reason) (line : ℕ) : Type 0 where
+-- each reason is given exactly when it holds and nothing before it in the order does, and with it its byte
+pub record Given (limits : Limits) (t : List ℕ) (r : Reason) (line byte : ℕ) : Type 0 where
   pub holds : Says limits t r line
   pub first : (s : Reason) (other : ℕ) → Earlier s other r line → Says limits t s other → ⊥
+  pub byte-is : ByteIs t r line byte
 
 -- a table is accepted when no reason that judges its own length or lines holds of it
 abbrev pub Accepted : Limits → List ℕ → Type 0

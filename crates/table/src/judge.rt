@@ -56,7 +56,7 @@ pub fn judge_ring(n: u32, fibres: u32) -> Verdict
 }
 
 // Whether a ring of n nodes lacks the node i.
-fn no_node(n: u32, i: u32) -> bool
+pub(crate) fn no_node(n: u32, i: u32) -> bool
     ensures { λ r. ⌜ r ≡ outside n i ⌝ }
 {
     i < 1 || n < i

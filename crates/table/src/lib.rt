@@ -2,9 +2,13 @@
 mod reason; // why a text is refused
 mod judge; // what is found against a ring and a row
 mod lines; // where a line ends
+mod byte; // the byte of a line that a refusal names
 mod read; // a text to rows in arrays
 mod write; // rows in arrays to a text
 
+pub use byte::byte_at;
+pub use byte::ring_fault;
+pub use byte::row_fault;
 pub use judge::Verdict;
 pub use judge::judge_ring;
 pub use judge::judge_row;

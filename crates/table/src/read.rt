@@ -1,4 +1,7 @@
 // A text to rows in arrays.
+use crate::byte::byte_at;
+use crate::byte::ring_fault;
+use crate::byte::row_fault;
 use crate::judge::Verdict;
 use crate::judge::judge_ring;
 use crate::judge::judge_row;
@@ -18,10 +21,10 @@ ghost use Rattle.table.specs.Lines.{lines};
 ghost use Rattle.table.specs.ReadTable.{refused, rowsOf, tableOf};
 ghost use Rattle.table.specs.Arrays.{tableIn};
 
-// How many nodes and fibres the ring has and how many rows there are; or the reason and the line.
+// How many nodes and fibres the ring has and how many rows there are; or the reason, the line and the byte of it.
 pub enum Answer {
     Is(u32, u32, usize),
-    Refused(Reason, u32),
+    Refused(Reason, u32, u32),
 }
 
 // The rows stand in the arrays from place 0 on.
@@ -33,11 +36,11 @@ pub struct Table {
 }
 
 // A refusal beside arrays that hold no row.
-pub fn refusal(reason: Reason, line: u32) -> Table
-    ensures { λ r. ⌜ r ≡ tableIn (refused reason line) ⌝ }
+pub fn refusal(reason: Reason, line: u32, byte: u32) -> Table
+    ensures { λ r. ⌜ r ≡ tableIn (refused reason line byte) ⌝ }
 {
     Table {
-        answer: Answer::Refused(reason, line),
+        answer: Answer::Refused(reason, line, byte),
         first: [0u32; ROWS],
         second: [0u32; ROWS],
         amount: [0u32; ROWS],
@@ -46,7 +49,7 @@ pub fn refusal(reason: Reason, line: u32) -> Table
 
 // The rows of a ring of n nodes and so many fibres, from the place `from` on.
 fn read_rows(s: &[u8], from: usize, n: u32, fibres: u32) -> Table
-    requires { ⌜ from ≤ length (now s) ⌝ }
+    requires { ⌜ (from ≤ length (now s)) × (length (now s) ≤ desk .bytes) ⌝ }
     ensures { λ r. ⌜ r ≡ tableIn (rowsOf desk (ringOf n fibres) 2 0 0 [] (lines (drop from (now (s .entry))))) ⌝ }
 {
     let mut first = [0u32; ROWS];
@@ -61,14 +64,15 @@ fn read_rows(s: &[u8], from: usize, n: u32, fibres: u32) -> Table
         let end = line_end(s, at);
         let row = text::read_row(&s[at..end]);
         match row {
-            ThreeNumbers::Bad(_) => {
-                return refusal(Reason::Misshapen, line);
+            ThreeNumbers::Bad(p) => {
+                return refusal(Reason::Misshapen, line, byte_at(p));
             }
             ThreeNumbers::Are(i, j, d) => {
                 let verdict = judge_row(n, count, a, b, i, j, d);
                 match verdict {
                     Verdict::Fault(reason) => {
-                        return refusal(reason, line);
+                        let byte = row_fault(n, i, j, d, reason);
+                        return refusal(reason, line, byte);
                     }
                     Verdict::Fine => {
                         first[count] = i;
@@ -96,19 +100,22 @@ pub fn read_table(s: &[u8]) -> Table
     ensures { λ r. ⌜ r ≡ tableIn (tableOf desk (now (s .entry))) ⌝ }
 {
     if BYTES < s.len() {
-        return refusal(Reason::TooLong, 0);
+        return refusal(Reason::TooLong, 0, 0);
     }
     if s.len() <= 0 {
-        return refusal(Reason::Misshapen, 1);
+        return refusal(Reason::Misshapen, 1, 1);
     }
     let end = line_end(s, 0);
     let ring = text::read_ring(&s[0..end]);
-    let TwoNumbers::Are(n, fibres) = ring else {
-        return refusal(Reason::Misshapen, 1);
-    };
-    let verdict = judge_ring(n, fibres);
-    if let Verdict::Fault(reason) = verdict {
-        return refusal(reason, 1);
+    match ring {
+        TwoNumbers::Bad(p) => refusal(Reason::Misshapen, 1, byte_at(p)),
+        TwoNumbers::Are(n, fibres) => {
+            let verdict = judge_ring(n, fibres);
+            if let Verdict::Fault(reason) = verdict {
+                let byte = ring_fault(n, fibres, reason);
+                return refusal(reason, 1, byte);
+            }
+            read_rows(s, end, n, fibres)
+        }
     }
-    read_rows(s, end, n, fibres)
 }

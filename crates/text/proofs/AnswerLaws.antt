@@ -1,6 +1,6 @@
 -- What each reader answers, by the writer alone: numbers exactly where the text is their line and they are in range, a place exactly where
 -- that is the first faulty byte; each is a law of `LineLaws` seen through the answer.
-use Prim.Native.Nat.{ℕ, zero, suc}
+use Prim.Native.Nat.{ℕ, zero, suc, _≤_}
 use mathlib.Core.Path.{_≡_, refl, ap, _∙_, sym}
 use mathlib.Core.List.{List, [], _∷_}
 use mathlib.Core.Logic.{_↔_}
@@ -18,7 +18,7 @@ use Rattle.text.specs.declared.TwoNumbers.the-variants.{Are as AreTwo, B
 use Rattle.text.specs.declared.ThreeNumbers.the-variants.{Are as AreThree, Bad as NotThree}
 use Rattle.text.specs.declared.SentRow.the-variants.{Is as IsSent, Bad as NotSent}
 use Rattle.text.proofs.Apart.{clash}
-use Rattle.text.proofs.LineLaws.{line-good, line-bad}
+use Rattle.text.proofs.LineLaws.{line-good, line-bad, bad-within}
 
 -- the text s is read to the answer x exactly when it is the line of the values vs, and they are in range
 abbrev pub AnswerIs : {A : Type 0} → (Reading → A) → List ℕ → List ℕ → A → List ℕ → Type 0
@@ -137,3 +137,17 @@ module _ (shape s : List ℕ) (p : ℕ) where
   pub sent-bad : Refuses sentIn shape s (NotSent p) p
   unfolding sentIn
   sent-bad = answer-bad sentIn _ _ _ p refl (λ q e. cc) (λ us e. clash (cc))
+
+-- it is not behind the text
+module _ (shape s : List ℕ) (p : ℕ) where
+  fault-within : FirstFault shape s p → p ≤ length s
+  fault-within f = bad-within shape s p (line-bad shape s p .1 f)
+
+  pub two-within : twoIn (readLine shape s) ≡ NotTwo p → p ≤ length s
+  two-within e = fault-within (two-bad shape s p .0 e)
+
+  pub three-within : threeIn (readLine shape s) ≡ NotThree p → p ≤ length s
+  three-within e = fault-within (three-bad shape s p .0 e)
+
+  pub sent-within : sentIn (readLine shape s) ≡ NotSent p → p ≤ length s
+  sent-within e = fault-within (sent-bad shape s p .0 e)

@@ -4,6 +4,7 @@
 pub mod LineLaws
 pub mod AnswerLaws
 pub mod Spellings
+pub mod Starts
 pub mod Unique
 -- how they are shown
 pub mod Lists

@@ -77,6 +77,10 @@ module _ (shape s : List ℕ) where
 pub line-bad : (shape s : List ℕ) (p : ℕ) → (readLine shape s ≡ bad p) ↔ FirstFault shape s p
 line-bad shape s p = (λ e. record { before = begun shape s p e; here = no-further shape s p e }, λ f. found shape s p f (readLine shape s) refl)
 
+-- a text has one first faulty byte
+pub one-fault : {shape s : List ℕ} {p q : ℕ} → FirstFault shape s p → FirstFault shape s q → p ≡ q
+one-fault {shape} {s} {p} {q} f g = let e : bad p ≡ bad q = sym (line-bad shape s p .1 f) ∙ line-bad shape s q .1 g in cc
+
 -- that place is not behind the text
 pub bad-within : (shape s : List ℕ) (p : ℕ) → readLine shape s ≡ bad p → p ≤ length s
 unfolding readLine

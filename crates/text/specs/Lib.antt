@@ -10,5 +10,6 @@ pub mod ReadLine
 pub mod FirstFault
 pub mod Answers
 pub mod Shapes
+pub mod FieldByte
 pub mod Filled
 pub mod Written

@@ -17,6 +17,7 @@ pub use field::NUMBER;
 use field::read_field;
 use line::Line;
 use line::end_of;
+use line::field_byte;
 pub use line::line_length;
 use line::read_line;
 pub use line::write_line;
@@ -28,6 +29,7 @@ ghost use Rattle.text.specs.ReadLine.{fieldAt, readLine};
 ghost use Rattle.text.specs.WriteLine.{endOf};
 ghost use Rattle.text.specs.Written.{Written};
 ghost use Rattle.text.specs.Answers.{twoIn, threeIn, sentIn};
+ghost use Rattle.text.specs.FieldByte.{ringByte, rowByte, entryByte};
 ghost use Rattle.text.specs.Shapes.{ringShape, rowShape, sentShape, cutShape, linkShape, lastShape, ringLine, rowLine, sentLine, cutLine, linkLine, lastLine};
 
 // The shapes of the six lines.
@@ -104,6 +106,14 @@ pub fn write_ring(buf: &mut [u8], at: usize, n: u32, fibres: u32) -> usize
     write_line(buf, at, &RING, &[0, n, fibres])
 }
 
+// The byte where field k starts: n is field 1, fibres is field 2.
+pub fn ring_byte(n: u32, fibres: u32, k: usize) -> u32
+    requires { ⌜ k ≤ 3 ⌝ }
+    ensures { λ r. ⌜ r ≡ ringByte n fibres k ⌝ }
+{
+    field_byte(&RING, &[0, n, fibres], k)
+}
+
 // ---- D i j amount, in a table
 
 pub fn read_row(s: &[u8]) -> ThreeNumbers
@@ -123,6 +133,14 @@ pub fn write_row(buf: &mut [u8], at: usize, i: u32, j: u32, amount: u32) -> usiz
     ensures { λ r. ⌜ Written (now (buf .entry)) at (rowLine i j amount) (now (buf .exit)) r ⌝ }
 {
     write_line(buf, at, &ROW, &[0, i, j, amount])
+}
+
+// The byte where field k starts: the nodes are fields 1 and 2, the amount is field 3. In a sheet they start where they do in a table.
+pub fn row_byte(i: u32, j: u32, amount: u32, k: usize) -> u32
+    requires { ⌜ k ≤ 4 ⌝ }
+    ensures { λ r. ⌜ r ≡ rowByte i j amount k ⌝ }
+{
+    field_byte(&ROW, &[0, i, j, amount], k)
 }
 
 // ---- D i j amount front back F-or-B, in a sheet

@@ -8,6 +8,7 @@ ghost use Prim.Native.Nat.{_+_, _≤_};
 ghost use lib.ListN.{length};
 ghost use Rattle.text.specs.WriteLine.{endOf, writeLine};
 ghost use Rattle.text.specs.ReadLine.{readLine};
+ghost use Rattle.text.specs.FieldByte.{fieldByte};
 ghost use Rattle.text.specs.Filled.{filled};
 ghost use Rattle.text.specs.Written.{Written};
 
@@ -82,4 +83,13 @@ pub fn line_length(shape: &[u8], values: &[u32]) -> usize
         t = t + 1;
     }
     sum
+}
+
+// The byte where the field behind k others starts, counted from 1. It is asked only of a line that is refused.
+pub(crate) fn field_byte(shape: &[u8], values: &[u32], k: usize) -> u32
+    requires { ⌜ (length (now shape) ≤ 1000) × (length (now shape) ≤ length (now values)) × (k ≤ length (now shape)) ⌝ }
+    ensures { λ r. ⌜ r ≡ fieldByte (now (shape .entry)) (now (values .entry)) k ⌝ }
+{
+    let before = line_length(&shape[0..k], values);
+    before as u32 + 1
 }

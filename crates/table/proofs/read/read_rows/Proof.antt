@@ -1,7 +1,7 @@
 -- The rows of a table: the rows read so far stand in the columns, and reading the rest behind them is reading the whole (`Reading`).
 use Prim.Native.Nat.{_-_}
 use lib.ListN.{length}
-use Rattle.table.proofs.ReadSteps.{Reading, reading-starts, no-row, row-fault, room, reads-row, all-read}
+use Rattle.table.proofs.ReadSteps.{Reading, reading-starts, no-row, row-place, row-fault, room, reads-row, all-read}
 use borrow.Author.Needs.{needs}
 use Rattle.table.proofs.read.read_rows.Statement.{statement}
 use Rattle.table.proofs.read.read_rows.Tie as tie
@@ -32,8 +32,11 @@ part-read-row-end c = search needs
 read-row-requires : tie.Need-read-row-requires Inv-loop μ-loop
 read-row-requires c κs = search needs
 
-enum-told : tie.Need-enum-told Inv-loop μ-loop
-enum-told c = search needs
+enum-known-row : tie.Need-enum-known-row Inv-loop μ-loop
+enum-known-row c = search needs
+
+byte-at-requires : tie.Need-byte-at-requires Inv-loop μ-loop
+byte-at-requires c κs = search row-place
 
 refusal-requires : tie.Need-refusal-requires Inv-loop μ-loop
 refusal-requires c κs = search needs
@@ -41,8 +44,8 @@ refusal-requires c κs = search needs
 returns : tie.Need-returns Inv-loop μ-loop
 returns c = search no-row
 
-enum-known-row : tie.Need-enum-known-row Inv-loop μ-loop
-enum-known-row c = search needs
+enum-known-row-2 : tie.Need-enum-known-row-2 Inv-loop μ-loop
+enum-known-row-2 c = search needs
 
 judge-row-requires : tie.Need-judge-row-requires Inv-loop μ-loop
 judge-row-requires c κs = search needs
@@ -50,14 +53,17 @@ judge-row-requires c κs = search needs
 enum-known-verdict : tie.Need-enum-known-verdict Inv-loop μ-loop
 enum-known-verdict c = search needs
 
+row-fault-requires : tie.Need-row-fault-requires Inv-loop μ-loop
+row-fault-requires c κs = search needs
+
 refusal-requires-2 : tie.Need-refusal-requires-2 Inv-loop μ-loop
 refusal-requires-2 c κs = search needs
 
 returns-2 : tie.Need-returns-2 Inv-loop μ-loop
 returns-2 c = search row-fault
 
-enum-told-2 : tie.Need-enum-told-2 Inv-loop μ-loop
-enum-told-2 c = search needs
+enum-told : tie.Need-enum-told Inv-loop μ-loop
+enum-told c = search needs
 
 mul-first : tie.Need-mul-first Inv-loop μ-loop
 mul-first c = search needs
@@ -104,15 +110,17 @@ read-rows-spec =
     part-read-row-start
     part-read-row-end
     read-row-requires
-    enum-told
+    enum-known-row
+    byte-at-requires
     refusal-requires
     returns
-    enum-known-row
+    enum-known-row-2
     judge-row-requires
     enum-known-verdict
+    row-fault-requires
     refusal-requires-2
     returns-2
-    enum-told-2
+    enum-told
     mul-first
     array-write-first
     mul-second

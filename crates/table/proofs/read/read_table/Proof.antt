@@ -1,5 +1,5 @@
 -- A table: its length, its first line and its rows, each way out by one law of `ReadSteps`.
-use Rattle.table.proofs.ReadSteps.{too-long, no-line, no-ring, ring-fault, then-rows}
+use Rattle.table.proofs.ReadSteps.{too-long, no-line, no-ring, ring-place, ring-fault, then-rows}
 use borrow.Author.Needs.{needs}
 use Rattle.table.proofs.read.read_table.Statement.{statement}
 use Rattle.table.proofs.read.read_table.Tie as tie
@@ -34,14 +34,14 @@ read-ring-requires c κs = search needs
 enum-known-ring : tie.Need-enum-known-ring
 enum-known-ring c = search needs
 
-enum-told : tie.Need-enum-told
-enum-told c = search needs
+byte-at-requires : tie.Need-byte-at-requires
+byte-at-requires c κs = search ring-place
 
 refusal-requires-3 : tie.Need-refusal-requires-3
 refusal-requires-3 c κs = search needs
 
-returns-3 : tie.Need-returns-3
-returns-3 c = search no-ring
+enum-known-ring-2 : tie.Need-enum-known-ring-2
+enum-known-ring-2 c = search needs
 
 judge-ring-requires : tie.Need-judge-ring-requires
 judge-ring-requires c κs = search needs
@@ -49,17 +49,23 @@ judge-ring-requires c κs = search needs
 enum-known-verdict : tie.Need-enum-known-verdict
 enum-known-verdict c = search needs
 
+ring-fault-requires : tie.Need-ring-fault-requires
+ring-fault-requires c κs = search needs
+
 refusal-requires-4 : tie.Need-refusal-requires-4
 refusal-requires-4 c κs = search needs
 
-returns-4 : tie.Need-returns-4
-returns-4 c = search ring-fault
+returns-3 : tie.Need-returns-3
+returns-3 c = search ring-fault
 
-enum-told-2 : tie.Need-enum-told-2
-enum-told-2 c = search needs
+enum-told : tie.Need-enum-told
+enum-told c = search needs
 
 read-rows-requires : tie.Need-read-rows-requires
 read-rows-requires c κs = search needs
+
+returns-4 : tie.Need-returns-4
+returns-4 c = search no-ring
 
 returns-5 : tie.Need-returns-5
 returns-5 c = search then-rows
@@ -78,13 +84,15 @@ read-table-spec =
     part-read-ring-end
     read-ring-requires
     enum-known-ring
-    enum-told
+    byte-at-requires
     refusal-requires-3
-    returns-3
+    enum-known-ring-2
     judge-ring-requires
     enum-known-verdict
+    ring-fault-requires
     refusal-requires-4
-    returns-4
-    enum-told-2
+    returns-3
+    enum-told
     read-rows-requires
+    returns-4
     returns-5)
