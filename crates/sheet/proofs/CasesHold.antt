@@ -5,6 +5,7 @@ use Rattle.text.specs.Mark.{marks, markByte}
 use Rattle.text.specs.ReadMark.{markOf, markAt}
 use Rattle.text.specs.ReadNumber.{digitOf, numberAt}
 use Rattle.text.specs.Field.{spell}
+use Rattle.text.specs.FieldByte.{fieldByte}
 use Rattle.text.specs.ReadLine.{fieldAt, readLine, fieldsFrom}
 use Rattle.text.specs.WriteLine.{endOf, writeLine}
 use Rattle.text.specs.Answers.{twoIn, threeIn, sentIn}
@@ -17,5 +18,5 @@ pub cases-hold : computed cases ≡ stated cases
 unfolding computed stated cases
     lines readLine fieldsFrom fieldAt numberAt digitOf markAt markOf marks twoIn threeIn sentIn
     wrongSize otherFibres judgeRing judgeRow outside isBelow judgeHalves judgeCut judgeLink judgeLast judgeWhole
-    writeLine spell digits digitsIn markByte endOf
+    writeLine spell digits digitsIn markByte endOf fieldByte
 cases-hold = refl

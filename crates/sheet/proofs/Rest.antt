@@ -34,7 +34,9 @@ use Rattle.table.proofs.LineRead.{RingSpelled, RingRead, is-ring, no-ring, ring
 use Rattle.table.proofs.LinesOf.{FirstLine, NoLf, written-first, ring-first}
 use Rattle.sheet.specs.Verdicts.{orElse}
 use Rattle.sheet.specs.Judge.{judgeHalves, judgeCut, judgeLink, judgeLast, judgeWhole}
-use Rattle.sheet.specs.Check.{accepted, judgeNext, Turn, on, stop, unless, when, cutOf, routedOf, linkOf, ringTurn, cutTurn, rowTurn, linkTurn, lastTurn, turn, wholeResult, atEnd, after, checkFrom}
+use Rattle.table.specs.Fields.{ringFault, rowFault}
+use Rattle.table.specs.declared.reason.Reason.{Reason}
+use Rattle.sheet.specs.Check.{wholeLine, accepted, judgeNext, Turn, on, stop, unless, when, cutOf, routedOf, linkOf, ringTurn, cutTurn, rowTurn, linkTurn, lastTurn, turn, wholeResult, atEnd, after, checkFrom}
 use Rattle.sheet.specs.Says.{State, start, rows, links, end}
 use Rattle.sheet.proofs.SheetLines.{SentSpelled, SentRead, is-sent, no-sent, sent-read, CutRead, is-cut, no-cut, cut-read, LinkRead, is-link, no-link, link-read, LastRead, is-last, no-last, last-read, sent-line-read, cut-line-read, link-line-read, last-line-read, sent-in-range, cut-in-range, link-in-range, last-in-range}
 
@@ -58,10 +60,10 @@ pub data Rest (limits : Limits) (judging : Bool) (x : Sheet) : State → List �
 
 -- ---- a line that leads on
 
-unless-on : (v : Verdict) (next state : State) → unless v next ≡ on state → (v ≡ Fine) × (next ≡ state)
+unless-on : (v : Verdict) (byte : Reason → ℕ) (next state : State) → unless v byte next ≡ on state → (v ≡ Fine) × (next ≡ state)
 unfolding unless
-unless-on Fine next state e = (refl, cc)
-unless-on (Fault r) next state e = clash (cc)
+unless-on Fine byte next state e = (refl, cc)
+unless-on (Fault r) byte next state e = clash (cc)
 
 pub or-fine : (v w : Verdict) → orElse v w ≡ Fine → (v ≡ Fine) × (w ≡ Fine)
 unfolding orElse
@@ -76,40 +78,40 @@ module _ (limits : Limits) (judging : Bool) (x : Sheet) where
   ring-leads : (l : List ℕ) {y : TwoNumbers} → RingRead l y → Leads start l (ringTurn limits y)
   unfolding ringTurn
   ring-leads l (is-ring {n} {fibres} e w) next q text rest =
-      let u = unless-on (judgeRing limits (ringOf n fibres)) (rows (ringOf n fibres) []) next q in
+      let u = unless-on (judgeRing limits (ringOf n fibres)) (ringFault (ringOf n fibres)) (rows (ringOf n fibres) []) next q in
       rw e (rest-ring {ring = ringOf n fibres} w (u .0) (subst (λ s. Rest limits judging x s text) (sym (u .1)) rest))
-  ring-leads l (no-ring misread) next q text rest = clash (cc)
+  ring-leads l (no-ring misread fault) next q text rest = clash (cc)
 
   module _ (ring : Ring) (rs : List Routed) where
-    cut-leads : (l : List ℕ) {y : ThreeNumbers} → CutRead l y → Leads (rows ring rs) l (cutTurn judging ring rs y)
+    cut-leads : (l : List ℕ) (o : ℕ) {y : ThreeNumbers} → CutRead l y → Leads (rows ring rs) l (cutTurn judging ring rs o y)
     unfolding cutTurn
-    cut-leads l (is-cut {g} {h} {m} e p q r) next t text rest =
-        let u = unless-on (when judging (judgeCut (ring .n) rs (cutOf g h m))) (links ring rs (cutOf g h m) []) next t in
+    cut-leads l o (is-cut {g} {h} {m} e p q r) next t text rest =
+        let u = unless-on (when judging (judgeCut (ring .n) rs (cutOf g h m))) wholeLine (links ring rs (cutOf g h m) []) next t in
         rw e (rest-cut p q r (u .0) (subst (λ s. Rest limits judging x s text) (sym (u .1)) rest))
-    cut-leads l (no-cut misread) next t text rest = clash (cc)
+    cut-leads l o (no-cut misread fault) next t text rest = clash (cc)
 
     row-leads : (l : List ℕ) {y : SentRow} {z : ThreeNumbers} → SentRead l y → CutRead l z → Leads (rows ring rs) l (rowTurn limits judging ring rs y z)
     unfolding rowTurn
     row-leads l (is-sent {i} {j} {d} {f} {b = k} {w} e spelled) other next t text rest =
-        let u = unless-on (orElse (judgeNext limits (ring .n) rs i j d) (when judging (judgeHalves (routedOf i j d f k w)))) (rows ring (rs ++ routedOf i j d f k w ∷ [])) next t in
+        let u = unless-on (orElse (judgeNext limits (ring .n) rs i j d) (when judging (judgeHalves (routedOf i j d f k w)))) (rowFault (ring .n) i j d) (rows ring (rs ++ routedOf i j d f k w ∷ [])) next t in
         let v = or-fine (judgeNext limits (ring .n) rs i j d) (when judging (judgeHalves (routedOf i j d f k w))) (u .0) in
         rw e (rest-row spelled (v .0) (v .1) (subst (λ s. Rest limits judging x s text) (sym (u .1)) rest))
-    row-leads l (no-sent misread) other next t text rest = cut-leads l other next t text rest
+    row-leads l (no-sent {p} misread fault) other next t text rest = cut-leads l p other next t text rest
 
     module _ (c : Cut) (ks : List Link) where
       link-leads : (l : List ℕ) {y : ThreeNumbers} → length ks < ring .n → LinkRead l y → Leads (links ring rs c ks) l (linkTurn judging ring rs c ks y)
       unfolding linkTurn
       link-leads l few (is-link {k} {s} {u} e p q r) next t text rest =
-          let v = unless-on (when judging (judgeLink rs (length ks + 1) (linkOf k s u))) (links ring rs c (ks ++ linkOf k s u ∷ [])) next t in
+          let v = unless-on (when judging (judgeLink rs (length ks + 1) (linkOf k s u))) wholeLine (links ring rs c (ks ++ linkOf k s u ∷ [])) next t in
           rw e (rest-link few p q r (v .0) (subst (λ s. Rest limits judging x s text) (sym (v .1)) rest))
-      link-leads l few (no-link misread) next t text rest = clash (cc)
+      link-leads l few (no-link misread fault) next t text rest = clash (cc)
 
       last-leads : (l : List ℕ) {y : TwoNumbers} → ring .n ≤ length ks → LastRead l y → Leads (links ring rs c ks) l (lastTurn judging ring rs c ks y)
       unfolding lastTurn
       last-leads l all (is-last {p} {z} e a b) next t text rest =
-          let u = unless-on (when judging (judgeLast ring rs p z)) (end (record { ring = ring; rows = rs; cut = c; links = ks; peak = p; size = z })) next t in
+          let u = unless-on (when judging (judgeLast ring rs p z)) wholeLine (end (record { ring = ring; rows = rs; cut = c; links = ks; peak = p; size = z })) next t in
           rw e (rest-last all a b (u .0) (subst (λ s. Rest limits judging x s text) (sym (u .1)) rest))
-      last-leads l all (no-last misread) next t text rest = clash (cc)
+      last-leads l all (no-last misread fault) next t text rest = clash (cc)
 
   turn-leads : (state : State) (l : List ℕ) → Leads state l (turn limits judging state l)
   unfolding turn
@@ -144,7 +146,7 @@ module _ (limits : Limits) (judging : Bool) (x : Sheet) where
           → turn limits judging state l ≡ t → after t line (λ next. checkFrom limits judging next (line + 1) ls) ≡ accepted x
           → Rest limits judging x state (l ++ flatten ls)
       go later (on next) q f = turn-leads state l next q (flatten ls) (later next f)
-      go later (stop r) q f = clash (cc)
+      go later (stop r byte) q f = clash (cc)
 
 -- ---- there is a rest, so accepted
 
@@ -154,10 +156,10 @@ unfolding writeLine spell markByte
 cut-no-row g h m i j d f b w e = let q : letterC ≡ letterD = ap (λ l. getD l 0 0) e in omega arith
 
 cut-not-sent : (g h m : ℕ) {y : SentRow} → SentRead (cutLine g h m) y → (limits : Limits) (judging : Bool) (ring : Ring) (rs : List Routed) (z : ThreeNumbers)
-    → rowTurn limits judging ring rs y z ≡ cutTurn judging ring rs z
+    → (o : ℕ) × (rowTurn limits judging ring rs y z ≡ cutTurn judging ring rs o z)
 unfolding rowTurn
 cut-not-sent g h m (is-sent e s) limits judging ring rs z = absurd (cut-no-row g h m _ _ _ _ _ _ e)
-cut-not-sent g h m (no-sent misread) limits judging ring rs z = refl
+cut-not-sent g h m (no-sent {p} misread fault) limits judging ring rs z = (p, refl)
 
 -- each line is the first of what it begins
 pub sent-first : (i j d f b w : ℕ) → SentSpelled i j d f b w → FirstLine (sentLine i j d f b w)
@@ -190,7 +192,7 @@ module _ (limits : Limits) (judging : Bool) (x : Sheet) where
   rest-read (rest-link {ring} {rs} {c} {ks} {k} {s} {u} {text} few a b d v rest) line =
       rw (link-first k s u a b d text, lt-ltb (length ks) (ring .n) few, link-line-read k s u a b d, v) (rest-read rest (line + 1))
   rest-read (rest-cut {ring} {rs} {g} {h} {m} {text} p q r v rest) line =
-      rw (cut-first g h m p q r text, cut-not-sent g h m (sent-read (cutLine g h m)) limits judging ring rs (threeIn (readLine cutShape (cutLine g h m))), cut-line-read g h m p q r, v)
+      rw (cut-first g h m p q r text, cut-not-sent g h m (sent-read (cutLine g h m)) limits judging ring rs (threeIn (readLine cutShape (cutLine g h m))) .1, cut-line-read g h m p q r, v)
       (rest-read rest (line + 1))
   rest-read (rest-row {ring} {rs} {i} {j} {d} {f} {k} {w} {text} spelled v u rest) line =
       rw (sent-first i j d f k w spelled text, sent-line-read i j d f k w spelled, v, u) (rest-read rest (line + 1))

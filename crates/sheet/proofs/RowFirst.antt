@@ -33,7 +33,7 @@ early (by-order w) = omega arith
 early (by-count w) = omega arith
 early (by-amount w) = omega arith
 
-row-at : {t : List ℕ} {line : ℕ} {ring : Ring} {rs : List Routed} {r : Routed} → At t line (rows ring rs) → SentIs t line r → RowAt t line r
+abbrev pub row-at : {t : List ℕ} {line : ℕ} {ring : Ring} {rs : List Routed} {r : Routed} → At t line (rows ring rs) → SentIs t line r → RowAt t line r
 row-at {ring} {rs} at is = record { ring = ring; rs = rs; due = at; is = is }
 
 -- a row that has a first node is not below the pair 0, 0, so there is a row before
@@ -48,7 +48,7 @@ module _ (limits : Limits) {t : List ℕ} {line : ℕ} {ring : Ring} {rs : List 
   -- 4 to 7 and 16
   demand-first : First (λ s. AgainstDemand limits (ring .n) rs (r .sent .row) s × Says limits t s line)
       (judgeNext limits (ring .n) rs (r .sent .row .i) (r .sent .row .j) (r .sent .row .d))
-  unfolding Says row-at
+  unfolding Says
   demand-first =
       let judged = row-judged limits (ring .n) (length rs) (lastOf rs .i) (lastOf rs .j) (r .sent .row .i) (r .sent .row .j) (r .sent .row .d) in
       record { holds = go judged; least = λ s p. row-least judged (p .0) }

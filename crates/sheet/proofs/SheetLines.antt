@@ -6,6 +6,7 @@ use native.Mathlib.Omega.{arith}
 use Rattle.text.specs.Number.{limit}
 use Rattle.text.specs.Mark.{marks}
 use Rattle.text.specs.Field.{top}
+use Rattle.text.specs.FirstFault.{FirstFault}
 use Rattle.text.specs.WriteLine.{FitsShape}
 use Rattle.text.specs.ReadLine.{readLine}
 use Rattle.text.specs.Answers.{twoIn, threeIn, sentIn}
@@ -17,7 +18,7 @@ use Rattle.text.specs.declared.ThreeNumbers.the-variants.{Are as AreThree, Bad 
 use Rattle.text.specs.declared.SentRow.{SentRow}
 use Rattle.text.specs.declared.SentRow.the-variants.{Is as IsSent, Bad as NotSent}
 use Rattle.text.proofs.Apart.{clash}
-use Rattle.text.proofs.AnswerLaws.{sent-row-good, cut-good, link-good, last-good}
+use Rattle.text.proofs.AnswerLaws.{sent-row-good, cut-good, link-good, last-good, two-bad, three-bad, sent-bad}
 
 -- the numbers of a D line have at most 7 digits, and its way is F or B
 pub record SentSpelled (i j d f b w : ℕ) : Type 0 where
@@ -49,7 +50,7 @@ last-in-range p z a b = (omega arith, (a, (b, tt)))
 module _ (l : List ℕ) where
   pub data SentRead : SentRow → Type 0 where
     is-sent : {i j d f b w : ℕ} → l ≡ sentLine i j d f b w → SentSpelled i j d f b w → SentRead (IsSent i j d f b w)
-    no-sent : {p : ℕ} → ((i j d f b w : ℕ) → l ≡ sentLine i j d f b w → SentSpelled i j d f b w → ⊥) → SentRead (NotSent p)
+    no-sent : {p : ℕ} → ((i j d f b w : ℕ) → l ≡ sentLine i j d f b w → SentSpelled i j d f b w → ⊥) → FirstFault sentShape l p → SentRead (NotSent p)
 
   pub sent-read : SentRead (sentIn (readLine sentShape l))
   unfolding FitsShape top marks
@@ -60,11 +61,11 @@ module _ (l : List ℕ) where
           let r = sent-row-good l i j d f b w .0 e in
           let v = r .1 .1 in
           is-sent (r .0) (record { first = v .0; second = v .1 .0; amount = v .1 .1 .0; front = v .1 .1 .1 .0; back = v .1 .1 .1 .1 .0; way = v .1 .1 .1 .1 .1 .0 })
-      go (NotSent p) e = no-sent (λ i j d f b w q h. clash (cc (sent-row-good l i j d f b w .1 (q, sent-in-range i j d f b w h))))
+      go (NotSent p) e = no-sent (λ i j d f b w q h. clash (cc (sent-row-good l i j d f b w .1 (q, sent-in-range i j d f b w h)))) (sent-bad sentShape l p .0 e)
 
   pub data CutRead : ThreeNumbers → Type 0 where
     is-cut : {g h m : ℕ} → l ≡ cutLine g h m → g < limit → h < limit → m < limit → CutRead (AreThree g h m)
-    no-cut : {p : ℕ} → ((g h m : ℕ) → l ≡ cutLine g h m → g < limit → h < limit → m < limit → ⊥) → CutRead (NotThree p)
+    no-cut : {p : ℕ} → ((g h m : ℕ) → l ≡ cutLine g h m → g < limit → h < limit → m < limit → ⊥) → FirstFault cutShape l p → CutRead (NotThree p)
 
   pub cut-read : CutRead (threeIn (readLine cutShape l))
   unfolding FitsShape top marks
@@ -72,11 +73,11 @@ module _ (l : List ℕ) where
     where
       go : (x : ThreeNumbers) → threeIn (readLine cutShape l) ≡ x → CutRead x
       go (AreThree g h m) e = let r = cut-good l g h m .0 e in is-cut (r .0) (r .1 .1 .0) (r .1 .1 .1 .0) (r .1 .1 .1 .1 .0)
-      go (NotThree p) e = no-cut (λ g h m q a b c. clash (cc (cut-good l g h m .1 (q, cut-in-range g h m a b c))))
+      go (NotThree p) e = no-cut (λ g h m q a b c. clash (cc (cut-good l g h m .1 (q, cut-in-range g h m a b c)))) (three-bad cutShape l p .0 e)
 
   pub data LinkRead : ThreeNumbers → Type 0 where
     is-link : {k s u : ℕ} → l ≡ linkLine k s u → k < limit → s < limit → u < limit → LinkRead (AreThree k s u)
-    no-link : {p : ℕ} → ((k s u : ℕ) → l ≡ linkLine k s u → k < limit → s < limit → u < limit → ⊥) → LinkRead (NotThree p)
+    no-link : {p : ℕ} → ((k s u : ℕ) → l ≡ linkLine k s u → k < limit → s < limit → u < limit → ⊥) → FirstFault linkShape l p → LinkRead (NotThree p)
 
   pub link-read : LinkRead (threeIn (readLine linkShape l))
   unfolding FitsShape top marks
@@ -84,11 +85,11 @@ module _ (l : List ℕ) where
     where
       go : (x : ThreeNumbers) → threeIn (readLine linkShape l) ≡ x → LinkRead x
       go (AreThree k s u) e = let r = link-good l k s u .0 e in is-link (r .0) (r .1 .1 .0) (r .1 .1 .1 .0) (r .1 .1 .1 .1 .0)
-      go (NotThree p) e = no-link (λ k s u q a b c. clash (cc (link-good l k s u .1 (q, link-in-range k s u a b c))))
+      go (NotThree p) e = no-link (λ k s u q a b c. clash (cc (link-good l k s u .1 (q, link-in-range k s u a b c)))) (three-bad linkShape l p .0 e)
 
   pub data LastRead : TwoNumbers → Type 0 where
     is-last : {p z : ℕ} → l ≡ lastLine p z → p < limit → z < limit → LastRead (AreTwo p z)
-    no-last : {q : ℕ} → ((p z : ℕ) → l ≡ lastLine p z → p < limit → z < limit → ⊥) → LastRead (NotTwo q)
+    no-last : {q : ℕ} → ((p z : ℕ) → l ≡ lastLine p z → p < limit → z < limit → ⊥) → FirstFault lastShape l q → LastRead (NotTwo q)
 
   pub last-read : LastRead (twoIn (readLine lastShape l))
   unfolding FitsShape top marks
@@ -96,7 +97,7 @@ module _ (l : List ℕ) where
     where
       go : (x : TwoNumbers) → twoIn (readLine lastShape l) ≡ x → LastRead x
       go (AreTwo p z) e = let r = last-good l p z .0 e in is-last (r .0) (r .1 .1 .0) (r .1 .1 .1 .0)
-      go (NotTwo q) e = no-last (λ p z w a b. clash (cc (last-good l p z .1 (w, last-in-range p z a b))))
+      go (NotTwo q) e = no-last (λ p z w a b. clash (cc (last-good l p z .1 (w, last-in-range p z a b)))) (two-bad lastShape l q .0 e)
 
 -- ---- and a written line is read back
 

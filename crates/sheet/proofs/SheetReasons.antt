@@ -14,13 +14,14 @@ use Rattle.table.proofs.ReasonNumbers.{same-rank}
 use Rattle.sheet.specs.Check.{Result, accepted, refused, checkBy, check, form}
 use Rattle.sheet.specs.Says.{stage, Earlier, GivenAmong, NoneAmong, Given, Accepted, WellFormed}
 use Rattle.sheet.proofs.FirstReason.{Counts}
+use Rattle.sheet.proofs.SheetBytes.{one-byte}
 use Rattle.sheet.proofs.SheetWalk.{Right, none-holds, first-holds, right}
 
 -- ---- the laws, over the reasons that count
 
-one-among : {Count : Reason → Type 0} {limits : Limits} {t : List ℕ} {r s : Reason} {line other : ℕ} → GivenAmong Count limits t r line → GivenAmong Count limits t s other
-    → (r ≡ s) × (line ≡ other)
-one-among {r} {s} {line} {other} f g =
+one-among : {Count : Reason → Type 0} {limits : Limits} {t : List ℕ} {r s : Reason} {line other byte on : ℕ} → GivenAmong Count limits t r line byte → GivenAmong Count limits t s other on
+    → (r ≡ s) × (line ≡ other) × (byte ≡ on)
+one-among {t} {r} {s} {line} {other} {byte} {on} f g =
     let up : Earlier r line s other → ⊥ = λ e. g .first r line (f .counts) e (f .holds) in
     let down : Earlier s other r line → ⊥ = λ e. f .first s other (g .counts) e (g .holds) in
     let a : stage r < stage s → ⊥ = λ l. up (inl l) in
@@ -31,18 +32,19 @@ one-among {r} {s} {line} {other} f g =
     let e : line ≡ other = omega arith in
     let p : rankOf r < rankOf s → ⊥ = λ l. up (inr (z, inr (e, l))) in
     let q : rankOf s < rankOf r → ⊥ = λ l. down (inr (sym z, inr (sym e, l))) in
-    (same-rank r s (omega arith), e)
+    let k : r ≡ s = same-rank r s (omega arith) in
+    (k, e, one-byte t other byte on s (rw (k, e) at (f .byte-is)) (g .byte-is))
 
-given-among : (limits : Limits) (judging : Bool) (t : List ℕ) (r : Reason) (line : ℕ)
-    → (checkBy limits judging t ≡ refused r line) ↔ GivenAmong (Counts judging) limits t r line
-given-among limits judging t r line = (λ e. there (subst (Right limits judging t) e (right limits judging t)), λ g. back g (right limits judging t))
+given-among : (limits : Limits) (judging : Bool) (t : List ℕ) (r : Reason) (line byte : ℕ)
+    → (checkBy limits judging t ≡ refused r line byte) ↔ GivenAmong (Counts judging) limits t r line byte
+given-among limits judging t r line byte = (λ e. there (subst (Right limits judging t) e (right limits judging t)), λ g. back g (right limits judging t))
   where
-    there : Right limits judging t (refused r line) → GivenAmong (Counts judging) limits t r line
+    there : Right limits judging t (refused r line byte) → GivenAmong (Counts judging) limits t r line byte
     there (first-holds g) = g
 
-    back : GivenAmong (Counts judging) limits t r line → {x : Result} → Right limits judging t x → x ≡ refused r line
+    back : GivenAmong (Counts judging) limits t r line byte → {x : Result} → Right limits judging t x → x ≡ refused r line byte
     back g (none-holds none) = absurd (none r line (g .counts) (g .holds))
-    back g (first-holds f) = let o = one-among f g in rw (o .0, o .1)
+    back g (first-holds f) = let o = one-among f g in rw (o .0, o .1, o .2)
 
 accepted-among : (limits : Limits) (judging : Bool) (t : List ℕ) → ((x : Sheet) × (checkBy limits judging t ≡ accepted x)) ↔ NoneAmong (Counts judging) limits t
 accepted-among limits judging t =
@@ -53,17 +55,17 @@ accepted-among limits judging t =
 
     back : NoneAmong (Counts judging) limits t → (y : Result) → checkBy limits judging t ≡ y → (x : Sheet) × (checkBy limits judging t ≡ accepted x)
     back none (accepted x) e = (x, e)
-    back none (refused r line) e = let g = given-among limits judging t r line .0 e in absurd (none r line (g .counts) (g .holds))
+    back none (refused r line byte) e = let g = given-among limits judging t r line byte .0 e in absurd (none r line (g .counts) (g .holds))
 
 -- ---- the laws
 
--- a text has one first reason
-pub one-given : {limits : Limits} {t : List ℕ} {r s : Reason} {line other : ℕ} → Given limits t r line → Given limits t s other → (r ≡ s) × (line ≡ other)
+-- a text has one first reason, with one byte
+pub one-given : {limits : Limits} {t : List ℕ} {r s : Reason} {line other byte on : ℕ} → Given limits t r line byte → Given limits t s other on → (r ≡ s) × (line ≡ other) × (byte ≡ on)
 one-given f g = one-among f g
 
-pub given : (limits : Limits) (t : List ℕ) (r : Reason) (line : ℕ) → (check limits t ≡ refused r line) ↔ Given limits t r line
+pub given : (limits : Limits) (t : List ℕ) (r : Reason) (line byte : ℕ) → (check limits t ≡ refused r line byte) ↔ Given limits t r line byte
 unfolding check
-given limits t r line = given-among limits true t r line
+given limits t r line byte = given-among limits true t r line byte
 
 -- the text is read to a sheet
 pub record Reads (limits : Limits) (t : List ℕ) : Type 0 where

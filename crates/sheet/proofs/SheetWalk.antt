@@ -13,7 +13,7 @@ use Rattle.ring.specs.Limits.{Limits}
 use Rattle.ring.specs.Sheet.{Sheet}
 use Rattle.ring.proofs.Side.{cond-elim}
 use Rattle.table.specs.Lines.{lines}
-use Rattle.table.specs.Says.{LineIs}
+use Rattle.table.specs.Says.{LineIs, line-missing}
 use Rattle.table.specs.declared.reason.Reason.{Reason}
 use Rattle.table.specs.declared.reason.Reason.the-variants.{TooLong, Misshapen}
 use Rattle.table.specs.declared.judge.Verdict.{Verdict}
@@ -21,7 +21,7 @@ use Rattle.table.specs.declared.judge.Verdict.the-variants.{Fine, Fault}
 use Rattle.table.proofs.LineNumbers.{LinesFrom, from-first, from-next, line-here, no-line-left}
 use Rattle.table.proofs.ReasonNumbers.{no-rank-0}
 use Rattle.sheet.specs.Check.{Result, accepted, refused, Turn, wholeResult, atEnd, after, checkFrom, checkBy}
-use Rattle.sheet.specs.Says.{State, start, rows, links, end, At, at-start, WholeIs, Says, stage, Earlier, GivenAmong, NoneAmong}
+use Rattle.sheet.specs.Says.{State, start, rows, links, end, At, at-start, WholeIs, Says, both-missing, LineByte, ring-due, row-or-cut-due, link-due, last-due, ByteIs, stage, Earlier, GivenAmong, NoneAmong}
 use Rattle.sheet.proofs.Places.{place-low, place-within, whole-one}
 use Rattle.sheet.proofs.FirstReason.{First, only-then, Counts, counts-form, when-first}
 use Rattle.sheet.proofs.SheetJudged.{AgainstWhole, whole-late, whole-first}
@@ -37,12 +37,12 @@ record Clean (limits : Limits) (judging : Bool) (t : List ℕ) (line : ℕ) : Ty
 -- a result that is right by what the reasons say
 pub data Right (limits : Limits) (judging : Bool) (t : List ℕ) : Result → Type 0 where
   none-holds : {x : Sheet} → NoneAmong (Counts judging) limits t → Right limits judging t (accepted x)
-  first-holds : {r : Reason} {line : ℕ} → GivenAmong (Counts judging) limits t r line → Right limits judging t (refused r line)
+  first-holds : {r : Reason} {line byte : ℕ} → GivenAmong (Counts judging) limits t r line byte → Right limits judging t (refused r line byte)
 
 module _ {limits : Limits} {judging : Bool} {t : List ℕ} where
-  given-here : {line : ℕ} {state : State} {r : Reason} → At t line state → Clean limits judging t line → First (Counted limits judging t line) (Fault r)
-      → GivenAmong (Counts judging) limits t r line
-  given-here {line} {r} at clean f = record { counts = f .holds .0; holds = f .holds .1; first = go }
+  given-here : {line byte : ℕ} {state : State} {r : Reason} → At t line state → Clean limits judging t line → First (Counted limits judging t line) (Fault r)
+      → ByteIs t r line byte → GivenAmong (Counts judging) limits t r line byte
+  given-here {line} {r} at clean f b = record { counts = f .holds .0; holds = f .holds .1; first = go; byte-is = b }
     where
       on-line : stage r ≡ 0
       on-line = line-stage limits at r (f .holds .1)
@@ -112,10 +112,15 @@ module _ {limits : Limits} {judging : Bool} {t : List ℕ} {line : ℕ} {x : She
   whole-says s (inl o) = only-then (λ s. Says limits t s 0) (λ w. (refl, record { x = x; whole = whole; wrong = w })) s o
   whole-says s (inr o) = only-then (λ s. Says limits t s 0) (λ w. (refl, record { x = x; whole = whole; wrong = w })) s o
 
+  whole-byte : (s : Reason) → AgainstWhole x s → ByteIs t s 0 0
+  unfolding ByteIs
+  whole-byte s (inl o) = only-then (λ s. ByteIs t s 0 0) (λ w. refl) s o
+  whole-byte s (inr o) = only-then (λ s. ByteIs t s 0 0) (λ w. refl) s o
+
   whole-right : {v : Verdict} → First (λ s. Counts judging s × AgainstWhole x s) v → Right limits judging t (wholeResult x v)
   unfolding wholeResult
   whole-right {v = Fine} f = none-holds (λ s other c h. f .least s (c, said-of-whole s other (c, h)))
-  whole-right {v = Fault r} f = first-holds (record { counts = f .holds .0; holds = whole-says r (f .holds .1); first = go })
+  whole-right {v = Fault r} f = first-holds (record { counts = f .holds .0; holds = whole-says r (f .holds .1); first = go; byte-is = whole-byte r (f .holds .1) })
     where
       go : (s : Reason) (other : ℕ) → Counts judging s → Earlier s other r 0 → Says limits t s other → ⊥
       go s other c e h =
@@ -125,17 +130,20 @@ module _ {limits : Limits} {judging : Bool} {t : List ℕ} {line : ℕ} {x : She
 
 module _ (limits : Limits) (judging : Bool) {t : List ℕ} where
   -- the line that is due is missing
-  missing-right : {line : ℕ} {state : State} → At t line state → Clean limits judging t line → Unfit t line state → Right limits judging t (refused Misshapen line)
-  missing-right at clean none = first-holds (given-here at clean (unfit-first limits judging at none))
+  missing-right : {line : ℕ} {state : State} → At t line state → Clean limits judging t line → Unfit t line state → LineByte t line 1 → Right limits judging t (refused Misshapen line 1)
+  unfolding ByteIs
+  missing-right at clean none b = first-holds (given-here at clean (unfit-first limits judging at none) b)
 
   end-right : {line : ℕ} {state : State} → At t line state → ((l : List ℕ) → LineIs (lines t) line l → ⊥) → Clean limits judging t line
       → Right limits judging t (atEnd judging state line)
   unfolding atEnd
-  end-right {state = start} at-start missing clean = missing-right at-start clean (λ n r. missing _ (r .text))
-  end-right {state = rows ring rs} at missing clean = missing-right at clean (λ r s. missing _ (s .text), λ c k. missing _ (k .text))
+  end-right {state = start} at-start missing clean = missing-right at-start clean (λ n r. missing _ (r .text)) (ring-due at-start (line-missing missing))
+  end-right {state = rows ring rs} at missing clean = missing-right at clean (λ r s. missing _ (s .text), λ c k. missing _ (k .text)) (row-or-cut-due at (both-missing missing))
   end-right {state = links ring rs c ks} at missing clean =
-      missing-right at clean
-      (elim (decLt (length ks) (ring .n)) [ yes few ↦ inl (few, λ l k. missing _ (k .text)) | no many ↦ inr (omega arith, λ p z k. missing _ (k .text)) ])
+      elim (decLt (length ks) (ring .n)) [
+        | yes few ↦ missing-right at clean (inl (few, λ l k. missing _ (k .text))) (link-due at few (line-missing missing))
+        | no many ↦ let all : ring .n ≤ length ks = omega arith in missing-right at clean (inr (all, λ p z k. missing _ (k .text))) (last-due at all (line-missing missing))
+      ]
   end-right {state = end x} at missing clean = whole-right at missing clean (when-first judging (whole-late x) (whole-first x))
 
   -- ---- the lines in order
@@ -145,7 +153,7 @@ module _ (limits : Limits) (judging : Bool) {t : List ℕ} where
       → Right limits judging t (after x line rest)
   unfolding after
   after-right at clean (goes-on {next} none to) go = go next to (clean-next clean none)
-  after-right at clean (stops f) go = first-holds (given-here at clean f)
+  after-right at clean (stops f b) go = first-holds (given-here at clean f b)
 
   lines-right : (ls : List (List ℕ)) (line : ℕ) (state : State) → LinesFrom (lines t) line ls → At t line state → Clean limits judging t line
       → Right limits judging t (checkFrom limits judging state line ls)
@@ -154,9 +162,9 @@ module _ (limits : Limits) (judging : Bool) {t : List ℕ} where
   lines-right (l ∷ ls) line state from at clean =
       after-right at clean (turned limits judging at (line-here from)) (λ next to clean. lines-right ls (line + 1) next (from-next from) to clean)
 
-too-long-given : {limits : Limits} (judging : Bool) {t : List ℕ} → limits .bytes < length t → GivenAmong (Counts judging) limits t TooLong 0
-unfolding Says
-too-long-given judging long = record { counts = counts-form judging TooLong (omega arith); holds = (refl, long); first = λ s other c e h. go s other e }
+too-long-given : {limits : Limits} (judging : Bool) {t : List ℕ} → limits .bytes < length t → GivenAmong (Counts judging) limits t TooLong 0 0
+unfolding Says ByteIs
+too-long-given judging long = record { counts = counts-form judging TooLong (omega arith); holds = (refl, long); first = λ s other c e h. go s other e; byte-is = refl }
   where
     go : (s : Reason) (other : ℕ) → Earlier s other TooLong 0 → ⊥
     go s other (inl l) = omega arith

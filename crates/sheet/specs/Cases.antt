@@ -46,8 +46,8 @@ Text = List String
 pub data Case : Type 0 where
   -- a table; the sheet that is routed for it, which the checker accepts; and what is stated of that sheet
   plan-of : Text → Text → List Claim → Case
-  -- a sheet; the reason and the line that the checker refuses it with; and what is stated of it
-  refusal-of : Text → ℕ → ℕ → List Claim → Case
+  -- a sheet; the reason, the line and the byte that the checker refuses it with; and what is stated of it
+  refusal-of : Text → ℕ → ℕ → ℕ → List Claim → Case
 
 -- the list
 unfoldable pub cases : List Case
@@ -88,13 +88,13 @@ cases =
     [] ∷
     -- n = 4, 1-2 of 1 sent 0/2, B, with cut 1, 2 across 1 and true figures: 13
     refusal-of ("R|4|4" ∷ "D|1|2|1|0|2|B" ∷ "C|1|2|1" ∷ "L|1|0|0" ∷ "L|2|2|1" ∷ "L|3|2|1" ∷ "L|4|2|1" ∷ "Z|1|3" ∷ [])
-    13 0
+    13 0 0
     (not-tight 2 1 ∷ 2 at-most 2 plus 0 ∷ []) ∷
     -- n = 8, rows k to k+4 for k = 1..4 of 1, each 1/1, all F, cut 4, 8 across 4, true figures: unsplit peak 4, 8 > 4 + 3, so 14
     refusal-of
     ("R|8|4" ∷ "D|1|5|1|1|1|F" ∷ "D|2|6|1|1|1|F" ∷ "D|3|7|1|1|1|F" ∷ "D|4|8|1|1|1|F" ∷ "C|4|8|4" ∷
     "L|1|4|1" ∷ "L|2|4|2" ∷ "L|3|4|3" ∷ "L|4|4|4" ∷ "L|5|4|3" ∷ "L|6|4|2" ∷ "L|7|4|1" ∷ "L|8|4|0" ∷ "Z|4|12" ∷ [])
-    14 0
+    14 0 0
     (tight 4 4 ∷ 8 above 4 plus 3 ∷ []) ∷
     -- K1: three circuits between offices 1 and 3 of the square, of which rule B splits the second
     plan-of ("R|4|4" ∷ "D|1|3|1" ∷ "D|1|3|1" ∷ "D|1|3|1" ∷ "D|2|4|1" ∷ [])
@@ -103,7 +103,7 @@ cases =
     (M-is 4 ∷ 6 at-most 4 plus 3 ∷ []) ∷
     -- K1: a row below the row before, behind one of the same nodes: 6
     refusal-of ("R|4|4" ∷ "D|1|3|1|1|1|F" ∷ "D|1|3|1|1|1|B" ∷ "D|1|2|1|2|0|F" ∷ [])
-    6 4
+    6 4 1
     [] ∷
     -- K3: n = 2, 1-2 of 384 on two fibres: twice 384 is 768
     plan-of ("R|2|2" ∷ "D|1|2|384" ∷ [])
@@ -119,17 +119,17 @@ cases =
     [] ∷
     -- K3: the square on two fibres with the size for four: 12
     refusal-of ("R|4|2" ∷ "D|1|3|1|1|1|F" ∷ "D|2|4|1|1|1|B" ∷ "C|1|3|2" ∷ "L|1|2|2" ∷ "L|2|2|1" ∷ "L|3|2|0" ∷ "L|4|2|1" ∷ "Z|2|3" ∷ [])
-    12 9
+    12 9 1
     [] ∷
     -- K3: three fibres: 20, but 3 where n is wrong too; without the number the line has the wrong shape: 2
     refusal-of ("R|4|3" ∷ [])
-    20 1
+    20 1 5
     [] ∷
     refusal-of ("R|33|3" ∷ [])
-    3 1
+    3 1 3
     [] ∷
     refusal-of ("R|4" ∷ "C|1|2|0" ∷ [])
-    2 1
+    2 1 4
     [] ∷
     []
 
@@ -172,36 +172,36 @@ truth x (best-peak-is p) = best-peak-is (bestPeak (x .ring .n) [] (sents (x .row
 
 -- ---- the answers
 
--- the text of a sheet; Y; E, a reason and a line; or a claim
+-- the text of a sheet; Y; E, a reason, a line and a byte; or a claim
 pub data Answer : Type 0 where
   text : List ℕ → Answer
   Y : Answer
-  E : ℕ → ℕ → Answer
+  E : ℕ → ℕ → ℕ → Answer
   claim : Claim → Answer
 
 -- the router's
 unfoldable pub routing : TableResult → Answer
 unfolding plan writeSheet
 routing (a-table ring rs) = text (writeSheet (plan ring rs))
-routing (no-table reason line) = E (numberOf reason) line
+routing (no-table reason line byte) = E (numberOf reason) line byte
 
 -- the checker's
 unfoldable pub checking : Result → Answer
 checking (accepted x) = Y
-checking (refused reason line) = E (numberOf reason) line
+checking (refused reason line byte) = E (numberOf reason) line byte
 
 -- to a claim: any well-formed sheet can be asked, true or not
 unfoldable pub claiming : Result → Claim → Answer
 unfolding truth
 claiming (accepted x) c = claim (truth x c)
-claiming (refused reason line) c = E (numberOf reason) line
+claiming (refused reason line byte) c = E (numberOf reason) line byte
 
 -- all answers as they are stated
 unfoldable pub stated : List Case → List Answer
 unfolding printed
 stated [] = []
 stated (plan-of table sheet claims ∷ cs) = text (printed sheet) ∷ Y ∷ map claim claims ++ stated cs
-stated (refusal-of sheet reason line claims ∷ cs) = E reason line ∷ map claim claims ++ stated cs
+stated (refusal-of sheet reason line byte claims ∷ cs) = E reason line byte ∷ map claim claims ++ stated cs
 
 -- and as the definitions have them
 unfoldable pub computed : List Case → List Answer
@@ -210,5 +210,5 @@ computed [] = []
 computed (plan-of table sheet claims ∷ cs) =
     routing (tableOf desk (printed table)) ∷ checking (check desk (printed sheet)) ∷
     map (claiming (form desk (printed sheet))) claims ++ computed cs
-computed (refusal-of sheet reason line claims ∷ cs) =
+computed (refusal-of sheet reason line byte claims ∷ cs) =
     checking (check desk (printed sheet)) ∷ map (claiming (form desk (printed sheet))) claims ++ computed cs

@@ -10,14 +10,16 @@ use Rattle.ring.specs.Limits.{Limits}
 use Rattle.ring.specs.Ring.{Ring}
 use Rattle.ring.specs.LineSize.{lineSize}
 use Rattle.ring.specs.Row.{PairBefore}
-use Rattle.ring.specs.Routing.{Routed, splitLoad, unsplitLoad, peak}
+use Rattle.ring.specs.Routing.{wayNumber, Routed, splitLoad, unsplitLoad, peak}
 use Rattle.ring.specs.Sheet.{Link, Sheet, sents, demands, splitPeak, unsplitPeak, largestSplitOf}
 use Rattle.ring.specs.True.{SumsTo2d, Kept}
 use Rattle.text.specs.Number.{limit}
-use Rattle.text.specs.Shapes.{cutLine, lastLine}
+use Rattle.text.specs.FieldByte.{sentByte}
+use Rattle.text.specs.FirstFault.{Agrees}
+use Rattle.text.specs.Shapes.{ringShape, sentShape, cutShape, linkShape, lastShape, cutLine, lastLine}
 use Rattle.table.specs.Lines.{lines}
 use Rattle.table.specs.Reasons.{rankOf}
-use Rattle.table.specs.Says.{LineIs, RingIs, WrongRing, WrongFibres, NoNode}
+use Rattle.table.specs.Says.{LineIs, RingIs, WrongRing, WrongFibres, NoNode, ShapeByte, RingField}
 use Rattle.table.specs.declared.reason.Reason.{Reason}
 use Rattle.table.specs.declared.reason.Reason.the-variants.{TooLong, Misshapen, RingSize, Fibres, NoRow, NoSuchNode, NotBelow, OutOfOrder, TooMany, TooMuch, Full, WrongSum, WrongWay, WrongCut, WrongLink, WrongLast, NotTight, OverBound, NotZero, NotSymmetric, SumTooMuch, NoRoom}
 use Rattle.sheet.specs.WriteSheet.{routedLine, loadLine}
@@ -213,6 +215,71 @@ Says limits t NoRow line = ⊥
 Says limits t Full line = ⊥
 Says limits t NoRoom line = ⊥
 
+-- ---- the byte of the line that is given with a reason (02, K5), counted from 1
+
+-- where a D line or the C line is due, both shapes count: p is the place of the first byte at which neither goes on
+pub record NeitherGoesOn (l : List ℕ) (p : ℕ) : Type 0 where
+  pub before : Agrees sentShape l p ⊎ Agrees cutShape l p
+  pub no-row : Agrees sentShape l (p + 1) → ⊥
+  pub no-cut : Agrees cutShape l (p + 1) → ⊥
+
+-- 1 where the line is missing
+pub data EitherByte (t : List ℕ) (line : ℕ) : ℕ → Type 0 where
+  both-missing : ((l : List ℕ) → LineIs (lines t) line l → ⊥) → EitherByte t line 1
+  both-faulty : {l : List ℕ} {p : ℕ} → LineIs (lines t) line l → NeitherGoesOn l p → EitherByte t line (p + 1)
+
+-- 2: by the shape that is due; 1 where the line is left over
+pub data LineByte (t : List ℕ) (line byte : ℕ) : Type 0 where
+  ring-due : At t line start → ShapeByte t ringShape line byte → LineByte t line byte
+  row-or-cut-due : {ring : Ring} {rs : List Routed} → At t line (rows ring rs) → EitherByte t line byte → LineByte t line byte
+  link-due : {ring : Ring} {rs : List Routed} {c : Cut} {ks : List Link} → At t line (links ring rs c ks) → length ks < ring .n → ShapeByte t linkShape line byte → LineByte t line byte
+  last-due : {ring : Ring} {rs : List Routed} {c : Cut} {ks : List Link} → At t line (links ring rs c ks) → ring .n ≤ length ks → ShapeByte t lastShape line byte → LineByte t line byte
+  none-due : {x : Sheet} → At t line (end x) → byte ≡ 1 → LineByte t line byte
+
+-- where field k of a D line starts: the nodes are fields 1 and 2, the amount is field 3
+abbrev pub routedByte : Routed → ℕ → ℕ
+routedByte r k = sentByte (r .sent .row .i) (r .sent .row .j) (r .sent .row .d) (r .sent .front) (r .sent .back) (wayNumber (r .way)) k
+
+-- 4: where the first of the two nodes that is outside starts
+pub data NodeByte (t : List ℕ) (line byte : ℕ) : Type 0 where
+  first-node : {r : Routed} (row : RowAt t line r) → NoNode (row .ring .n) (r .sent .row .i) → byte ≡ routedByte r 1 → NodeByte t line byte
+  second-node : {r : Routed} (row : RowAt t line r) → (NoNode (row .ring .n) (r .sent .row .i) → ⊥) → byte ≡ routedByte r 2 → NodeByte t line byte
+
+-- 7: where the amount starts
+pub record AmountByte (t : List ℕ) (line byte : ℕ) : Type 0 where
+  pub r : Routed
+  pub row : RowAt t line r
+  pub is : byte ≡ routedByte r 3
+
+-- the byte of a reason that holds on a line
+unfoldable pub ByteIs : List ℕ → Reason → ℕ → ℕ → Type 0
+-- a reason with line 0
+ByteIs t TooLong line byte = byte ≡ 0
+ByteIs t NotTight line byte = byte ≡ 0
+ByteIs t OverBound line byte = byte ≡ 0
+ByteIs t Misshapen line byte = LineByte t line byte
+-- a reason about one field
+ByteIs t RingSize line byte = RingField t 1 byte
+ByteIs t Fibres line byte = RingField t 2 byte
+ByteIs t NoSuchNode line byte = NodeByte t line byte
+ByteIs t TooMuch line byte = AmountByte t line byte
+-- a reason that judges the line as a whole
+ByteIs t NotBelow line byte = byte ≡ 1
+ByteIs t OutOfOrder line byte = byte ≡ 1
+ByteIs t TooMany line byte = byte ≡ 1
+ByteIs t WrongSum line byte = byte ≡ 1
+ByteIs t WrongWay line byte = byte ≡ 1
+ByteIs t WrongCut line byte = byte ≡ 1
+ByteIs t WrongLink line byte = byte ≡ 1
+ByteIs t WrongLast line byte = byte ≡ 1
+-- the others judge no sheet
+ByteIs t NotZero line byte = ⊥
+ByteIs t NotSymmetric line byte = ⊥
+ByteIs t SumTooMuch line byte = ⊥
+ByteIs t NoRow line byte = ⊥
+ByteIs t Full line byte = ⊥
+ByteIs t NoRoom line byte = ⊥
+
 -- ---- which is given
 
 -- 13 and 14 come behind all lines
@@ -245,11 +312,12 @@ abbrev pub Earlier : Reason → ℕ → Reason → ℕ → Type 0
 Earlier r line s other =
     (stage r < stage s) ⊎ ((stage r ≡ stage s) × ((line < other) ⊎ ((line ≡ other) × (rankOf r < rankOf s))))
 
--- of the reasons that count, this one is given exactly when it holds and nothing before it in the order does
-pub record GivenAmong (Counts : Reason → Type 0) (limits : Limits) (t : List ℕ) (r : Reason) (line : ℕ) : Type 0 where
+-- of the reasons that count, this one is given exactly when it holds and nothing before it in the order does, and with it its byte
+pub record GivenAmong (Counts : Reason → Type 0) (limits : Limits) (t : List ℕ) (r : Reason) (line byte : ℕ) : Type 0 where
   pub counts : Counts r
   pub holds : Says limits t r line
   pub first : (s : Reason) (other : ℕ) → Counts s → Earlier s other r line → Says limits t s other → ⊥
+  pub byte-is : ByteIs t r line byte
 
 -- none of the reasons that count holds
 abbrev pub NoneAmong : (Reason → Type 0) → Limits → List ℕ → Type 0
@@ -263,7 +331,7 @@ Any r = Unit {0}
 abbrev pub OfForm : Reason → Type 0
 OfForm r = rankOf r < rankOf WrongSum
 
-abbrev pub Given : Limits → List ℕ → Reason → ℕ → Type 0
+abbrev pub Given : Limits → List ℕ → Reason → ℕ → ℕ → Type 0
 Given = GivenAmong Any
 
 -- a sheet is accepted when no reason holds of it, and well-formed when it would not be refused if 8 to 14 were never given

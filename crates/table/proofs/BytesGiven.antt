@@ -49,7 +49,7 @@ module _ {t : List ℕ} {ring : Ring} {line i j d : ℕ} (here : RingIs t ring) 
 
 -- ---- one byte
 
-one-shape-byte : {t shape : List ℕ} {line b c : ℕ} → ShapeByte t shape line b → ShapeByte t shape line c → b ≡ c
+pub one-shape-byte : {t shape : List ℕ} {line b c : ℕ} → ShapeByte t shape line b → ShapeByte t shape line c → b ≡ c
 one-shape-byte (line-missing none) (line-missing gone) = refl
 one-shape-byte (line-missing none) (line-faulty is f) = absurd (none _ is)
 one-shape-byte (line-faulty is f) (line-missing none) = absurd (none _ is)
@@ -61,7 +61,7 @@ one-line-byte (ring-due e x) (row-due f y) = absurd (omega arith)
 one-line-byte (row-due e x) (ring-due f y) = absurd (omega arith)
 one-line-byte (row-due e x) (row-due f y) = one-shape-byte x y
 
-one-ring-field : {t : List ℕ} {k b c : ℕ} → RingField t k b → RingField t k c → b ≡ c
+pub one-ring-field : {t : List ℕ} {k b c : ℕ} → RingField t k b → RingField t k c → b ≡ c
 one-ring-field {k} x y = x .is ∙ ap (λ (r : Ring). ringByte (r .n) (r .fibres) k) (ring-one (x .said) (y .said)) ∙ sym (y .is)
 
 one-node-byte : {t : List ℕ} {line b c : ℕ} → NodeByte t line b → NodeByte t line c → b ≡ c

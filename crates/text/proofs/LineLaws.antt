@@ -49,7 +49,7 @@ module _ (shape s : List ℕ) where
       let line : List ℕ = writeLine shape (a .vs) in
       clash (cc (read shape line (a .vs) (refl, a .range), fields-local shape s line 0 [] q (omega arith) e (a .text)))
 
-  fewer : (m n : ℕ) → m ≤ n → Agrees shape s n → Agrees shape s m
+  pub fewer : (m n : ℕ) → m ≤ n → Agrees shape s n → Agrees shape s m
   fewer m n h a = record {
     vs = a .vs;
     range = a .range;
