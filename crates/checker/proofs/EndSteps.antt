@@ -5,7 +5,7 @@ use mathlib.Core.Bool.{true}
 use mathlib.Core.List.{List, [], _∷_, _++_}
 use mathlib.Core.Path.{_≡_, refl, ap, _∙_, sym, subst}
 use native.Mathlib.Omega.{arith}
-use lib.ListN.{length, getD, take, drop, drop-of-length-le, length-drop}
+use lib.ListN.{length, getD, take, drop, drop-of-length-le, length-drop, length-take}
 use mir.Syntax.{w32}
 use mir.Val.{Fits}
 use borrow.Author.Tests.{lt-ltb, le-ltb}
@@ -22,6 +22,7 @@ use Rattle.ring.proofs.Listed.{listed-snoc, listed-length}
 use Rattle.text.specs.Answers.{twoIn, threeIn}
 use Rattle.text.specs.ReadLine.{readLine}
 use Rattle.text.specs.Shapes.{linkShape, lastShape}
+use Rattle.text.proofs.AnswerLaws.{two-within, three-within}
 use Rattle.text.specs.declared.TwoNumbers.{TwoNumbers}
 use Rattle.text.specs.declared.TwoNumbers.the-variants.{Are as AreTwo, Bad as NotTwo}
 use Rattle.text.specs.declared.ThreeNumbers.{ThreeNumbers}
@@ -47,7 +48,7 @@ use Rattle.checker.proofs.NextLine.{step-at}
 use Rattle.sheet.proofs.Truth.{link-true, last-true}
 
 -- a refusal is no place of the text
-not-on : {s : List ℕ} {reason : Reason} {line : ℕ} → Within s (Refused reason line)
+not-on : {s : List ℕ} {reason : Reason} {line byte : ℕ} → Within s (Refused reason line byte)
 not-on = record { place = λ at q. clash (cc) }
 
 -- ---- the loads that are due
@@ -111,12 +112,15 @@ module _ (s : List ℕ) (from n start : ℕ) (split unsplit : List ℕ) where
             let few : length ks < n = omega (arith, long) in
             reading .rest fibres rs c split-peak top largest w ∙ step-at desk true s at to ends (links (ringOf n fibres) rs c ks) tt line ∙ rw (lt-ltb (length ks) n few, ← ex)
 
-      pub no-link : (p : ℕ) → x ≡ NotThree p → LinksRead s from n start split unsplit (Refused Misshapen line)
+      pub link-place : (p : ℕ) → x ≡ NotThree p → length s ≤ desk .bytes → p ≤ desk .bytes
+      link-place p q short = omega (arith, three-within linkShape (take (to - at) (drop at s)) p (sym ex ∙ q), length-take (to - at) (drop at s), ends .within)
+
+      pub no-link : (p byte : ℕ) → x ≡ NotThree p → byte ≡ p + 1 → LinksRead s from n start split unsplit (Refused Misshapen line byte)
       unfolding linkTurn after
-      no-link p q =
+      no-link p byte q b =
           record {
             within = not-on;
-            means = λ fibres rs c split-peak top largest w. step-refused {reason = Misshapen} {line = line} (led fibres rs c split-peak top largest w ∙ rw q);
+            means = λ fibres rs c split-peak top largest w. step-refused {reason = Misshapen} {line = line} {byte = byte} (led fibres rs c split-peak top largest w ∙ rw (q, b));
           }
 
       module _ (a b d due : ℕ) (is : x ≡ AreThree a b d) (edue : due ≡ k + 1) (v : Verdict) (ev : v ≡ linkVerdict due (getD split k 0) (getD unsplit k 0) a b d) where
@@ -128,12 +132,12 @@ module _ (s : List ℕ) (from n start : ℕ) (split unsplit : List ℕ) where
             let u1 = unsplit-due (reading .many) w k (omega arith) in
             sym (ev ∙ rw (edue, s1, u1, e))
 
-        pub link-fault : (reason : Reason) → v ≡ Fault reason → LinksRead s from n start split unsplit (Refused reason line)
+        pub link-fault : (reason : Reason) → v ≡ Fault reason → LinksRead s from n start split unsplit (Refused reason line 1)
         unfolding linkTurn unless after when
         link-fault reason q =
             record {
               within = not-on;
-              means = λ fibres rs c split-peak top largest w. step-refused {reason = reason} {line = line} (led fibres rs c split-peak top largest w ∙ rw (is, judged rs split-peak top largest w ∙ q));
+              means = λ fibres rs c split-peak top largest w. step-refused {reason = reason} {line = line} {byte = 1} (led fibres rs c split-peak top largest w ∙ rw (is, judged rs split-peak top largest w ∙ q));
             }
 
         same-link : (rs : List Routed) (split-peak top largest : ℕ) → Weighed n rs split unsplit split-peak top largest → v ≡ Fine → linkOf a b d ≡ linkAt split unsplit k
@@ -166,7 +170,7 @@ module _ (s : List ℕ) (from n start : ℕ) (split unsplit : List ℕ) where
 -- ---- the Z line
 
 -- behind a place inside the text there is a line
-some-line : (s : List ℕ) (to : ℕ) → to < length s → (x : Sheet) (line : ℕ) → checkFrom desk true (end x) line (lines (drop to s)) ≡ refused Misshapen line
+some-line : (s : List ℕ) (to : ℕ) → to < length s → (x : Sheet) (line : ℕ) → checkFrom desk true (end x) line (lines (drop to s)) ≡ refused Misshapen line 1
 unfolding checkFrom turn after
 some-line s to h x line = let e = first-line (drop to s) (omega (arith, length-drop to s)) in rw e
 
@@ -181,21 +185,24 @@ module _ (s : List ℕ) (at line top size : ℕ) (to : ℕ) (ends : NextEnds s a
     unfolding turn
     last-led = step-at desk true s at to ends (links ring rs c ks) tt line ∙ rw (le-ltb (length ks) (ring .n) all, ← ex)
 
-  pub no-last : (p : ℕ) → x ≡ NotTwo p → LastRead s at line top size (Refused Misshapen line)
+  pub last-place : (p : ℕ) → x ≡ NotTwo p → length s ≤ desk .bytes → p ≤ desk .bytes
+  last-place p q short = omega (arith, two-within lastShape (take (to - at) (drop at s)) p (sym ex ∙ q), length-take (to - at) (drop at s), ends .within)
+
+  pub no-last : (p byte : ℕ) → x ≡ NotTwo p → byte ≡ p + 1 → LastRead s at line top size (Refused Misshapen line byte)
   unfolding lastTurn after
-  no-last p q = record { within = not-on; means = λ ring rs c ks all et ez. step-refused {reason = Misshapen} {line = line} (last-led ring rs c ks all ∙ rw q) }
+  no-last p byte q b = record { within = not-on; means = λ ring rs c ks all et ez. step-refused {reason = Misshapen} {line = line} {byte = byte} (last-led ring rs c ks all ∙ rw (q, b)) }
 
   module _ (p z : ℕ) (is : x ≡ AreTwo p z) (v : Verdict) (ev : v ≡ lastVerdict top size p z) where
     last-judged : (ring : Ring) (rs : List Routed) → top ≡ peak (unsplitLoad rs) (ring .n) → size ≡ lineSize sonetSizes (ring .fibres) top → judgeLast ring rs p z ≡ v
     unfolding judgeLast
     last-judged ring rs et ez = sym (ev ∙ rw (ez, et))
 
-    pub last-fault : (reason : Reason) → v ≡ Fault reason → LastRead s at line top size (Refused reason line)
+    pub last-fault : (reason : Reason) → v ≡ Fault reason → LastRead s at line top size (Refused reason line 1)
     unfolding lastTurn unless after when
     last-fault reason q =
         record {
           within = not-on;
-          means = λ ring rs c ks all et ez. step-refused {reason = reason} {line = line} (last-led ring rs c ks all ∙ rw (is, last-judged ring rs et ez ∙ q));
+          means = λ ring rs c ks all et ez. step-refused {reason = reason} {line = line} {byte = 1} (last-led ring rs c ks all ∙ rw (is, last-judged ring rs et ez ∙ q));
         }
 
     module _ (q : v ≡ Fine) where
@@ -212,11 +219,11 @@ module _ (s : List ℕ) (at line top size : ℕ) (to : ℕ) (ends : NextEnds s a
           rw (is, last-judged ring rs et ez ∙ q) in
           last-led ring rs c ks all ∙ turned ∙ rw (ep, es)
 
-      pub left-over : to < length s → LastRead s at line top size (Refused Misshapen (line + 1))
+      pub left-over : to < length s → LastRead s at line top size (Refused Misshapen (line + 1) 1)
       left-over h =
           record {
             within = not-on;
-            means = λ ring rs c ks all et ez. step-refused {reason = Misshapen} {line = line + 1} (ended ring rs c ks all et ez ∙ some-line s to h (record { ring = ring; rows = rs; cut = c; links = ks; peak = top; size = size }) (line + 1));
+            means = λ ring rs c ks all et ez. step-refused {reason = Misshapen} {line = line + 1} {byte = 1} (ended ring rs c ks all et ez ∙ some-line s to h (record { ring = ring; rows = rs; cut = c; links = ks; peak = top; size = size }) (line + 1));
           }
 
       pub last-done : length s ≤ to → LastRead s at line top size (On to)
@@ -228,12 +235,13 @@ module _ (s : List ℕ) (at line top size : ℕ) (to : ℕ) (ends : NextEnds s a
 
 -- ---- a step that was refused is refused, and one that goes on goes on from its place
 
-step-stops : {s : List ℕ} {result : Result} {goes other : ℕ → Result} {r : Step} {reason : Reason} {line : ℕ} → StepMeans s result goes r → r ≡ Refused reason line → StepMeans s result other (Refused reason line)
-step-stops {reason = reason} {line = line} (steps-on w e) q = clash (cc)
-step-stops {reason = reason} {line = line} (step-refused {reason = a} {line = b} e) q =
+step-stops : {s : List ℕ} {result : Result} {goes other : ℕ → Result} {r : Step} {reason : Reason} {line byte : ℕ} → StepMeans s result goes r → r ≡ Refused reason line byte → StepMeans s result other (Refused reason line byte)
+step-stops (steps-on w e) q = clash (cc)
+step-stops {reason = reason} {line = line} {byte = byte} (step-refused {reason = a} {line = b} {byte = c} e) q =
     let ea : a ≡ reason = cc in
     let eb : b ≡ line = cc in
-    step-refused {reason = reason} {line = line} (e ∙ rw (ea, eb))
+    let ec : c ≡ byte = cc in
+    step-refused {reason = reason} {line = line} {byte = byte} (e ∙ rw (ea, eb, ec))
 
 step-goes : {s : List ℕ} {result : Result} {goes : ℕ → Result} {r : Step} {at : ℕ} → StepMeans s result goes r → r ≡ On at → result ≡ goes at
 step-goes {goes = goes} {at = at} (steps-on {at = b} w e) q = let eb : b ≡ at = cc in e ∙ ap goes eb
@@ -242,8 +250,8 @@ step-goes (step-refused e) q = clash (cc)
 -- ---- the whole
 
 module _ (s : List ℕ) (at line number split-peak top size largest : ℕ) (r : Step) (last : LastRead s at line top size r) where
-  pub whole-stops : (reason : Reason) (place : ℕ) → r ≡ Refused reason place → WholeRead s at line number split-peak top size largest (Refused reason place)
-  whole-stops reason place q = record { means = λ ring rs g h ks all es et el ez. step-stops (last .means ring rs (cutOf g h number) ks all et ez) q }
+  pub whole-stops : (reason : Reason) (place byte : ℕ) → r ≡ Refused reason place byte → WholeRead s at line number split-peak top size largest (Refused reason place byte)
+  whole-stops reason place byte q = record { means = λ ring rs g h ks all es et el ez. step-stops (last .means ring rs (cutOf g h number) ks all et ez) q }
 
   module _ (to : ℕ) (q : r ≡ On to) (v : Verdict) (ev : v ≡ wholeVerdict split-peak number largest top) where
     module _ (ring : Ring) (rs : List Routed) (g h : ℕ) (ks : List Link) (all : ring .n ≤ length ks) (es : split-peak ≡ peak (splitLoad (sents rs)) (ring .n)) (et : top ≡ peak (unsplitLoad rs) (ring .n))
@@ -258,10 +266,10 @@ module _ (s : List ℕ) (at line number split-peak top size largest : ℕ) (r : 
       result : checkFrom desk true (links ring rs (cutOf g h number) ks) line (lines (drop at s)) ≡ wholeResult x v
       result = step-goes (last .means ring rs (cutOf g h number) ks all et ez) q ∙ ap (wholeResult x) whole-judged
 
-    pub whole-fault : (reason : Reason) → v ≡ Fault reason → WholeRead s at line number split-peak top size largest (Refused reason 0)
+    pub whole-fault : (reason : Reason) → v ≡ Fault reason → WholeRead s at line number split-peak top size largest (Refused reason 0 0)
     unfolding wholeResult
     whole-fault reason f =
-        record { means = λ ring rs g h ks all es et el ez. step-refused {reason = reason} {line = 0} (result ring rs g h ks all es et el ez ∙ ap (wholeResult (x ring rs g h ks all es et el ez)) f) }
+        record { means = λ ring rs g h ks all es et el ez. step-refused {reason = reason} {line = 0} {byte = 0} (result ring rs g h ks all es et el ez ∙ ap (wholeResult (x ring rs g h ks all es et el ez)) f) }
 
     pub whole-fine : v ≡ Fine → WholeRead s at line number split-peak top size largest (On to)
     unfolding wholeResult
@@ -273,8 +281,8 @@ module _ (s : List ℕ) (at line number split-peak top size largest : ℕ) (r : 
 -- ---- the L lines, the Z line and the whole
 
 module _ (s : List ℕ) (at line n number : ℕ) (split unsplit : List ℕ) (split-peak top size largest : ℕ) (r : Step) (read : LinksRead s at n line split unsplit r) where
-  pub tail-stops : (reason : Reason) (place : ℕ) → r ≡ Refused reason place → TailRead s at line n number split unsplit split-peak top size largest (Refused reason place)
-  tail-stops reason place q = record { means = λ fibres rs g h w ez. step-stops (read .means fibres rs (cutOf g h number) split-peak top largest w) q }
+  pub tail-stops : (reason : Reason) (place byte : ℕ) → r ≡ Refused reason place byte → TailRead s at line n number split unsplit split-peak top size largest (Refused reason place byte)
+  tail-stops reason place byte q = record { means = λ fibres rs g h w ez. step-stops (read .means fibres rs (cutOf g h number) split-peak top largest w) q }
 
   module _ (behind : ℕ) (q : r ≡ On behind) where
     pub behind-within : behind ≤ length s

@@ -62,18 +62,18 @@ module _ (limits : Limits) (judging : Bool) where
   Goes (links ring rs c ks) = Unit {0}
   Goes (end x) = ⊥
 
-  no-shape : (state : State) → Goes state → turn limits judging state [] ≡ stop Misshapen
+  no-shape : (state : State) → Goes state → turn limits judging state [] ≡ stop Misshapen 1
   unfolding turn ringTurn rowTurn cutTurn linkTurn lastTurn twoIn threeIn sentIn readLine fieldsFrom fieldThen fieldAt markAt markFrom
   no-shape start g = refl
   no-shape (rows ring rs) g = refl
   no-shape (links ring rs c ks) g = go (ltb (length ks) (ring .n))
     where
-      go : (t : Bool) → cond t (stop Misshapen) (stop Misshapen) ≡ stop Misshapen
+      go : (t : Bool) → cond t (stop Misshapen 1) (stop Misshapen 1) ≡ stop Misshapen 1
       go true = refl
       go false = refl
   no-shape (end x) g = absurd g
 
-  missing : (state : State) → Goes state → (line : ℕ) → atEnd judging state line ≡ refused Misshapen line
+  missing : (state : State) → Goes state → (line : ℕ) → atEnd judging state line ≡ refused Misshapen line 1
   unfolding atEnd
   missing start g line = refl
   missing (rows ring rs) g line = refl

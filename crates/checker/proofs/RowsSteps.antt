@@ -27,6 +27,8 @@ use Rattle.text.specs.ReadLine.{readLine}
 use Rattle.text.specs.Field.{spell}
 use Rattle.text.specs.WriteLine.{writeLine}
 use Rattle.text.specs.Shapes.{sentShape, sentLine}
+use Rattle.text.proofs.AnswerLaws.{sent-within}
+use Rattle.table.specs.Fields.{rowFault}
 use Rattle.text.specs.declared.SentRow.{SentRow}
 use Rattle.text.specs.declared.SentRow.the-variants.{Is as IsSent, Bad as NotSent}
 use Rattle.table.specs.Lines.{lines}
@@ -227,7 +229,7 @@ module _ (s : List ℕ) (n from line a b count at : ℕ) (first second amount fr
   module _ (to : ℕ) (ends : NextEnds s at to) (x : SentRow) (ex : x ≡ sentIn (readLine sentShape (take (to - at) (drop at s)))) where
     -- the next line is no D line: the rows end here
     pub rows-end : (p : ℕ) → x ≡ NotSent p →
-        RowsRead s from n (record { end = At count at line; first = first; second = second; amount = amount; front = front; back = back; way = way })
+        RowsRead s from n (record { end = At count at line p; first = first; second = second; amount = amount; front = front; back = back; way = way })
     unfolding cutFrom turn rowTurn
     rows-end p q =
         let e = reading .many in
@@ -240,7 +242,7 @@ module _ (s : List ℕ) (n from line a b count at : ℕ) (first second amount fr
         let c5 = reading .backs in
         let few : length (reading .rs) ≤ desk .rows = omega (arith, reading .most) in
         record {
-          means = λ fibres. rows-at {count = count} {at = at} {line = line} (reading .rs)
+          means = λ fibres. rows-at {count = count} {at = at} {line = line} {q = p} (reading .rs)
               (record {
                 many = e;
                 firsts = c1;
@@ -253,6 +255,7 @@ module _ (s : List ℕ) (n from line a b count at : ℕ) (first second amount fr
               })
               (reading .rest fibres ∙ step-from desk true (rows (ringOf n fibres) (reading .rs)) tt line (lines (drop at s)) ∙ rw no-row-here)
               (reading .within)
+              (omega (arith, sent-within sentShape (take (to - at) (drop at s)) p (sym ex ∙ q), length-take (to - at) (drop at s), ends .within))
               (reading .lined)
               (rw (e, c1, c2, c3) (fine-table n (reading .rs) few (reading .fine) (reading .two) (reading .size)))
               (rw (e, c4, c5) (fine-halves n (reading .rs) few (reading .fine)));
@@ -260,7 +263,7 @@ module _ (s : List ℕ) (n from line a b count at : ℕ) (first second amount fr
 
     module _ (i j d f k w : ℕ) (is : x ≡ IsSent i j d f k w) (v : Verdict) (ev : v ≡ sentVerdict desk n count a b (routedOf i j d f k w)) where
       -- what is found against it decides
-      led : (fibres : ℕ) → whole s n from fibres ≡ after (unless v (rows (ringOf n fibres) (reading .rs ++ routedOf i j d f k w ∷ []))) line (λ next. checkFrom desk true next (line + 1) (lines (drop to s)))
+      led : (fibres : ℕ) → whole s n from fibres ≡ after (unless v (rowFault n i j d) (rows (ringOf n fibres) (reading .rs ++ routedOf i j d f k w ∷ []))) line (λ next. checkFrom desk true next (line + 1) (lines (drop to s)))
       unfolding turn rowTurn sentVerdict when
       led fibres =
           let e = reading .many in
@@ -269,9 +272,9 @@ module _ (s : List ℕ) (n from line a b count at : ℕ) (first second amount fr
           let found : sentVerdict desk n (length (reading .rs)) (lastOf (reading .rs) .i) (lastOf (reading .rs) .j) (routedOf i j d f k w) ≡ v = rw (← e, u, w′) (sym ev) in
           reading .rest fibres ∙ step-at desk true s at to ends (rows (ringOf n fibres) (reading .rs)) tt line ∙ rw (← ex, is, found)
 
-      pub row-stops : (reason : Reason) (t : Rows) → v ≡ Fault reason → t .end ≡ Refused reason line → RowsRead s from n t
+      pub row-stops : (reason : Reason) (byte : ℕ) (t : Rows) → v ≡ Fault reason → byte ≡ rowFault n i j d reason → t .end ≡ Refused reason line byte → RowsRead s from n t
       unfolding unless after
-      row-stops reason t q e = record { means = λ fibres. rw e (rows-refused {reason = reason} {line = line} (led fibres ∙ rw q)) }
+      row-stops reason byte t q b e = record { means = λ fibres. rw e (rows-refused {reason = reason} {line = line} {byte = byte} (led fibres ∙ rw (q, b))) }
 
       row-here : IsRow (take (to - at) (drop at s)) w
       row-here = go (rw (← ex, is) at (sent-read (take (to - at) (drop at s))))

@@ -53,20 +53,21 @@ module _ (s : List ℕ) (c : Checked) where
         room = omega arith;
         links = rw e (h .0 .many);
       }
-  a-sheet (refused reason line) q e count a = clash (let p : Is count ≡ Refused reason line = sym a ∙ ap (λ (y : Checked). y .answer) e in cc)
+  a-sheet (refused reason line byte) q e count a = clash (let p : Is count ≡ Refused reason line byte = sym a ∙ ap (λ (y : Checked). y .answer) e in cc)
 
-  a-refusal : (r : Result) → check desk s ≡ r → c ≡ checkedIn r → (reason : Reason) (line : ℕ) → c .answer ≡ Refused reason line → check desk s ≡ refused reason line
+  a-refusal : (r : Result) → check desk s ≡ r → c ≡ checkedIn r → (reason : Reason) (line byte : ℕ) → c .answer ≡ Refused reason line byte → check desk s ≡ refused reason line byte
   unfolding checkedIn
-  a-refusal (accepted x) q e reason line a = clash (let p : Refused reason line ≡ Is (length (x .rows)) = sym a ∙ ap (λ (y : Checked). y .answer) e in cc)
-  a-refusal (refused why at) q e reason line a =
-      let p : Refused reason line ≡ Refused why at = sym a ∙ ap (λ (y : Checked). y .answer) e in
+  a-refusal (accepted x) q e reason line byte a = clash (let p : Refused reason line byte ≡ Is (length (x .rows)) = sym a ∙ ap (λ (y : Checked). y .answer) e in cc)
+  a-refusal (refused why at on) q e reason line byte a =
+      let p : Refused reason line byte ≡ Refused why at on = sym a ∙ ap (λ (y : Checked). y .answer) e in
       let kw : why ≡ reason = cc in
       let kl : at ≡ line = cc in
-      q ∙ rw (kw, kl)
+      let kb : on ≡ byte = cc in
+      q ∙ rw (kw, kl, kb)
 
   module _ (e : c ≡ checkedIn (check desk s)) where
     pub told-sheet : (count : ℕ) → c .answer ≡ Is count → Told s c count
     told-sheet = a-sheet (check desk s) refl e
 
-    pub told-refusal : (reason : Reason) (line : ℕ) → c .answer ≡ Refused reason line → check desk s ≡ refused reason line
+    pub told-refusal : (reason : Reason) (line byte : ℕ) → c .answer ≡ Refused reason line byte → check desk s ≡ refused reason line byte
     told-refusal = a-refusal (check desk s) refl e

@@ -32,8 +32,8 @@ beside answer figures rs ls =
       unsplit = column (λ (l : Link). l .unsplit) (desk .nodes) ls;
     }
 
--- what checking a text gives; a refusal returns only reason and line
+-- what checking a text gives; a refusal returns only reason, line and byte
 unfoldable pub checkedIn : Result → Checked
 unfolding column
 checkedIn (accepted x) = beside (Is (length (x .rows))) (figuresOf x) (x .rows) (x .links)
-checkedIn (refused reason line) = beside (Refused reason line) noFigures [] []
+checkedIn (refused reason line byte) = beside (Refused reason line byte) noFigures [] []

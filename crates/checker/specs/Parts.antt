@@ -61,10 +61,10 @@ unfoldable pub sentVerdict : Limits → ℕ → ℕ → ℕ → ℕ → Routed �
 unfolding orElse
 sentVerdict limits n k a b r = orElse (judgeRow limits n k a b (r .sent .row .i) (r .sent .row .j) (r .sent .row .d)) (judgeHalves r)
 
--- from the C line on
-unfoldable pub cutFrom : Ring → List Routed → ℕ → List (List ℕ) → Result
+-- from the C line on, which is no D line, whose first faulty byte is at the place q
+unfoldable pub cutFrom : Ring → List Routed → ℕ → ℕ → List (List ℕ) → Result
 unfolding after cutTurn checkFrom firstOf behindFirst
-cutFrom ring rs line ls = after (cutTurn true ring rs (threeIn (readLine cutShape (firstOf ls)))) line λ next. checkFrom desk true next (line + 1) (behindFirst ls)
+cutFrom ring rs line q ls = after (cutTurn true ring rs q (threeIn (readLine cutShape (firstOf ls)))) line λ next. checkFrom desk true next (line + 1) (behindFirst ls)
 
 -- the rows rs stand in columns, from place 0 on, and zeros behind them
 pub record Columns (rs : List Routed) (count : ℕ) (first second amount front back way : List ℕ) : Type 0 where
@@ -79,9 +79,9 @@ pub record Columns (rs : List Routed) (count : ℕ) (first second amount front b
 
 -- what the rows that were read lead to, and what is known of their columns
 pub data RowsMean (s : List ℕ) (ring : Ring) (result : Result) (first second amount front back way : List ℕ) : RowsEnd → Type 0 where
-  rows-at : {count at line : ℕ} (rs : List Routed) → Columns rs count first second amount front back way → result ≡ cutFrom ring rs line (lines (drop at s))
-      → at ≤ length s → line ≡ count + 2 → Table (ring .n) count first second amount → Halves count front back → RowsMean s ring result first second amount front back way (At count at line)
-  rows-refused : {reason : Reason} {line : ℕ} → result ≡ refused reason line → RowsMean s ring result first second amount front back way (RowsRefused reason line)
+  rows-at : {count at line q : ℕ} (rs : List Routed) → Columns rs count first second amount front back way → result ≡ cutFrom ring rs line q (lines (drop at s))
+      → at ≤ length s → q ≤ length s → line ≡ count + 2 → Table (ring .n) count first second amount → Halves count front back → RowsMean s ring result first second amount front back way (At count at line q)
+  rows-refused : {reason : Reason} {line byte : ℕ} → result ≡ refused reason line byte → RowsMean s ring result first second amount front back way (RowsRefused reason line byte)
 
 -- whatever the fibres: rows are judged by the number of nodes alone
 pub record RowsRead (s : List ℕ) (from n : ℕ) (r : Rows) : Type 0 where
@@ -101,7 +101,7 @@ pub record Weighed (n : ℕ) (rs : List Routed) (split unsplit : List ℕ) (spli
 -- a step leads on from a place of the text, or is refused
 pub data StepMeans (s : List ℕ) (result : Result) (goes-on : ℕ → Result) : Step → Type 0 where
   steps-on : {at : ℕ} → at ≤ length s → result ≡ goes-on at → StepMeans s result goes-on (On at)
-  step-refused : {reason : Reason} {line : ℕ} → result ≡ refused reason line → StepMeans s result goes-on (StepRefused reason line)
+  step-refused : {reason : Reason} {line byte : ℕ} → result ≡ refused reason line byte → StepMeans s result goes-on (StepRefused reason line byte)
 
 -- where a step leads on, it is within the text
 pub record Within (s : List ℕ) (r : Step) : Type 0 where
@@ -144,11 +144,11 @@ pub data EndMeans (ring : Ring) (rs : List Routed) (result : Result) (r : Ending
       → r .figures ≡ figuresOf (sheetWith ring rs c (r .split) (r .unsplit) top size)
       → r .split ≡ column (λ (l : Link). l .split) (desk .nodes) (linksIn (ring .n) (r .split) (r .unsplit))
       → r .unsplit ≡ column (λ (l : Link). l .unsplit) (desk .nodes) (linksIn (ring .n) (r .split) (r .unsplit)) → EndMeans ring rs result r (On at)
-  end-refused : {reason : Reason} {line : ℕ} → result ≡ refused reason line → EndMeans ring rs result r (StepRefused reason line)
+  end-refused : {reason : Reason} {line byte : ℕ} → result ≡ refused reason line byte → EndMeans ring rs result r (StepRefused reason line byte)
 
 -- from the C line on
-abbrev pub EndRead : List ℕ → ℕ → ℕ → Ring → List Routed → Ending → Type 0
-EndRead s at line ring rs r = EndMeans ring rs (cutFrom ring rs line (lines (drop at s))) r (r .step)
+abbrev pub EndRead : List ℕ → ℕ → ℕ → ℕ → Ring → List Routed → Ending → Type 0
+EndRead s at line q ring rs r = EndMeans ring rs (cutFrom ring rs line q (lines (drop at s))) r (r .step)
 
 -- behind the cut g, h
 abbrev pub WeighedRead : List ℕ → ℕ → ℕ → Ring → List Routed → ℕ → ℕ → ℕ → Ending → Type 0

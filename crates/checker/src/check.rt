@@ -12,7 +12,9 @@ use ring::ROWS;
 use sheet::Figures;
 use table::Reason;
 use table::Verdict;
+use table::byte_at;
 use table::judge_ring;
+use table::ring_fault;
 use text::TwoNumbers;
 ghost use mathlib.Core.Bool.{true};
 ghost use mathlib.Core.Path.{_≡_};
@@ -27,10 +29,10 @@ ghost use Rattle.sheet.specs.Says.{rows};
 ghost use Rattle.checker.specs.Arrays.{checkedIn};
 ghost use Rattle.checker.specs.Parts.{checkedWith};
 
-// How many rows an accepted sheet has; or the reason and the line.
+// How many rows an accepted sheet has; or the reason, the line and the byte of it.
 pub enum Answer {
     Is(usize),
-    Refused(Reason, u32),
+    Refused(Reason, u32, u32),
 }
 
 // The rows stand in the arrays from place 0 on, the loads of link k at place k-1. After a refusal all is zero.
@@ -47,11 +49,11 @@ pub struct Checked {
     pub unsplit: [u32; LINKS],
 }
 
-fn refusal(reason: Reason, line: u32) -> Checked
-    ensures { λ r. ⌜ r ≡ checkedIn (refused reason line) ⌝ }
+fn refusal(reason: Reason, line: u32, byte: u32) -> Checked
+    ensures { λ r. ⌜ r ≡ checkedIn (refused reason line byte) ⌝ }
 {
     Checked {
-        answer: Answer::Refused(reason, line),
+        answer: Answer::Refused(reason, line, byte),
         figures: Figures {
             n: 0,
             fibres: 0,
@@ -101,18 +103,19 @@ fn sheet_of(count: usize, t: Rows, e: Ending) -> Checked
 
 // A sheet of a ring of n nodes and so many fibres, from the place `from` behind its R line on.
 fn check_rows(s: &[u8], from: usize, n: u32, fibres: u32) -> Checked
-    requires { ⌜ (from ≤ length (now s)) × ((desk .fewest ≤ n) × (n ≤ desk .nodes)) ⌝ }
+    requires { ⌜ (from ≤ length (now s)) × (length (now s) ≤ desk .bytes) × ((desk .fewest ≤ n) × (n ≤ desk .nodes)) ⌝ }
     ensures { λ r. ⌜ r ≡ checkedIn (checkFrom desk true (rows (ringOf n fibres) []) 2 (lines (drop from (now (s .entry))))) ⌝ }
 {
     let t = read_rows(s, from, n);
     let end = t.end;
     match end {
-        RowsEnd::Refused(reason, line) => refusal(reason, line),
-        RowsEnd::At(count, at, line) => {
+        RowsEnd::Refused(reason, line, byte) => refusal(reason, line, byte),
+        RowsEnd::At(count, at, line, no_row) => {
             let e = finish(
                 s,
                 at,
                 line,
+                no_row,
                 n,
                 fibres,
                 count,
@@ -124,8 +127,8 @@ fn check_rows(s: &[u8], from: usize, n: u32, fibres: u32) -> Checked
                 &t.way,
             );
             let step = e.step;
-            if let Step::Refused(reason, line) = step {
-                return refusal(reason, line);
+            if let Step::Refused(reason, line, byte) = step {
+                return refusal(reason, line, byte);
             }
             sheet_of(count, t, e)
         }
@@ -136,16 +139,19 @@ pub fn check_sheet(s: &[u8]) -> Checked
     ensures { λ r. ⌜ r ≡ checkedIn (check desk (now (s .entry))) ⌝ }
 {
     if BYTES < s.len() {
-        return refusal(Reason::TooLong, 0);
+        return refusal(Reason::TooLong, 0, 0);
     }
     let end = next_end(s, 0);
     let ring = text::read_ring(&s[0..end]);
-    let TwoNumbers::Are(n, fibres) = ring else {
-        return refusal(Reason::Misshapen, 1);
-    };
-    let verdict = judge_ring(n, fibres);
-    if let Verdict::Fault(reason) = verdict {
-        return refusal(reason, 1);
+    match ring {
+        TwoNumbers::Bad(p) => refusal(Reason::Misshapen, 1, byte_at(p)),
+        TwoNumbers::Are(n, fibres) => {
+            let verdict = judge_ring(n, fibres);
+            if let Verdict::Fault(reason) = verdict {
+                let byte = ring_fault(n, fibres, reason);
+                return refusal(reason, 1, byte);
+            }
+            check_rows(s, end, n, fibres)
+        }
     }
-    check_rows(s, end, n, fibres)
 }

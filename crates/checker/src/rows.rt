@@ -4,6 +4,7 @@ use crate::next::next_end;
 use ring::ROWS;
 use table::Reason;
 use table::Verdict;
+use table::row_fault;
 use text::SentRow;
 ghost use Prim.Native.Nat.{_≤_};
 ghost use lib.ListN.{length};
@@ -12,10 +13,11 @@ ghost use mathlib.Core.Path.{_≡_};
 ghost use Rattle.checker.specs.Parts.{RowsRead};
 ghost use Rattle.checker.specs.declared.rows.RowsEnd.the-variants.{Refused};
 
-// How many rows there are, where the line behind them begins, and its number; or the reason and the line.
+// How many rows there are, where the line behind them begins, its number, and the place of its first byte at which no D line goes on; or the reason, the
+// line and the byte of it.
 pub(crate) enum RowsEnd {
-    At(usize, usize, u32),
-    Refused(Reason, u32),
+    At(usize, usize, u32, usize),
+    Refused(Reason, u32, u32),
 }
 
 pub(crate) struct Rows {
@@ -28,11 +30,11 @@ pub(crate) struct Rows {
     pub way: [u32; ROWS],
 }
 
-fn stopped(reason: Reason, line: u32) -> Rows
-    ensures { λ r. ⌜ r .end ≡ Refused reason line ⌝ }
+fn stopped(reason: Reason, line: u32, byte: u32) -> Rows
+    ensures { λ r. ⌜ r .end ≡ Refused reason line byte ⌝ }
 {
     Rows {
-        end: RowsEnd::Refused(reason, line),
+        end: RowsEnd::Refused(reason, line, byte),
         first: [0u32; ROWS],
         second: [0u32; ROWS],
         amount: [0u32; ROWS],
@@ -62,9 +64,9 @@ pub(crate) fn read_rows(s: &[u8], from: usize, n: u32) -> Rows
         let end = next_end(s, at);
         let row = text::read_sent(&s[at..end]);
         match row {
-            SentRow::Bad(_) => {
+            SentRow::Bad(p) => {
                 return Rows {
-                    end: RowsEnd::At(count, at, line),
+                    end: RowsEnd::At(count, at, line, p),
                     first,
                     second,
                     amount,
@@ -83,7 +85,8 @@ pub(crate) fn read_rows(s: &[u8], from: usize, n: u32) -> Rows
             } => {
                 let verdict = judge_sent(n, count, a, b, i, j, d, f, k, w);
                 if let Verdict::Fault(reason) = verdict {
-                    return stopped(reason, line);
+                    let byte = row_fault(n, i, j, d, reason);
+                    return stopped(reason, line, byte);
                 }
                 first[count] = i;
                 second[count] = j;

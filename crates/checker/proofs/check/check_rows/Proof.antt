@@ -1,5 +1,5 @@
 -- The rows, and what follows them: the answer beside the columns.
-use Rattle.checker.proofs.CheckSteps.{rows-stop, place-within, lines-fit, rows-table, rows-halves, end-stops, sheet-ends}
+use Rattle.checker.proofs.CheckSteps.{rows-stop, place-within, no-row-within, lines-fit, rows-table, rows-halves, end-stops, sheet-ends}
 use borrow.Author.Needs.{needs}
 use Rattle.checker.proofs.check.check_rows.Statement.{statement}
 use Rattle.checker.proofs.check.check_rows.Tie as tie
@@ -17,7 +17,7 @@ enum-known-end-2 : tie.Need-enum-known-end-2
 enum-known-end-2 c = search needs
 
 finish-requires : tie.Need-finish-requires
-finish-requires c κs = ((search place-within, search lines-fit), (search rows-table, search rows-halves))
+finish-requires c κs = ((search place-within, search needs, search no-row-within, search lines-fit), (search rows-table, search rows-halves))
 
 enum-known-step : tie.Need-enum-known-step
 enum-known-step c = search needs
@@ -27,7 +27,7 @@ refusal-requires-2 c κs = search needs
 
 returns : tie.Need-returns
 returns c =
-    end-stops (c .before .before .before .before .before .before .before .before .before .before .before .before .before .before .before .before .before .args .s .now) (c .before .before .before .before .before .before .before .before .before .before .before .before .before .before .before .before .before .args .from) (c .before .before .before .before .before .before .before .before .before .before .before .before .before .before .before .before .before .args .n) _ (c .before .before .before .before .before .before .before .before .before .before .before .before .before .before .before .read-rows .ensures) _ _ _ _ _ (c .before .before .before .before .finish .ensures) (c .before .before .before .before .before .before .before .before .before .before .before .before .before .end2 .given .1) _ _ _ (c .before .before .step .given .1) (c .refusal2 .ensures)
+    end-stops (c .before .before .before .before .before .before .before .before .before .before .before .before .before .before .before .before .before .args .s .now) (c .before .before .before .before .before .before .before .before .before .before .before .before .before .before .before .before .before .args .from) (c .before .before .before .before .before .before .before .before .before .before .before .before .before .before .before .before .before .args .n) _ (c .before .before .before .before .before .before .before .before .before .before .before .before .before .before .before .read-rows .ensures) _ _ _ _ _ _ (c .before .before .before .before .finish .ensures) (c .before .before .before .before .before .before .before .before .before .before .before .before .before .end2 .given .1) _ _ _ _ (c .before .before .step .given .1) (c .refusal2 .ensures)
 
 enum-told : tie.Need-enum-told
 enum-told c = search needs
@@ -40,7 +40,7 @@ returns-2 c = search rows-stop
 
 returns-3 : tie.Need-returns-3
 returns-3 c =
-    let ends = sheet-ends (c .before .before .before .before .before .before .before .before .before .before .before .before .before .before .before .before .args .s .now) (c .before .before .before .before .before .before .before .before .before .before .before .before .before .before .before .before .args .from) (c .before .before .before .before .before .before .before .before .before .before .before .before .before .before .before .before .args .n) _ (c .before .before .before .before .before .before .before .before .before .before .before .before .before .before .read-rows .ensures) _ _ _ (c .before .before .before .before .before .before .before .before .before .before .before .before .end2 .given .1) _ _ (c .before .before .before .finish .ensures) in
+    let ends = sheet-ends (c .before .before .before .before .before .before .before .before .before .before .before .before .before .before .before .before .args .s .now) (c .before .before .before .before .before .before .before .before .before .before .before .before .before .before .before .before .args .from) (c .before .before .before .before .before .before .before .before .before .before .before .before .before .before .before .before .args .n) _ (c .before .before .before .before .before .before .before .before .before .before .before .before .before .before .read-rows .ensures) _ _ _ _ (c .before .before .before .before .before .before .before .before .before .before .before .before .end2 .given .1) _ _ (c .before .before .before .finish .ensures) in
     search ends
 
 pub check-rows-spec : {M : Type 1} → statement M

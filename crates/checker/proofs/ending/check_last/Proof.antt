@@ -1,6 +1,6 @@
 -- The Z line: its shape, its figures, and that nothing is left over.
 use Rattle.checker.proofs.NextLine.{next-place}
-use Rattle.checker.proofs.EndSteps.{no-last, last-fault, left-over, last-done}
+use Rattle.checker.proofs.EndSteps.{last-place, no-last, last-fault, left-over, last-done}
 use borrow.Author.Needs.{needs}
 use Rattle.checker.proofs.ending.check_last.Statement.{statement}
 use Rattle.checker.proofs.ending.check_last.Tie as tie
@@ -23,11 +23,11 @@ read-last-requires c κs = search needs
 enum-known-last : tie.Need-enum-known-last
 enum-known-last c = search needs
 
-enum-told : tie.Need-enum-told
-enum-told c = search needs
+byte-at-requires : tie.Need-byte-at-requires
+byte-at-requires c κs = search last-place
 
-returns : tie.Need-returns
-returns c = search no-last
+enum-known-last-2 : tie.Need-enum-known-last-2
+enum-known-last-2 c = search needs
 
 judge-last-requires : tie.Need-judge-last-requires
 judge-last-requires c κs = search needs
@@ -35,17 +35,20 @@ judge-last-requires c κs = search needs
 enum-known-verdict : tie.Need-enum-known-verdict
 enum-known-verdict c = search needs
 
+returns : tie.Need-returns
+returns c = search last-fault
+
+enum-told : tie.Need-enum-told
+enum-told c = search needs
+
+add-t23 : tie.Need-add-t23
+add-t23 c = search needs
+
 returns-2 : tie.Need-returns-2
-returns-2 c = search last-fault
-
-enum-told-2 : tie.Need-enum-told-2
-enum-told-2 c = search needs
-
-add-t19 : tie.Need-add-t19
-add-t19 c = search needs
+returns-2 c = search left-over
 
 returns-3 : tie.Need-returns-3
-returns-3 c = search left-over
+returns-3 c = search no-last
 
 returns-4 : tie.Need-returns-4
 returns-4 c = search last-done
@@ -60,12 +63,13 @@ check-last-spec =
     part-read-last-end
     read-last-requires
     enum-known-last
-    enum-told
-    returns
+    byte-at-requires
+    enum-known-last-2
     judge-last-requires
     enum-known-verdict
+    returns
+    enum-told
+    add-t23
     returns-2
-    enum-told-2
-    add-t19
     returns-3
     returns-4)

@@ -1,7 +1,7 @@
 -- The L lines: those read so far were the links' own, and checking the rest behind them is checking from the first on (`LinksReading`).
 use Prim.Native.Nat.{_-_}
 use Rattle.checker.proofs.NextLine.{next-place}
-use Rattle.checker.proofs.EndSteps.{LinksReading, links-start, no-link, link-fault, link-read, links-done, line-fits}
+use Rattle.checker.proofs.EndSteps.{LinksReading, links-start, link-place, no-link, link-fault, link-read, links-done, line-fits}
 use borrow.Author.Needs.{needs}
 use Rattle.checker.proofs.ending.check_links.Statement.{statement}
 use Rattle.checker.proofs.ending.check_links.Tie as tie
@@ -36,11 +36,14 @@ read-link-requires c κs = search needs
 enum-known-link : tie.Need-enum-known-link Inv-loop μ-loop
 enum-known-link c = search needs
 
-enum-told : tie.Need-enum-told Inv-loop μ-loop
-enum-told c = search needs
+byte-at-requires : tie.Need-byte-at-requires Inv-loop μ-loop
+byte-at-requires c κs = search link-place
 
 returns : tie.Need-returns Inv-loop μ-loop
 returns c = search no-link
+
+enum-known-link-2 : tie.Need-enum-known-link-2 Inv-loop μ-loop
+enum-known-link-2 c = search needs
 
 add-due : tie.Need-add-due Inv-loop μ-loop
 add-due c = search needs
@@ -69,8 +72,8 @@ enum-known-verdict c = search needs
 returns-2 : tie.Need-returns-2 Inv-loop μ-loop
 returns-2 c = search link-fault
 
-enum-told-2 : tie.Need-enum-told-2 Inv-loop μ-loop
-enum-told-2 c = search needs
+enum-told : tie.Need-enum-told Inv-loop μ-loop
+enum-told c = search needs
 
 add-line : tie.Need-add-line Inv-loop μ-loop
 add-line c = search line-fits
@@ -104,8 +107,9 @@ check-links-spec =
     part-read-link-end
     read-link-requires
     enum-known-link
-    enum-told
+    byte-at-requires
     returns
+    enum-known-link-2
     add-due
     cast-due
     mul-judge-link
@@ -115,7 +119,7 @@ check-links-spec =
     judge-link-requires
     enum-known-verdict
     returns-2
-    enum-told-2
+    enum-told
     add-line
     add-k
     loop-less

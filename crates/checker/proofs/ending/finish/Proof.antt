@@ -1,6 +1,6 @@
 -- The C line, and what follows it.
 use Rattle.checker.proofs.NextLine.{next-place}
-use Rattle.checker.proofs.CheckSteps.{no-cut-line, cut-fault, cut-goes}
+use Rattle.checker.proofs.CheckSteps.{far-place, no-cut-line, cut-fault, cut-goes}
 use borrow.Author.Needs.{needs}
 use Rattle.checker.proofs.ending.finish.Statement.{statement}
 use Rattle.checker.proofs.ending.finish.Tie as tie
@@ -23,14 +23,17 @@ read-cut-requires c κs = search needs
 enum-known-cut : tie.Need-enum-known-cut
 enum-known-cut c = search needs
 
-enum-told : tie.Need-enum-told
-enum-told c = search needs
+later-requires : tie.Need-later-requires
+later-requires c κs = search needs
+
+byte-at-requires : tie.Need-byte-at-requires
+byte-at-requires c κs = search far-place
 
 stopped-requires : tie.Need-stopped-requires
 stopped-requires c κs = search needs
 
-returns : tie.Need-returns
-returns c = search no-cut-line
+enum-known-cut-2 : tie.Need-enum-known-cut-2
+enum-known-cut-2 c = search needs
 
 judge-cut-requires : tie.Need-judge-cut-requires
 judge-cut-requires c κs = search needs
@@ -41,17 +44,20 @@ enum-known-verdict c = search needs
 stopped-requires-2 : tie.Need-stopped-requires-2
 stopped-requires-2 c κs = search needs
 
-returns-2 : tie.Need-returns-2
-returns-2 c = search cut-fault
+returns : tie.Need-returns
+returns c = search cut-fault
 
-enum-told-2 : tie.Need-enum-told-2
-enum-told-2 c = search needs
+enum-told : tie.Need-enum-told
+enum-told c = search needs
 
 add-weighed : tie.Need-add-weighed
 add-weighed c = search needs
 
 weighed-requires : tie.Need-weighed-requires
 weighed-requires c κs = search needs
+
+returns-2 : tie.Need-returns-2
+returns-2 c = search no-cut-line
 
 returns-3 : tie.Need-returns-3
 returns-3 c = search cut-goes
@@ -66,14 +72,16 @@ finish-spec =
     part-read-cut-end
     read-cut-requires
     enum-known-cut
-    enum-told
+    later-requires
+    byte-at-requires
     stopped-requires
-    returns
+    enum-known-cut-2
     judge-cut-requires
     enum-known-verdict
     stopped-requires-2
-    returns-2
-    enum-told-2
+    returns
+    enum-told
     add-weighed
     weighed-requires
+    returns-2
     returns-3)

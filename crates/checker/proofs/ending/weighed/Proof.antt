@@ -25,4 +25,6 @@ returns : tie.Need-returns
 returns c = search weighed-ends
 
 pub weighed-spec : {M : Type 1} → statement M
-weighed-spec = tie.close (tie.spec weigh-requires must-carry-requires size-requires check-tail-requires returns)
+weighed-spec =
+    tie.close
+    (tie.spec weigh-requires must-carry-requires size-requires check-tail-requires returns)

@@ -31,14 +31,14 @@ part-read-sent-end c = search (next-place, needs)
 read-sent-requires : tie.Need-read-sent-requires Inv-loop μ-loop
 read-sent-requires c κs = search needs
 
-enum-told : tie.Need-enum-told Inv-loop μ-loop
-enum-told c = search needs
+enum-known-row : tie.Need-enum-known-row Inv-loop μ-loop
+enum-known-row c = search needs
 
 returns : tie.Need-returns Inv-loop μ-loop
 returns c = search rows-end
 
-enum-known-row : tie.Need-enum-known-row Inv-loop μ-loop
-enum-known-row c = search needs
+enum-known-row-2 : tie.Need-enum-known-row-2 Inv-loop μ-loop
+enum-known-row-2 c = search needs
 
 judge-sent-requires : tie.Need-judge-sent-requires Inv-loop μ-loop
 judge-sent-requires c κs = search needs
@@ -46,14 +46,17 @@ judge-sent-requires c κs = search needs
 enum-known-verdict : tie.Need-enum-known-verdict Inv-loop μ-loop
 enum-known-verdict c = search needs
 
+row-fault-requires : tie.Need-row-fault-requires Inv-loop μ-loop
+row-fault-requires c κs = search needs
+
 stopped-requires : tie.Need-stopped-requires Inv-loop μ-loop
 stopped-requires c κs = search needs
 
 returns-2 : tie.Need-returns-2 Inv-loop μ-loop
 returns-2 c = search row-stops
 
-enum-told-2 : tie.Need-enum-told-2 Inv-loop μ-loop
-enum-told-2 c = search needs
+enum-told : tie.Need-enum-told Inv-loop μ-loop
+enum-told c = search needs
 
 mul-first : tie.Need-mul-first Inv-loop μ-loop
 mul-first c = search needs
@@ -117,14 +120,15 @@ read-rows-spec =
     part-read-sent-start
     part-read-sent-end
     read-sent-requires
-    enum-told
-    returns
     enum-known-row
+    returns
+    enum-known-row-2
     judge-sent-requires
     enum-known-verdict
+    row-fault-requires
     stopped-requires
     returns-2
-    enum-told-2
+    enum-told
     mul-first
     array-write-first
     mul-second
