@@ -6,12 +6,15 @@ use native.Mathlib.Omega.{arith}
 use native.Mathlib.Decide.{decLt, ℕ-discrete}
 use borrow.Author.Tests.{eq-eqb, ne-eqb}
 use Rattle.ring.specs.Row.{PairBefore}
+use Rattle.ring.proofs.Listed.{listed-same}
 use Rattle.table.specs.declared.reason.Reason.{Reason}
 use Rattle.table.specs.declared.reason.Reason.the-variants.{NotZero, NotSymmetric}
 use Rattle.table.specs.declared.judge.Verdict.{Verdict}
 use Rattle.table.specs.declared.judge.Verdict.the-variants.{Fine, Fault}
-use Rattle.matrix.specs.Matrix.{Node}
-use Rattle.matrix.specs.Read.{judgeEntry, orElse, onLine, judgeAcross, judgeDown}
+use Rattle.matrix.specs.Matrix.{entryByte, Node}
+use Rattle.matrix.specs.Read.{judgeEntry, orElse, onLine, judgeAcross, lineOf, judgeDown}
+use Rattle.matrix.specs.declared.byte.Found.{Found}
+use Rattle.matrix.specs.declared.byte.Found.the-variants.{Nothing, At}
 use Rattle.matrix.specs.declared.square.Lines.{Lines}
 use Rattle.matrix.specs.declared.square.Lines.the-variants.{Read, Refused}
 
@@ -48,10 +51,10 @@ module _ (a : ℕ → ℕ → ℕ) where
       mirror-right e z (not-mirror f w) = w z
 
   -- the entries j and on of line i, k of them
-  pub data AcrossJudged (i j k : ℕ) : Verdict → Type 0 where
+  pub data AcrossJudged (i j k : ℕ) : Found → Type 0 where
     across-wrong : {r : Reason} (at : ℕ) → j ≤ at → at < j + k → WrongEntry a i at r → ((x : ℕ) (s : Reason) → j ≤ x → x < at → WrongEntry a i x s → ⊥)
-        → AcrossJudged i j k (Fault r)
-    across-right : ((x : ℕ) (s : Reason) → j ≤ x → x < j + k → WrongEntry a i x s → ⊥) → AcrossJudged i j k Fine
+        → AcrossJudged i j k (At r (at - 1))
+    across-right : ((x : ℕ) (s : Reason) → j ≤ x → x < j + k → WrongEntry a i x s → ⊥) → AcrossJudged i j k Nothing
 
   pub across-judged : (i j k : ℕ) → AcrossJudged i j k (judgeAcross a i j k)
   unfolding judgeAcross orElse
@@ -65,7 +68,7 @@ module _ (a : ℕ → ℕ → ℕ) where
             | no e ↦ later (omega arith) w
           ]
 
-      go : {v w : Verdict} → EntryJudged a i j v → AcrossJudged i (j + 1) k w → AcrossJudged i j (suc k) (orElse v w)
+      go : {v : Verdict} {w : Found} → EntryJudged a i j v → AcrossJudged i (j + 1) k w → AcrossJudged i j (suc k) (orElse v (j - 1) w)
       go (entry-wrong h) rest = across-wrong j (omega arith) (omega arith) h (λ x s l m w. omega arith)
       go (entry-right none) (across-wrong at l m h first) = across-wrong at (omega arith) (omega arith) h (λ x s p q. first-right none x s (λ u. first x s u q) p)
       go (entry-right none) (across-right all) = across-right (λ x s p q. first-right none x s (λ u. all x s u (omega arith)) p)
@@ -79,7 +82,8 @@ module _ (a : ℕ → ℕ → ℕ) where
 
   pub data DownJudged (n i k : ℕ) : Lines → Type 0 where
     down-wrong : {r : Reason} {line : ℕ} (at : ℕ) → i ≤ line → line < i + k → Node n at → WrongEntry a line at r
-        → ((x y : ℕ) (s : Reason) → i ≤ x → Node n y → PairBefore x y line at → WrongEntry a x y s → ⊥) → DownJudged n i k (Refused r line)
+        → ((x y : ℕ) (s : Reason) → i ≤ x → Node n y → PairBefore x y line at → WrongEntry a x y s → ⊥)
+        → DownJudged n i k (Refused r line (entryByte (lineOf a n line) (at - 1)))
     down-right : ((x y : ℕ) (s : Reason) → i ≤ x → x < i + k → Node n y → WrongEntry a x y s → ⊥) → DownJudged n i k Read
 
   pub down-judged : (n i k : ℕ) → DownJudged n i k (judgeDown a n i k)
@@ -96,7 +100,7 @@ module _ (a : ℕ → ℕ → ℕ) where
           let e : x ≡ i = omega arith in
           all y s (m .0) (omega (arith, m .1)) (rw e at w)
 
-      go : {v : Verdict} {w : Lines} → AcrossJudged i 1 n v → DownJudged n (i + 1) k w → DownJudged n i (suc k) (onLine v i w)
+      go : {v : Found} {w : Lines} → AcrossJudged i 1 n v → DownJudged n (i + 1) k w → DownJudged n i (suc k) (onLine v i (entryByte (lineOf a n i)) w)
       go (across-wrong at l m h first) rest =
           down-wrong {line = i} at (omega arith) (omega arith) (l, omega arith) h
           (λ x y s p q b w. let o = on-first p b in first y s (q .0) (o .1) (let e = o .0 in rw e at w))
@@ -124,7 +128,11 @@ module _ (a b : ℕ → ℕ → ℕ) (n : ℕ) (same : (i j : ℕ) → Node n i 
       let q : Node n j = (l, omega arith) in
       rw (same i j h q, same j i q h, across-same i (j + 1) k h (omega arith) (omega arith))
 
+  pub line-same : (i : ℕ) → Node n i → lineOf a n i ≡ lineOf b n i
+  line-same i h = listed-same (a i) (b i) 1 n (λ j p q. same i j h (p, omega arith))
+
   pub down-same : (i k : ℕ) → 1 ≤ i → i + k ≤ n + 1 → judgeDown a n i k ≡ judgeDown b n i k
   unfolding judgeDown
   down-same i zero l m = refl
-  down-same i (suc k) l m = rw (across-same i 1 n (l, omega arith) (omega arith) (omega arith), down-same (i + 1) k (omega arith) (omega arith))
+  down-same i (suc k) l m =
+      rw (across-same i 1 n (l, omega arith) (omega arith) (omega arith), line-same i (l, omega arith), down-same (i + 1) k (omega arith) (omega arith))

@@ -5,7 +5,10 @@ use native.Mathlib.Omega.{arith}
 use Rattle.table.specs.declared.reason.Reason.{Reason}
 use Rattle.table.specs.declared.judge.Verdict.{Verdict}
 use Rattle.table.specs.declared.judge.Verdict.the-variants.{Fine, Fault}
-use Rattle.matrix.specs.Read.{judgeEntry, orElse, onLine, judgeAcross, judgeDown}
+use Rattle.matrix.specs.Matrix.{entryByte}
+use Rattle.matrix.specs.Read.{judgeEntry, orElse, onLine, judgeAcross, lineOf, judgeDown}
+use Rattle.matrix.specs.declared.byte.Found.{Found}
+use Rattle.matrix.specs.declared.byte.Found.the-variants.{Nothing, At}
 use Rattle.matrix.specs.declared.square.Lines.the-variants.{Read, Refused}
 
 module _ (a : ℕ → ℕ → ℕ) (n : ℕ) where
@@ -21,19 +24,19 @@ module _ (a : ℕ → ℕ → ℕ) (n : ℕ) where
 
   module _ (i j : ℕ) (across : Across i j) where
     module _ (l : j ≤ n) (x y : ℕ) (ex : x ≡ a i j) (ey : y ≡ a j i) (v : Verdict) (ev : v ≡ judgeEntry i j x y) where
-      across-next : judgeAcross a i 1 n ≡ orElse v (judgeAcross a i (j + 1) (n + 1 - (j + 1)))
+      across-next : judgeAcross a i 1 n ≡ orElse v (j - 1) (judgeAcross a i (j + 1) (n + 1 - (j + 1)))
       unfolding judgeAcross
       across-next = let e : n + 1 - j ≡ suc (n + 1 - (j + 1)) = omega arith in across .rest ∙ rw (e, ← ex, ← ey, ← ev)
 
-      pub entry-fault : (reason : Reason) → v ≡ Fault reason → Fault reason ≡ judgeAcross a i 1 n
+      pub entry-fault : (reason : Reason) (wide-j : ℕ) → v ≡ Fault reason → wide-j ≡ j → At reason (wide-j - 1) ≡ judgeAcross a i 1 n
       unfolding orElse
-      entry-fault reason f = sym (across-next ∙ rw f)
+      entry-fault reason wide-j f e = sym (across-next ∙ rw (f, e))
 
       pub entry-fine : v ≡ Fine → Across i (j + 1)
       unfolding orElse
       entry-fine f = record { rest = across-next ∙ rw f; low = omega arith; high = omega arith }
 
-    pub across-done : n < j → Fine ≡ judgeAcross a i 1 n
+    pub across-done : n < j → Nothing ≡ judgeAcross a i 1 n
     unfolding judgeAcross
     across-done l = let e : n + 1 - j ≡ 0 = omega arith in sym (across .rest ∙ rw e)
 
@@ -48,16 +51,16 @@ module _ (a : ℕ → ℕ → ℕ) (n : ℕ) where
   down-starts = let e : n + 1 - 1 ≡ n = omega arith in record { rest = rw e; low = omega arith; high = omega arith }
 
   module _ (i : ℕ) (down : Down i) where
-    module _ (l : i ≤ n) (v : Verdict) (ev : v ≡ judgeAcross a i 1 n) where
-      down-next : judgeDown a n 1 n ≡ onLine v i (judgeDown a n (i + 1) (n + 1 - (i + 1)))
+    module _ (l : i ≤ n) (v : Found) (ev : v ≡ judgeAcross a i 1 n) where
+      down-next : judgeDown a n 1 n ≡ onLine v i (entryByte (lineOf a n i)) (judgeDown a n (i + 1) (n + 1 - (i + 1)))
       unfolding judgeDown
       down-next = let e : n + 1 - i ≡ suc (n + 1 - (i + 1)) = omega arith in down .rest ∙ rw (e, ← ev)
 
-      pub line-fault : (reason : Reason) → v ≡ Fault reason → Refused reason i ≡ judgeDown a n 1 n
+      pub line-fault : (reason : Reason) (k byte : ℕ) → v ≡ At reason k → byte ≡ entryByte (lineOf a n i) k → Refused reason i byte ≡ judgeDown a n 1 n
       unfolding onLine
-      line-fault reason f = sym (down-next ∙ rw f)
+      line-fault reason k byte f b = sym (down-next ∙ rw (f, b))
 
-      pub line-fine : v ≡ Fine → Down (i + 1)
+      pub line-fine : v ≡ Nothing → Down (i + 1)
       unfolding onLine
       line-fine f = record { rest = down-next ∙ rw f; low = omega arith; high = omega arith }
 

@@ -11,11 +11,14 @@ pub mod Told
 pub mod Unique
 -- how they are shown
 pub mod LinesText
+pub mod AnyFields
+pub mod BytesGiven
 pub mod Entries
 pub mod SumLaws
 pub mod RowLaws
 -- what the code's steps say
 pub mod LineSteps
+pub mod ByteSteps
 pub mod SquareSteps
 pub mod JudgeSteps
 pub mod RowSteps

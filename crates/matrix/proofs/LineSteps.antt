@@ -20,10 +20,10 @@ use Rattle.text.specs.declared.field.Field.{Field}
 use Rattle.text.specs.declared.field.Field.the-variants.{Is, Bad}
 use Rattle.text.proofs.Lists.{here}
 use Rattle.table.specs.declared.reason.Reason.the-variants.{TooMuch}
-use Rattle.table.specs.declared.judge.Verdict.the-variants.{Fine, Fault}
 use Rattle.table.proofs.Columns.{column-length, column-more}
 use Rattle.matrix.specs.Read.{fieldsIn, judgeAmounts}
 use Rattle.matrix.specs.Arrays.{valuesIn, numbersIn}
+use Rattle.matrix.specs.declared.byte.Found.the-variants.{Nothing, At}
 use Rattle.matrix.specs.declared.line.Numbers.{Numbers}
 use Rattle.matrix.specs.declared.line.Spelling.the-variants.{Good, Bad as BadSpelling}
 
@@ -116,7 +116,7 @@ module _ (s : List ℕ) (n : ℕ) (values : List ℕ) (p t : ℕ) (on : Reading-
 -- ---- amounts: those before t are fine
 
 pub record Judging (n : ℕ) (values : List ℕ) (t : ℕ) : Type 0 where
-  pub rest : judgeAmounts desk (take n values) ≡ judgeAmounts desk (drop t (take n values))
+  pub rest : judgeAmounts desk 0 (take n values) ≡ judgeAmounts desk t (drop t (take n values))
   pub within : t ≤ n
   pub room : n ≤ length values
 
@@ -128,7 +128,7 @@ module _ (n : ℕ) (values : List ℕ) (t : ℕ) (judging : Judging n values t) 
     next-amount : drop t (take n values) ≡ getD values t 0 ∷ drop (t + 1) (take n values)
     next-amount = here (take n values) t (omega (arith, length-take-le n values (judging .room))) ∙ ap (λ v. v ∷ drop (t + 1) (take n values)) (getD-take n values t 0 l)
 
-    pub amount-fault : desk .amount < getD values t 0 → Fault TooMuch ≡ judgeAmounts desk (take n values)
+    pub amount-fault : desk .amount < getD values t 0 → At TooMuch t ≡ judgeAmounts desk 0 (take n values)
     unfolding judgeAmounts
     amount-fault h = sym (judging .rest ∙ rw (next-amount, lt-ltb _ _ h))
 
@@ -136,7 +136,7 @@ module _ (n : ℕ) (values : List ℕ) (t : ℕ) (judging : Judging n values t) 
     unfolding judgeAmounts
     amount-fine h = record { rest = judging .rest ∙ rw (next-amount, le-ltb _ _ h); within = omega arith; room = judging .room }
 
-  pub amounts-judged : n ≤ t → Fine ≡ judgeAmounts desk (take n values)
+  pub amounts-judged : n ≤ t → Nothing ≡ judgeAmounts desk 0 (take n values)
   unfolding judgeAmounts
   amounts-judged l =
       let h : length (take n values) ≤ t = omega (arith, length-take n values) in

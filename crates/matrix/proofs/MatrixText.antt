@@ -32,7 +32,7 @@ use Rattle.matrix.proofs.Entries.{WrongEntry, not-zero, not-mirror, Dow
 
 -- ---- the fields of a line of numbers are its values
 
-fields-behind : (n : ℕ) → n < limit → (l : List ℕ) → fieldsIn (digits n ++ l) ≡ fieldsIn l
+pub fields-behind : (n : ℕ) → n < limit → (l : List ℕ) → fieldsIn (digits n ++ l) ≡ fieldsIn l
 unfolding fieldsIn
 fields-behind =
     by-digits (λ n. (l : List ℕ) → fieldsIn (digits n ++ l) ≡ fieldsIn l)
@@ -70,7 +70,7 @@ fine-amounts (more h hs) = more (h .amounts) (fine-amounts hs)
 
 data MatrixRead (limits : Limits) (t : List ℕ) : Matrix → Type 0 where
   matrix-is : {n : ℕ} {m : List (List ℕ)} → t ≡ writeMatrix m → InRange limits n m → MatrixRead limits t (matrix n m)
-  matrix-refused : {r : Reason} {line : ℕ} → MatrixRead limits t (no-matrix r line)
+  matrix-refused : {r : Reason} {line byte : ℕ} → MatrixRead limits t (no-matrix r line byte)
 
 module _ {limits : Limits} {t : List ℕ} (short : length t ≤ limits .bytes) where
   square-read : {n : ℕ} {ls : List (List ℕ)} {x : Matrix} → limits .fewest ≤ n → n ≤ limits .nodes → t ≡ flatten ls → LinesRead limits n n [] ls x
@@ -111,7 +111,7 @@ module _ {limits : Limits} {t : List ℕ} (short : length t ≤ limits .bytes) w
 
       go : {x : Reading} {v : Verdict} → NumbersRead (fieldsIn l) l x → SizeJudged limits (fieldsIn l) v → MatrixRead limits t (numbersOr x 1 λ vs. unless v 1 next)
       go (are-numbers e k s) judged = ring judged
-      go (no-numbers h) judged = matrix-refused
+      go (no-numbers h fault) judged = matrix-refused
 
 matrix-read : (limits : Limits) (t : List ℕ) → MatrixRead limits t (matrixOf limits t)
 unfolding matrixOf

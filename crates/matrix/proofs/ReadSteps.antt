@@ -19,6 +19,7 @@ use Rattle.text.specs.Bytes.{tab}
 use Rattle.text.specs.ReadLine.{readLine}
 use Rattle.text.specs.Shapes.{numbers}
 use Rattle.text.proofs.Apart.{clash}
+use Rattle.text.proofs.LineLaws.{bad-within}
 use Rattle.table.specs.Lines.{lines}
 use Rattle.table.specs.LineEnds.{LineEnds}
 use Rattle.table.specs.Judge.{judgeSize}
@@ -122,18 +123,19 @@ module _ (s : List ℕ) (n fibres : ℕ) (few : n ≤ desk .nodes) where
   result = tableIn (tableFrom fibres (squareJudged whole))
 
   module _ (x : Square) where
-    refused-case : (y : Matrix) → x ≡ squareIn y → (reason : Reason) (line : ℕ) → x .lines ≡ Refused reason line → y ≡ no-matrix reason line
+    refused-case : (y : Matrix) → x ≡ squareIn y → (reason : Reason) (line byte : ℕ) → x .lines ≡ Refused reason line byte → y ≡ no-matrix reason line byte
     unfolding squareIn
-    refused-case (matrix k m) e reason line f = clash (let g : Refused reason line ≡ Read = sym f ∙ ap (λ (z : Square). z .lines) e in cc)
-    refused-case (no-matrix why at) e reason line f =
-        let g : Refused reason line ≡ Refused why at = sym f ∙ ap (λ (z : Square). z .lines) e in
+    refused-case (matrix k m) e reason line byte f = clash (let g : Refused reason line byte ≡ Read = sym f ∙ ap (λ (z : Square). z .lines) e in cc)
+    refused-case (no-matrix why at on) e reason line byte f =
+        let g : Refused reason line byte ≡ Refused why at on = sym f ∙ ap (λ (z : Square). z .lines) e in
         let p : why ≡ reason = cc in
         let q : at ≡ line = cc in
-        rw (p, q)
+        let b : on ≡ byte = cc in
+        rw (p, q, b)
 
     holds-case : (y : Matrix) → whole ≡ y → x ≡ squareIn y → x .lines ≡ Read → Holds s n (x .entries)
     unfolding squareIn
-    holds-case (no-matrix why at) w e f = clash (let g : Read ≡ Refused why at = sym f ∙ ap (λ (z : Square). z .lines) e in cc)
+    holds-case (no-matrix why at on) w e f = clash (let g : Read ≡ Refused why at on = sym f ∙ ap (λ (z : Square). z .lines) e in cc)
     holds-case (matrix k m) w e f = go k w (subst (LinesRead desk n n [] (lines s)) w (lines-read (lines s) 1 n []))
       where
         go : (k : ℕ) → whole ≡ matrix k m → LinesRead desk n n [] (lines s) (matrix k m) → Holds s n (x .entries)
@@ -149,9 +151,9 @@ module _ (s : List ℕ) (n fibres : ℕ) (few : n ≤ desk .nodes) where
       ex : x ≡ squareIn whole
       ex = rw en at given
 
-      pub lines-refused : (reason : Reason) (line : ℕ) (t : Table) → x .lines ≡ Refused reason line → t ≡ tableIn (refused reason line) → t ≡ result
+      pub lines-refused : (reason : Reason) (line byte : ℕ) (t : Table) → x .lines ≡ Refused reason line byte → t ≡ tableIn (refused reason line byte) → t ≡ result
       unfolding squareJudged tableFrom
-      lines-refused reason line t f e = e ∙ ap tableIn (sym (rw (refused-case whole ex reason line f)))
+      lines-refused reason line byte t f e = e ∙ ap tableIn (sym (rw (refused-case whole ex reason line byte f)))
 
       module _ (f : x .lines ≡ Read) (found : Lines) (ef : found ≡ judgeDown (at (x .entries)) n 1 n) where
         abbrev holds : Holds s n (x .entries)
@@ -160,9 +162,9 @@ module _ (s : List ℕ) (n fibres : ℕ) (few : n ≤ desk .nodes) where
         judged : judgeDown (entry (holds .m)) n 1 n ≡ found
         judged = sym (ef ∙ down-same (at (x .entries)) (entry (holds .m)) n (holds .same) 1 n (omega arith) (omega arith))
 
-        pub square-refused : (reason : Reason) (line : ℕ) (t : Table) → found ≡ Refused reason line → t ≡ tableIn (refused reason line) → t ≡ result
+        pub square-refused : (reason : Reason) (line byte : ℕ) (t : Table) → found ≡ Refused reason line byte → t ≡ tableIn (refused reason line byte) → t ≡ result
         unfolding squareJudged tableFrom
-        square-refused reason line t g e = e ∙ ap tableIn (sym (rw (holds .is, judged, g)))
+        square-refused reason line byte t g e = e ∙ ap tableIn (sym (rw (holds .is, judged, g)))
 
         pub rows-made : (t : Table) → found ≡ Read → t ≡ tableIn (accepted (ringOf n fibres) (rowsBy n (at (x .entries)))) → t ≡ result
         unfolding squareJudged tableFrom
@@ -178,7 +180,7 @@ fields-small (b ∷ l) = omega (arith, fields-small l, cond-elim (λ x. x ≤ 1)
 pub fields-fit : (s : List ℕ) (end count : ℕ) → length s ≤ desk .bytes → end ≤ length s → count ≡ fieldsIn (take (end - 0) (drop 0 s)) → Fits w32 count
 fields-fit s end count short h e = omega (arith, fields-small (take (end - 0) (drop 0 s)), length-take (end - 0) (drop 0 s))
 
-nothing : (s : List ℕ) (fibres : ℕ) → length s ≤ 0 → refused Misshapen 1 ≡ tableFrom fibres (matrixOf desk s)
+nothing : (s : List ℕ) (fibres : ℕ) → length s ≤ 0 → refused Misshapen 1 1 ≡ tableFrom fibres (matrixOf desk s)
 unfolding matrixOf lines tableFrom
 nothing [] fibres h = refl
 nothing (b ∷ s) fibres h = absurd (omega arith)
@@ -189,15 +191,22 @@ ring-few n v e f = let q = sym e ∙ f in go (rw q at (size-judged desk n))
     go : SizeJudged desk n Fine → n ≤ desk .nodes
     go (right-size few many) = many
 
+-- the first line's faulty byte is within the text
+pub first-place : (s : List ℕ) (end : ℕ) → length s ≤ desk .bytes → LineEnds s 0 end → (count : ℕ) (x : Numbers) → x ≡ numbersIn (readLine (numbers count) (take (end - 0) (drop 0 s)))
+    → (p : ℕ) → x .spelling ≡ BadSpelling p → p ≤ desk .bytes
+first-place s end short ends count x ex p f =
+    let first : List ℕ = take (end - 0) (drop 0 s) in
+    omega (arith, bad-within (numbers count) first p (told-bad first count x ex p f), length-take (end - 0) (drop 0 s), ends .within)
+
 module _ (s : List ℕ) (fibres : ℕ) (t : Table) where
   abbrev matrixResult : Table
   matrixResult = tableIn (tableFrom fibres (matrixOf desk s))
 
-  pub too-long : desk .bytes < length s → t ≡ tableIn (refused TooLong 0) → t ≡ matrixResult
+  pub too-long : desk .bytes < length s → t ≡ tableIn (refused TooLong 0 0) → t ≡ matrixResult
   unfolding matrixOf tableFrom
   too-long h e = e ∙ ap tableIn (rw (lt-ltb _ _ h))
 
-  pub no-line : length s ≤ 0 → t ≡ tableIn (refused Misshapen 1) → t ≡ matrixResult
+  pub no-line : length s ≤ 0 → t ≡ tableIn (refused Misshapen 1 1) → t ≡ matrixResult
   no-line h e = e ∙ ap tableIn (nothing s fibres h)
 
   module _ (short : length s ≤ desk .bytes) (there : 0 < length s) (end : ℕ) (ends : LineEnds s 0 end) where
@@ -208,15 +217,15 @@ module _ (s : List ℕ) (fibres : ℕ) (t : Table) where
     first-line = line-at s 0 end there ends
 
     module _ (count : ℕ) (ec : count ≡ fieldsIn first) (x : Numbers) (ex : x ≡ numbersIn (readLine (numbers count) first)) where
-      pub first-misshapen : (p : ℕ) → x .spelling ≡ BadSpelling p → t ≡ tableIn (refused Misshapen 1) → t ≡ matrixResult
+      pub first-misshapen : (p byte : ℕ) → x .spelling ≡ BadSpelling p → byte ≡ p + 1 → t ≡ tableIn (refused Misshapen 1 byte) → t ≡ matrixResult
       unfolding matrixOf tableFrom
-      first-misshapen p f e = e ∙ ap tableIn (sym (rw (le-ltb (desk .bytes) (length s) short, first-line, ← ec, told-bad first count x ex p f)))
+      first-misshapen p byte f b e = e ∙ ap tableIn (sym (rw (le-ltb (desk .bytes) (length s) short, first-line, ← ec, told-bad first count x ex p f, b)))
 
       module _ (f : x .spelling ≡ Good) (n : ℕ) (en : n ≡ count) (v : Verdict) (ev : v ≡ judgeSize desk n) where
         abbrev told : ToldGood (readLine (numbers count) first) count (x .values)
         told = told-good first count x ex f
 
-        pub ring-fault : (reason : Reason) → v ≡ Fault reason → t ≡ tableIn (refused reason 1) → t ≡ matrixResult
+        pub ring-fault : (reason : Reason) → v ≡ Fault reason → t ≡ tableIn (refused reason 1 1) → t ≡ matrixResult
         unfolding matrixOf tableFrom
         ring-fault reason g e = e ∙ ap tableIn (sym (rw (le-ltb (desk .bytes) (length s) short, first-line, ← ec, told .is, ← en, ← ev, g)))
 

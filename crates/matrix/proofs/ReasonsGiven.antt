@@ -13,8 +13,9 @@ use Rattle.ring.specs.Limits.{Limits}
 use Rattle.ring.specs.Lists.{Each, none, more, Some, here, there}
 use Rattle.ring.specs.Row.{PairBefore}
 use Rattle.ring.proofs.Side.{cond-elim}
-use Rattle.text.specs.ReadLine.{Reading, good, readLine}
+use Rattle.text.specs.ReadLine.{Reading}
 use Rattle.text.specs.Shapes.{numbers, numbersLine}
+use Rattle.text.specs.FirstFault.{FirstFault}
 use Rattle.table.specs.Lines.{lines}
 use Rattle.table.specs.Reasons.{rankOf}
 use Rattle.table.specs.Says.{LineIs, at-first, behind}
@@ -24,14 +25,18 @@ use Rattle.table.specs.declared.judge.Verdict.{Verdict}
 use Rattle.table.proofs.Judged.{SizeJudged, not-so-many, right-size, size-judged}
 use Rattle.table.proofs.LineNumbers.{line-one, LinesFrom, from-first, from-next, line-here, no-line-left}
 use Rattle.table.proofs.ReasonNumbers.{same-rank, no-rank-0}
-use Rattle.matrix.specs.Matrix.{entry, Node}
-use Rattle.matrix.specs.Read.{Matrix, matrix, no-matrix, fieldsIn, numbersOr, unless, linesOf, afterSquare, squareJudged, matrixLines, matrixOf, judgeAmounts}
-use Rattle.matrix.specs.Says.{NumbersAre, EntryIs, NoFirstLine, NoLaterLine, LeftOver, WrongSize, WrongAmount, WrongEntry, not-zero, not-mirror, FirstFaulty, Says, stage, Earlier, Given, Accepted}
+use Rattle.matrix.specs.Matrix.{entry, entryByte, Node}
+use Rattle.matrix.specs.Read.{Matrix, matrix, no-matrix, fieldsIn, numbersOr, unless, unlessAt, linesOf, lineOf, afterSquare, squareJudged, matrixLines, matrixOf, judgeAmounts}
+use Rattle.matrix.specs.Says.{NumbersAre, EntryIs, NoFirstLine, NoLaterLine, LeftOver, WrongSize, WrongAmount, WrongEntry, not-zero, not-mirror, FirstFaulty, Says, DueByte, line-missing, line-faulty, LineByte, first-due, later-due, none-due, EntryStarts, FaultyByte, ByteIs, stage, Earlier, Given, Accepted}
 use Rattle.matrix.specs.Back.{Reads}
+use Rattle.matrix.specs.declared.byte.Found.{Found}
 use Rattle.matrix.specs.declared.square.Lines.{Lines}
-use Rattle.matrix.proofs.LinesText.{NumbersRead, are-numbers, no-numbers, numbers-read, numbers-line-read, AmountsJudged, amount-over, amounts-within, amounts-judged}
+use Rattle.matrix.proofs.LinesText.{NumbersRead, are-numbers, no-numbers, numbers-read, FirstOver, AmountsJudged, amount-over, amounts-within, amounts-judged}
 use Rattle.matrix.proofs.MatrixText.{fields-are}
 use Rattle.matrix.proofs.Entries.{WrongEntry as Wrong, not-zero as zero-wrong, not-mirror as mirror-wrong, DownJudged, down-wrong, down-right, down-judged}
+use Rattle.matrix.proofs.RoundTrip.{from-one}
+use Rattle.matrix.proofs.AnyFields.{lines-ended, line-ended, fields-some, any-fault}
+use Rattle.matrix.proofs.BytesGiven.{numbers-one, amount-byte, one-byte}
 
 -- ---- what is said of a line, as one view
 
@@ -79,19 +84,11 @@ line-low : {ls : List (List ℕ)} {line : ℕ} {l : List ℕ} → LineIs ls line
 line-low at-first = omega arith
 line-low (behind p) = omega arith
 
--- a line has one reading
-pub numbers-one : {t : List ℕ} {line other : ℕ} {vs us : List ℕ} → NumbersAre t line vs → NumbersAre t other us → line ≡ other → vs ≡ us
-numbers-one {vs = vs} {us = us} p q e =
-    let same : numbersLine vs ≡ numbersLine us = line-one (p .text) (q .text) e in
-    let k : length vs ≡ length us = sym (fields-are vs (p .some) (p .spelled)) ∙ ap fieldsIn same ∙ fields-are us (q .some) (q .spelled) in
-    let r : good vs ≡ good us = sym (numbers-line-read (length us) vs k (p .spelled)) ∙ ap (readLine (numbers (length us))) same ∙ numbers-line-read (length us) us refl (q .spelled) in
-    cc
-
 -- ---- a result that is right by what the reasons say
 
 data Right (limits : Limits) (t : List ℕ) : Matrix → Type 0 where
   none-holds : {n : ℕ} {m : List (List ℕ)} → Accepted limits t → Right limits t (matrix n m)
-  first-holds : {r : Reason} {line : ℕ} → Given limits t r line → Right limits t (no-matrix r line)
+  first-holds : {r : Reason} {line byte : ℕ} → Given limits t r line byte → Right limits t (no-matrix r line byte)
 
 -- nothing is said of the lines before this one
 record Clean (limits : Limits) (t : List ℕ) (line : ℕ) : Type 0 where
@@ -99,8 +96,9 @@ record Clean (limits : Limits) (t : List ℕ) (line : ℕ) : Type 0 where
 
 module _ {limits : Limits} {t : List ℕ} where
   -- a reason of a line is given where nothing is said of the lines before, and nothing of a lower rank of it
-  given-here : {line : ℕ} (r : Reason) → stage r ≡ 0 → Clean limits t line → Says limits t r line → ((s : Reason) → rankOf s < rankOf r → Said limits t line s → ⊥) → Given limits t r line
-  given-here {line} r z clean holds least = record { holds = holds; first = λ s other e h. go s other e (told s h) }
+  given-here : {line byte : ℕ} (r : Reason) → stage r ≡ 0 → Clean limits t line → Says limits t r line → ((s : Reason) → rankOf s < rankOf r → Said limits t line s → ⊥)
+      → ByteIs limits t r line byte → Given limits t r line byte
+  given-here {line} r z clean holds least b = record { holds = holds; first = λ s other e h. go s other e (told s h); byte-is = b }
     where
       go : (s : Reason) (other : ℕ) → Earlier s other r line → Told limits t other s → ⊥
       go s other (inl l) h = omega arith
@@ -137,8 +135,9 @@ module _ {limits : Limits} {t : List ℕ} where
   below-two low l (wrong-n h) = omega arith
   below-two low l (wrong-amount h) = omega arith
 
-  misshapen-here : {line : ℕ} → 1 ≤ line → Clean limits t line → Says limits t Misshapen line → Given limits t Misshapen line
-  misshapen-here low clean h = given-here Misshapen refl clean h (λ s l k. below-two low l k)
+  misshapen-here : {line byte : ℕ} → 1 ≤ line → Clean limits t line → Says limits t Misshapen line → LineByte t line byte → Given limits t Misshapen line byte
+  unfolding ByteIs
+  misshapen-here low clean h b = given-here Misshapen refl clean h (λ s l k. below-two low l k) b
 
 some-each : {A : Type 0} {P : A → Type 0} {l : List A} → Some P l → Each (λ a. P a → ⊥) l → ⊥
 some-each (here p) (more q qs) = q p
@@ -276,6 +275,18 @@ module _ (limits : Limits) (t : List ℕ) (us : List ℕ) (first : NumbersAre t 
       faulty-says (zero-wrong e w) h = (refl, h)
       faulty-says (mirror-wrong e w) h = (refl, h)
 
+      faulty-byte : {i j byte : ℕ} {r : Reason} → Wrong (entry m) i j r → FaultyByte t r i byte → ByteIs limits t r i byte
+      unfolding ByteIs
+      faulty-byte (zero-wrong e w) h = h
+      faulty-byte (mirror-wrong e w) h = h
+
+      starts-at : (i j : ℕ) → Node n i → EntryStarts t i j (entryByte (lineOf (entry m) n i) (j - 1))
+      starts-at i j p =
+          let high : i ≤ length m = omega (arith, p .1) in
+          let e : length (getD m (i - 1) []) ≡ n = held .wide i (p .0) high in
+          let k : lineOf (entry m) n i ≡ getD m (i - 1) [] = rw e at (from-one 0 (getD m (i - 1) [])) in
+          record { vs = getD m (i - 1) []; is = held .at i (p .0) high; at = ap (λ vs. entryByte vs (j - 1)) k }
+
       square-right : {z : Lines} → DownJudged (entry m) n 1 n z → Right limits t (afterSquare z (matrix n m))
       unfolding afterSquare
       square-right (down-right all) = none-holds (λ r other h. go (told r h))
@@ -284,7 +295,7 @@ module _ (limits : Limits) (t : List ℕ) (us : List ℕ) (first : NumbersAre t 
           go (of-line z h) = no-line h
           go {r} {other} (of-square z h) = let w = wrong-in (h .wrong) in all other (h .j) r (w .0 .0) (omega (arith, w .0 .1)) (w .1) (w .2)
       square-right (down-wrong {r} {line = i} j low high q wrong before) =
-          first-holds (record { holds = says .1; first = λ s other e h. go s other e (told s h) })
+          first-holds (record { holds = says .1; first = λ s other e h. go s other e (told s h); byte-is = faulty-byte wrong (record { faulty = found; starts = starts-at i j p }) })
         where
           p : Node n i
           p = (low, omega arith)
@@ -292,8 +303,11 @@ module _ (limits : Limits) (t : List ℕ) (us : List ℕ) (first : NumbersAre t 
           none-before : (x y : ℕ) (s : Reason) → PairBefore x y i j → WrongEntry t x y s → ⊥
           none-before x y s b w = let u = wrong-in w in before x y s (u .0 .0) (u .1) b (u .2)
 
+          found : FirstFaulty t r i
+          found = record { j = j; wrong = wrong-of p q wrong; first = none-before }
+
           says : (stage r ≡ 1) × Says limits t r i
-          says = faulty-says wrong (record { j = j; wrong = wrong-of p q wrong; first = none-before })
+          says = faulty-says wrong found
 
           same-line : (s : Reason) → rankOf s < rankOf r → FirstFaulty t s i → ⊥
           same-line s l h =
@@ -326,65 +340,76 @@ module _ (limits : Limits) (t : List ℕ) (us : List ℕ) (first : NumbersAre t 
     no-line-here (is-later {before} {l} stands next) low due out =
         inr (inl (record { us = us; first = first; before = before; next = next; l = l; there = stands; due = due; none = out }))
 
+    no-line-byte : {line byte : ℕ} → Prev line → line ≤ n → ((vs : List ℕ) → length vs ≡ n → NumbersAre t line vs → ⊥) → DueByte t line (FirstFault (numbers n)) byte
+        → LineByte t line byte
+    no-line-byte (is-first e) due out b = absurd (out us refl (subst (λ x. NumbersAre t x us) (sym e) first))
+    no-line-byte (is-later stands next) due out b = later-due (omega (arith, line-low stands)) first due b
+
+    -- a line that is due is missing, or is not n numbers
+    not-numbers : {line byte : ℕ} → Prev line → 1 ≤ line → line ≤ n → Clean limits t line → ((vs : List ℕ) → length vs ≡ n → NumbersAre t line vs → ⊥)
+        → DueByte t line (FirstFault (numbers n)) byte → Right limits t (no-matrix Misshapen line byte)
+    not-numbers prev low due clean out b = first-holds (misshapen-here low clean (no-line-here prev low due out) (no-line-byte prev due out b))
+
     left-over-here : {line : ℕ} {l : List ℕ} → LineIs (lines t) line l → n < line → Says limits t Misshapen line
     unfolding Says
     left-over-here {l = l} is over = inr (inr (record { us = us; first = first; l = l; is = is; wrong = over }))
 
-    amount-says : {line : ℕ} {vs : List ℕ} → NumbersAre t line vs → Some (λ v. limits .amount < v) vs → Says limits t TooMuch line
-    unfolding Says
-    amount-says {vs = vs} is over = record { vs = vs; is = is; wrong = over }
+    amount-given : {line : ℕ} {vs : List ℕ} (x : ℕ) → 1 ≤ line → line ≤ n → Clean limits t line → NumbersAre t line vs → length vs ≡ n → FirstOver limits vs x
+        → Given limits t TooMuch line (entryByte vs x)
+    unfolding Says ByteIs
+    amount-given {line} {vs} x low due clean is wide f =
+        given-here TooMuch refl clean (record { vs = vs; is = is; wrong = f .some }) (amount-first line low due vs is wide) (amount-byte x is f)
 
     lines-right : (ls : List (List ℕ)) (line left : ℕ) (m : List (List ℕ)) → 1 ≤ line → line + left ≡ n + 1 → LinesFrom (lines t) line ls → Prev line → Clean limits t line
         → Held m line → Right limits t (squareJudged (linesOf limits n line left m ls))
-    unfolding linesOf numbersOr unless squareJudged
+    unfolding linesOf numbersOr unlessAt squareJudged
     lines-right [] line zero m low due from prev clean held =
         square-right m line held (omega (arith, held .count)) clean from (down-judged (entry m) n 1 n)
     lines-right (l ∷ ls) line zero m low due from prev clean held =
-        first-holds (misshapen-here low clean (left-over-here (line-here from) (omega arith)))
+        first-holds (misshapen-here low clean (left-over-here (line-here from) (omega arith)) (none-due first (omega arith) refl))
     lines-right [] line (suc left) m low due from prev clean held =
-        first-holds (misshapen-here low clean (no-line-here prev low (omega arith) (λ vs k is. omega (arith, no-line-left from (is .text)))))
+        not-numbers prev low (omega arith) clean (λ vs k is. omega (arith, no-line-left from (is .text))) (line-missing (λ l is. omega (arith, no-line-left from is)))
     lines-right (l ∷ ls) line (suc left) m low due from prev clean held =
         go (numbers-read n l) (λ vs clean held. lines-right ls (line + 1) left (m ++ vs ∷ []) (omega arith) (omega arith) (from-next from) (is-later (line-here from) refl) clean held)
       where
         next : List ℕ → Matrix
         next vs = linesOf limits n (line + 1) left (m ++ vs ∷ []) ls
 
-        amounts : {vs : List ℕ} {v : Verdict} → NumbersAre t line vs → length vs ≡ n → AmountsJudged limits vs v
+        amounts : {vs : List ℕ} {v : Found} → NumbersAre t line vs → length vs ≡ n → AmountsJudged limits 0 vs v
             → ((vs : List ℕ) → Clean limits t (line + 1) → Held (m ++ vs ∷ []) (line + 1) → Right limits t (squareJudged (next vs)))
-            → Right limits t (squareJudged (unless v line (next vs)))
-        amounts {vs} is wide (amount-over over) rest =
-            first-holds (given-here TooMuch refl clean (amount-says is over) (amount-first line low (omega arith) vs is wide))
+            → Right limits t (squareJudged (unlessAt v line (entryByte vs) (next vs)))
+        amounts {vs} is wide (amount-over {at} x e f) rest =
+            let k : x ≡ at = omega arith in
+            first-holds (subst (λ y. Given limits t TooMuch line (entryByte vs y)) k (amount-given x low (omega arith) clean is wide f))
         amounts {vs} is wide (amounts-within within) rest =
             rest vs (clean-next clean (line-fine line low (omega arith) vs is wide within)) (held-next m line vs held is wide)
 
         go : {x : Reading} → NumbersRead n l x
             → ((vs : List ℕ) → Clean limits t (line + 1) → Held (m ++ vs ∷ []) (line + 1) → Right limits t (squareJudged (next vs)))
-            → Right limits t (squareJudged (numbersOr x line λ vs. unless (judgeAmounts limits vs) line (next vs)))
+            → Right limits t (squareJudged (numbersOr x line λ vs. unlessAt (judgeAmounts limits 0 vs) line (entryByte vs) (next vs)))
         go (are-numbers {vs} e wide spelled) rest =
             let is : NumbersAre t line vs = record { text = subst (LineIs (lines t) line) e (line-here from); some = omega (arith, first .some); spelled = spelled } in
-            amounts is wide (amounts-judged limits vs) rest
-        go (no-numbers out) rest =
-            first-holds (misshapen-here low clean (no-line-here prev low (omega arith) (λ vs k is. out vs (line-one (line-here from) (is .text) refl) k (is .spelled))))
+            amounts is wide (amounts-judged limits 0 vs) rest
+        go (no-numbers out fault) rest =
+            not-numbers prev low (omega arith) clean (λ vs k is. out vs (line-one (line-here from) (is .text) refl) k (is .spelled)) (line-faulty (line-here from) fault)
 
 -- ---- the whole
-
-fields-some : (l : List ℕ) → 1 ≤ fieldsIn l
-unfolding fieldsIn
-fields-some [] = omega arith
-fields-some (b ∷ l) = omega (arith, fields-some l)
 
 module _ (limits : Limits) (t : List ℕ) where
   first-says : ((vs : List ℕ) → NumbersAre t 1 vs → ⊥) → Says limits t Misshapen 1
   unfolding Says
   first-says out = inl (record { at = refl; none = out })
 
-  size-says : {us : List ℕ} → NumbersAre t 1 us → (length us < limits .fewest) ⊎ (limits .nodes < length us) → Says limits t RingSize 1
-  unfolding Says
-  size-says {us} first w = record { at = refl; us = us; first = first; wrong = w }
+  size-given : {us : List ℕ} → length t ≤ limits .bytes → NumbersAre t 1 us → (length us < limits .fewest) ⊎ (limits .nodes < length us) → Given limits t RingSize 1 1
+  unfolding Says ByteIs
+  size-given {us} short first w =
+      given-here RingSize refl (clean-start short) (record { at = refl; us = us; first = first; wrong = w }) (λ s l h. size-first limits t us first l h) refl
 
   all-right : length t ≤ limits .bytes → (ls : List (List ℕ)) → LinesFrom (lines t) 1 ls → Right limits t (matrixLines limits ls)
   unfolding matrixLines numbersOr unless squareJudged
-  all-right short [] from = first-holds (misshapen-here (omega arith) (clean-start short) (first-says (λ vs is. omega (arith, no-line-left from (is .text)))))
+  all-right short [] from =
+      first-holds (misshapen-here (omega arith) (clean-start short) (first-says (λ vs is. omega (arith, no-line-left from (is .text))))
+      (first-due refl (line-missing (λ l is. omega (arith, no-line-left from is)))))
   all-right short (l ∷ ls) from = go (numbers-read (fieldsIn l) l) (size-judged limits (fieldsIn l))
     where
       next : Matrix
@@ -392,7 +417,7 @@ module _ (limits : Limits) (t : List ℕ) where
 
       ring : (us : List ℕ) {v : Verdict} → NumbersAre t 1 us → length us ≡ fieldsIn l → SizeJudged limits (fieldsIn l) v → Right limits t (unless v 1 next)
       ring us first k (not-so-many w) =
-          first-holds (given-here RingSize refl (clean-start short) (size-says first (subst (λ x. (x < limits .fewest) ⊎ (limits .nodes < x)) (sym k) w)) (λ s l h. size-first limits t us first l h))
+          first-holds (size-given short first (subst (λ x. (x < limits .fewest) ⊎ (limits .nodes < x)) (sym k) w))
       ring us first k (right-size few many) =
           subst (λ x. Right limits t (squareJudged (linesOf limits x 1 x [] (l ∷ ls)))) k
           (lines-right limits t us first (omega arith) (omega arith) (l ∷ ls) 1 (length us) [] (omega arith) (omega arith) from (is-first refl) (clean-start short)
@@ -401,14 +426,15 @@ module _ (limits : Limits) (t : List ℕ) where
       go : {x : Reading} {v : Verdict} → NumbersRead (fieldsIn l) l x → SizeJudged limits (fieldsIn l) v → Right limits t (numbersOr x 1 λ vs. unless v 1 next)
       go (are-numbers {vs = us} e k s) judged =
           ring us (record { text = subst (LineIs (lines t) 1) e (line-here from); some = omega (arith, fields-some l); spelled = s }) k judged
-      go (no-numbers out) judged =
+      go (no-numbers {p} out fault) judged =
           first-holds (misshapen-here (omega arith) (clean-start short) (first-says (λ vs is.
           let e : l ≡ numbersLine vs = line-one (line-here from) (is .text) refl in
-          out vs e (sym (ap fieldsIn e ∙ fields-are vs (is .some) (is .spelled))) (is .spelled))))
+          out vs e (sym (ap fieldsIn e ∙ fields-are vs (is .some) (is .spelled))) (is .spelled)))
+          (first-due refl (line-faulty (line-here from) (any-fault l p (line-ended (lines-ended t) (line-here from)) fault))))
 
-  too-long-given : limits .bytes < length t → Given limits t TooLong 0
-  unfolding Says
-  too-long-given long = record { holds = (refl, long); first = λ s other e h. go s other e }
+  too-long-given : limits .bytes < length t → Given limits t TooLong 0 0
+  unfolding Says ByteIs
+  too-long-given long = record { holds = (refl, long); first = λ s other e h. go s other e; byte-is = refl }
     where
       go : (s : Reason) (other : ℕ) → Earlier s other TooLong 0 → ⊥
       go s other (inl l) = omega arith
@@ -423,9 +449,9 @@ right limits t =
 
 -- ---- the laws
 
--- a text has one first reason
-pub one-given : {limits : Limits} {t : List ℕ} {r s : Reason} {line other : ℕ} → Given limits t r line → Given limits t s other → (r ≡ s) × (line ≡ other)
-one-given {r = r} {s} {line} {other} f g =
+-- a text has one first reason, with one byte
+pub one-given : {limits : Limits} {t : List ℕ} {r s : Reason} {line other byte on : ℕ} → Given limits t r line byte → Given limits t s other on → (r ≡ s) × (line ≡ other) × (byte ≡ on)
+one-given {limits} {t} {r} {s} {line} {other} {byte} {on} f g =
     let x : stage r < stage s → ⊥ = λ l. g .first r line (inl l) (f .holds) in
     let y : stage s < stage r → ⊥ = λ l. f .first s other (inl l) (g .holds) in
     let z : stage r ≡ stage s = omega arith in
@@ -434,17 +460,18 @@ one-given {r = r} {s} {line} {other} f g =
     let e : line ≡ other = omega arith in
     let c : rankOf r < rankOf s → ⊥ = λ l. g .first r line (inr (z, inr (e, l))) (f .holds) in
     let d : rankOf s < rankOf r → ⊥ = λ l. f .first s other (inr (sym z, inr (sym e, l))) (g .holds) in
-    (same-rank r s (omega arith), e)
+    let k : r ≡ s = same-rank r s (omega arith) in
+    (k, e, one-byte limits t other byte on s (rw (k, e) at (f .byte-is)) (g .byte-is))
 
-pub given : (limits : Limits) (t : List ℕ) (r : Reason) (line : ℕ) → (matrixOf limits t ≡ no-matrix r line) ↔ Given limits t r line
-given limits t r line = (λ e. there (subst (Right limits t) e (right limits t)), λ g. back g (right limits t))
+pub given : (limits : Limits) (t : List ℕ) (r : Reason) (line byte : ℕ) → (matrixOf limits t ≡ no-matrix r line byte) ↔ Given limits t r line byte
+given limits t r line byte = (λ e. there (subst (Right limits t) e (right limits t)), λ g. back g (right limits t))
   where
-    there : Right limits t (no-matrix r line) → Given limits t r line
+    there : Right limits t (no-matrix r line byte) → Given limits t r line byte
     there (first-holds g) = g
 
-    back : Given limits t r line → {x : Matrix} → Right limits t x → x ≡ no-matrix r line
+    back : Given limits t r line byte → {x : Matrix} → Right limits t x → x ≡ no-matrix r line byte
     back g (none-holds out) = absurd (out r line (g .holds))
-    back g (first-holds f) = let o = one-given f g in rw (o .0, o .1)
+    back g (first-holds f) = let o = one-given f g in rw (o .0, o .1, o .2)
 
 pub accepted-is : (limits : Limits) (t : List ℕ) → Reads limits t ↔ Accepted limits t
 accepted-is limits t = (λ h. there (subst (Right limits t) (h .is) (right limits t)), λ out. back out (matrixOf limits t) refl)
@@ -454,4 +481,4 @@ accepted-is limits t = (λ h. there (subst (Right limits t) (h .is) (right limit
 
     back : Accepted limits t → (x : Matrix) → matrixOf limits t ≡ x → Reads limits t
     back out (matrix n m) e = record { n = n; m = m; is = e }
-    back out (no-matrix r line) e = absurd (out r line (given limits t r line .0 e .holds))
+    back out (no-matrix r line byte) e = absurd (out r line (given limits t r line byte .0 e .holds))

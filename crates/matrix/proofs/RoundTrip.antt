@@ -36,7 +36,7 @@ listed-at f d k zero x l = absurd (omega arith)
 listed-at f d k (suc m) zero l = let e : k + 0 ≡ k = omega arith in rw e
 listed-at f d k (suc m) (suc x) l = let e : k + suc x ≡ suc k + x = omega arith in rw e (listed-at f d (suc k) m x (omega arith))
 
-from-one : {A : Type 0} (d : A) (l : List A) → listed (λ k. getD l (k - 1) d) 1 (length l) ≡ l
+pub from-one : {A : Type 0} (d : A) (l : List A) → listed (λ k. getD l (k - 1) d) 1 (length l) ≡ l
 from-one d l =
     listed-shift (λ k. getD l (k - 1) d) 0 (length l) ∙
     listed-same (λ x. getD l (suc x - 1) d) (λ x. getD l x d) 0 (length l) (λ x p q. ap (λ k. getD l k d) (let e : suc x - 1 ≡ x = omega arith in e)) ∙ listed-members d l

@@ -4,25 +4,28 @@ use mathlib.Core.List.{List, [], _∷_, _++_}
 use mathlib.Core.Path.{_≡_, refl, ap, _∙_, sym}
 use native.Mathlib.Omega.{arith}
 use native.Mathlib.Numerals.{add-one}
-use lib.ListN.{length, getD, set, take, drop, drop-of-length-le, length-append, length-drop}
+use lib.ListN.{length, getD, set, take, drop, drop-of-length-le, length-append, length-drop, length-take}
 use lib.Seq.{sets, take-suc, length-take-le}
 use Rattle.ring.specs.Limits.{desk}
 use Rattle.text.specs.ReadLine.{readLine}
 use Rattle.text.specs.Shapes.{numbers}
+use Rattle.text.proofs.LineLaws.{bad-within}
 use Rattle.table.specs.Lines.{lines}
 use Rattle.table.specs.LineEnds.{LineEnds}
 use Rattle.table.specs.declared.reason.Reason.{Reason}
 use Rattle.table.specs.declared.reason.Reason.the-variants.{Misshapen}
-use Rattle.table.specs.declared.judge.Verdict.{Verdict}
-use Rattle.table.specs.declared.judge.Verdict.the-variants.{Fine, Fault}
 use Rattle.table.proofs.LineSteps.{first-line, line-at}
-use Rattle.matrix.specs.Read.{Matrix, no-matrix, numbersOr, unless, judgeAmounts, linesOf}
+use Rattle.matrix.specs.Matrix.{entryByte}
+use Rattle.matrix.specs.Read.{Matrix, no-matrix, numbersOr, unlessAt, judgeAmounts, linesOf}
 use Rattle.matrix.specs.Arrays.{numbersIn, layFrom, empty, laid, squareIn}
+use Rattle.matrix.specs.declared.byte.Found.{Found}
+use Rattle.matrix.specs.declared.byte.Found.the-variants.{Nothing, At}
 use Rattle.matrix.specs.declared.line.Numbers.{Numbers}
 use Rattle.matrix.specs.declared.line.Spelling.the-variants.{Good, Bad as BadSpelling}
 use Rattle.matrix.specs.declared.square.Square.{Square}
 use Rattle.matrix.specs.declared.square.Lines.the-variants.{Read}
 use Rattle.matrix.proofs.LineSteps.{ToldGood, told-bad, told-good}
+use Rattle.matrix.proofs.ByteSteps.{amount-few, part-byte}
 use Rattle.text.proofs.Writing.{sets-append}
 
 -- ---- a line: its values before t are kept
@@ -80,14 +83,14 @@ module _ (s : List ℕ) (n : ℕ) (entries : List ℕ) (start count line at : �
   whole = linesOf desk n 1 n [] (lines s)
 
   -- a line behind the n-th
-  pub left-over : (r : Square) → at < length s → n ≤ count → r ≡ squareIn (no-matrix Misshapen line) → r ≡ squareIn whole
+  pub left-over : (r : Square) → at < length s → n ≤ count → r ≡ squareIn (no-matrix Misshapen line 1) → r ≡ squareIn whole
   unfolding linesOf
   left-over r there l e =
       let z : n - count ≡ 0 = omega arith in
       e ∙ ap squareIn (sym (on .rest ∙ rw (z, first-line (drop at s) (omega (arith, length-drop at s)))))
 
   -- no line is left, and one is missing
-  pub missing : (r : Square) → length s ≤ at → count < n → r ≡ squareIn (no-matrix Misshapen line) → r ≡ squareIn whole
+  pub missing : (r : Square) → length s ≤ at → count < n → r ≡ squareIn (no-matrix Misshapen line 1) → r ≡ squareIn whole
   unfolding linesOf lines
   missing r none l e =
       let z : n - count ≡ suc (n - count - 1) = omega arith in
@@ -103,30 +106,40 @@ module _ (s : List ℕ) (n : ℕ) (entries : List ℕ) (start count line at : �
     abbrev text : List ℕ
     text = take (end - at) (drop at s)
 
-    next-line : whole ≡ numbersOr (readLine (numbers n) text) line λ vs. unless (judgeAmounts desk vs) line (linesOf desk n (line + 1) (n - count - 1) (on .m ++ vs ∷ []) (lines (drop end s)))
+    next-line : whole ≡ numbersOr (readLine (numbers n) text) line λ vs. unlessAt (judgeAmounts desk 0 vs) line (entryByte vs) (linesOf desk n (line + 1) (n - count - 1) (on .m ++ vs ∷ []) (lines (drop end s)))
     unfolding linesOf
     next-line =
         let z : n - count ≡ suc (n - count - 1) = omega arith in
         on .rest ∙ ap (λ k. linesOf desk n line k (on .m) (lines (drop at s))) z ∙ rw (line-at s at end there ends)
 
-    pub line-misshapen : (p : ℕ) (r : Square) → x .spelling ≡ BadSpelling p → r ≡ squareIn (no-matrix Misshapen line) → r ≡ squareIn whole
+    pub line-misshapen : (p byte : ℕ) (r : Square) → x .spelling ≡ BadSpelling p → byte ≡ p + 1 → r ≡ squareIn (no-matrix Misshapen line byte) → r ≡ squareIn whole
     unfolding numbersOr
-    line-misshapen p r f e = e ∙ ap squareIn (sym (next-line ∙ rw (told-bad text n x ex p f)))
+    line-misshapen p byte r f b e = e ∙ ap squareIn (sym (next-line ∙ rw (told-bad text n x ex p f, b)))
 
-    module _ (f : x .spelling ≡ Good) (few : n ≤ desk .nodes) (v : Verdict) (ev : v ≡ judgeAmounts desk (take n (x .values))) where
+    -- its faulty byte is within the text
+    pub line-place : (p : ℕ) → x .spelling ≡ BadSpelling p → length s ≤ desk .bytes → p ≤ desk .bytes
+    line-place p f short = omega (arith, bad-within (numbers n) text p (told-bad text n x ex p f), length-take (end - at) (drop at s), ends .within)
+
+    module _ (f : x .spelling ≡ Good) (few : n ≤ desk .nodes) (v : Found) (ev : v ≡ judgeAmounts desk 0 (take n (x .values))) where
       abbrev told : ToldGood (readLine (numbers n) text) n (x .values)
       told = told-good text n x ex f
 
-      judged : whole ≡ unless v line (linesOf desk n (line + 1) (n - count - 1) (on .m ++ told .vs ∷ []) (lines (drop end s)))
+      judged : whole ≡ unlessAt v line (entryByte (told .vs)) (linesOf desk n (line + 1) (n - count - 1) (on .m ++ told .vs ∷ []) (lines (drop end s)))
       unfolding numbersOr
-      judged = let w : v ≡ judgeAmounts desk (told .vs) = ev ∙ ap (judgeAmounts desk) (told .held few) in next-line ∙ rw (told .is, ← w)
+      judged = let w : v ≡ judgeAmounts desk 0 (told .vs) = ev ∙ ap (judgeAmounts desk 0) (told .held few) in next-line ∙ rw (told .is, ← w)
 
-      pub line-too-much : (reason : Reason) (r : Square) → v ≡ Fault reason → r ≡ squareIn (no-matrix reason line) → r ≡ squareIn whole
-      unfolding unless
-      line-too-much reason r g e = e ∙ ap squareIn (sym (judged ∙ rw g))
+      -- the entry that is over stands in the line
+      pub amount-place : (reason : Reason) (k : ℕ) → v ≡ At reason k → k ≤ desk .nodes
+      amount-place reason k g = omega (arith, amount-few n k (x .values) v reason ev g)
 
-      pub reads-line : v ≡ Fine → (new : List ℕ) → new ≡ sets entries start (take n (x .values)) → ReadingLines s n new (start + desk .nodes) (count + 1) (line + 1) end
-      unfolding unless laid
+      pub line-too-much : (reason : Reason) (k byte : ℕ) (r : Square) → v ≡ At reason k → byte ≡ entryByte (x .values) k → r ≡ squareIn (no-matrix reason line byte) → r ≡ squareIn whole
+      unfolding unlessAt
+      line-too-much reason k byte r g b e =
+          let q : byte ≡ entryByte (told .vs) k = b ∙ part-byte n k (x .values) (told .vs) (told .held few) (amount-few n k (x .values) v reason ev g) in
+          e ∙ ap squareIn (sym (judged ∙ rw (g, q)))
+
+      pub reads-line : v ≡ Nothing → (new : List ℕ) → new ≡ sets entries start (take n (x .values)) → ReadingLines s n new (start + desk .nodes) (count + 1) (line + 1) end
+      unfolding unlessAt laid
       reads-line g new e =
           let k : n - count - 1 ≡ n - (count + 1) = omega arith in
           let q : start ≡ desk .nodes * (0 + length (on .m)) = omega (arith, on .placed, on .many) in

@@ -40,22 +40,24 @@ module _ (s : List ℕ) (fibres : ℕ) (t : Table) where
       let es : t .second ≡ column (λ (r : Row). r .j) (desk .rows) rs = ap (λ (x : Table). x .second) e in
       let ea : t .amount ≡ column (λ (r : Row). r .d) (desk .rows) rs = ap (λ (x : Table). x .amount) e in
       record { m = m; is = rw kn q; rows = rw (kn, kc, ef, es, ea) (rows-back (desk .rows) rs h); room = omega arith }
-  a-matrix (no-matrix reason line) q e n same count a = clash (let p : Is n same count ≡ Refused reason line = sym a ∙ ap (λ (x : Table). x .answer) e in cc)
+  a-matrix (no-matrix reason line byte) q e n same count a = clash (let p : Is n same count ≡ Refused reason line byte = sym a ∙ ap (λ (x : Table). x .answer) e in cc)
 
-  a-refusal : (r : Matrix) → matrixOf desk s ≡ r → t ≡ tableIn (tableFrom fibres r) → (reason : Reason) (line : ℕ) → t .answer ≡ Refused reason line → matrixOf desk s ≡ no-matrix reason line
+  a-refusal : (r : Matrix) → matrixOf desk s ≡ r → t ≡ tableIn (tableFrom fibres r) → (reason : Reason) (line byte : ℕ) → t .answer ≡ Refused reason line byte
+      → matrixOf desk s ≡ no-matrix reason line byte
   unfolding tableIn tableFrom
-  a-refusal (matrix k m) q e reason line a = clash (let p : Refused reason line ≡ Is k fibres (length (rowsOfMatrix k m)) = sym a ∙ ap (λ (x : Table). x .answer) e in cc)
-  a-refusal (no-matrix why at) q e reason line a =
-      let p : Refused reason line ≡ Refused why at = sym a ∙ ap (λ (x : Table). x .answer) e in
+  a-refusal (matrix k m) q e reason line byte a = clash (let p : Refused reason line byte ≡ Is k fibres (length (rowsOfMatrix k m)) = sym a ∙ ap (λ (x : Table). x .answer) e in cc)
+  a-refusal (no-matrix why at on) q e reason line byte a =
+      let p : Refused reason line byte ≡ Refused why at on = sym a ∙ ap (λ (x : Table). x .answer) e in
       let kw : why ≡ reason = cc in
       let kl : at ≡ line = cc in
-      q ∙ rw (kw, kl)
+      let kb : on ≡ byte = cc in
+      q ∙ rw (kw, kl, kb)
 
   module _ (e : t ≡ tableIn (tableFrom fibres (matrixOf desk s))) where
     pub told-matrix : (n same count : ℕ) → t .answer ≡ Is n same count → Told s n count (t .first) (t .second) (t .amount)
     told-matrix = a-matrix (matrixOf desk s) refl e
 
-    pub told-refusal : (reason : Reason) (line : ℕ) → t .answer ≡ Refused reason line → matrixOf desk s ≡ no-matrix reason line
+    pub told-refusal : (reason : Reason) (line byte : ℕ) → t .answer ≡ Refused reason line byte → matrixOf desk s ≡ no-matrix reason line byte
     told-refusal = a-refusal (matrixOf desk s) refl e
 
 -- rows whose amounts are within the limit, as their arrays have them

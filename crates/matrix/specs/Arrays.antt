@@ -46,7 +46,7 @@ laid m = layFrom empty 0 m
 unfoldable pub squareIn : Matrix → Square
 unfolding laid
 squareIn (matrix n m) = record { lines = Read; entries = laid m }
-squareIn (no-matrix reason line) = record { lines = Refused reason line; entries = empty }
+squareIn (no-matrix reason line byte) = record { lines = Refused reason line byte; entries = empty }
 
 -- rows in columns whose amounts are within 9,999, so that sums fit
 pub record Amounts (count : ℕ) (amount : List ℕ) : Type 0 where

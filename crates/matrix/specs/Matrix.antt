@@ -1,8 +1,8 @@
 -- To believe: what a matrix of demands is and how it is written, n lines of n numbers parted by tabs, symmetric and with 0 on the diagonal (02, K2).
-use Prim.Native.Nat.{ℕ, _-_, _≤_}
+use Prim.Native.Nat.{ℕ, _+_, _-_, _≤_}
 use mathlib.Core.List.{List, [], _∷_, _++_}
 use mathlib.Core.Path.{_≡_}
-use lib.ListN.{length, getD}
+use lib.ListN.{length, getD, take}
 use Rattle.ring.specs.Limits.{Limits}
 use Rattle.ring.specs.Lists.{Each}
 use Rattle.text.specs.Shapes.{numbersLine}
@@ -15,6 +15,10 @@ entry m i j = getD (getD m (i - 1) []) (j - 1) 0
 unfoldable pub writeMatrix : List (List ℕ) → List ℕ
 writeMatrix [] = []
 writeMatrix (vs ∷ m) = numbersLine vs ++ writeMatrix m
+
+-- where the entry behind k others starts in the line of the numbers vs, counted from 1: one more than the length of what is written before it (02, K5)
+abbrev pub entryByte : List ℕ → ℕ → ℕ
+entryByte vs k = length (numbersLine (take k vs)) + 1
 
 -- n lines of n numbers
 pub record IsSquare (n : ℕ) (m : List (List ℕ)) : Type 0 where

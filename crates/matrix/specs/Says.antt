@@ -1,4 +1,4 @@
--- To believe: what each reason says of a matrix's text, by its lines and the writer alone; which reason is given; and what an accepted matrix is.
+-- To believe: what each reason says of a matrix's text, by its lines and the writer alone, and the byte that goes with it; which reason is given; and what an accepted matrix is.
 use Prim.Native.Nat.{ℕ, _+_, _-_, _≤_, _<_}
 use mathlib.Core.List.{List}
 use mathlib.Core.Logic.{_⊎_}
@@ -8,12 +8,14 @@ use Rattle.ring.specs.Limits.{Limits}
 use Rattle.ring.specs.Lists.{Each, Some}
 use Rattle.ring.specs.Row.{PairBefore}
 use Rattle.text.specs.Number.{limit}
-use Rattle.text.specs.Shapes.{numbersLine}
+use Rattle.text.specs.FirstFault.{Agrees, FirstFault}
+use Rattle.text.specs.Shapes.{numbers, numbersLine}
 use Rattle.table.specs.Lines.{lines}
 use Rattle.table.specs.Reasons.{rankOf}
 use Rattle.table.specs.Says.{LineIs}
 use Rattle.table.specs.declared.reason.Reason.{Reason}
 use Rattle.table.specs.declared.reason.Reason.the-variants.{TooLong, Misshapen, RingSize, Fibres, NoRow, NoSuchNode, NotBelow, OutOfOrder, TooMany, TooMuch, Full, WrongSum, WrongWay, WrongCut, WrongLink, WrongLast, NotTight, OverBound, NotZero, NotSymmetric, SumTooMuch, NoRoom}
+use Rattle.matrix.specs.Matrix.{entryByte}
 
 -- ---- lines and entries
 
@@ -107,6 +109,76 @@ Says limits t NoRow line = ⊥
 Says limits t Full line = ⊥
 Says limits t NoRoom line = ⊥
 
+-- ---- the byte of the line that is given with a reason (02, K5), counted from 1
+
+-- p is the place of the first faulty byte of a line that may have any number of fields: for some number of fields a line may begin with the bytes before it, and for
+-- none with it too
+pub record NumbersFault (l : List ℕ) (p : ℕ) : Type 0 where
+  pub m : ℕ
+  pub some : 1 ≤ m
+  pub before : Agrees (numbers m) l p
+  pub here : (m : ℕ) → 1 ≤ m → Agrees (numbers m) l (p + 1) → ⊥
+
+-- where a line is due: 1 where it is missing; else its first faulty byte
+pub data DueByte (t : List ℕ) (line : ℕ) (Fault : List ℕ → ℕ → Type 0) : ℕ → Type 0 where
+  line-missing : ((l : List ℕ) → LineIs (lines t) line l → ⊥) → DueByte t line Fault 1
+  line-faulty : {l : List ℕ} {p : ℕ} → LineIs (lines t) line l → Fault l p → DueByte t line Fault (p + 1)
+
+-- 2: any number of fields is due in the first line, and as many in a later one; a line is left over as a whole
+pub data LineByte (t : List ℕ) (line byte : ℕ) : Type 0 where
+  first-due : line ≡ 1 → DueByte t line NumbersFault byte → LineByte t line byte
+  later-due : {us : List ℕ} → 2 ≤ line → NumbersAre t 1 us → line ≤ length us → DueByte t line (FirstFault (numbers (length us))) byte → LineByte t line byte
+  none-due : {us : List ℕ} → NumbersAre t 1 us → length us < line → byte ≡ 1 → LineByte t line byte
+
+-- where entry j of a line starts
+pub record EntryStarts (t : List ℕ) (line j byte : ℕ) : Type 0 where
+  pub vs : List ℕ
+  pub is : NumbersAre t line vs
+  pub at : byte ≡ entryByte vs (j - 1)
+
+-- 7: where the first entry over 9,999 starts
+pub record AmountByte (limits : Limits) (t : List ℕ) (line byte : ℕ) : Type 0 where
+  pub j : ℕ
+  pub v : ℕ
+  pub is : EntryIs t line j v
+  pub wrong : limits .amount < v
+  pub first : (x w : ℕ) → x < j → EntryIs t line x w → w ≤ limits .amount
+  pub starts : EntryStarts t line j byte
+
+-- 17 and 18: where the first faulty entry starts
+pub record FaultyByte (t : List ℕ) (r : Reason) (line byte : ℕ) : Type 0 where
+  pub faulty : FirstFaulty t r line
+  pub starts : EntryStarts t line (faulty .j) byte
+
+-- the byte of a reason that holds on a line
+unfoldable pub ByteIs : Limits → List ℕ → Reason → ℕ → ℕ → Type 0
+-- a reason with line 0
+ByteIs limits t TooLong line byte = byte ≡ 0
+ByteIs limits t Misshapen line byte = LineByte t line byte
+-- a reason that judges the line as a whole
+ByteIs limits t RingSize line byte = byte ≡ 1
+-- a reason about one field
+ByteIs limits t TooMuch line byte = AmountByte limits t line byte
+ByteIs limits t NotZero line byte = FaultyByte t NotZero line byte
+ByteIs limits t NotSymmetric line byte = FaultyByte t NotSymmetric line byte
+-- the others judge no matrix
+ByteIs limits t Fibres line byte = ⊥
+ByteIs limits t NoSuchNode line byte = ⊥
+ByteIs limits t NotBelow line byte = ⊥
+ByteIs limits t OutOfOrder line byte = ⊥
+ByteIs limits t TooMany line byte = ⊥
+ByteIs limits t WrongSum line byte = ⊥
+ByteIs limits t WrongWay line byte = ⊥
+ByteIs limits t WrongCut line byte = ⊥
+ByteIs limits t WrongLink line byte = ⊥
+ByteIs limits t WrongLast line byte = ⊥
+ByteIs limits t NotTight line byte = ⊥
+ByteIs limits t OverBound line byte = ⊥
+ByteIs limits t SumTooMuch line byte = ⊥
+ByteIs limits t NoRow line byte = ⊥
+ByteIs limits t Full line byte = ⊥
+ByteIs limits t NoRoom line byte = ⊥
+
 -- ---- which is given
 
 -- 17 and 18 come behind all lines
@@ -139,10 +211,11 @@ abbrev pub Earlier : Reason → ℕ → Reason → ℕ → Type 0
 Earlier r line s other =
     (stage r < stage s) ⊎ ((stage r ≡ stage s) × ((line < other) ⊎ ((line ≡ other) × (rankOf r < rankOf s))))
 
--- each reason is given exactly when it holds and nothing before it in the order does
-pub record Given (limits : Limits) (t : List ℕ) (r : Reason) (line : ℕ) : Type 0 where
+-- each reason is given exactly when it holds and nothing before it in the order does, and with it its byte
+pub record Given (limits : Limits) (t : List ℕ) (r : Reason) (line byte : ℕ) : Type 0 where
   pub holds : Says limits t r line
   pub first : (s : Reason) (other : ℕ) → Earlier s other r line → Says limits t s other → ⊥
+  pub byte-is : ByteIs limits t r line byte
 
 -- a matrix is accepted when no reason that judges its own length or lines holds of it
 abbrev pub Accepted : Limits → List ℕ → Type 0

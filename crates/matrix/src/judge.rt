@@ -1,7 +1,10 @@
 // What is found against the entries, in reading order.
+use crate::byte::Found;
+use crate::byte::square_byte;
 use crate::square::Lines;
 use crate::square::SQUARE;
 use crate::square::get;
+use ring::wide;
 use table::Reason;
 use table::Verdict;
 ghost use mathlib.Core.Path.{_≡_};
@@ -27,7 +30,7 @@ fn judge_entry(i: u32, j: u32, x: u32, y: u32) -> Verdict
 }
 
 // The entries of line i.
-fn judge_across(n: u32, i: u32, square: &[u32; SQUARE]) -> Verdict
+fn judge_across(n: u32, i: u32, square: &[u32; SQUARE]) -> Found
     requires { ⌜ (1 ≤ i) × (i ≤ n) × (n ≤ desk .nodes) ⌝ }
     ensures { λ r. ⌜ r ≡ judgeAcross (at (now (square .entry))) i 1 n ⌝ }
 {
@@ -38,14 +41,15 @@ fn judge_across(n: u32, i: u32, square: &[u32; SQUARE]) -> Verdict
         let verdict = judge_entry(i, j, x, y);
         match verdict {
             Verdict::Fault(reason) => {
-                return Verdict::Fault(reason);
+                let before = wide(j) - 1;
+                return Found::At(reason, before);
             }
             Verdict::Fine => {
                 j += 1;
             }
         }
     }
-    Verdict::Fine
+    Found::Nothing
 }
 
 // All lines.
@@ -55,12 +59,13 @@ pub(crate) fn judge_square(n: u32, square: &[u32; SQUARE]) -> Lines
 {
     let mut i: u32 = 1;
     while i <= n {
-        let verdict = judge_across(n, i, square);
-        match verdict {
-            Verdict::Fault(reason) => {
-                return Lines::Refused(reason, i);
+        let found = judge_across(n, i, square);
+        match found {
+            Found::At(reason, k) => {
+                let byte = square_byte(k, i, n, square);
+                return Lines::Refused(reason, i, byte);
             }
-            Verdict::Fine => {
+            Found::Nothing => {
                 i += 1;
             }
         }

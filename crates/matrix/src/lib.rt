@@ -1,4 +1,5 @@
 // A matrix of demands: text to a table's rows in arrays, and a table's rows to text.
+mod byte; // the byte of a line that a refusal names
 mod line; // a line of numbers
 mod square; // the entries, kept until all lines are read
 mod judge; // what is found against the square

@@ -1,8 +1,8 @@
 // A line of numbers: how many fields it has, its values, and what is found against them.
+use crate::byte::Found;
 use ring::AMOUNT;
 use ring::LINKS;
 use table::Reason;
-use table::Verdict;
 use text::Field;
 ghost use mathlib.Core.Path.{_≡_};
 ghost use Prim.Native.Nat.{_≤_};
@@ -89,17 +89,17 @@ pub(crate) fn read_numbers(line: &[u8], n: usize) -> Numbers
     faulty(p)
 }
 
-// The first n values.
-pub(crate) fn judge_amounts(n: usize, values: &[u32; LINKS]) -> Verdict
+// The first n values: the first that is over the limit.
+pub(crate) fn judge_amounts(n: usize, values: &[u32; LINKS]) -> Found
     requires { ⌜ (n ≤ desk .nodes) × (length (now values) ≡ desk .nodes) ⌝ }
-    ensures { λ r. ⌜ r ≡ judgeAmounts desk (take n (now (values .entry))) ⌝ }
+    ensures { λ r. ⌜ r ≡ judgeAmounts desk 0 (take n (now (values .entry))) ⌝ }
 {
     let mut t: usize = 0;
     while t < n {
         if AMOUNT < values[t] {
-            return Verdict::Fault(Reason::TooMuch);
+            return Found::At(Reason::TooMuch, t);
         }
         t += 1;
     }
-    Verdict::Fine
+    Found::Nothing
 }

@@ -1,11 +1,13 @@
 // The entries of a matrix: all lines are read before any entry is compared with its mirror entry, so they are kept in a square.
+use crate::byte::Found;
+use crate::byte::entry_byte;
 use crate::line::Spelling;
 use crate::line::judge_amounts;
 use crate::line::read_numbers;
 use ring::LINKS;
 use ring::wide;
 use table::Reason;
-use table::Verdict;
+use table::byte_at;
 use table::line_end;
 ghost use mathlib.Core.Path.{_≡_};
 ghost use mathlib.Core.List.{[]};
@@ -20,10 +22,10 @@ ghost use Rattle.matrix.specs.Arrays.{placeOf, at as entryAt, empty, squ
 // Each line of the square has room for the largest ring.
 pub(crate) const SQUARE: usize = LINKS * LINKS;
 
-// Whether nothing was found; where something was, the reason and the line.
+// Whether nothing was found; where something was, the reason, the line and the byte of it.
 pub(crate) enum Lines {
     Read,
-    Refused(Reason, u32),
+    Refused(Reason, u32, u32),
 }
 
 pub(crate) struct Square {
@@ -54,18 +56,18 @@ fn keep(square: &mut [u32; SQUARE], start: usize, n: usize, values: &[u32; LINKS
     }
 }
 
-fn refused(reason: Reason, line: u32) -> Square
-    ensures { λ r. ⌜ r ≡ squareIn (no-matrix reason line) ⌝ }
+fn refused(reason: Reason, line: u32, byte: u32) -> Square
+    ensures { λ r. ⌜ r ≡ squareIn (no-matrix reason line byte) ⌝ }
 {
     Square {
-        lines: Lines::Refused(reason, line),
+        lines: Lines::Refused(reason, line, byte),
         entries: [0u32; SQUARE],
     }
 }
 
 // The lines of a matrix of n nodes. A line behind the n-th is left over, and a missing one is the one after the last.
 pub(crate) fn read_lines(s: &[u8], n: usize) -> Square
-    requires { ⌜ n ≤ desk .nodes ⌝ }
+    requires { ⌜ (n ≤ desk .nodes) × (length (now s) ≤ desk .bytes) ⌝ }
     ensures { λ r. ⌜ r ≡ squareIn (linesOf desk n 1 n [] (linesIn (now (s .entry)))) ⌝ }
 {
     let mut entries = [0u32; SQUARE];
@@ -75,23 +77,23 @@ pub(crate) fn read_lines(s: &[u8], n: usize) -> Square
     let mut at: usize = 0;
     while at < s.len() {
         if n <= count {
-            return refused(Reason::Misshapen, line);
+            return refused(Reason::Misshapen, line, 1);
         }
         let end = line_end(s, at);
         let numbers = read_numbers(&s[at..end], n);
         let spelling = numbers.spelling;
         match spelling {
-            Spelling::Bad(_) => {
-                return refused(Reason::Misshapen, line);
+            Spelling::Bad(p) => {
+                return refused(Reason::Misshapen, line, byte_at(p));
             }
             Spelling::Good => {
                 let values = numbers.values;
-                let verdict = judge_amounts(n, &values);
-                match verdict {
-                    Verdict::Fault(reason) => {
-                        return refused(reason, line);
+                let found = judge_amounts(n, &values);
+                match found {
+                    Found::At(reason, k) => {
+                        return refused(reason, line, entry_byte(k, &values));
                     }
-                    Verdict::Fine => {
+                    Found::Nothing => {
                         keep(&mut entries, start, n, &values);
                         start += LINKS;
                         count += 1;
@@ -103,7 +105,7 @@ pub(crate) fn read_lines(s: &[u8], n: usize) -> Square
         }
     }
     if count < n {
-        return refused(Reason::Misshapen, line);
+        return refused(Reason::Misshapen, line, 1);
     }
     Square {
         lines: Lines::Read,

@@ -56,7 +56,7 @@ fn write_part(buf: &mut [u8], at: usize, n: usize, shape: &[u8], values: &[u32])
 }
 
 // How many bytes the line of the first n values has.
-fn numbers_length(n: usize, values: &[u32; LINKS]) -> usize
+pub(crate) fn numbers_length(n: usize, values: &[u32; LINKS]) -> usize
     requires { ⌜ (n ≤ desk .nodes) × (length (now values) ≡ desk .nodes) ⌝ }
     ensures { λ r. ⌜ r ≡ length (numbersLine (take n (now (values .entry)))) ⌝ }
 {

@@ -27,6 +27,12 @@ judge-entry-requires c κs = search needs
 enum-known-verdict : tie.Need-enum-known-verdict Inv-loop μ-loop
 enum-known-verdict c = search needs
 
+wide-requires : tie.Need-wide-requires Inv-loop μ-loop
+wide-requires c κs = search needs
+
+sub-before : tie.Need-sub-before Inv-loop μ-loop
+sub-before c = search needs
+
 returns : tie.Need-returns Inv-loop μ-loop
 returns c = search entry-fault
 
@@ -56,6 +62,8 @@ judge-across-spec =
     get-requires-2
     judge-entry-requires
     enum-known-verdict
+    wide-requires
+    sub-before
     returns
     enum-told
     add-j

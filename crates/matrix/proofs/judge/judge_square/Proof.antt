@@ -2,6 +2,7 @@
 use Prim.Native.Nat.{_+_, _-_}
 use Rattle.matrix.specs.Arrays.{at}
 use Rattle.matrix.proofs.JudgeSteps.{Down, down-starts, line-fault, line-fine, down-done}
+use Rattle.matrix.proofs.ByteSteps.{across-few}
 use borrow.Author.Needs.{needs}
 use Rattle.matrix.proofs.judge.judge_square.Statement.{statement}
 use Rattle.matrix.proofs.judge.judge_square.Tie as tie
@@ -18,8 +19,11 @@ loop-holds c = down-starts _ _
 judge-across-requires : tie.Need-judge-across-requires Inv-loop μ-loop
 judge-across-requires c κs = search needs
 
-enum-known-verdict : tie.Need-enum-known-verdict Inv-loop μ-loop
-enum-known-verdict c = search needs
+enum-known-found : tie.Need-enum-known-found Inv-loop μ-loop
+enum-known-found c = search needs
+
+square-byte-requires : tie.Need-square-byte-requires Inv-loop μ-loop
+square-byte-requires c κs = (search across-few, search needs, search needs, search needs)
 
 returns : tie.Need-returns Inv-loop μ-loop
 returns c = search line-fault
@@ -47,7 +51,8 @@ judge-square-spec =
     μ-loop
     loop-holds
     judge-across-requires
-    enum-known-verdict
+    enum-known-found
+    square-byte-requires
     returns
     enum-told
     add-i

@@ -1,5 +1,5 @@
 -- A matrix: its length, its first line, its size and its square, each way out by one law of `ReadSteps`.
-use Rattle.matrix.proofs.ReadSteps.{fields-fit, ring-few, too-long, no-line, first-misshapen, ring-fault, then-square}
+use Rattle.matrix.proofs.ReadSteps.{fields-fit, ring-few, too-long, no-line, first-place, first-misshapen, ring-fault, then-square}
 use borrow.Author.Needs.{needs}
 use Rattle.matrix.proofs.read.read_matrix.Statement.{statement}
 use Rattle.matrix.proofs.read.read_matrix.Tie as tie
@@ -43,8 +43,11 @@ part-read-numbers-end c = search needs
 read-numbers-requires : tie.Need-read-numbers-requires
 read-numbers-requires c κs = search needs
 
-enum-told : tie.Need-enum-told
-enum-told c = search needs
+enum-known-spelling : tie.Need-enum-known-spelling
+enum-known-spelling c = search needs
+
+byte-at-requires : tie.Need-byte-at-requires
+byte-at-requires c κs = search first-place
 
 refusal-requires-3 : tie.Need-refusal-requires-3
 refusal-requires-3 c κs = search needs
@@ -52,8 +55,8 @@ refusal-requires-3 c κs = search needs
 returns-3 : tie.Need-returns-3
 returns-3 c = search first-misshapen
 
-enum-told-2 : tie.Need-enum-told-2
-enum-told-2 c = search needs
+enum-told : tie.Need-enum-told
+enum-told c = search needs
 
 cast-n : tie.Need-cast-n
 cast-n c = search (fields-fit, needs)
@@ -70,11 +73,11 @@ refusal-requires-4 c κs = search needs
 returns-4 : tie.Need-returns-4
 returns-4 c = search ring-fault
 
-enum-told-3 : tie.Need-enum-told-3
-enum-told-3 c = search needs
+enum-told-2 : tie.Need-enum-told-2
+enum-told-2 c = search needs
 
 read-square-requires : tie.Need-read-square-requires
-read-square-requires c κs = search ring-few
+read-square-requires c κs = (search ring-few, search needs)
 
 returns-5 : tie.Need-returns-5
 returns-5 c = search then-square
@@ -96,15 +99,16 @@ read-matrix-spec =
     part-read-numbers-start
     part-read-numbers-end
     read-numbers-requires
-    enum-told
+    enum-known-spelling
+    byte-at-requires
     refusal-requires-3
     returns-3
-    enum-told-2
+    enum-told
     cast-n
     judge-size-requires
     enum-known-verdict
     refusal-requires-4
     returns-4
-    enum-told-3
+    enum-told-2
     read-square-requires
     returns-5)

@@ -2,7 +2,7 @@
 use Prim.Native.Nat.{_-_}
 use lib.ListN.{length}
 use Rattle.matrix.proofs.LineSteps.{numbers-long}
-use Rattle.matrix.proofs.SquareSteps.{ReadingLines, lines-start, left-over, missing, lines-read, line-misshapen, line-too-much, reads-line, line-room}
+use Rattle.matrix.proofs.SquareSteps.{ReadingLines, lines-start, left-over, missing, lines-read, line-misshapen, line-place, amount-place, line-too-much, reads-line, line-room}
 use borrow.Author.Needs.{needs}
 use Rattle.matrix.proofs.square.read_lines.Statement.{statement}
 use Rattle.matrix.proofs.square.read_lines.Tie as tie
@@ -37,8 +37,11 @@ part-read-numbers-end c = search needs
 read-numbers-requires : tie.Need-read-numbers-requires Inv-loop μ-loop
 read-numbers-requires c κs = search needs
 
-enum-told : tie.Need-enum-told Inv-loop μ-loop
-enum-told c = search needs
+enum-known-spelling : tie.Need-enum-known-spelling Inv-loop μ-loop
+enum-known-spelling c = search needs
+
+byte-at-requires : tie.Need-byte-at-requires Inv-loop μ-loop
+byte-at-requires c κs = search line-place
 
 refused-requires-2 : tie.Need-refused-requires-2 Inv-loop μ-loop
 refused-requires-2 c κs = search needs
@@ -46,14 +49,17 @@ refused-requires-2 c κs = search needs
 returns-2 : tie.Need-returns-2 Inv-loop μ-loop
 returns-2 c = search line-misshapen
 
-enum-told-2 : tie.Need-enum-told-2 Inv-loop μ-loop
-enum-told-2 c = search needs
+enum-told : tie.Need-enum-told Inv-loop μ-loop
+enum-told c = search needs
 
 judge-amounts-requires : tie.Need-judge-amounts-requires Inv-loop μ-loop
 judge-amounts-requires c κs = (search needs, search (numbers-long, needs))
 
-enum-known-verdict : tie.Need-enum-known-verdict Inv-loop μ-loop
-enum-known-verdict c = search needs
+enum-known-found : tie.Need-enum-known-found Inv-loop μ-loop
+enum-known-found c = search needs
+
+entry-byte-requires : tie.Need-entry-byte-requires Inv-loop μ-loop
+entry-byte-requires c κs = (search amount-place, search (numbers-long, needs))
 
 refused-requires-3 : tie.Need-refused-requires-3 Inv-loop μ-loop
 refused-requires-3 c κs = search needs
@@ -61,8 +67,8 @@ refused-requires-3 c κs = search needs
 returns-3 : tie.Need-returns-3 Inv-loop μ-loop
 returns-3 c = search line-too-much
 
-enum-told-3 : tie.Need-enum-told-3 Inv-loop μ-loop
-enum-told-3 c = search needs
+enum-told-2 : tie.Need-enum-told-2 Inv-loop μ-loop
+enum-told-2 c = search needs
 
 keep-requires : tie.Need-keep-requires Inv-loop μ-loop
 keep-requires c κs = (search needs, search (line-room, needs), search (numbers-long, needs))
@@ -105,15 +111,17 @@ read-lines-spec =
     part-read-numbers-start
     part-read-numbers-end
     read-numbers-requires
-    enum-told
+    enum-known-spelling
+    byte-at-requires
     refused-requires-2
     returns-2
-    enum-told-2
+    enum-told
     judge-amounts-requires
-    enum-known-verdict
+    enum-known-found
+    entry-byte-requires
     refused-requires-3
     returns-3
-    enum-told-3
+    enum-told-2
     keep-requires
     add-start
     add-count
