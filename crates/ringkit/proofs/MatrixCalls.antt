@@ -67,7 +67,7 @@ module _ (fibres : ℕ) (t : List ℕ) where
   decided : IsFibres fibres → (x : Matrix) → matrixOf desk t ≡ x → Decided (MatrixDue fibres t) (MatrixGiven fibres t) (ofTable writeTable (tableFrom fibres x))
   unfolding ofTable tableFrom
   decided f (matrix n m) e = is-due (record { two-or-four = f; n = n; m = m; of = matrix-is t n m .0 e; is = refl })
-  decided f (no-matrix reason line) e = is-given (of-matrix f (given desk t reason line .0 e))
+  decided f (no-matrix reason line byte) e = is-given (of-matrix f (given desk t reason line byte .0 e))
 
   all-decided : Decided (MatrixDue fibres t) (MatrixGiven fibres t) (matrixRead fibres t)
   unfolding matrixRead
@@ -84,19 +84,19 @@ module _ (fibres : ℕ) (t : List ℕ) where
   unfolding Says
   not-15 reason line h e = subst (λ s. Says desk t s line) (same-reason reason NoRoom e) h
 
-  one-given-matrix : {r s : Reason} {line other : ℕ} → MatrixGiven fibres t r line → MatrixGiven fibres t s other → (r ≡ s) × (line ≡ other)
-  one-given-matrix (of-fibres f) (of-fibres g) = (refl, refl)
+  one-given-matrix : {r s : Reason} {line other byte on : ℕ} → MatrixGiven fibres t r line byte → MatrixGiven fibres t s other on → (r ≡ s) × (line ≡ other) × (byte ≡ on)
+  one-given-matrix (of-fibres f) (of-fibres g) = (refl, refl, refl)
   one-given-matrix (of-fibres f) (of-matrix g h) = absurd (f g)
   one-given-matrix (of-matrix f h) (of-fibres g) = absurd (g f)
   one-given-matrix (of-matrix f h) (of-matrix g k) = one-given h k
 
-  due-not-given : {text : List ℕ} {r : Reason} {line : ℕ} → MatrixDue fibres t text → MatrixGiven fibres t r line → ⊥
+  due-not-given : {text : List ℕ} {r : Reason} {line byte : ℕ} → MatrixDue fibres t text → MatrixGiven fibres t r line byte → ⊥
   due-not-given d (of-fibres f) = f (d .two-or-four)
-  due-not-given {text} d (of-matrix {reason} {line} f g) = due-accepted-matrix text d reason line (g .holds)
+  due-not-given {text} d (of-matrix {reason} {line} {byte} f g) = due-accepted-matrix text d reason line (g .holds)
 
-  given-not-15 : {r : Reason} {line : ℕ} → MatrixGiven fibres t r line → numberOf r ≡ numberOf NoRoom → ⊥
+  given-not-15 : {r : Reason} {line byte : ℕ} → MatrixGiven fibres t r line byte → numberOf r ≡ numberOf NoRoom → ⊥
   given-not-15 (of-fibres f) e = omega arith
-  given-not-15 (of-matrix {reason} {line} f g) e = not-15 reason line (g .holds) e
+  given-not-15 (of-matrix {reason} {line} {byte} f g) e = not-15 reason line (g .holds) e
 
   one-due : One (MatrixDue fibres t) (MatrixGiven fibres t)
   one-due =
@@ -143,8 +143,8 @@ same-values : {t : List ℕ} {ring other : Ring} {rs qs : List Row} → TableOf 
 same-values {ring} {other} {rs} {qs} a b = same-table desk desk-spelled ring other rs qs (a .range) (b .range) (sym (a .text) ∙ b .text)
 
 -- no reason is given to a text that is a table
-no-reason : {t : List ℕ} {ring : Ring} {rs : List Row} → TableOf t ring rs → {reason : Reason} {line : ℕ} → table.Given desk t reason line → ⊥
-no-reason {t} {ring} {rs} of {reason} {line} g = due-accepted t writeTable .1 (record { text = t; is = record { ring = ring; rs = rs; of = of; is = of .text } }) reason line (g .holds)
+no-reason : {t : List ℕ} {ring : Ring} {rs : List Row} → TableOf t ring rs → {reason : Reason} {line byte : ℕ} → table.Given desk t reason line byte → ⊥
+no-reason {t} {ring} {rs} of {reason} {line} {byte} g = due-accepted t writeTable .1 (record { text = t; is = record { ring = ring; rs = rs; of = of; is = of .text } }) reason line (g .holds)
 
 module _ (t : List ℕ) where
   sums-decided : (x : Result) → tableOf desk t ≡ x → Decided (SumsDue t) (SumsGiven t) (ofRows x)
@@ -154,23 +154,23 @@ module _ (t : List ℕ) where
       go : (x : Sums) → judgeSums desk rs ≡ x → Decided (SumsDue t) (SumsGiven t) (unlessPass x (write (writeMatrix (matrixOfRows (ring .n) rs))))
       go Fit f = is-due (record { ring = ring; rs = rs; of = read-is t ring rs .0 e; fit = sums-fit desk rs .0 f; is = refl })
       go (Pass line) f = is-given (of-sums (read-is t ring rs .0 e) (sums-given desk rs line .0 f))
-  sums-decided (refused reason line) e = is-given (of-table (table-given.given desk t reason line .0 e))
+  sums-decided (refused reason line byte) e = is-given (of-table (table-given.given desk t reason line byte .0 e))
 
-  one-refusal : {r s : Reason} {line other : ℕ} → SumsGiven t r line → SumsGiven t s other → (r ≡ s) × (line ≡ other)
+  one-refusal : {r s : Reason} {line other byte on : ℕ} → SumsGiven t r line byte → SumsGiven t s other on → (r ≡ s) × (line ≡ other) × (byte ≡ on)
   one-refusal (of-table a) (of-table b) = table-given.one-given a b
   one-refusal (of-table a) (of-sums of p) = absurd (no-reason of a)
   one-refusal (of-sums of p) (of-table b) = absurd (no-reason of b)
   one-refusal (of-sums {rs} {line} of p) (of-sums {rs = qs} {line = other} of′ q) =
       let e = same-values of of′ .1 in
       let f : Pass line ≡ Pass other = sym (sums-given desk rs line .1 p) ∙ sums-given desk rs other .1 (rw e q) in
-      (refl, cc)
+      (refl, cc, refl)
 
-  due-or-given : {text : List ℕ} {r : Reason} {line : ℕ} → SumsDue t text → SumsGiven t r line → ⊥
+  due-or-given : {text : List ℕ} {r : Reason} {line byte : ℕ} → SumsDue t text → SumsGiven t r line byte → ⊥
   due-or-given d (of-table a) = no-reason (d .of) a
   due-or-given d (of-sums of p) = let e = same-values of (d .of) .1 in d .fit (p .k) (rw e at (p .holds))
 
-  not-full : {r : Reason} {line : ℕ} → SumsGiven t r line → numberOf r ≡ numberOf NoRoom → ⊥
-  not-full (of-table {reason} {line} a) e = table-not-15 desk t line reason (a .holds) e
+  not-full : {r : Reason} {line byte : ℕ} → SumsGiven t r line byte → numberOf r ≡ numberOf NoRoom → ⊥
+  not-full (of-table {reason} {line} {byte} a) e = table-not-15 desk t line reason (a .holds) e
   not-full (of-sums of p) e = omega arith
 
   one-sums : One (SumsDue t) (SumsGiven t)

@@ -28,9 +28,9 @@ use Rattle.ringkit.specs.declared.Reply.{Reply}
 use Rattle.ringkit.proofs.FillSteps.{refuses, same-fills}
 
 module _ (s old : List ℕ) (t : Table) (e : t ≡ tableIn (tableOf desk s)) where
-  pub written-refused : (reason : Reason) (line : ℕ) (r : Reply) → t .answer ≡ Refused reason line → r ≡ replyOf (refuse reason line) → Fills (matrixWritten s) old old r
+  pub written-refused : (reason : Reason) (line byte : ℕ) (r : Reply) → t .answer ≡ Refused reason line byte → r ≡ replyOf (refuse reason line byte) → Fills (matrixWritten s) old old r
   unfolding matrixWritten ofRows
-  written-refused reason line r a = refuses (matrixWritten s) old reason line r (rw (told-refusal s t e reason line a))
+  written-refused reason line byte r a = refuses (matrixWritten s) old reason line byte r (rw (told-refusal s t e reason line byte a))
 
   module _ (n fibres count : ℕ) (a : t .answer ≡ Is n fibres count) where
     abbrev rows : List Row
@@ -48,9 +48,9 @@ module _ (s old : List ℕ) (t : Table) (e : t ≡ tableIn (tableOf desk s)) whe
     pub nodes-have-room : n ≤ desk .nodes
     nodes-have-room = range .many
 
-    pub sums-refused : (x : Sums) (line : ℕ) (r : Reply) → x ≡ judgeSums desk rows → x ≡ Pass line → r ≡ replyOf (refuse SumTooMuch line) → Fills (matrixWritten s) old old r
+    pub sums-refused : (x : Sums) (line : ℕ) (r : Reply) → x ≡ judgeSums desk rows → x ≡ Pass line → r ≡ replyOf (refuse SumTooMuch line 1) → Fills (matrixWritten s) old old r
     unfolding matrixWritten ofRows unlessPass
-    sums-refused x line r es ex = refuses (matrixWritten s) old SumTooMuch line r (let f : judgeSums desk rows ≡ Pass line = sym es ∙ ex in rw (told .is, f))
+    sums-refused x line r es ex = refuses (matrixWritten s) old SumTooMuch line 1 r (let f : judgeSums desk rows ≡ Pass line = sym es ∙ ex in rw (told .is, f))
 
     pub written-fills : (x : Sums) (new : List ℕ) (r : Reply) → x ≡ judgeSums desk rows → x ≡ Fit → Fills (write (writeMatrix (matrixOfRows n rows))) old new r → Fills (matrixWritten s) old new r
     unfolding matrixWritten ofRows unlessPass

@@ -26,9 +26,9 @@ use Rattle.ringkit.proofs.FillSteps.{refuses, same-fills}
 -- ---- from its own text
 
 module _ (s old : List ℕ) (t : Table) (e : t ≡ tableIn (tableOf desk s)) where
-  pub table-refused : (reason : Reason) (line : ℕ) (r : Reply) → t .answer ≡ Refused reason line → r ≡ replyOf (refuse reason line) → Fills (tableAfresh s) old old r
+  pub table-refused : (reason : Reason) (line byte : ℕ) (r : Reply) → t .answer ≡ Refused reason line byte → r ≡ replyOf (refuse reason line byte) → Fills (tableAfresh s) old old r
   unfolding tableAfresh ofTable
-  table-refused reason line r a = refuses (tableAfresh s) old reason line r (rw (table-told.told-refusal s t e reason line a))
+  table-refused reason line byte r a = refuses (tableAfresh s) old reason line byte r (rw (table-told.told-refusal s t e reason line byte a))
 
   module _ (n fibres count : ℕ) (a : t .answer ≡ Is n fibres count) where
     pub rows-have-room : count ≤ desk .rows
@@ -41,17 +41,17 @@ module _ (s old : List ℕ) (t : Table) (e : t ≡ tableIn (tableOf desk s)) whe
 -- ---- from a matrix, on a ring of so many fibres
 
 module _ (s old : List ℕ) (fibres : ℕ) (other : Bool) (eo : other ≡ otherFibres fibres) where
-  pub fibres-refused : (r : Reply) → other ≡ true → r ≡ replyOf (refuse Fibres 0) → Fills (matrixRead fibres s) old old r
+  pub fibres-refused : (r : Reply) → other ≡ true → r ≡ replyOf (refuse Fibres 0 0) → Fills (matrixRead fibres s) old old r
   unfolding matrixRead
-  fibres-refused r o = refuses (matrixRead fibres s) old Fibres 0 r (let f : otherFibres fibres ≡ true = sym eo ∙ o in rw f)
+  fibres-refused r o = refuses (matrixRead fibres s) old Fibres 0 0 r (let f : otherFibres fibres ≡ true = sym eo ∙ o in rw f)
 
   module _ (o : other ≡ false) (t : Table) (e : t ≡ tableIn (tableFrom fibres (matrixOf desk s))) where
     known : otherFibres fibres ≡ false
     known = sym eo ∙ o
 
-    pub matrix-refused : (reason : Reason) (line : ℕ) (r : Reply) → t .answer ≡ Refused reason line → r ≡ replyOf (refuse reason line) → Fills (matrixRead fibres s) old old r
+    pub matrix-refused : (reason : Reason) (line byte : ℕ) (r : Reply) → t .answer ≡ Refused reason line byte → r ≡ replyOf (refuse reason line byte) → Fills (matrixRead fibres s) old old r
     unfolding matrixRead ofTable tableFrom
-    matrix-refused reason line r a = refuses (matrixRead fibres s) old reason line r (rw (known, matrix-told.told-refusal s fibres t e reason line a))
+    matrix-refused reason line byte r a = refuses (matrixRead fibres s) old reason line byte r (rw (known, matrix-told.told-refusal s fibres t e reason line byte a))
 
     module _ (n same count : ℕ) (a : t .answer ≡ Is n same count) where
       pub matrix-rows-have-room : count ≤ desk .rows

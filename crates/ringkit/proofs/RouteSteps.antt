@@ -40,9 +40,9 @@ each-at P f m zero e k a b = absurd (omega arith)
 each-at P f m (suc n) (more p es) k a b = elim (ℕ-discrete k m) [ yes q ↦ rw q p | no q ↦ each-at P f (suc m) n es k (omega arith) (omega arith) ]
 
 module _ (s old : List ℕ) (t : Table) (e : t ≡ tableIn (tableOf desk s)) where
-  pub route-refused : (reason : Reason) (line : ℕ) (r : Reply) → t .answer ≡ Refused reason line → r ≡ replyOf (refuse reason line) → Fills (tableRouted s) old old r
+  pub route-refused : (reason : Reason) (line byte : ℕ) (r : Reply) → t .answer ≡ Refused reason line byte → r ≡ replyOf (refuse reason line byte) → Fills (tableRouted s) old old r
   unfolding tableRouted ofTable
-  route-refused reason line r a = refuses (tableRouted s) old reason line r (rw (told-refusal s t e reason line a))
+  route-refused reason line byte r a = refuses (tableRouted s) old reason line byte r (rw (told-refusal s t e reason line byte a))
 
   module _ (n fibres count : ℕ) (a : t .answer ≡ Is n fibres count) where
     abbrev rows : List Row

@@ -64,7 +64,7 @@ module _ (t : List ℕ) where
 afresh : (t : List ℕ) (x : Result) → check desk t ≡ x → Decided (Itself (Accepted desk t) t) (Given desk t) (ofSheet x)
 unfolding ofSheet
 afresh t (accepted x) e = is-due (record { accepted = accepted-as t x e; same = sym (checked-is t x .0 e .text) })
-afresh t (refused reason line) e = is-given (given desk t reason line .0 e)
+afresh t (refused reason line byte) e = is-given (given desk t reason line byte .0 e)
 
 one-itself : (t : List ℕ) → One (Itself (Accepted desk t) t) (Given desk t)
 one-itself t =
@@ -88,18 +88,19 @@ checked t = go (check desk t) refl
   where
     go : (x : Result) → check desk t ≡ x → CheckSays t (verdictReply x)
     go (accepted x) e = says-yes (accepted-as t x e)
-    go (refused reason line) e = says-no (given desk t reason line .0 e)
+    go (refused reason line byte) e = says-no (given desk t reason line byte .0 e)
 
 -- two refusals that reply alike are one, and none replies as yes does
-yes-not-no : (reason : Reason) (line : ℕ) → yes ≡ no reason line → ⊥
-yes-not-no reason line e = let z : 0 ≡ numberOf reason = ap (λ (r : Reply). r .reason) e in omega (arith, no-reason-0 reason)
+yes-not-no : (reason : Reason) (line byte : ℕ) → yes ≡ no reason line byte → ⊥
+yes-not-no reason line byte e = let z : 0 ≡ numberOf reason = ap (λ (r : Reply). r .reason) e in omega (arith, no-reason-0 reason)
 
 module _ {t : List ℕ} where
-  same-no : (reason : Reason) (line : ℕ) {why : Reason} {at : ℕ} → no why at ≡ no reason line → Given desk t why at → Given desk t reason line
-  same-no reason line {why} {at} e g =
+  same-no : (reason : Reason) (line byte : ℕ) {why : Reason} {at on : ℕ} → no why at on ≡ no reason line byte → Given desk t why at on → Given desk t reason line byte
+  same-no reason line byte {why} {at} {on} e g =
       let ew : why ≡ reason = same-reason why reason (ap (λ (r : Reply). r .reason) e) in
       let ea : at ≡ line = ap (λ (r : Reply). r .line) e in
-      rw (← ew, ← ea) g
+      let eb : on ≡ byte = ap (λ (r : Reply). r .byte) e in
+      rw (← ew, ← ea, ← eb) g
 
   some-sheet : Accepted desk t ↔ SomeSheet t
   some-sheet = (λ a. let r = accepted-is desk t .1 a in record { x = r .x; of = checked-is t (r .x) .0 (r .is) }, λ h. accepted-as t (h .x) (checked-is t (h .x) .1 (h .of)))
@@ -110,14 +111,14 @@ module _ {t : List ℕ} where
         cases = says-yes a;
         accepts = (λ e. a, λ b. refl);
         sheet = (λ e. some-sheet .0 a, λ h. refl);
-        refuses = λ reason line. (λ e. absurd (yes-not-no reason line e), λ g. absurd (a reason line tt (g .holds)));
+        refuses = λ reason line byte. (λ e. absurd (yes-not-no reason line byte e), λ g. absurd (a reason line tt (g .holds)));
       }
-  check-laws (says-no {reason = why} {line = at} g) =
+  check-laws (says-no {reason = why} {line = at} {byte = on} g) =
       record {
         cases = says-no g;
-        accepts = (λ e. absurd (yes-not-no why at (sym e)), λ a. absurd (a why at tt (g .holds)));
-        sheet = (λ e. absurd (yes-not-no why at (sym e)), λ h. absurd (some-sheet .1 h why at tt (g .holds)));
-        refuses = λ reason line. (λ e. same-no reason line e g, λ h. let o = one-given g h in rw (o .0, o .1));
+        accepts = (λ e. absurd (yes-not-no why at on (sym e)), λ a. absurd (a why at tt (g .holds)));
+        sheet = (λ e. absurd (yes-not-no why at on (sym e)), λ h. absurd (some-sheet .1 h why at tt (g .holds)));
+        refuses = λ reason line byte. (λ e. same-no reason line byte e g, λ h. let o = one-given g h in rw (o .0, o .1, o .2));
       }
 
 -- yes exactly where no reason holds of the sheet, and a refusal exactly where it is the first that holds
@@ -167,7 +168,7 @@ asked t = go (check desk t) refl
 
     go : (y : Result) → check desk t ≡ y → PairSays t (questionReply y)
     go (accepted x) q = pair-of x (checked-is t x .0 q) (firstPair (sents (x .rows))) refl
-    go (refused reason line) q = pair-refused (given desk t reason line .0 q)
+    go (refused reason line byte) q = pair-refused (given desk t reason line byte .0 q)
 
 module _ (t : List ℕ) where
   said-pair : (p q : ℕ) → PairOf t p q → sheetParallel t ≡ paired p q
@@ -178,9 +179,9 @@ module _ (t : List ℕ) where
   unfolding sheetParallel questionReply pairReply
   said-none h = ap questionReply (checked-is t (h .x) .1 (h .of)) ∙ ap pairReply (no-pair-is (sents (h .x .rows)) .1 (h .none))
 
-  said-refusal : (reason : Reason) (line : ℕ) → Given desk t reason line → sheetParallel t ≡ not-asked reason line
+  said-refusal : (reason : Reason) (line byte : ℕ) → Given desk t reason line byte → sheetParallel t ≡ not-asked reason line byte
   unfolding sheetParallel questionReply
-  said-refusal reason line g = ap questionReply (given desk t reason line .1 g)
+  said-refusal reason line byte g = ap questionReply (given desk t reason line byte .1 g)
 
   -- two places from 1 on
   is-pair : (p q : ℕ) {r : PairReply} → PairSays t r → r ≡ paired p q → 1 ≤ p → PairOf t p q
@@ -197,13 +198,14 @@ module _ (t : List ℕ) where
   is-none (no-pair x) e = x
   is-none (pair-refused {reason} g) e = let z : numberOf reason ≡ 0 = ap (λ (r : PairReply). r .reason) e in absurd (omega (arith, no-reason-0 reason))
 
-  is-refusal : (reason : Reason) (line : ℕ) {r : PairReply} → PairSays t r → r ≡ not-asked reason line → Given desk t reason line
-  is-refusal reason line (a-pair x l) e = let z : 0 ≡ numberOf reason = ap (λ (r : PairReply). r .reason) e in absurd (omega (arith, no-reason-0 reason))
-  is-refusal reason line (no-pair x) e = let z : 0 ≡ numberOf reason = ap (λ (r : PairReply). r .reason) e in absurd (omega (arith, no-reason-0 reason))
-  is-refusal reason line (pair-refused {reason = why} {line = at} g) e =
+  is-refusal : (reason : Reason) (line byte : ℕ) {r : PairReply} → PairSays t r → r ≡ not-asked reason line byte → Given desk t reason line byte
+  is-refusal reason line byte (a-pair x l) e = let z : 0 ≡ numberOf reason = ap (λ (r : PairReply). r .reason) e in absurd (omega (arith, no-reason-0 reason))
+  is-refusal reason line byte (no-pair x) e = let z : 0 ≡ numberOf reason = ap (λ (r : PairReply). r .reason) e in absurd (omega (arith, no-reason-0 reason))
+  is-refusal reason line byte (pair-refused {reason = why} {line = at} {byte = on} g) e =
       let ew : why ≡ reason = same-reason why reason (ap (λ (r : PairReply). r .reason) e) in
       let ea : at ≡ line = ap (λ (r : PairReply). r .line) e in
-      rw (← ew, ← ea) g
+      let eb : on ≡ byte = ap (λ (r : PairReply). r .byte) e in
+      rw (← ew, ← ea, ← eb) g
 
 -- two places exactly where they are the first pair of an accepted sheet, 0 and 0 exactly where it has none, and any other text gets the checker's refusal
 pub parallel-promise : (t : List ℕ) (r : PairReply) → r ≡ sheetParallel t → PairPromise t r
@@ -213,7 +215,7 @@ parallel-promise t r e =
       cases = says;
       pair = λ p q. (λ h. is-pair t p q says (h .0) (h .1), λ h. (e ∙ said-pair t p q h, low (h .pair .are .first)));
       none = (λ y. is-none t says y, λ h. e ∙ said-none t h);
-      refuses = λ reason line. (λ y. is-refusal t reason line says y, λ g. e ∙ said-refusal t reason line g);
+      refuses = λ reason line byte. (λ y. is-refusal t reason line byte says y, λ g. e ∙ said-refusal t reason line byte g);
     }
 
 -- ---- what routing writes

@@ -22,24 +22,24 @@ use Rattle.ringkit.specs.declared.Reply.{Reply}
 use Rattle.ringkit.proofs.FillSteps.{refuses}
 
 module _ (s : List ℕ) (c : Checked) (e : c ≡ checkedIn (check desk s)) where
-  module _ (reason : Reason) (line : ℕ) (a : c .answer ≡ Refused reason line) where
-    pub check-refused : (r : Reply) → r ≡ replyOf (refuse reason line) → r ≡ sheetChecked s
+  module _ (reason : Reason) (line byte : ℕ) (a : c .answer ≡ Refused reason line byte) where
+    pub check-refused : (r : Reply) → r ≡ replyOf (refuse reason line byte) → r ≡ sheetChecked s
     unfolding sheetChecked
-    check-refused r q = q ∙ sym (ap verdictReply (told-refusal s c e reason line a))
+    check-refused r q = q ∙ sym (ap verdictReply (told-refusal s c e reason line byte a))
 
-    pub pair-refused : (m : ℕ) → m ≡ numberOf reason → record { reason = m; line = line; first = 0; second = 0 } ≡ sheetParallel s
+    pub pair-refused : (m : ℕ) → m ≡ numberOf reason → record { reason = m; line = line; byte = byte; first = 0; second = 0 } ≡ sheetParallel s
     unfolding sheetParallel questionReply
-    pair-refused m q = rw q (sym (ap questionReply (told-refusal s c e reason line a)))
+    pair-refused m q = rw q (sym (ap questionReply (told-refusal s c e reason line byte a)))
 
-    pub sheet-refused : (old : List ℕ) (r : Reply) → r ≡ replyOf (refuse reason line) → Fills (sheetAfresh s) old old r
+    pub sheet-refused : (old : List ℕ) (r : Reply) → r ≡ replyOf (refuse reason line byte) → Fills (sheetAfresh s) old old r
     unfolding sheetAfresh ofSheet
-    sheet-refused old r = refuses (sheetAfresh s) old reason line r (ap ofSheet (told-refusal s c e reason line a))
+    sheet-refused old r = refuses (sheetAfresh s) old reason line byte r (ap ofSheet (told-refusal s c e reason line byte a))
 
   module _ (count : ℕ) (a : c .answer ≡ Is count) where
     told : Told s c count
     told = told-sheet s c e count a
 
-    pub check-accepted : record { reason = 0; line = 0; length = 0 } ≡ sheetChecked s
+    pub check-accepted : record { reason = 0; line = 0; byte = 0; length = 0 } ≡ sheetChecked s
     unfolding sheetChecked
     check-accepted = sym (ap verdictReply (told .is))
 
@@ -54,11 +54,11 @@ module _ (s : List ℕ) (c : Checked) (e : c ≡ checkedIn (check desk s)) where
       unfolding sheetParallel questionReply
       found = ap questionReply (told .is) ∙ ap (λ ss. pairReply (firstPair ss)) (sym (told .sents-same)) ∙ ap pairReply (sym (is (c .amount)))
 
-      pub pair-found : (p q : ℕ) → pair ≡ Are p q → record { reason = 0; line = 0; first = p; second = q } ≡ sheetParallel s
+      pub pair-found : (p q : ℕ) → pair ≡ Are p q → record { reason = 0; line = 0; byte = 0; first = p; second = q } ≡ sheetParallel s
       unfolding pairReply
       pair-found p q f = sym (found ∙ rw f)
 
-      pub no-pair-found : pair ≡ None → record { reason = 0; line = 0; first = 0; second = 0 } ≡ sheetParallel s
+      pub no-pair-found : pair ≡ None → record { reason = 0; line = 0; byte = 0; first = 0; second = 0 } ≡ sheetParallel s
       unfolding pairReply
       no-pair-found f = sym (found ∙ rw f)
 

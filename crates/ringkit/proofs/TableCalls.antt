@@ -44,7 +44,7 @@ module _ (t : List ℕ) where
     pub decided : (x : Result) → tableOf desk t ≡ x → Decided (TableDue due t) (Given desk t) (ofTable due x)
     unfolding ofTable
     decided (accepted ring rs) e = is-due (record { ring = ring; rs = rs; of = read-is ring rs .0 e; is = refl })
-    decided (refused reason line) e = is-given (given desk t reason line .0 e)
+    decided (refused reason line byte) e = is-given (given desk t reason line byte .0 e)
 
     pub one-due : One (TableDue due t) (Given desk t)
     one-due =
@@ -64,7 +64,7 @@ afresh : (t : List ℕ) (x : Result) → tableOf desk t ≡ x → Decided (Itsel
 unfolding ofTable
 afresh t (accepted ring rs) e =
     is-due (record { accepted = accepted-is desk t .0 (record { ring = ring; rs = rs; is = e }); same = sym (read-is t ring rs .0 e .text) })
-afresh t (refused reason line) e = is-given (given desk t reason line .0 e)
+afresh t (refused reason line byte) e = is-given (given desk t reason line byte .0 e)
 
 one-itself : (t : List ℕ) → One (Itself (Accepted desk t) t) (Given desk t)
 one-itself t =

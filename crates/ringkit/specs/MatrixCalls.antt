@@ -19,17 +19,17 @@ use Rattle.ringkit.specs.TableCalls.{ofTable}
 -- reading a matrix and writing its table, on a ring of so many fibres: 20 is tried first of all
 unfoldable pub matrixRead : ℕ → List ℕ → Outcome
 unfolding ofTable
-matrixRead fibres t = cond (otherFibres fibres) (refuse Fibres 0) (ofTable writeTable (tableFrom fibres (matrixOf desk t)))
+matrixRead fibres t = cond (otherFibres fibres) (refuse Fibres 0 0) (ofTable writeTable (tableFrom fibres (matrixOf desk t)))
 
 -- 19, where a pair's sum passes the limit
 unfoldable pub unlessPass : Sums → Outcome → Outcome
 unlessPass Fit next = next
-unlessPass (Pass line) next = refuse SumTooMuch line
+unlessPass (Pass line) next = refuse SumTooMuch line 1
 
 unfoldable pub ofRows : Result → Outcome
 unfolding unlessPass
 ofRows (accepted ring rs) = unlessPass (judgeSums desk rs) (write (writeMatrix (matrixOfRows (ring .n) rs)))
-ofRows (refused reason line) = refuse reason line
+ofRows (refused reason line byte) = refuse reason line byte
 
 -- reading a table and writing its matrix
 unfoldable pub matrixWritten : List ℕ → Outcome

@@ -13,21 +13,23 @@ use Rattle.ringkit.specs.declared.Reply.{Reply}
 pub record Success (text old new : List ℕ) (r : Reply) : Type 0 where
   pub reason : r .reason ≡ 0
   pub line : r .line ≡ 0
+  pub byte : r .byte ≡ 0
   pub size : r .length ≡ length text
   pub buffer : new ≡ text ++ drop (length text) old
 
--- a refusal returns only reason and line, and changes no byte
-pub record Refusal (reason : Reason) (line : ℕ) (old new : List ℕ) (r : Reply) : Type 0 where
+-- a refusal returns only reason, line and byte of the line, and changes no byte of the buffer
+pub record Refusal (reason : Reason) (line byte : ℕ) (old new : List ℕ) (r : Reply) : Type 0 where
   pub number : r .reason ≡ numberOf reason
   pub at : r .line ≡ line
+  pub on : r .byte ≡ byte
   pub none : r .length ≡ 0
   pub buffer : new ≡ old
 
 -- the three cases of 01, by which text is due and which refusal is given
-pub data CallSays (Due : List ℕ → Type 0) (Given : Reason → ℕ → Type 0) (old new : List ℕ) (r : Reply) : Type 0 where
+pub data CallSays (Due : List ℕ → Type 0) (Given : Reason → ℕ → ℕ → Type 0) (old new : List ℕ) (r : Reply) : Type 0 where
   with-room : {text : List ℕ} → Due text → length text ≤ length old → Success text old new r → CallSays Due Given old new r
-  without-room : {text : List ℕ} → Due text → length old < length text → Refusal NoRoom 0 old new r → CallSays Due Given old new r
-  none-due : {reason : Reason} {line : ℕ} → Given reason line → Refusal reason line old new r → CallSays Due Given old new r
+  without-room : {text : List ℕ} → Due text → length old < length text → Refusal NoRoom 0 0 old new r → CallSays Due Given old new r
+  none-due : {reason : Reason} {line byte : ℕ} → Given reason line byte → Refusal reason line byte old new r → CallSays Due Given old new r
 
 -- a text is due that does not fit into the buffer
 pub record TooLarge (Due : List ℕ → Type 0) (old : List ℕ) : Type 0 where
@@ -36,12 +38,12 @@ pub record TooLarge (Due : List ℕ → Type 0) (old : List ℕ) : Type 0 where
   pub large : length old < length text
 
 -- all that such a call promises
-pub record CallPromise (Due : List ℕ → Type 0) (Given : Reason → ℕ → Type 0) (old new : List ℕ) (r : Reply) : Type 0 where
+pub record CallPromise (Due : List ℕ → Type 0) (Given : Reason → ℕ → ℕ → Type 0) (old new : List ℕ) (r : Reply) : Type 0 where
   -- one of the three is the case:
   pub cases : CallSays Due Given old new r
   -- it succeeds with a text exactly when that text is due and the buffer has room for it;
   pub succeeds : (text : List ℕ) → Success text old new r ↔ (Due text × (length text ≤ length old))
   -- 15 is given exactly when a text is due that does not fit;
-  pub no-room : Refusal NoRoom 0 old new r ↔ TooLarge Due old
-  -- every other reason, with its line, exactly when it is given to the text
-  pub refuses : (reason : Reason) (line : ℕ) → (numberOf reason ≡ numberOf NoRoom → ⊥) → Refusal reason line old new r ↔ Given reason line
+  pub no-room : Refusal NoRoom 0 0 old new r ↔ TooLarge Due old
+  -- every other reason, with its line and its byte, exactly when it is given to the text
+  pub refuses : (reason : Reason) (line byte : ℕ) → (numberOf reason ≡ numberOf NoRoom → ⊥) → Refusal reason line byte old new r ↔ Given reason line byte

@@ -17,8 +17,8 @@ use Rattle.ringkit.specs.declared.PairReply.{PairReply}
 
 unfoldable pub verdictReply : Result → Reply
 unfolding replyOf
-verdictReply (accepted x) = record { reason = 0; line = 0; length = 0 }
-verdictReply (refused reason line) = replyOf (refuse reason line)
+verdictReply (accepted x) = record { reason = 0; line = 0; byte = 0; length = 0 }
+verdictReply (refused reason line byte) = replyOf (refuse reason line byte)
 
 unfoldable pub sheetChecked : List ℕ → Reply
 unfolding verdictReply
@@ -28,13 +28,13 @@ sheetChecked t = verdictReply (check desk t)
 
 -- 01's numbers for each of the answer's cases: two places, counted from 1; or none
 unfoldable pub pairReply : Pair → PairReply
-pairReply (Are p q) = record { reason = 0; line = 0; first = p; second = q }
-pairReply None = record { reason = 0; line = 0; first = 0; second = 0 }
+pairReply (Are p q) = record { reason = 0; line = 0; byte = 0; first = p; second = q }
+pairReply None = record { reason = 0; line = 0; byte = 0; first = 0; second = 0 }
 
 unfoldable pub questionReply : Result → PairReply
 unfolding pairReply
 questionReply (accepted x) = pairReply (firstPair (sents (x .rows)))
-questionReply (refused reason line) = record { reason = numberOf reason; line = line; first = 0; second = 0 }
+questionReply (refused reason line byte) = record { reason = numberOf reason; line = line; byte = byte; first = 0; second = 0 }
 
 unfoldable pub sheetParallel : List ℕ → PairReply
 unfolding questionReply
@@ -44,7 +44,7 @@ sheetParallel t = questionReply (check desk t)
 
 unfoldable pub ofSheet : Result → Outcome
 ofSheet (accepted x) = write (writeSheet x)
-ofSheet (refused reason line) = refuse reason line
+ofSheet (refused reason line byte) = refuse reason line byte
 
 unfoldable pub sheetAfresh : List ℕ → Outcome
 unfolding ofSheet

@@ -15,7 +15,7 @@ use Rattle.ringkit.specs.Outcome.{Outcome, write, refuse}
 -- the outcome of a reading, by what is due to the values of an accepted table
 unfoldable pub ofTable : (Ring → List Row → List ℕ) → Result → Outcome
 ofTable due (accepted ring rs) = write (due ring rs)
-ofTable due (refused reason line) = refuse reason line
+ofTable due (refused reason line byte) = refuse reason line byte
 
 -- reading a table and writing its values afresh
 unfoldable pub tableAfresh : List ℕ → Outcome

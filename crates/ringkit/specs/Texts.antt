@@ -83,10 +83,10 @@ pub record MatrixDue (fibres : ℕ) (t text : List ℕ) : Type 0 where
   pub of : MatrixOf t n m
   pub is : text ≡ writeTable (ringOf n fibres) (rowsOfMatrix n m)
 
--- what is given to a matrix that is read: 20 first of all, with line 0; then the matrix's own reasons
-pub data MatrixGiven (fibres : ℕ) (t : List ℕ) : Reason → ℕ → Type 0 where
-  of-fibres : (IsFibres fibres → ⊥) → MatrixGiven fibres t Fibres 0
-  of-matrix : {reason : Reason} {line : ℕ} → IsFibres fibres → matrix-says.Given desk t reason line → MatrixGiven fibres t reason line
+-- what is given to a matrix that is read: 20 first of all, with line 0 and byte 0; then the matrix's own reasons
+pub data MatrixGiven (fibres : ℕ) (t : List ℕ) : Reason → ℕ → ℕ → Type 0 where
+  of-fibres : (IsFibres fibres → ⊥) → MatrixGiven fibres t Fibres 0 0
+  of-matrix : {reason : Reason} {line byte : ℕ} → IsFibres fibres → matrix-says.Given desk t reason line byte → MatrixGiven fibres t reason line byte
 
 -- the text that is due to a table of which a matrix is written: rows of one pair add up, and no sum passes the limit
 pub record SumsDue (t text : List ℕ) : Type 0 where
@@ -96,7 +96,7 @@ pub record SumsDue (t text : List ℕ) : Type 0 where
   pub fit : (k : ℕ) → Passes desk rs k → ⊥
   pub is : text ≡ writeMatrix (matrixOfRows (ring .n) rs)
 
--- what is given to a table of which a matrix is written: the table's own reasons; then 19, on the line of the first row at which a pair's sum passes 9,999
-pub data SumsGiven (t : List ℕ) : Reason → ℕ → Type 0 where
-  of-table : {reason : Reason} {line : ℕ} → Given desk t reason line → SumsGiven t reason line
-  of-sums : {ring : Ring} {rs : List Row} {line : ℕ} → TableOf t ring rs → PassesAt desk rs line → SumsGiven t SumTooMuch line
+-- what is given to a table of which a matrix is written: the table's own reasons; then 19, on the line of the first row at which a pair's sum passes 9,999, with byte 1
+pub data SumsGiven (t : List ℕ) : Reason → ℕ → ℕ → Type 0 where
+  of-table : {reason : Reason} {line byte : ℕ} → Given desk t reason line byte → SumsGiven t reason line byte
+  of-sums : {ring : Ring} {rs : List Row} {line : ℕ} → TableOf t ring rs → PassesAt desk rs line → SumsGiven t SumTooMuch line 1

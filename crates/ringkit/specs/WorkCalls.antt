@@ -22,8 +22,8 @@ pub record WorkDue (w : Work) (text : List ℕ) : Type 0 where
   pub is : text ≡ writeTable (ringIn w) rs
 
 -- but for 15, writing it has no refusal
-abbrev pub NoRefusal : Reason → ℕ → Type 0
-NoRefusal reason line = ⊥
+abbrev pub NoRefusal : Reason → ℕ → ℕ → Type 0
+NoRefusal reason line byte = ⊥
 
 pub record RoutedCut (cs : List Call) (old new : List ℕ) (r : Reply) : Type 0 where
   pub x : Sheet

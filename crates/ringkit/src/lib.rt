@@ -61,20 +61,22 @@ pub fn matrix_bytes() -> usize
     MATRIX_BYTES
 }
 
-// reason 0 is success. On a refusal every field but reason and line is 0.
+// reason 0 is success. On a refusal every field but reason, line and byte is 0; byte counts the bytes of the line from 1.
 #[repr(C)]
 pub struct Reply {
     pub reason: u32,
     pub line: u32,
+    pub byte: u32,
     pub length: usize,
 }
 
-fn refusal(reason: Reason, line: u32) -> Reply
-    ensures { λ r. ⌜ r ≡ replyOf (refuse reason line) ⌝ }
+fn refusal(reason: Reason, line: u32, byte: u32) -> Reply
+    ensures { λ r. ⌜ r ≡ replyOf (refuse reason line byte) ⌝ }
 {
     Reply {
         reason: reason.number(),
         line,
+        byte,
         length: 0,
     }
 }
@@ -94,12 +96,13 @@ fn put_table<'a>(
 {
     let size = table::table_length(n, fibres, count, first, second, amount);
     if buf.len() < size {
-        return refusal(Reason::NoRoom, 0);
+        return refusal(Reason::NoRoom, 0, 0);
     }
     let length = table::write_table(buf, n, fibres, count, first, second, amount);
     Reply {
         reason: 0,
         line: 0,
+        byte: 0,
         length,
     }
 }
@@ -112,7 +115,7 @@ pub extern "C" fn ringkit_rewrite_table(table: &[u8], buffer: &mut [u8]) -> Repl
     let t = table::read_table(table);
     let answer = t.answer;
     match answer {
-        Answer::Refused(reason, line) => refusal(reason, line),
+        Answer::Refused(reason, line, byte) => refusal(reason, line, byte),
         Answer::Is(n, fibres, count) => put_table(
             buffer,
             n,
@@ -132,12 +135,12 @@ pub extern "C" fn ringkit_read_matrix(matrix: &[u8], fibres: u32, buffer: &mut [
 {
     let other = table::other_fibres(fibres);
     if other {
-        return refusal(Reason::Fibres, 0);
+        return refusal(Reason::Fibres, 0, 0);
     }
     let t = matrix::read_matrix(matrix, fibres);
     let answer = t.answer;
     match answer {
-        Answer::Refused(reason, line) => refusal(reason, line),
+        Answer::Refused(reason, line, byte) => refusal(reason, line, byte),
         Answer::Is(n, _, count) => put_table(
             buffer,
             n,
@@ -164,12 +167,13 @@ fn put_matrix<'a>(
 {
     let bytes = matrix::matrix_length(n, count, first, second, amount);
     if buf.len() < bytes {
-        return refusal(Reason::NoRoom, 0);
+        return refusal(Reason::NoRoom, 0, 0);
     }
     let length = matrix::write_matrix(buf, n, count, first, second, amount);
     Reply {
         reason: 0,
         line: 0,
+        byte: 0,
         length,
     }
 }
@@ -182,11 +186,11 @@ pub extern "C" fn ringkit_write_matrix(table: &[u8], buffer: &mut [u8]) -> Reply
     let t = table::read_table(table);
     let answer = t.answer;
     match answer {
-        Answer::Refused(reason, line) => refusal(reason, line),
+        Answer::Refused(reason, line, byte) => refusal(reason, line, byte),
         Answer::Is(n, _, count) => {
             let sums = matrix::judge_sums(count, &t.first, &t.second, &t.amount);
             match sums {
-                Sums::Pass(line) => refusal(Reason::SumTooMuch, line),
+                Sums::Pass(line) => refusal(Reason::SumTooMuch, line, 1),
                 Sums::Fit => put_matrix(buffer, n, count, &t.first, &t.second, &t.amount),
             }
         }
@@ -223,7 +227,7 @@ fn put_sheet<'a>(
         unsplit,
     );
     if buf.len() < need {
-        return refusal(Reason::NoRoom, 0);
+        return refusal(Reason::NoRoom, 0, 0);
     }
     let length = sheet::write_sheet(
         buf,
@@ -241,6 +245,7 @@ fn put_sheet<'a>(
     Reply {
         reason: 0,
         line: 0,
+        byte: 0,
         length,
     }
 }
@@ -253,7 +258,7 @@ pub extern "C" fn ringkit_route(table: &[u8], buffer: &mut [u8]) -> Reply
     let t = table::read_table(table);
     let answer = t.answer;
     match answer {
-        Answer::Refused(reason, line) => refusal(reason, line),
+        Answer::Refused(reason, line, byte) => refusal(reason, line, byte),
         Answer::Is(n, fibres, count) => {
             let p = router::route(n, fibres, count, &t.first, &t.second, &t.amount);
             let x = Figures {
@@ -290,10 +295,11 @@ pub extern "C" fn ringkit_check(sheet: &[u8]) -> Reply
     let c = checker::check_sheet(sheet);
     let answer = c.answer;
     match answer {
-        Judged::Refused(why, at) => refusal(why, at),
+        Judged::Refused(why, at, byte) => refusal(why, at, byte),
         Judged::Is(_) => Reply {
             reason: 0,
             line: 0,
+            byte: 0,
             length: 0,
         },
     }
@@ -304,6 +310,7 @@ pub extern "C" fn ringkit_check(sheet: &[u8]) -> Reply
 pub struct PairReply {
     pub reason: u32,
     pub line: u32,
+    pub byte: u32,
     pub first: usize,
     pub second: usize,
 }
@@ -316,9 +323,10 @@ pub extern "C" fn ringkit_parallel(sheet: &[u8]) -> PairReply
     let c = checker::check_sheet(sheet);
     let answer = c.answer;
     match answer {
-        Judged::Refused(reason, line) => PairReply {
+        Judged::Refused(reason, line, byte) => PairReply {
             reason: reason.number(),
             line,
+            byte,
             first: 0,
             second: 0,
         },
@@ -328,6 +336,7 @@ pub extern "C" fn ringkit_parallel(sheet: &[u8]) -> PairReply
                 return PairReply {
                     reason: 0,
                     line: 0,
+                    byte: 0,
                     first: 0,
                     second: 0,
                 };
@@ -335,6 +344,7 @@ pub extern "C" fn ringkit_parallel(sheet: &[u8]) -> PairReply
             PairReply {
                 reason: 0,
                 line: 0,
+                byte: 0,
                 first,
                 second,
             }
@@ -350,7 +360,7 @@ pub extern "C" fn ringkit_rewrite_sheet(sheet: &[u8], buffer: &mut [u8]) -> Repl
     let c = checker::check_sheet(sheet);
     let answer = c.answer;
     match answer {
-        Judged::Refused(reason, line) => refusal(reason, line),
+        Judged::Refused(reason, line, byte) => refusal(reason, line, byte),
         Judged::Is(count) => {
             let x = c.figures;
             put_sheet(

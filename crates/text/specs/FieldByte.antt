@@ -2,7 +2,7 @@
 use Prim.Native.Nat.{ℕ, _+_}
 use mathlib.Core.List.{List, [], _∷_}
 use lib.ListN.{length, take}
-use Rattle.text.specs.Shapes.{ringShape, rowShape, sentShape, numbers}
+use Rattle.text.specs.Shapes.{ringShape, rowShape, sentShape}
 use Rattle.text.specs.WriteLine.{writeLine}
 
 -- k fields stand before the field; each is written with the byte behind it
@@ -20,7 +20,3 @@ rowByte i j amount k = fieldByte rowShape (0 ∷ i ∷ j ∷ amount ∷ []) k
 -- in the line D i j amount front back F-or-B
 abbrev pub sentByte : ℕ → ℕ → ℕ → ℕ → ℕ → ℕ → ℕ → ℕ
 sentByte i j amount front back w k = fieldByte sentShape (0 ∷ i ∷ j ∷ amount ∷ front ∷ back ∷ w ∷ []) k
-
--- in a line of numbers alone
-abbrev pub entryByte : List ℕ → ℕ → ℕ
-entryByte vs k = fieldByte (numbers (length vs)) vs k

@@ -29,7 +29,7 @@ ghost use Rattle.text.specs.ReadLine.{fieldAt, readLine};
 ghost use Rattle.text.specs.WriteLine.{endOf};
 ghost use Rattle.text.specs.Written.{Written};
 ghost use Rattle.text.specs.Answers.{twoIn, threeIn, sentIn};
-ghost use Rattle.text.specs.FieldByte.{ringByte, rowByte, entryByte};
+ghost use Rattle.text.specs.FieldByte.{ringByte, rowByte};
 ghost use Rattle.text.specs.Shapes.{ringShape, rowShape, sentShape, cutShape, linkShape, lastShape, ringLine, rowLine, sentLine, cutLine, linkLine, lastLine};
 
 // The shapes of the six lines.
