@@ -11,17 +11,18 @@ fn show(n: u32, end: &[u8]) {
     io::write_all(STDOUT_FILENO, end);
 }
 
-// The line of a refusal.
-fn refuse(reason: u32, line: u32) {
+// The line of a refusal: the reason, the line and the byte of it.
+fn refuse(reason: u32, line: u32, byte: u32) {
     io::write_all(STDOUT_FILENO, b"E\t");
     show(reason, b"\t");
-    show(line, b"\n");
+    show(line, b"\t");
+    show(byte, b"\n");
 }
 
 fn check(text: &[u8]) {
     let reply = ringkit::ringkit_check(text);
     if reply.reason != 0 {
-        refuse(reply.reason, reply.line);
+        refuse(reply.reason, reply.line, reply.byte);
         return;
     }
     io::write_all(STDOUT_FILENO, b"Y\n");

@@ -12,17 +12,18 @@ fn show(n: u32, end: &[u8]) {
     io::write_all(STDOUT_FILENO, end);
 }
 
-// The line of a refusal.
-fn refuse(reason: u32, line: u32) {
+// The line of a refusal: the reason, the line and the byte of it.
+fn refuse(reason: u32, line: u32, byte: u32) {
     io::write_all(STDOUT_FILENO, b"E\t");
     show(reason, b"\t");
-    show(line, b"\n");
+    show(line, b"\t");
+    show(byte, b"\n");
 }
 
 fn plan(text: &[u8], sheet: &mut [u8]) {
     let reply = ringkit::ringkit_route(text, sheet);
     if reply.reason != 0 {
-        refuse(reply.reason, reply.line);
+        refuse(reply.reason, reply.line, reply.byte);
         return;
     }
     let length = reply.length;
