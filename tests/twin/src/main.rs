@@ -37,6 +37,7 @@ mod round_trips;
 mod row_faults;
 mod rules;
 mod selfcheck;
+mod shape;
 mod sheet;
 mod sheets;
 mod stored;

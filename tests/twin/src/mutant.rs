@@ -9,7 +9,7 @@ use crate::matrix_faults::{self, MATRIX_FAULTS};
 use crate::row_faults::*;
 use crate::rules::{self, Cut, Plan, Sent, Way};
 use crate::sheet;
-use crate::table::{self, Refusal, Row, RowReason, Table};
+use crate::table::{self, refuse, Refusal, Row, RowReason, Table};
 use crate::text_faults::*;
 use crate::twin::{self, Answer, Call, Reply, Said};
 use crate::working::{Ask, Told};
@@ -532,12 +532,7 @@ fn short_at_need(answer: &Answer, area: &mut [u8], lent: Range<usize>) -> Reply 
 
 fn short_first(answer: &Answer, area: &mut [u8], lent: Range<usize>) -> Reply {
     if lent.is_empty() {
-        let (reason, line, length) = (15, 0, 0);
-        return Reply {
-            reason,
-            line,
-            length,
-        };
+        return twin::refused(&twin::NO_ROOM);
     }
     twin::reply(answer, &mut area[lent])
 }
@@ -946,6 +941,7 @@ fn early<T>(text: &[u8], read: Result<T, Refusal>) -> Result<T, Refusal> {
         3 if off => Refusal {
             reason: 20,
             line: 1,
+            byte: table::start_of(&table::lines(text)[0], 2),
         },
         _ => refusal,
     })
@@ -984,7 +980,7 @@ fn old_ring(text: &[u8]) -> Result<Table, Refusal> {
 
 fn ring_32(text: &[u8]) -> Result<Table, Refusal> {
     match table::read(text) {
-        Ok(table) if table.n == 32 => Err(Refusal { reason: 3, line: 1 }),
+        Ok(table) if table.n == 32 => refuse(3, 1, 3),
         other => other,
     }
 }
@@ -1017,11 +1013,11 @@ fn shape_first(text: &[u8]) -> Result<Table, Refusal> {
     let lines = text.split_inclusive(|byte| *byte == b'\n');
     for (at, line) in lines.enumerate().skip(1) {
         let alone = table::read(&[b"R\t32\t4\n", line].concat());
-        if text.len() <= 32_768 && alone.is_err_and(|refusal| refusal.reason == 2) {
-            return Err(Refusal {
-                reason: 2,
-                line: at as u32 + 1,
-            });
+        match alone {
+            Err(refusal) if text.len() <= 32_768 && refusal.reason == 2 => {
+                return refuse(2, at as u32 + 1, refusal.byte);
+            }
+            _ => (),
         }
     }
     table::read(text)
