@@ -18,6 +18,8 @@
 //! without the library, so that its reading is compared with the one that wrote
 //! their answers.
 
+mod byte_groups;
+mod byte_tally;
 mod check;
 mod checking_faults;
 mod compare;
@@ -53,6 +55,7 @@ mod working_run;
 mod working_selfcheck;
 mod working_stand_in;
 
+use byte_tally::ByteTally;
 use compare::{compare, describe, shrink, Case};
 use groups::{Group, GROUPS, SHARES};
 use kit::Kit;
@@ -142,6 +145,7 @@ struct Tally {
     /// Random accepted sheets with no parallel pair, with one, and with one
     /// that is not the first two rows.
     pairs: [u64; 3],
+    bytes: ByteTally,
 }
 
 impl Tally {
@@ -177,6 +181,7 @@ impl Tally {
         self.calls[call.place()] += 1;
         self.reasons[reason] += 1;
         self.random_reasons[call.place()][reason] += u64::from(random);
+        self.bytes.count(call, &case.text, said, case.offices >= 16);
         if let (Said::Pair(pair), 0, true) = (said, reason, random) {
             self.pairs[0] += u64::from(pair.first == 0);
             self.pairs[1] += u64::from(pair.first > 0);
@@ -350,6 +355,7 @@ fn print_counts(tally: &Tally) -> (u64, u64) {
     let [none, some, later] = tally.pairs;
     println!("random accepted sheets with no parallel pair: {none}");
     println!("with one: {some}, of these {later} with other than rows 1 and 2");
+    let bytes = tally.bytes.print();
     let demands = [
         (
             "every reason of 0 to 20 seen in random cases",
@@ -371,6 +377,10 @@ fn print_counts(tally: &Tally) -> (u64, u64) {
         (
             "a parallel pair, and none, seen in random accepted sheets",
             none > 0 && later > 0,
+        ),
+        (
+            "bytes of every reason seen on every field of every line, on 16 offices and more",
+            bytes,
         ),
     ];
     for (name, good) in demands {
