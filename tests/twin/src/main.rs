@@ -1,5 +1,5 @@
 //! The twin: ring routing, the checking of sheets and the reading and writing of
-//! matrices written once more from the sentences of 01 and of 02's K1 to K4
+//! matrices written once more from the sentences of 01 and of 02's K1 to K5
 //! alone, the working table among them, and compared with the library call by call and byte by byte.
 //!
 //! `twin [SEED [COUNT]]` compares: the lists in full and COUNT random
@@ -12,13 +12,16 @@
 //! `--cfg remote`, it asks a process that has the library.
 //!
 //! `twin --working [SEED [COUNT]]` compares the working table alone, and `twin
-//! --working-mutants [SEED [COUNT]]` lists which of its faults are caught.
+//! --working-mutants [SEED [COUNT]]` lists which of its faults are caught; `twin
+//! --byte-mutants` does so of the faults of the byte that goes with a refusal.
 //!
 //! `twin --cases` answers the stored cases given on standard input by itself,
 //! without the library, so that its reading is compared with the one that wrote
 //! their answers.
 
+mod byte_faults;
 mod byte_groups;
+mod byte_selfcheck;
 mod byte_tally;
 mod check;
 mod checking_faults;
@@ -268,6 +271,8 @@ fn self_checks(seed: u64) -> (u64, u64) {
         ("self-check: circuits", selfcheck::circuits()),
         ("self-check: matrices", matrix_selfcheck::matrices()),
         ("self-check: sums", matrix_selfcheck::sums()),
+        ("self-check: bytes", byte_selfcheck::by_hand()),
+        ("self-check: ends of lines", byte_selfcheck::by_ends(seed)),
         ("self-check: working table", working_selfcheck::square()),
         ("self-check: full working table", working_selfcheck::full()),
         ("self-check: theorems", selfcheck::random_theorems(seed)),
@@ -454,11 +459,11 @@ fn caught(seed: u64, count: u64, asked: fn(&Mutant) -> bool) -> usize {
     caught
 }
 
-/// Those of the working table alone. True when all are caught.
-fn working_mutants(seed: u64, count: u64) -> bool {
-    let all = faults().iter().filter(|fault| fault.of_working()).count();
-    let caught = caught(seed, count, Mutant::of_working);
-    println!("{caught} of {all} faults of the working table caught");
+/// Those of one kind alone. True when all are caught.
+fn some_mutants(seed: u64, count: u64, kind: &str, asked: fn(&Mutant) -> bool) -> bool {
+    let all = faults().iter().filter(|fault| asked(fault)).count();
+    let caught = caught(seed, count, asked);
+    println!("{caught} of {all} faults of the {kind} caught");
     caught == all
 }
 
@@ -488,6 +493,7 @@ struct Asked {
     cases: bool,
     mutants: bool,
     working: bool,
+    bytes: bool,
     kit: Kit,
     seed: u64,
     count: Option<u64>,
@@ -497,7 +503,7 @@ fn asked() -> Option<Asked> {
     let words: Vec<String> = std::env::args().skip(1).collect();
     let mode = words.first().map_or("", |word| word.as_str());
     let taken = match mode {
-        "--cases" | "--mutants" | "--working" | "--working-mutants" => 1,
+        "--cases" | "--mutants" | "--working" | "--working-mutants" | "--byte-mutants" => 1,
         "--mutant" => 2,
         _ => 0,
     };
@@ -512,6 +518,7 @@ fn asked() -> Option<Asked> {
         cases: mode == "--cases",
         mutants: mode.ends_with("mutants"),
         working: mode.starts_with("--working"),
+        bytes: mode.starts_with("--byte"),
         kit,
         seed: numbers.first().copied().unwrap_or(SEED),
         count: numbers.get(1).copied(),
@@ -520,7 +527,7 @@ fn asked() -> Option<Asked> {
 
 fn main() -> ExitCode {
     let Some(asked) = asked() else {
-        eprintln!("usage: twin --cases | twin [--working | --mutants | --working-mutants | --mutant K] [SEED [COUNT]]");
+        eprintln!("usage: twin --cases | twin [--working | --mutants | --working-mutants | --byte-mutants | --mutant K] [SEED [COUNT]]");
         return ExitCode::from(2);
     };
     if asked.cases {
@@ -530,7 +537,9 @@ fn main() -> ExitCode {
     if asked.mutants {
         let count = asked.count.unwrap_or(MUTANT_COUNT);
         let good = if asked.working {
-            working_mutants(seed, count)
+            some_mutants(seed, count, "working table", Mutant::of_working)
+        } else if asked.bytes {
+            some_mutants(seed, count, "byte", Mutant::of_bytes)
         } else {
             mutants(seed, count)
         };

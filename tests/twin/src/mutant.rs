@@ -1,6 +1,7 @@
 //! Faulty stand-ins for the library, to show that the comparison catches them.
 //! Each is the twin with one fault.
 
+use crate::byte_faults::{Pointed, BYTE_FAULTS};
 use crate::check::{self, Question, Questions, Sheet, QUESTIONS};
 use crate::checking_faults::*;
 use crate::foreign::cuts;
@@ -41,6 +42,8 @@ enum How {
     Pairs(fn(&Matrix) -> Table),
     Sums(fn(&[u8]) -> Result<Matrix, Refusal>),
     Square(fn(&Matrix) -> Vec<u8>),
+    /// The byte of a refusal.
+    Point(fn(&Pointed) -> u32),
     Working(Habits),
 }
 
@@ -52,6 +55,7 @@ impl Mutant {
             Call::WriteMatrix => self.answer_sums(text),
             _ => self.answer_sheet(call, text),
         };
+        let answer = answer.map_err(|refusal| self.point(call, text, refusal));
         match self.how {
             How::Write(write) if call.writes() => Said::Reply(write(&answer, area, lent)),
             How::Say(change) if !call.writes() => {
@@ -67,6 +71,25 @@ impl Mutant {
             How::Working(habits) => stand_in(habits, ask, words, buffer),
             _ => stand_in(&SOUND, ask, words, buffer),
         }
+    }
+
+    /// The refusal with the byte that the fault gives it.
+    fn point(&self, call: Call, text: &[u8], refusal: Refusal) -> Refusal {
+        let How::Point(point) = self.how else {
+            return refusal;
+        };
+        let pointed = Pointed {
+            call,
+            text,
+            refusal,
+        };
+        let byte = point(&pointed);
+        Refusal { byte, ..refusal }
+    }
+
+    /// Whether the fault lies in the byte of a refusal.
+    pub fn of_bytes(&self) -> bool {
+        BYTE_FAULTS.iter().any(|fault| std::ptr::eq(fault, self))
     }
 
     /// Whether the fault lies in the working table.
@@ -140,15 +163,20 @@ impl Mutant {
     }
 }
 
-/// All faults, those of a matrix behind the others and those of the working table
-/// last.
+/// All faults, those of a matrix behind the others, then those of the byte, and
+/// those of the working table last.
 pub fn faults() -> Vec<&'static Mutant> {
-    let texts = FAULTS.iter().chain(&MATRIX_FAULTS);
+    let texts = FAULTS.iter().chain(&MATRIX_FAULTS).chain(&BYTE_FAULTS);
     texts.chain(&WORKING_FAULTS).collect()
 }
 
 pub const fn working(name: &'static str, habits: Habits) -> Mutant {
     let how = How::Working(habits);
+    Mutant { name, how }
+}
+
+pub const fn pointing(name: &'static str, point: fn(&Pointed) -> u32) -> Mutant {
+    let how = How::Point(point);
     Mutant { name, how }
 }
 
@@ -167,7 +195,10 @@ const fn rows(name: &'static str, reasons: &'static [RowReason]) -> Mutant {
     Mutant { name, how }
 }
 
-const fn write(name: &'static str, write: fn(&Answer, &mut [u8], Range<usize>) -> Reply) -> Mutant {
+pub const fn write(
+    name: &'static str,
+    write: fn(&Answer, &mut [u8], Range<usize>) -> Reply,
+) -> Mutant {
     let how = How::Write(write);
     Mutant { name, how }
 }
@@ -237,7 +268,7 @@ const fn rewrite_sheet(name: &'static str, change: fn(Sheet) -> Sheet) -> Mutant
     Mutant { name, how }
 }
 
-const fn say(name: &'static str, change: fn(&[u8], Said) -> Said) -> Mutant {
+pub const fn say(name: &'static str, change: fn(&[u8], Said) -> Said) -> Mutant {
     let how = How::Say(change);
     Mutant { name, how }
 }
