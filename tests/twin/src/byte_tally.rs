@@ -3,7 +3,7 @@
 
 use crate::table::{self, Line};
 use crate::twin::{Call, Said};
-use std::collections::BTreeMap;
+use std::collections::{BTreeMap, BTreeSet};
 
 /// What a line should have been, by the lines above it.
 #[derive(Clone, Copy, PartialEq, Eq, Debug)]
@@ -177,13 +177,13 @@ impl ByteTally {
                 println!("byte of {group} line: {all} on 16 offices and more, at {kinds} kinds of place, at each {least} at least");
             }
         }
-        let unseen: Vec<String> = demanded()
-            .into_iter()
-            .filter(|at| !self.is_seen(at))
-            .collect();
+        let demanded = demanded();
+        let unseen: Vec<&String> = demanded.iter().filter(|at| !self.is_seen(at)).collect();
         for words in &unseen {
             println!("no byte on 16 offices and more: {words}");
         }
+        let (seen, all) = (demanded.len() - unseen.len(), demanded.len());
+        println!("kinds of place that bytes point to, on 16 offices and more: {seen} of {all}");
         unseen.is_empty()
     }
 
@@ -284,7 +284,7 @@ const OTHERS: [&str; 43] = [
     "19 of a table, line as a whole",
 ];
 
-fn demanded() -> Vec<String> {
+fn demanded() -> BTreeSet<String> {
     let others = OTHERS.iter().map(|words| words.to_string());
     let no_line = [1, 15].into_iter().flat_map(|reason| {
         ["table", "sheet", "matrix"].map(|text| format!("{reason} of a {text}, no line"))
