@@ -341,27 +341,10 @@ fn all_groups(kit: Kit, seed: u64, count: u64, tally: &mut Tally) -> (u64, u64) 
     (passed, failed)
 }
 
-/// Prints the counts. How many of the demands on them passed and failed.
-fn print_counts(tally: &Tally) -> (u64, u64) {
-    let (all, large) = (tally.comparisons, tally.large);
-    println!("comparisons: {all}, of these {large} on 16 offices and more");
-    for call in CALLS {
-        println!("call {call:?}: {}", tally.calls[call.place()]);
-    }
-    for reason in 0..REASONS {
-        let (seen, random) = (tally.reasons[reason], tally.random(reason));
-        println!("reason {reason}: {seen}, of these {random} in random cases");
-    }
-    tally.tables.print("tables");
-    tally.tables.print_circuits("tables");
-    tally.sheets.print("sheets");
-    tally.sheets.print_circuits("sheets");
-    tally.matrices.print("matrices");
-    let [none, some, later] = tally.pairs;
-    println!("random accepted sheets with no parallel pair: {none}");
-    println!("with one: {some}, of these {later} with other than rows 1 and 2");
-    let bytes = tally.bytes.print();
-    let demands = [
+/// What must have been counted, and whether it was.
+fn demands(tally: &Tally, bytes: bool) -> [(&'static str, bool); 6] {
+    let [none, _, later] = tally.pairs;
+    [
         (
             "every reason of 0 to 20 seen in random cases",
             (0..REASONS).all(|reason| tally.random(reason) > 0),
@@ -387,7 +370,29 @@ fn print_counts(tally: &Tally) -> (u64, u64) {
             "bytes of every reason seen on every field of every line, on 16 offices and more",
             bytes,
         ),
-    ];
+    ]
+}
+
+/// Prints the counts. How many of the demands on them passed and failed.
+fn print_counts(tally: &Tally) -> (u64, u64) {
+    let (all, large) = (tally.comparisons, tally.large);
+    println!("comparisons: {all}, of these {large} on 16 offices and more");
+    for call in CALLS {
+        println!("call {call:?}: {}", tally.calls[call.place()]);
+    }
+    for reason in 0..REASONS {
+        let (seen, random) = (tally.reasons[reason], tally.random(reason));
+        println!("reason {reason}: {seen}, of these {random} in random cases");
+    }
+    tally.tables.print("tables");
+    tally.tables.print_circuits("tables");
+    tally.sheets.print("sheets");
+    tally.sheets.print_circuits("sheets");
+    tally.matrices.print("matrices");
+    let [none, some, later] = tally.pairs;
+    println!("random accepted sheets with no parallel pair: {none}");
+    println!("with one: {some}, of these {later} with other than rows 1 and 2");
+    let demands = demands(tally, tally.bytes.print());
     for (name, good) in demands {
         println!("{}: {name}", if good { "passed" } else { "FAILED" });
     }
