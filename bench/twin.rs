@@ -14,6 +14,8 @@ mod matrix;
 mod rng;
 #[path = "../tests/twin/src/rules.rs"]
 mod rules;
+#[path = "../tests/twin/src/shape.rs"]
+mod shape;
 #[path = "../tests/twin/src/sheet.rs"]
 mod sheet;
 #[path = "../tests/twin/src/table.rs"]

@@ -19,9 +19,9 @@
 #include "refusal.h"
 #include "work.h"
 
-static enum status refused(const struct text *text, uint32_t reason, uint32_t line)
+static enum status refused(const struct text *text, ringkit_reply reply)
 {
-    tell_refusal(text, reason, line, true);
+    tell_refusal(text, (struct refusal){reply.reason, reply.line, reply.byte}, true);
     return REFUSED;
 }
 
@@ -32,7 +32,7 @@ static enum status pass_on(const struct text *text, writing *call, uint8_t *room
 {
     ringkit_reply reply = call(text->bytes, text->length, room, length);
     if (reply.reason != RINGKIT_OK) {
-        return refused(text, reply.reason, reply.line);
+        return refused(text, reply);
     }
     fwrite(room, 1, reply.length, stdout);
     return FINE;
@@ -50,7 +50,7 @@ static enum status table_for(const struct text *matrix, uint32_t fibres)
     uint8_t table[RINGKIT_TABLE_BYTES];
     ringkit_reply reply = ringkit_read_matrix(matrix->bytes, matrix->length, fibres, table, sizeof table);
     if (reply.reason != RINGKIT_OK) {
-        tell_refusal(matrix, reply.reason, reply.line, false);
+        tell_refusal(matrix, (struct refusal){reply.reason, reply.line, reply.byte}, false);
         return REFUSED;
     }
     fwrite(table, 1, reply.length, stdout);
@@ -77,7 +77,7 @@ static enum status check_sheet(const struct text *sheet)
 {
     ringkit_reply reply = ringkit_check(sheet->bytes, sheet->length);
     if (reply.reason != RINGKIT_OK) {
-        return refused(sheet, reply.reason, reply.line);
+        return refused(sheet, reply);
     }
     printf("%s: accepted. Every figure is true; no routing, however finely circuits are divided, has a peak below the\n", sheet->name);
     printf("split one; and the unsplit peak is within its bound.\n");
@@ -96,7 +96,8 @@ static enum status ask_parallel(const struct text *sheet)
 {
     ringkit_pair_reply reply = ringkit_parallel(sheet->bytes, sheet->length);
     if (reply.reason != RINGKIT_OK) {
-        return refused(sheet, reply.reason, reply.line);
+        tell_refusal(sheet, (struct refusal){reply.reason, reply.line, reply.byte}, true);
+        return REFUSED;
     }
     if (reply.first == 0) {
         printf("%s: no two split rows are parallel.\n", sheet->name);

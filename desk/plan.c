@@ -165,7 +165,7 @@ enum status plan_table(const struct text *table)
     struct plan plan;
     ringkit_reply reply = ringkit_route(table->bytes, table->length, sheet, sizeof sheet);
     if (reply.reason != RINGKIT_OK) {
-        tell_refusal(table, reply.reason, reply.line, true);
+        tell_refusal(table, (struct refusal){reply.reason, reply.line, reply.byte}, true);
         return REFUSED;
     }
     if (!read_plan(&plan, sheet, reply.length)) {

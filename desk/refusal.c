@@ -50,19 +50,18 @@ static bool lacks_fibres(struct line line)
     return line.length > 2 && line.bytes[0] == 'R' && line.bytes[1] == '\t' && k == line.length;
 }
 
-void tell_refusal(const struct text *text, uint32_t reason, uint32_t line, bool has_ring_line)
+void tell_refusal(const struct text *text, struct refusal refusal, bool has_ring_line)
 {
     fprintf(stderr, "%s: ", text->name);
-    if (line != 0) {
-        fprintf(stderr, "line %u: ", (unsigned)line);
+    if (refusal.line == 0) {
+        tell_reason(refusal.reason);
+        return;
     }
-    tell_reason(reason);
-    if (line != 0) {
-        fputs("    ", stderr);
-        show_line(stderr, line_of(text, line));
-        fputc('\n', stderr);
-    }
-    if (has_ring_line && reason == RINGKIT_MISSHAPEN && line == 1 && lacks_fibres(line_of(text, 1))) {
+    struct line line = line_of(text, refusal.line);
+    fprintf(stderr, "line %u, byte %u: ", (unsigned)refusal.line, (unsigned)refusal.byte);
+    tell_reason(refusal.reason);
+    mark_line(stderr, line, refusal.byte);
+    if (has_ring_line && refusal.reason == RINGKIT_MISSHAPEN && refusal.line == 1 && lacks_fibres(line)) {
         fputs("    The number of fibres, " NUMBER(RINGKIT_TWO_FIBRES) " or " NUMBER(RINGKIT_FOUR_FIBRES) ", is missing behind the number of offices.\n", stderr);
     }
 }

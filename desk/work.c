@@ -350,7 +350,7 @@ enum status work_on(const char *file)
     }
     ringkit_reply reply = ringkit_rewrite_table(table.bytes, table.length, same, sizeof same);
     if (reply.reason != RINGKIT_OK) {
-        tell_refusal(&table, reply.reason, reply.line, true);
+        tell_refusal(&table, (struct refusal){reply.reason, reply.line, reply.byte}, true);
         return REFUSED;
     }
     return begin(&d, take_rows(&d, &table));

@@ -7,7 +7,7 @@ int main(void)
     static uint8_t sheet[RINGKIT_SHEET_BYTES];
     ringkit_reply reply = ringkit_route((const uint8_t *)table, sizeof table - 1, sheet, sizeof sheet);
     if (reply.reason != RINGKIT_OK) {
-        fprintf(stderr, "refused: reason %u, line %u\n", reply.reason, reply.line);
+        fprintf(stderr, "refused: reason %u, line %u, byte %u\n", reply.reason, reply.line, reply.byte);
         return 1;
     }
     fwrite(sheet, 1, reply.length, stdout);

@@ -17,7 +17,7 @@
  *           and field i of line i is 0. The first line says how many offices there are;
  *           how many fibres, no line says
  *
- * Each call accepts its text, or refuses it with a reason and a line. What it answers and what it writes is proved to be what the
+ * Each call accepts its text, or refuses it with a reason, a line and a byte of that line. What it answers and what it writes is proved to be what the
  * definitions say, for every text and every buffer on these terms:
  *
  *   - A pointer and the length behind it name bytes that may be read (a text) or written (a buffer) until the call returns, fewer than
@@ -30,8 +30,8 @@
  * No call keeps anything from one call to the next but in the working table that it is lent, allocates, touches a file or errno, or changes the
  * text. Calls may run in any number of threads at the same time.
  *
- * Later versions will add a field to the answers (the byte of the line at which a fault begins), calls (judging rows without a text) and
- * reasons. So recompile with the header of the library that is linked, and take any reason but RINGKIT_OK for a refusal.
+ * Later versions will add calls (judging rows without a text) and reasons. So recompile with the header of the library that is linked, and take any
+ * reason but RINGKIT_OK for a refusal.
  */
 #ifndef RINGKIT_H
 #define RINGKIT_H
@@ -44,7 +44,7 @@ extern "C" {
 #endif
 
 /* Grows by 1 whenever a call, an answer or a limit changes. */
-#define RINGKIT_VERSION 4
+#define RINGKIT_VERSION 5
 
 /* The limits of what is accepted. */
 #define RINGKIT_MAX_TEXT_BYTES 32768
@@ -100,10 +100,18 @@ enum ringkit_reason {
     RINGKIT_NO_ROW = 22         /* the place named holds no row of the working table, as 0 and 497 never do */
 };
 
-/* The answer of a call. The line counts from 1, a missing line being the one after the last; it is 0 for reasons 1, 13, 14 and 15, and for 20 of a matrix. */
+/* The answer of a call. The line counts from 1, a missing line being the one after the last; it is 0 for reasons 1, 13, 14 and 15, and for 20 of a matrix.
+ *
+ * The byte counts from 1 in that line. Of a line of the wrong shape (2) it is the first at which no line of the shape that is due goes on like this, and
+ * so the place of a tab, a digit or LF that is missing, which may be one behind the line's last byte. Where a sheet may have a D line or the C line, it is the
+ * first byte at which neither goes on; a line of a matrix below the first has as many fields as that. For reasons about one field it is where that field
+ * starts: n (3), the fibres (20), the first of the two nodes that is outside (4), the amount (7), and of a matrix the entry (17, 18, and 7, the first over
+ * 9,999). For a line that is missing or left over, and for reasons that judge a line as a whole (5, 6, 8 to 12, 16, 19, and 3 of a matrix), it is 1; with
+ * line 0 it is 0. */
 typedef struct ringkit_reply {
     uint32_t reason; /* an enum ringkit_reason */
     uint32_t line;   /* 0 when accepted */
+    uint32_t byte;   /* 0 when accepted */
     size_t length;   /* bytes written to the buffer's start; 0 when refused, and of ringkit_check */
 } ringkit_reply;
 
@@ -111,6 +119,7 @@ typedef struct ringkit_reply {
 typedef struct ringkit_pair_reply {
     uint32_t reason; /* as above */
     uint32_t line;
+    uint32_t byte;
     size_t first;    /* the two rows by their places among all rows, counted from 1, */
     size_t second;   /* first < second; both 0 where there is no such pair, and when refused */
 } ringkit_pair_reply;
@@ -185,7 +194,8 @@ ringkit_work_reply ringkit_work_remove(ringkit_work *work, uint32_t place);
 /* The row at a place. */
 ringkit_work_row_reply ringkit_work_row(const ringkit_work *work, uint32_t place);
 
-/* Writes the table of the rows held: by nodes, and rows of the same two nodes by place. Of a working table that calls made it can be routed. */
+/* Writes the table of the rows held: by nodes, and rows of the same two nodes by place. Of a working table that calls made it can be routed. A refusal has
+ * line 0 and byte 0. */
 ringkit_reply ringkit_work_write(const ringkit_work *work, uint8_t *buffer, size_t buffer_length);
 
 #ifdef __cplusplus

@@ -1,18 +1,20 @@
 #!/usr/bin/env python3
-"""Writes crates/cases/stdin and stdout: stored cases for the public calls, and the answers that document 01 and K1 to K3 of 02 give them.
+"""Writes crates/cases/stdin and stdout: stored cases for the public calls, and the answers that document 01 and K1 to K3 and K5 of 02 give them.
 
-The answers come from the reading of these in reading.py, matrix.py and rules.py and from nothing else: no source of the project is used. Run it by hand after adding a
+The answers come from the reading of these in reading.py, matrix.py, pointing.py and rules.py and from nothing else: no source of the project is used. Run it by hand after adding a
 case and look at the difference; the tests only compare what the program writes with what is stored."""
 import functools
 import itertools
 import random
 
 import circuits
+import columns
 import fibres
 import matrices
 import matrix
 import rules
 import sheets
+from pointing import byte_of
 from reading import Sheet, first_reason, first_reason_of_sheet, holding, lines_of, rewritten
 from sheets import damaged, full, pairs, t, write_table
 
@@ -47,19 +49,26 @@ def refused(letter, text):
     return REFUSALS.get(letter, first_reason_of_sheet)(text)
 
 
+@functools.cache
+def pointed(letter, text):
+    """Reason, line and byte of the refusal that a text gets; None where it gets none."""
+    reply = refused(letter, text)
+    return reply and reply + (byte_of(letter, text, reply),)
+
+
 def answer(letter, text, room):
-    """The line that answers a case."""
-    reply, out = refused(letter, text), b""
+    """The line that answers a case: reason, line and byte, and then the two places of a pair, or the length of what is written and the sum."""
+    reply, out = pointed(letter, text), b""
     if letter == "C":
-        return reply or (0, 0)
+        return reply or (0, 0, 0)
     if letter == "P":
         sheet = Sheet(text)
-        return reply + (0, 0) if reply else (0, 0) + rules.first_parallel(sheet.rows, sheet.sent)
+        return reply + (0, 0) if reply else (0, 0, 0) + rules.first_parallel(sheet.rows, sheet.sent)
     if not reply:
         out = written(letter, text)
         if room < len(out):
-            reply, out = (15, 0), b""
-    return (reply or (0, 0)) + (len(out), sum_of(out))
+            reply, out = (15, 0, 0), b""
+    return (reply or (0, 0, 0)) + (len(out), sum_of(out))
 
 
 def refusals():
@@ -255,6 +264,7 @@ def main():
     given, due = [], []
     calls = [("T", text, min(room, ROOM)) for text, room in all_cases()] + [("R", *case) for case in to_route()] + [*of_sheets(), *of_matrices()]
     calls += fibres.cases(lambda table: written("R", table), ROOM)
+    calls += columns.cases(refused, ROOM)
     for letter, text, room in dict.fromkeys(calls):
         # the program that runs the cases has no more memory
         assert len(text) <= ROOM and room <= ROOM

@@ -95,8 +95,8 @@ class Sequence:
         """What is written has | for a tab and / for the end of a line."""
         text = self.text()
         if room < len(text):
-            return self.answer("write", (room,), 15, 0, 0)
-        return self.answer("write", (room,), 0, 0, len(text), text)
+            return self.answer("write", (room,), 15, 0, 0, 0)
+        return self.answer("write", (room,), 0, 0, 0, len(text), text)
 
     def text(self):
         # sorting keeps the places' order of rows with equal nodes

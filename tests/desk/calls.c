@@ -144,27 +144,32 @@ static bool holds(size_t room, const struct text *text)
 
 /* ---- accepted texts */
 
-static bool says(ringkit_reply reply, uint32_t reason, uint32_t line, size_t length)
+static bool says(ringkit_reply reply, uint32_t reason, uint32_t line, uint32_t byte, size_t length)
 {
-    return reply.reason == reason && reply.line == line && reply.length == length;
+    return reply.reason == reason && reply.line == line && reply.byte == byte && reply.length == length;
+}
+
+static bool finds(ringkit_pair_reply pair, uint32_t reason, uint32_t line, uint32_t byte, size_t first, size_t second)
+{
+    return pair.reason == reason && pair.line == line && pair.byte == byte && pair.first == first && pair.second == second;
 }
 
 /* With just enough room the call writes that text; with a byte less, and with none, it refuses and touches nothing. */
 static void writes(const char *name, writing *call, const struct text *text, const struct text *written)
 {
     size_t room = written->length;
-    expect(says(lend(call, text, room), RINGKIT_OK, 0, room), "%s: just enough room is refused", name);
+    expect(says(lend(call, text, room), RINGKIT_OK, 0, 0, room), "%s: just enough room is refused", name);
     expect(holds(room, written), "%s: what is written", name);
-    expect(says(lend(call, text, room - 1), RINGKIT_NO_ROOM, 0, 0), "%s: a byte less is enough", name);
+    expect(says(lend(call, text, room - 1), RINGKIT_NO_ROOM, 0, 0, 0), "%s: a byte less is enough", name);
     expect(holds(room - 1, &NOTHING), "%s: too short a buffer is touched", name);
-    expect(says(call(fenced(text), text->length, NULL, 0), RINGKIT_NO_ROOM, 0, 0), "%s: no buffer is enough", name);
+    expect(says(call(fenced(text), text->length, NULL, 0), RINGKIT_NO_ROOM, 0, 0, 0), "%s: no buffer is enough", name);
 }
 
 /* What the call makes of the text, with the room that always suffices. */
 static void make(const char *name, writing *call, const struct text *text, struct text *made, size_t room)
 {
     ringkit_reply reply = lend(call, text, room);
-    expect(reply.reason == RINGKIT_OK && reply.line == 0, "%s: %u on line %u", name, (unsigned)reply.reason, (unsigned)reply.line);
+    expect(says(reply, RINGKIT_OK, 0, 0, reply.length), "%s: %u on line %u at byte %u", name, (unsigned)reply.reason, (unsigned)reply.line, (unsigned)reply.byte);
     made->length = reply.length;
     memcpy(made->bytes, buffer_area + AREA - room, made->length);
     expect(holds(room, made), "%s: more is touched than what is written", name);
@@ -179,8 +184,8 @@ static void test_table(const char *name)
 {
     route(name);
     ringkit_pair_reply pair = ringkit_parallel(fenced(&sheet), sheet.length);
-    expect(pair.reason == RINGKIT_OK && pair.line == 0 && pair.first == 0 && pair.second == 0, "%s: our sheet has a parallel pair", name);
-    expect(says(ringkit_check(fenced(&sheet), sheet.length), RINGKIT_OK, 0, 0), "%s: our sheet is refused", name);
+    expect(finds(pair, RINGKIT_OK, 0, 0, 0, 0), "%s: our sheet has a parallel pair", name);
+    expect(says(ringkit_check(fenced(&sheet), sheet.length), RINGKIT_OK, 0, 0, 0), "%s: our sheet is refused", name);
     writes(name, ringkit_route, &table, &sheet);
     writes(name, ringkit_rewrite_table, &table, &table);
     writes(name, ringkit_rewrite_sheet, &sheet, &sheet);
@@ -193,10 +198,13 @@ static void test_pair(void)
     add(&sheet, "R\t4\t4\nD\t1\t2\t1\t1\t1\tF\nD\t1\t2\t0\t0\t0\tF\nD\t1\t2\t1\t1\t1\tB\nC\t1\t2\t2\n");
     add(&sheet, "L\t1\t2\t1\nL\t2\t2\t1\nL\t3\t2\t1\nL\t4\t2\t1\nZ\t1\t3\n");
     ringkit_pair_reply pair = ringkit_parallel(fenced(&sheet), sheet.length);
-    expect(pair.reason == RINGKIT_OK && pair.line == 0 && pair.first == 1 && pair.second == 3, "the parallel pair");
+    expect(finds(pair, RINGKIT_OK, 0, 0, 1, 3), "the parallel pair");
     sheet.bytes[sheet.length - 2] = '4';
     pair = ringkit_parallel(fenced(&sheet), sheet.length);
-    expect(pair.reason == RINGKIT_WRONG_LAST && pair.line == 10 && pair.first == 0 && pair.second == 0, "a pair of a refused sheet");
+    expect(finds(pair, RINGKIT_WRONG_LAST, 10, 1, 0, 0), "a pair of a refused sheet");
+    sheet.bytes[sheet.length - 2] = ' ';
+    pair = ringkit_parallel(fenced(&sheet), sheet.length);
+    expect(finds(pair, RINGKIT_MISSHAPEN, 10, 5, 0, 0), "a pair of a sheet with a stray blank");
 }
 
 /* ---- matrices */
@@ -238,49 +246,51 @@ static void test_matrix(const char *name)
 {
     make(name, read_matrix, &matrix, &table, RINGKIT_TABLE_BYTES);
     ringkit_reply reply = lend(ringkit_write_matrix, &table, RINGKIT_MATRIX_BYTES);
-    expect(says(reply, RINGKIT_OK, 0, matrix.length) && holds(RINGKIT_MATRIX_BYTES, &matrix), "%s: another matrix comes back", name);
+    expect(says(reply, RINGKIT_OK, 0, 0, matrix.length) && holds(RINGKIT_MATRIX_BYTES, &matrix), "%s: another matrix comes back", name);
     writes(name, read_matrix, &matrix, &table);
     writes(name, ringkit_write_matrix, &table, &matrix);
     route(name);
 }
 
-/* A call gives the text that reason and line, and touches nothing where it refuses. */
-static void judges(const char *name, writing *call, const struct text *text, uint32_t reason, uint32_t line)
+/* A call gives the text that reason, line and byte, and touches nothing where it refuses. */
+static void judges(const char *name, writing *call, const struct text *text, uint32_t reason, uint32_t line, uint32_t byte)
 {
     ringkit_reply reply = lend(call, text, RINGKIT_MAX_TEXT_BYTES);
-    expect(reply.reason == reason && reply.line == line, "%s: %u on line %u", name, (unsigned)reply.reason, (unsigned)reply.line);
+    expect(says(reply, reason, line, byte, reply.length), "%s: %u on line %u at byte %u", name, (unsigned)reply.reason, (unsigned)reply.line, (unsigned)reply.byte);
     expect(reason == RINGKIT_OK || holds(RINGKIT_MAX_TEXT_BYTES, &NOTHING), "%s: a refusal touches the buffer", name);
 }
 
 /* A matrix of two offices, given by its bytes. */
-static void reads(const char *name, const char *bytes, uint32_t reason, uint32_t line)
+static void reads(const char *name, const char *bytes, uint32_t reason, uint32_t line, uint32_t byte)
 {
     matrix.length = 0;
     add(&matrix, "%s", bytes);
-    judges(name, read_matrix, &matrix, reason, line);
+    judges(name, read_matrix, &matrix, reason, line, byte);
 }
 
 static void test_matrix_limits(void)
 {
-    reads("largest entries", "0\t9999\n9999\t0\n", RINGKIT_OK, 0);
-    reads("too large an entry", "0\t9999\n10000\t0\n", RINGKIT_TOO_MUCH, 2);
-    reads("a demand of an office with itself", "0\t9999\n9999\t1\n", RINGKIT_DIAGONAL, 2);
-    reads("an entry unlike its mirror", "0\t9999\n9998\t0\n", RINGKIT_NOT_SYMMETRIC, 1);
-    reads("one office", "0\n", RINGKIT_RING_SIZE, 1);
+    reads("largest entries", "0\t9999\n9999\t0\n", RINGKIT_OK, 0, 0);
+    reads("too large an entry", "0\t9999\n10000\t0\n", RINGKIT_TOO_MUCH, 2, 1);
+    reads("a demand of an office with itself", "0\t9999\n9999\t1\n", RINGKIT_DIAGONAL, 2, 6);
+    reads("an entry unlike its mirror", "0\t9999\n9998\t0\n", RINGKIT_NOT_SYMMETRIC, 1, 3);
+    reads("one office", "0\n", RINGKIT_RING_SIZE, 1, 1);
+    reads("a line with too many fields", "0\t1\n1\t0\t0\n", RINGKIT_MISSHAPEN, 2, 4);
+    reads("a line with too few fields", "0\t1\n1\n", RINGKIT_MISSHAPEN, 2, 2);
     fill_matrix(RINGKIT_MAX_OFFICES + 1, none);
-    judges("too many offices in a matrix", read_matrix, &matrix, RINGKIT_RING_SIZE, 1);
+    judges("too many offices in a matrix", read_matrix, &matrix, RINGKIT_RING_SIZE, 1, 1);
     memset(matrix.bytes, '0', sizeof matrix.bytes);
     matrix.length = RINGKIT_MAX_TEXT_BYTES;
-    judges("longest matrix", read_matrix, &matrix, RINGKIT_MISSHAPEN, 1);
+    judges("longest matrix", read_matrix, &matrix, RINGKIT_MISSHAPEN, 1, 2);
     matrix.length++;
-    judges("too long a matrix", read_matrix, &matrix, RINGKIT_TOO_LONG, 0);
-    judges("three fibres, before all else", read_untold, &matrix, RINGKIT_FIBRES, 0);
-    judges("three fibres, before no text", read_untold, &NOTHING, RINGKIT_FIBRES, 0);
+    judges("too long a matrix", read_matrix, &matrix, RINGKIT_TOO_LONG, 0, 0);
+    judges("three fibres, before all else", read_untold, &matrix, RINGKIT_FIBRES, 0, 0);
+    judges("three fibres, before no text", read_untold, &NOTHING, RINGKIT_FIBRES, 0, 0);
     one_row(RINGKIT_MIN_OFFICES, RINGKIT_MAX_AMOUNT);
     add(&table, "D\t1\t2\t0\n");
-    judges("the largest sum", ringkit_write_matrix, &table, RINGKIT_OK, 0);
+    judges("the largest sum", ringkit_write_matrix, &table, RINGKIT_OK, 0, 0);
     add(&table, "D\t1\t2\t1\n");
-    judges("too large a sum", ringkit_write_matrix, &table, RINGKIT_SUM_TOO_MUCH, 4);
+    judges("too large a sum", ringkit_write_matrix, &table, RINGKIT_SUM_TOO_MUCH, 4, 1);
 }
 
 static void test_matrices(void)
@@ -428,7 +438,7 @@ static void test_work_text(const char *name)
     list_to_table();
     need(mprotect(work_area, AREA, PROT_READ) == 0, "mprotect");
     writes(name, write_work, &NOTHING, &table);
-    expect(says(lend(write_work, &NOTHING, RINGKIT_TABLE_BYTES), RINGKIT_OK, 0, table.length), "%s: the room that suffices does not", name);
+    expect(says(lend(write_work, &NOTHING, RINGKIT_TABLE_BYTES), RINGKIT_OK, 0, 0, table.length), "%s: the room that suffices does not", name);
     need(mprotect(work_area, AREA, PROT_READ | PROT_WRITE) == 0, "mprotect");
     route(name);
 }
@@ -462,7 +472,7 @@ static void test_any_bytes(unsigned seed)
     ringkit_work_reply again = ringkit_work_change(&before, 7, 1, 2, 3);
     expect(memcmp(&once, &again, sizeof once) == 0 && memcmp(work, &before, sizeof before) == 0, "work: any bytes, altered");
     ringkit_reply written = lend(write_work, &NOTHING, AREA);
-    expect(written.line == 0 && written.length <= AREA, "work: any bytes, written");
+    expect(written.line == 0 && written.byte == 0 && written.length <= AREA, "work: any bytes, written");
     expect(memcmp(work, &before, sizeof before) == 0, "work: writing alters the table");
 }
 
@@ -499,53 +509,94 @@ static void test_work(void)
 
 /* ---- what the header says of limits, and of no text at all */
 
-/* Both calls that route or rewrite give the table that reason and line. */
-static void judged(const char *name, uint32_t reason, uint32_t line)
+/* Both calls that route or rewrite give the table that reason, line and byte. */
+static void judged(const char *name, uint32_t reason, uint32_t line, uint32_t byte)
 {
     writing *calls[] = {ringkit_route, ringkit_rewrite_table};
     for (unsigned k = 0; k < 2; k++) {
-        judges(name, calls[k], &table, reason, line);
+        judges(name, calls[k], &table, reason, line, byte);
     }
 }
 
 static void test_limits(void)
 {
     one_row(RINGKIT_MIN_OFFICES, RINGKIT_MAX_AMOUNT);
-    judged("fewest offices, largest amount", RINGKIT_OK, 0);
+    judged("fewest offices, largest amount", RINGKIT_OK, 0, 0);
     one_row(RINGKIT_MIN_OFFICES - 1, 1);
-    judged("too few offices", RINGKIT_RING_SIZE, 1);
+    judged("too few offices", RINGKIT_RING_SIZE, 1, 3);
     one_row(RINGKIT_MIN_OFFICES, RINGKIT_MAX_AMOUNT + 1);
-    judged("too large an amount", RINGKIT_TOO_MUCH, 2);
+    judged("too large an amount", RINGKIT_TOO_MUCH, 2, 7);
     one_row(RINGKIT_MAX_OFFICES + 1, 1);
-    judged("too many offices", RINGKIT_RING_SIZE, 1);
+    judged("too many offices", RINGKIT_RING_SIZE, 1, 3);
     equal_rows(RINGKIT_MAX_ROWS);
-    judged("most offices, most rows", RINGKIT_OK, 0);
+    judged("most offices, most rows", RINGKIT_OK, 0, 0);
     equal_rows(RINGKIT_MAX_ROWS + 1);
-    judged("too many rows", RINGKIT_TOO_MANY_ROWS, RINGKIT_MAX_ROWS + 2);
+    judged("too many rows", RINGKIT_TOO_MANY_ROWS, RINGKIT_MAX_ROWS + 2, 1);
     table.length = 0;
     add(&table, "R\t2\t3\n");
-    judged("three fibres", RINGKIT_FIBRES, 1);
+    judged("three fibres", RINGKIT_FIBRES, 1, 5);
     table.length = 0;
     add(&table, "R\t33\t3\n");
-    judged("too many offices and three fibres", RINGKIT_RING_SIZE, 1);
+    judged("too many offices and three fibres", RINGKIT_RING_SIZE, 1, 3);
     equal_rows(RINGKIT_MAX_ROWS);
     table.length = RINGKIT_MAX_TEXT_BYTES;
     table.bytes[0] = 'r';
-    judged("longest text", RINGKIT_MISSHAPEN, 1);
+    judged("longest text", RINGKIT_MISSHAPEN, 1, 1);
     table.length++;
-    judged("too long a text", RINGKIT_TOO_LONG, 0);
+    judged("too long a text", RINGKIT_TOO_LONG, 0, 0);
+}
+
+/* A row behind the R line of a table of four offices, in the table's own calls. */
+static void row_judged(const char *row, uint32_t reason, uint32_t byte)
+{
+    table.length = 0;
+    add(&table, "R\t4\t4\n%s", row);
+    judged(row, reason, 2, byte);
+}
+
+/* A line behind the R line of a sheet, where a row or the cut is due. */
+static void line_checked(const char *line, uint32_t reason, uint32_t byte)
+{
+    sheet.length = 0;
+    add(&sheet, "R\t4\t4\n%s", line);
+    expect(says(ringkit_check(fenced(&sheet), sheet.length), reason, 2, byte, 0), "check: a byte of %s", line);
+}
+
+/* Where a refusal points: the byte is never looked for behind the text, which ends where memory does. */
+static void test_bytes(void)
+{
+    row_judged("D", RINGKIT_MISSHAPEN, 2);
+    row_judged("D\t1\t2\t1", RINGKIT_MISSHAPEN, 8);
+    row_judged("DD\n", RINGKIT_MISSHAPEN, 2);
+    row_judged("X\n", RINGKIT_MISSHAPEN, 1);
+    row_judged("\n", RINGKIT_MISSHAPEN, 1);
+    row_judged("D\t12345678\t2\t1\n", RINGKIT_MISSHAPEN, 10);
+    row_judged("D\t007\t2\t1\n", RINGKIT_MISSHAPEN, 4);
+    row_judged("D\t1\t2\t1\t\n", RINGKIT_MISSHAPEN, 8);
+    row_judged("D\t0\t5\t1\n", RINGKIT_NO_SUCH_NODE, 3);
+    row_judged("D\t4\t5\t1\n", RINGKIT_NO_SUCH_NODE, 5);
+    row_judged("D\t3\t3\t10000\n", RINGKIT_NOT_BELOW, 1);
+    line_checked("D ", RINGKIT_MISSHAPEN, 2);
+    line_checked("CD\n", RINGKIT_MISSHAPEN, 2);
+    line_checked("L\n", RINGKIT_MISSHAPEN, 1);
+    line_checked("C\t1\t2\t3", RINGKIT_MISSHAPEN, 8);
+    line_checked("D\t1\t2\t1\t1\t1\tFB\n", RINGKIT_MISSHAPEN, 14);
+    line_checked("D\t1\t2\t1\t1\t1\t\n", RINGKIT_MISSHAPEN, 13);
+    line_checked("D\t1\t2\t1\t1\t1\tF", RINGKIT_MISSHAPEN, 14);
+    line_checked("D\t1\t2\t1\t1\t2\tF\n", RINGKIT_WRONG_SUM, 1);
+    line_checked("", RINGKIT_MISSHAPEN, 1);
 }
 
 static void test_no_text(void)
 {
     ringkit_pair_reply pair = ringkit_parallel(NULL, 0);
-    expect(pair.reason == RINGKIT_MISSHAPEN && pair.line == 1, "parallel: no text");
-    expect(says(ringkit_check(NULL, 0), RINGKIT_MISSHAPEN, 1, 0), "check: no text");
-    expect(says(ringkit_route(NULL, 0, NULL, 0), RINGKIT_MISSHAPEN, 1, 0), "route: no text");
-    expect(says(ringkit_rewrite_table(NULL, 0, NULL, 0), RINGKIT_MISSHAPEN, 1, 0), "rewrite a table: no text");
-    expect(says(ringkit_rewrite_sheet(NULL, 0, NULL, 0), RINGKIT_MISSHAPEN, 1, 0), "rewrite a sheet: no text");
-    expect(says(ringkit_read_matrix(NULL, 0, 4, NULL, 0), RINGKIT_MISSHAPEN, 1, 0), "read a matrix: no text");
-    expect(says(ringkit_write_matrix(NULL, 0, NULL, 0), RINGKIT_MISSHAPEN, 1, 0), "write a matrix: no text");
+    expect(finds(pair, RINGKIT_MISSHAPEN, 1, 1, 0, 0), "parallel: no text");
+    expect(says(ringkit_check(NULL, 0), RINGKIT_MISSHAPEN, 1, 1, 0), "check: no text");
+    expect(says(ringkit_route(NULL, 0, NULL, 0), RINGKIT_MISSHAPEN, 1, 1, 0), "route: no text");
+    expect(says(ringkit_rewrite_table(NULL, 0, NULL, 0), RINGKIT_MISSHAPEN, 1, 1, 0), "rewrite a table: no text");
+    expect(says(ringkit_rewrite_sheet(NULL, 0, NULL, 0), RINGKIT_MISSHAPEN, 1, 1, 0), "rewrite a sheet: no text");
+    expect(says(ringkit_read_matrix(NULL, 0, 4, NULL, 0), RINGKIT_MISSHAPEN, 1, 1, 0), "read a matrix: no text");
+    expect(says(ringkit_write_matrix(NULL, 0, NULL, 0), RINGKIT_MISSHAPEN, 1, 1, 0), "write a matrix: no text");
 }
 
 /* ---- threads */
@@ -557,6 +608,7 @@ static void *test_texts(void *unused)
     test_no_text();
     test_pair();
     test_limits();
+    test_bytes();
     test_matrices();
     test_work();
     all_pairs(20);
@@ -589,7 +641,7 @@ static void *route_often(void *buffer)
 {
     for (unsigned turn = 0; turn < TURNS; turn++) {
         ringkit_reply reply = ringkit_route(table.bytes, table.length, buffer, RINGKIT_SHEET_BYTES);
-        if (!says(reply, RINGKIT_OK, 0, sheet.length) || memcmp(buffer, sheet.bytes, sheet.length) != 0) {
+        if (!says(reply, RINGKIT_OK, 0, 0, sheet.length) || memcmp(buffer, sheet.bytes, sheet.length) != 0) {
             return buffer;
         }
     }

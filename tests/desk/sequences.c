@@ -49,7 +49,7 @@ static void row(const uint32_t *given)
 static void writes(const uint32_t *given)
 {
     ringkit_reply reply = ringkit_work_write(&work, buffer, given[0]);
-    memcpy(said, (uint32_t[]){reply.reason, reply.line, (uint32_t)reply.length}, 3 * sizeof *said);
+    memcpy(said, (uint32_t[]){reply.reason, reply.line, reply.byte, (uint32_t)reply.length}, 4 * sizeof *said);
 }
 
 static const struct call {
@@ -58,7 +58,7 @@ static const struct call {
     size_t given, answered;
     bool reads; /* and alters nothing */
 } CALLS[] = {
-    {"start", start, 2, 6, false}, {"add", add, 3, 6, false}, {"change", change, 4, 6, false}, {"remove", removes, 1, 6, false}, {"row", row, 1, 5, true}, {"write", writes, 1, 3, true},
+    {"start", start, 2, 6, false}, {"add", add, 3, 6, false}, {"change", change, 4, 6, false}, {"remove", removes, 1, 6, false}, {"row", row, 1, 5, true}, {"write", writes, 1, 4, true},
 };
 
 static const struct call *call_of(const char *line)

@@ -1,7 +1,7 @@
 /* Makes calls of the library for a twin that cannot link it, one after the other until standard input ends. Numbers on the pipes have 8 bytes, the
  * lowest first. A request is the lengths of a call's name, of its text and of an area, where in the area the lent buffer begins and ends, where in the
  * text a working table begins, that is handed over as one, the four numbers that the call is told beside the text (0 where it is told none), and then the
- * name, the text and the area. The answer is the reply's six numbers, 0 behind those that it has, and then text and area as the call leaves them. */
+ * name, the text and the area. The answer is the reply's seven numbers, 0 for a byte that it does not have and behind its last, and then text and area as the call leaves them. */
 #include <stdio.h>
 #include <stdlib.h>
 #include <string.h>
@@ -13,7 +13,7 @@ struct request {
 };
 
 struct answer {
-    uint64_t reason, line, numbers[4];
+    uint64_t reason, line, byte, numbers[4];
 };
 
 /* A call has one of four forms, and those of the working table a fifth. */
@@ -66,17 +66,17 @@ static const struct call *named(const char *name)
 
 static struct answer reply(ringkit_reply reply)
 {
-    return (struct answer){reply.reason, reply.line, {reply.length}};
+    return (struct answer){reply.reason, reply.line, reply.byte, {reply.length}};
 }
 
 static struct answer pair(ringkit_pair_reply pair)
 {
-    return (struct answer){pair.reason, pair.line, {pair.first, pair.second}};
+    return (struct answer){pair.reason, pair.line, pair.byte, {pair.first, pair.second}};
 }
 
 static struct answer cut(ringkit_work_reply reply)
 {
-    return (struct answer){reply.reason, reply.line, {reply.place, reply.g, reply.h, reply.across}};
+    return (struct answer){reply.reason, reply.line, 0, {reply.place, reply.g, reply.h, reply.across}};
 }
 
 static struct answer work_start(ringkit_work *work, const uint64_t told[4], uint8_t *buffer, size_t length)
@@ -107,7 +107,7 @@ static struct answer work_row(ringkit_work *work, const uint64_t told[4], uint8_
 {
     (void)buffer, (void)length;
     ringkit_work_row_reply row = ringkit_work_row(work, (uint32_t)told[0]);
-    return (struct answer){row.reason, row.line, {row.first, row.second, row.amount}};
+    return (struct answer){row.reason, row.line, 0, {row.first, row.second, row.amount}};
 }
 
 static struct answer work_write(ringkit_work *work, const uint64_t told[4], uint8_t *buffer, size_t length)

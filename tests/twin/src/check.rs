@@ -1,8 +1,10 @@
 //! Checking a sheet: 01, "Table and sheet text" and "Reasons and their order",
-//! reasons 1 to 14, 02's reasons 16 and 20, and the question for a parallel pair.
+//! reasons 1 to 14, 02's reasons 16 and 20 and K5's bytes, and the question for a
+//! parallel pair.
 
 use crate::rules::{self, Cut, Plan, Sent, Way};
-use crate::table::{self, refuse, Line, Refusal, RowReason, Table, ROW_REASONS};
+use crate::shape::{self, Shape};
+use crate::table::{self, misshapen, refuse, Line, Refusal, RowReason, Table, ROW_REASONS};
 
 /// What the lines of a sheet say, as far as they have been read.
 #[derive(Clone, Debug)]
@@ -120,10 +122,10 @@ pub fn read_asking(text: &[u8], questions: &Questions) -> Result<Sheet, Refusal>
     reader.nothing_left()?;
     let sheet = reader.sheet;
     if !(questions.best)(&sheet) {
-        return refuse(13, 0);
+        return refuse(13, 0, 0);
     }
     if !(questions.bound)(&sheet) {
-        return refuse(14, 0);
+        return refuse(14, 0, 0);
     }
     Ok(sheet)
 }
@@ -165,16 +167,25 @@ impl<'a> Reader<'a> {
         let number = self.read as u32;
         match self.lines.get(self.read - 1) {
             Some(line) => Ok((*line, number)),
-            None => refuse(2, number),
+            None => refuse(2, number, 1),
         }
     }
 
-    /// The numbers of the next line, which must have this shape.
-    fn numbers(&mut self, letter: &[u8], count: usize) -> Result<(Vec<i64>, u32), Refusal> {
+    /// The numbers of the next line, which must have this shape. One of the others is
+    /// due there too, if there are any.
+    fn numbers(
+        &mut self,
+        letter: &'static [u8],
+        count: usize,
+        others: &[Shape],
+    ) -> Result<Vec<i64>, Refusal> {
         let (line, number) = self.next()?;
         match table::numbers(&line, letter, count) {
-            Some(numbers) => Ok((numbers, number)),
-            None => refuse(2, number),
+            Some(numbers) => Ok(numbers),
+            None => {
+                let due = [&[shape::lettered(letter, count)], others].concat();
+                misshapen(&line, number, &due)
+            }
         }
     }
 
@@ -182,7 +193,8 @@ impl<'a> Reader<'a> {
         if question(&self.sheet) {
             return Ok(());
         }
-        refuse(reason, self.read as u32)
+        // 8 to 12 judge the line as a whole.
+        refuse(reason, self.read as u32, 1)
     }
 
     /// `R n fibres`.
@@ -204,9 +216,10 @@ impl<'a> Reader<'a> {
     fn row(&mut self, questions: &Questions) -> Result<(), Refusal> {
         let (line, number) = self.next()?;
         let Some((numbers, way)) = row_fields(&line) else {
-            return refuse(2, number);
+            let either = [shape::row_of_sheet(), shape::lettered(b"C", 3)];
+            return misshapen(&line, number, &either);
         };
-        let row = table::judge_row(&numbers, number, &self.sheet.table, questions.rows)?;
+        let row = table::judge_row(&line, &numbers, number, &self.sheet.table, questions.rows)?;
         let (front, back) = (numbers[3], numbers[4]);
         self.sheet.table.rows.push(row);
         self.sheet.plan.sent.push(Sent { front, back });
@@ -217,7 +230,8 @@ impl<'a> Reader<'a> {
 
     /// `C g h across`.
     fn cut(&mut self, questions: &Questions) -> Result<(), Refusal> {
-        let (numbers, _) = self.numbers(b"C", 3)?;
+        // A D line may stand there as well.
+        let numbers = self.numbers(b"C", 3, &[shape::row_of_sheet()])?;
         let (g, h, across) = (numbers[0], numbers[1], numbers[2]);
         self.sheet.plan.cut = Cut { g, h, across };
         self.ask(questions.cut, 10)
@@ -225,7 +239,7 @@ impl<'a> Reader<'a> {
 
     /// `L link split-load unsplit-load`.
     fn link(&mut self, questions: &Questions) -> Result<(), Refusal> {
-        let (numbers, _) = self.numbers(b"L", 3)?;
+        let numbers = self.numbers(b"L", 3, &[])?;
         self.sheet.links.push(numbers[0]);
         self.sheet.plan.split.push(numbers[1]);
         self.sheet.plan.unsplit.push(numbers[2]);
@@ -234,16 +248,16 @@ impl<'a> Reader<'a> {
 
     /// `Z unsplit-peak size`.
     fn size(&mut self, questions: &Questions) -> Result<(), Refusal> {
-        let (numbers, _) = self.numbers(b"Z", 2)?;
+        let numbers = self.numbers(b"Z", 2, &[])?;
         self.sheet.plan.peak = numbers[0];
         self.sheet.plan.size = numbers[1];
         self.ask(questions.size, 12)
     }
 
-    /// A line after Z is left over.
+    /// A line after Z is left over, whatever it says.
     fn nothing_left(&self) -> Result<(), Refusal> {
         if self.read < self.lines.len() {
-            return refuse(2, self.read as u32 + 1);
+            return refuse(2, self.read as u32 + 1, 1);
         }
         Ok(())
     }

@@ -5,7 +5,7 @@
 use crate::check::{self, Questions, Sheet, QUESTIONS};
 use crate::row_faults::{first_rows, too_many_lines, MANY_NEVER};
 use crate::rules::{self, Cut};
-use crate::table::{Refusal, Row};
+use crate::table::{refuse, Refusal, Row};
 use crate::twin::{Pair, Reply, Said};
 
 pub fn yes(_: &Sheet) -> bool {
@@ -36,16 +36,15 @@ pub fn yes_to_all(text: &[u8]) -> Result<Sheet, Refusal> {
 }
 
 pub fn no_to_all(text: &[u8]) -> Result<Sheet, Refusal> {
-    let (reason, line) = (2, 1);
+    let (reason, line, byte) = (2, 1, 1);
     let refusal = check::read(text).err();
-    Err(refusal.unwrap_or(Refusal { reason, line }))
+    Err(refusal.unwrap_or(Refusal { reason, line, byte }))
 }
 
 pub fn only_ours(text: &[u8]) -> Result<Sheet, Refusal> {
     let sheet = check::read(text)?;
-    let (reason, line) = (13, 0);
     if sheet.plan != rules::plan(&sheet.table) {
-        return Err(Refusal { reason, line });
+        return refuse(13, 0, 0);
     }
     Ok(sheet)
 }

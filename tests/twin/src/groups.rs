@@ -1,6 +1,7 @@
 //! The groups of cases: of tables whole lists first, then random tables and
-//! texts; the groups of sheets after them, and those of matrices last.
+//! texts; the groups of sheets after them, those of matrices, and those of bytes last.
 
+use crate::byte_groups;
 use crate::compare::{Case, Lend};
 use crate::gen::{self, Amounts};
 use crate::matrices;
@@ -33,7 +34,7 @@ pub const SHARES: u64 = {
     sum
 };
 
-pub const GROUPS: [Group; 68] = [
+pub const GROUPS: [Group; 73] = [
     group("numbers to try of 01, K1 and K3", 0, numbers_to_try),
     group("all small tables", 0, all_small),
     group("about 496 rows", 0, about_496),
@@ -126,6 +127,23 @@ pub const GROUPS: [Group; 68] = [
     ),
     group("matrices of damaged tables", 200, matrices::damaged_tables),
     group("matrices of tables too long", 80, matrices::long_tables),
+    group(
+        "bytes: every field of large texts",
+        0,
+        byte_groups::every_field,
+    ),
+    group(
+        "bytes: lines missing and left over",
+        0,
+        byte_groups::lines_about,
+    ),
+    group("bytes: long lines", 0, byte_groups::long_lines),
+    group(
+        "bytes: nodes, amounts and entries",
+        100,
+        byte_groups::values,
+    ),
+    group("bytes: large texts damaged", 200, byte_groups::damaged),
 ];
 
 pub const LENDS: [Lend; 6] = [

@@ -1,5 +1,5 @@
 //! The twin: ring routing, the checking of sheets and the reading and writing of
-//! matrices written once more from the sentences of 01 and of 02's K1 to K4
+//! matrices written once more from the sentences of 01 and of 02's K1 to K5
 //! alone, the working table among them, and compared with the library call by call and byte by byte.
 //!
 //! `twin [SEED [COUNT]]` compares: the lists in full and COUNT random
@@ -12,12 +12,17 @@
 //! `--cfg remote`, it asks a process that has the library.
 //!
 //! `twin --working [SEED [COUNT]]` compares the working table alone, and `twin
-//! --working-mutants [SEED [COUNT]]` lists which of its faults are caught.
+//! --working-mutants [SEED [COUNT]]` lists which of its faults are caught; `twin
+//! --byte-mutants` does so of the faults of the byte that goes with a refusal.
 //!
 //! `twin --cases` answers the stored cases given on standard input by itself,
 //! without the library, so that its reading is compared with the one that wrote
 //! their answers.
 
+mod byte_faults;
+mod byte_groups;
+mod byte_selfcheck;
+mod byte_tally;
 mod check;
 mod checking_faults;
 mod compare;
@@ -37,6 +42,7 @@ mod round_trips;
 mod row_faults;
 mod rules;
 mod selfcheck;
+mod shape;
 mod sheet;
 mod sheets;
 mod stored;
@@ -52,6 +58,7 @@ mod working_run;
 mod working_selfcheck;
 mod working_stand_in;
 
+use byte_tally::ByteTally;
 use compare::{compare, describe, shrink, Case};
 use groups::{Group, GROUPS, SHARES};
 use kit::Kit;
@@ -141,6 +148,7 @@ struct Tally {
     /// Random accepted sheets with no parallel pair, with one, and with one
     /// that is not the first two rows.
     pairs: [u64; 3],
+    bytes: ByteTally,
 }
 
 impl Tally {
@@ -176,6 +184,7 @@ impl Tally {
         self.calls[call.place()] += 1;
         self.reasons[reason] += 1;
         self.random_reasons[call.place()][reason] += u64::from(random);
+        self.bytes.count(call, &case.text, said, case.offices >= 16);
         if let (Said::Pair(pair), 0, true) = (said, reason, random) {
             self.pairs[0] += u64::from(pair.first == 0);
             self.pairs[1] += u64::from(pair.first > 0);
@@ -262,6 +271,8 @@ fn self_checks(seed: u64) -> (u64, u64) {
         ("self-check: circuits", selfcheck::circuits()),
         ("self-check: matrices", matrix_selfcheck::matrices()),
         ("self-check: sums", matrix_selfcheck::sums()),
+        ("self-check: bytes", byte_selfcheck::by_hand()),
+        ("self-check: ends of lines", byte_selfcheck::by_ends(seed)),
         ("self-check: working table", working_selfcheck::square()),
         ("self-check: full working table", working_selfcheck::full()),
         ("self-check: theorems", selfcheck::random_theorems(seed)),
@@ -330,26 +341,10 @@ fn all_groups(kit: Kit, seed: u64, count: u64, tally: &mut Tally) -> (u64, u64) 
     (passed, failed)
 }
 
-/// Prints the counts. How many of the demands on them passed and failed.
-fn print_counts(tally: &Tally) -> (u64, u64) {
-    let (all, large) = (tally.comparisons, tally.large);
-    println!("comparisons: {all}, of these {large} on 16 offices and more");
-    for call in CALLS {
-        println!("call {call:?}: {}", tally.calls[call.place()]);
-    }
-    for reason in 0..REASONS {
-        let (seen, random) = (tally.reasons[reason], tally.random(reason));
-        println!("reason {reason}: {seen}, of these {random} in random cases");
-    }
-    tally.tables.print("tables");
-    tally.tables.print_circuits("tables");
-    tally.sheets.print("sheets");
-    tally.sheets.print_circuits("sheets");
-    tally.matrices.print("matrices");
-    let [none, some, later] = tally.pairs;
-    println!("random accepted sheets with no parallel pair: {none}");
-    println!("with one: {some}, of these {later} with other than rows 1 and 2");
-    let demands = [
+/// What must have been counted, and whether it was.
+fn demands(tally: &Tally, bytes: bool) -> [(&'static str, bool); 6] {
+    let [none, _, later] = tally.pairs;
+    [
         (
             "every reason of 0 to 20 seen in random cases",
             (0..REASONS).all(|reason| tally.random(reason) > 0),
@@ -371,7 +366,33 @@ fn print_counts(tally: &Tally) -> (u64, u64) {
             "a parallel pair, and none, seen in random accepted sheets",
             none > 0 && later > 0,
         ),
-    ];
+        (
+            "bytes of every reason seen on every field of every line, on 16 offices and more",
+            bytes,
+        ),
+    ]
+}
+
+/// Prints the counts. How many of the demands on them passed and failed.
+fn print_counts(tally: &Tally) -> (u64, u64) {
+    let (all, large) = (tally.comparisons, tally.large);
+    println!("comparisons: {all}, of these {large} on 16 offices and more");
+    for call in CALLS {
+        println!("call {call:?}: {}", tally.calls[call.place()]);
+    }
+    for reason in 0..REASONS {
+        let (seen, random) = (tally.reasons[reason], tally.random(reason));
+        println!("reason {reason}: {seen}, of these {random} in random cases");
+    }
+    tally.tables.print("tables");
+    tally.tables.print_circuits("tables");
+    tally.sheets.print("sheets");
+    tally.sheets.print_circuits("sheets");
+    tally.matrices.print("matrices");
+    let [none, some, later] = tally.pairs;
+    println!("random accepted sheets with no parallel pair: {none}");
+    println!("with one: {some}, of these {later} with other than rows 1 and 2");
+    let demands = demands(tally, tally.bytes.print());
     for (name, good) in demands {
         println!("{}: {name}", if good { "passed" } else { "FAILED" });
     }
@@ -443,11 +464,11 @@ fn caught(seed: u64, count: u64, asked: fn(&Mutant) -> bool) -> usize {
     caught
 }
 
-/// Those of the working table alone. True when all are caught.
-fn working_mutants(seed: u64, count: u64) -> bool {
-    let all = faults().iter().filter(|fault| fault.of_working()).count();
-    let caught = caught(seed, count, Mutant::of_working);
-    println!("{caught} of {all} faults of the working table caught");
+/// Those of one kind alone. True when all are caught.
+fn some_mutants(seed: u64, count: u64, kind: &str, asked: fn(&Mutant) -> bool) -> bool {
+    let all = faults().iter().filter(|fault| asked(fault)).count();
+    let caught = caught(seed, count, asked);
+    println!("{caught} of {all} faults of the {kind} caught");
     caught == all
 }
 
@@ -477,6 +498,7 @@ struct Asked {
     cases: bool,
     mutants: bool,
     working: bool,
+    bytes: bool,
     kit: Kit,
     seed: u64,
     count: Option<u64>,
@@ -486,7 +508,7 @@ fn asked() -> Option<Asked> {
     let words: Vec<String> = std::env::args().skip(1).collect();
     let mode = words.first().map_or("", |word| word.as_str());
     let taken = match mode {
-        "--cases" | "--mutants" | "--working" | "--working-mutants" => 1,
+        "--cases" | "--mutants" | "--working" | "--working-mutants" | "--byte-mutants" => 1,
         "--mutant" => 2,
         _ => 0,
     };
@@ -501,6 +523,7 @@ fn asked() -> Option<Asked> {
         cases: mode == "--cases",
         mutants: mode.ends_with("mutants"),
         working: mode.starts_with("--working"),
+        bytes: mode.starts_with("--byte"),
         kit,
         seed: numbers.first().copied().unwrap_or(SEED),
         count: numbers.get(1).copied(),
@@ -509,7 +532,7 @@ fn asked() -> Option<Asked> {
 
 fn main() -> ExitCode {
     let Some(asked) = asked() else {
-        eprintln!("usage: twin --cases | twin [--working | --mutants | --working-mutants | --mutant K] [SEED [COUNT]]");
+        eprintln!("usage: twin --cases | twin [--working | --mutants | --working-mutants | --byte-mutants | --mutant K] [SEED [COUNT]]");
         return ExitCode::from(2);
     };
     if asked.cases {
@@ -519,7 +542,9 @@ fn main() -> ExitCode {
     if asked.mutants {
         let count = asked.count.unwrap_or(MUTANT_COUNT);
         let good = if asked.working {
-            working_mutants(seed, count)
+            some_mutants(seed, count, "working table", Mutant::of_working)
+        } else if asked.bytes {
+            some_mutants(seed, count, "byte", Mutant::of_bytes)
         } else {
             mutants(seed, count)
         };

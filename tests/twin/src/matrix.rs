@@ -1,6 +1,7 @@
-//! A matrix, read into a table and written from one: 02, K2 and K3.
+//! A matrix, read into a table and written from one: 02, K2, K3 and K5.
 
-use crate::table::{self, refuse, Line, Refusal, Row, Table};
+use crate::shape;
+use crate::table::{self, misshapen, refuse, start_of, Line, Refusal, Row, Table};
 
 /// Entry (i,j) stands on line i, in field j. There are as many lines as the
 /// first has fields.
@@ -29,23 +30,31 @@ pub const QUESTIONS: Questions = Questions {
 fn faulty(matrix: &Matrix) -> Option<Refusal> {
     for (i, entries) in matrix.lines.iter().enumerate() {
         for (j, entry) in entries.iter().enumerate() {
-            let line = i as u32 + 1;
             if i == j && *entry != 0 {
-                return Some(Refusal { reason: 17, line });
+                return Some(at_entry(matrix, i, j, 17));
             }
             if *entry != matrix.lines[j][i] {
-                return Some(Refusal { reason: 18, line });
+                return Some(at_entry(matrix, i, j, 18));
             }
         }
     }
     None
 }
 
+/// The refusal that points to an entry. Before it on its line stand the entries
+/// before it, each as it is written, with a byte behind it.
+pub fn at_entry(matrix: &Matrix, i: usize, j: usize, reason: u32) -> Refusal {
+    let written = |entry: &i64| entry.to_string().len() + 1;
+    let before: usize = matrix.lines[i][..j].iter().map(written).sum();
+    let (line, byte) = (i as u32 + 1, before as u32 + 1);
+    Refusal { reason, line, byte }
+}
+
 /// The matrix has no number of fibres; its reader is told it. 20 is tried first,
 /// line 0.
 pub fn read_told(text: &[u8], fibres: u32) -> Result<Matrix, Refusal> {
     if !table::known_fibres(i64::from(fibres)) {
-        return refuse(20, 0);
+        return refuse(20, 0, 0);
     }
     read(text)
 }
@@ -66,7 +75,7 @@ pub fn read_asking(text: &[u8], questions: &Questions) -> Result<Matrix, Refusal
     // A missing line is the one after the last; the first is never left out.
     let due = matrix.lines.first().map_or(1, |first| first.len());
     if matrix.lines.len() < due {
-        return refuse(2, matrix.lines.len() as u32 + 1);
+        return refuse(2, matrix.lines.len() as u32 + 1, 1);
     }
     match (questions.faulty)(&matrix) {
         Some(refusal) => Err(refusal),
@@ -75,24 +84,26 @@ pub fn read_asking(text: &[u8], questions: &Questions) -> Result<Matrix, Refusal
 }
 
 /// The next line, behind those that stand above it: in the line 2, then 3 of the
-/// first line, then 7.
+/// first line, which is judged as a whole, then 7 at its first entry over the limit.
 fn read_line(line: &Line, above: &Matrix, questions: &Questions) -> Result<Vec<i64>, Refusal> {
     let at = above.lines.len() as u32 + 1;
-    let Some(read) = entries(line) else {
-        return refuse(2, at);
+    let first = above.lines.first().map(|first| first.len());
+    if first.is_some_and(|n| at as usize > n) {
+        // Left over, whatever it says.
+        return refuse(2, at, 1);
+    }
+    let shape = first.map_or(shape::any_numbers(), shape::numbers);
+    let read = match entries(line) {
+        Some(read) if first.is_none_or(|n| n == read.len()) => read,
+        _ => return misshapen(line, at, &[shape]),
     };
-    match above.lines.first() {
-        None if (questions.off_size)(read.len()) => return refuse(3, at),
-        // Another number of fields, or a line left over.
-        Some(first) if first.len() != read.len() || at as usize > first.len() => {
-            return refuse(2, at);
-        }
-        _ => (),
+    if first.is_none() && (questions.off_size)(read.len()) {
+        return refuse(3, at, 1);
     }
-    if read.iter().any(|entry| (questions.too_much)(*entry)) {
-        return refuse(7, at);
+    match read.iter().position(|entry| (questions.too_much)(*entry)) {
+        Some(over) => refuse(7, at, start_of(line, over)),
+        None => Ok(read),
     }
-    Ok(read)
 }
 
 /// The numbers that tabs part; None is reason 2.
@@ -145,7 +156,7 @@ pub fn take_in(table: &Table, take: fn(i64, i64) -> i64, limit: i64) -> Result<M
     for (at, row) in table.rows.iter().enumerate() {
         let sum = take(matrix.lines[row.i as usize - 1][row.j as usize - 1], row.d);
         if sum > limit {
-            return refuse(19, at as u32 + 2);
+            return refuse(19, at as u32 + 2, 1);
         }
         set(&mut matrix, row.i, row.j, sum);
     }

@@ -153,7 +153,13 @@ fn first_fields(text: &[u8]) -> usize {
 fn three_before_2(text: &[u8]) -> Read {
     let off = (QUESTIONS.off_size)(first_fields(text));
     matrix::read(text).map_err(|refusal| match refusal {
-        Refusal { reason: 2, line: 1 } if off => Refusal { reason: 3, line: 1 },
+        Refusal {
+            reason: 2, line: 1, ..
+        } if off => Refusal {
+            reason: 3,
+            line: 1,
+            byte: 1,
+        },
         _ => refusal,
     })
 }
@@ -190,8 +196,10 @@ fn limited(text: &[u8], too_much: fn(i64) -> bool) -> Read {
 fn seven_before_3(text: &[u8]) -> Read {
     match matrix::read(text) {
         Err(Refusal { reason: 3, .. }) => sized(text, 0, 32_768).or_else(|refusal| match refusal {
-            Refusal { reason: 7, line: 1 } => Err(refusal),
-            _ => refuse(3, 1),
+            Refusal {
+                reason: 7, line: 1, ..
+            } => Err(refusal),
+            _ => refuse(3, 1, 1),
         }),
         read => read,
     }
@@ -202,16 +210,17 @@ fn seven_before_2(text: &[u8]) -> Read {
     matrix::read(text).map_err(|refusal| {
         let at = refusal.line.saturating_sub(1) as usize;
         let line = table::lines(text).get(at).copied();
-        let over = |line: Line| {
-            let numbers = line
-                .bytes
-                .split(|byte| *byte == b'\t')
-                .filter_map(table::number);
-            numbers.max().is_some_and(|most| most > 9_999)
+        let over = |line: &Line| {
+            let mut fields = line.bytes.split(|byte| *byte == b'\t');
+            fields.position(|field| table::number(field).is_some_and(|entry| entry > 9_999))
         };
-        match (refusal.reason, line) {
-            (2, Some(line)) if over(line) => Refusal {
+        match (
+            refusal.reason,
+            line.and_then(|line| Some((line, over(&line)?))),
+        ) {
+            (2, Some((line, field))) => Refusal {
                 reason: 7,
+                byte: table::start_of(&line, field),
                 ..refusal
             },
             _ => refusal,
@@ -249,7 +258,7 @@ fn diagonal_by_line(text: &[u8]) -> Read {
     for (at, line) in lines.iter().enumerate().take(before.saturating_sub(1)) {
         let entry = matrix::entries(line).and_then(|entries| entries.get(at).copied());
         if entry.is_some_and(|entry| entry != 0) {
-            return refuse(17, at as u32 + 1);
+            return refuse(17, at as u32 + 1, table::start_of(line, at));
         }
     }
     read
@@ -258,7 +267,7 @@ fn diagonal_by_line(text: &[u8]) -> Read {
 fn lines_first(text: &[u8]) -> Read {
     let (lines, n) = (table::lines(text).len(), first_fields(text));
     if text.len() <= 32_768 && lines != n {
-        return refuse(2, lines.min(n) as u32 + 1);
+        return refuse(2, lines.min(n) as u32 + 1, 1);
     }
     matrix::read(text)
 }
@@ -266,7 +275,7 @@ fn lines_first(text: &[u8]) -> Read {
 fn n_of_lines(text: &[u8]) -> Read {
     let lines = table::lines(text).len();
     if text.len() <= 32_768 && lines != first_fields(text) {
-        return refuse(2, 1);
+        return refuse(2, 1, 1);
     }
     matrix::read(text)
 }
@@ -293,7 +302,7 @@ fn without_lines(text: &[u8]) -> Read {
         |at, line| if at < n { line.to_vec() } else { Vec::new() },
     );
     if text.len() > 32_768 {
-        return refuse(1, 0);
+        return refuse(1, 0, 0);
     }
     matrix::read(&kept)
 }
@@ -335,11 +344,11 @@ fn rows_first(n: usize) -> Vec<(usize, usize)> {
 }
 
 fn of_entry(matrix: &Matrix, i: usize, j: usize) -> Option<Refusal> {
-    let (entry, line) = (matrix.lines[i][j], i as u32 + 1);
+    let entry = matrix.lines[i][j];
     if i == j && entry != 0 {
-        return Some(Refusal { reason: 17, line });
+        return Some(matrix::at_entry(matrix, i, j, 17));
     }
-    (entry != matrix.lines[j][i]).then_some(Refusal { reason: 18, line })
+    (entry != matrix.lines[j][i]).then(|| matrix::at_entry(matrix, i, j, 18))
 }
 
 /// The first faulty entry in an order of its own that has one of these reasons.
@@ -406,7 +415,12 @@ fn in_8_bits(matrix: &Matrix) -> Option<Refusal> {
     for at in 0..shorter.lines.len() {
         shorter.lines[at][at] = matrix.lines[at][at];
     }
-    (QUESTIONS.faulty)(&shorter)
+    let entries = rows_first(shorter.lines.len()).into_iter();
+    let mut faults = entries.filter_map(|(i, j)| {
+        let fault = of_entry(&shorter, i, j)?;
+        Some(matrix::at_entry(matrix, i, j, fault.reason))
+    });
+    faults.next()
 }
 
 // Faults of what is told.
@@ -426,6 +440,7 @@ fn twenty_on_line_1(text: &[u8], fibres: u32) -> Read {
         20 => Refusal {
             reason: 20,
             line: 1,
+            byte: 1,
         },
         _ => refusal,
     })

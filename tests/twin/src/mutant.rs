@@ -1,6 +1,7 @@
 //! Faulty stand-ins for the library, to show that the comparison catches them.
 //! Each is the twin with one fault.
 
+use crate::byte_faults::{Pointed, BYTE_FAULTS};
 use crate::check::{self, Question, Questions, Sheet, QUESTIONS};
 use crate::checking_faults::*;
 use crate::foreign::cuts;
@@ -9,7 +10,7 @@ use crate::matrix_faults::{self, MATRIX_FAULTS};
 use crate::row_faults::*;
 use crate::rules::{self, Cut, Plan, Sent, Way};
 use crate::sheet;
-use crate::table::{self, Refusal, Row, RowReason, Table};
+use crate::table::{self, refuse, Refusal, Row, RowReason, Table};
 use crate::text_faults::*;
 use crate::twin::{self, Answer, Call, Reply, Said};
 use crate::working::{Ask, Told};
@@ -41,6 +42,8 @@ enum How {
     Pairs(fn(&Matrix) -> Table),
     Sums(fn(&[u8]) -> Result<Matrix, Refusal>),
     Square(fn(&Matrix) -> Vec<u8>),
+    /// The byte of a refusal.
+    Point(fn(&Pointed) -> u32),
     Working(Habits),
 }
 
@@ -52,6 +55,7 @@ impl Mutant {
             Call::WriteMatrix => self.answer_sums(text),
             _ => self.answer_sheet(call, text),
         };
+        let answer = answer.map_err(|refusal| self.point(call, text, refusal));
         match self.how {
             How::Write(write) if call.writes() => Said::Reply(write(&answer, area, lent)),
             How::Say(change) if !call.writes() => {
@@ -67,6 +71,25 @@ impl Mutant {
             How::Working(habits) => stand_in(habits, ask, words, buffer),
             _ => stand_in(&SOUND, ask, words, buffer),
         }
+    }
+
+    /// The refusal with the byte that the fault gives it.
+    fn point(&self, call: Call, text: &[u8], refusal: Refusal) -> Refusal {
+        let How::Point(point) = self.how else {
+            return refusal;
+        };
+        let pointed = Pointed {
+            call,
+            text,
+            refusal,
+        };
+        let byte = point(&pointed);
+        Refusal { byte, ..refusal }
+    }
+
+    /// Whether the fault lies in the byte of a refusal.
+    pub fn of_bytes(&self) -> bool {
+        BYTE_FAULTS.iter().any(|fault| std::ptr::eq(fault, self))
     }
 
     /// Whether the fault lies in the working table.
@@ -140,15 +163,20 @@ impl Mutant {
     }
 }
 
-/// All faults, those of a matrix behind the others and those of the working table
-/// last.
+/// All faults, those of a matrix behind the others, then those of the byte, and
+/// those of the working table last.
 pub fn faults() -> Vec<&'static Mutant> {
-    let texts = FAULTS.iter().chain(&MATRIX_FAULTS);
+    let texts = FAULTS.iter().chain(&MATRIX_FAULTS).chain(&BYTE_FAULTS);
     texts.chain(&WORKING_FAULTS).collect()
 }
 
 pub const fn working(name: &'static str, habits: Habits) -> Mutant {
     let how = How::Working(habits);
+    Mutant { name, how }
+}
+
+pub const fn pointing(name: &'static str, point: fn(&Pointed) -> u32) -> Mutant {
+    let how = How::Point(point);
     Mutant { name, how }
 }
 
@@ -167,7 +195,10 @@ const fn rows(name: &'static str, reasons: &'static [RowReason]) -> Mutant {
     Mutant { name, how }
 }
 
-const fn write(name: &'static str, write: fn(&Answer, &mut [u8], Range<usize>) -> Reply) -> Mutant {
+pub const fn write(
+    name: &'static str,
+    write: fn(&Answer, &mut [u8], Range<usize>) -> Reply,
+) -> Mutant {
     let how = How::Write(write);
     Mutant { name, how }
 }
@@ -237,7 +268,7 @@ const fn rewrite_sheet(name: &'static str, change: fn(Sheet) -> Sheet) -> Mutant
     Mutant { name, how }
 }
 
-const fn say(name: &'static str, change: fn(&[u8], Said) -> Said) -> Mutant {
+pub const fn say(name: &'static str, change: fn(&[u8], Said) -> Said) -> Mutant {
     let how = How::Say(change);
     Mutant { name, how }
 }
@@ -532,12 +563,7 @@ fn short_at_need(answer: &Answer, area: &mut [u8], lent: Range<usize>) -> Reply 
 
 fn short_first(answer: &Answer, area: &mut [u8], lent: Range<usize>) -> Reply {
     if lent.is_empty() {
-        let (reason, line, length) = (15, 0, 0);
-        return Reply {
-            reason,
-            line,
-            length,
-        };
+        return twin::refused(&twin::NO_ROOM);
     }
     twin::reply(answer, &mut area[lent])
 }
@@ -946,6 +972,7 @@ fn early<T>(text: &[u8], read: Result<T, Refusal>) -> Result<T, Refusal> {
         3 if off => Refusal {
             reason: 20,
             line: 1,
+            byte: table::start_of(&table::lines(text)[0], 2),
         },
         _ => refusal,
     })
@@ -984,7 +1011,7 @@ fn old_ring(text: &[u8]) -> Result<Table, Refusal> {
 
 fn ring_32(text: &[u8]) -> Result<Table, Refusal> {
     match table::read(text) {
-        Ok(table) if table.n == 32 => Err(Refusal { reason: 3, line: 1 }),
+        Ok(table) if table.n == 32 => refuse(3, 1, 3),
         other => other,
     }
 }
@@ -1017,11 +1044,11 @@ fn shape_first(text: &[u8]) -> Result<Table, Refusal> {
     let lines = text.split_inclusive(|byte| *byte == b'\n');
     for (at, line) in lines.enumerate().skip(1) {
         let alone = table::read(&[b"R\t32\t4\n", line].concat());
-        if text.len() <= 32_768 && alone.is_err_and(|refusal| refusal.reason == 2) {
-            return Err(Refusal {
-                reason: 2,
-                line: at as u32 + 1,
-            });
+        match alone {
+            Err(refusal) if text.len() <= 32_768 && refusal.reason == 2 => {
+                return refuse(2, at as u32 + 1, refusal.byte);
+            }
+            _ => (),
         }
     }
     table::read(text)

@@ -68,19 +68,21 @@ impl Server {
         lent: Range<usize>,
     ) -> Result<Said> {
         let (name, told) = (call.name(), [call.told(), 0, 0, 0]);
-        let [reason, line, first, second, ..] = self.made(&name, told, (text, 0), area, lent)?;
-        let (reason, line) = (reason as u32, line as u32);
-        let (first, second) = (first as usize, second as usize);
+        let said = self.made(&name, told, (text, 0), area, lent)?;
+        let [reason, line, byte, ..] = said.map(|number| number as u32);
+        let (first, second) = (said[3] as usize, said[4] as usize);
         Ok(match call {
             Call::Parallel => Said::Pair(Pair {
                 reason,
                 line,
+                byte,
                 first,
                 second,
             }),
             _ => Said::Reply(Reply {
                 reason,
                 line,
+                byte,
                 length: first,
             }),
         })
@@ -99,7 +101,7 @@ impl Server {
         for (word, four) in words.iter_mut().zip(bytes.chunks_exact(4)) {
             *word = u32::from_le_bytes([four[0], four[1], four[2], four[3]]);
         }
-        let [reason, line, one, two, three, four] = said.map(|number| number as u32);
+        let [reason, line, byte, one, two, three, four] = said.map(|number| number as u32);
         Ok(match ask {
             Ask::Row(_) => Told::Row(RowReply {
                 reason,
@@ -111,7 +113,8 @@ impl Server {
             Ask::Write(_) => Told::Text(Reply {
                 reason,
                 line,
-                length: said[2] as usize,
+                byte,
+                length: said[3] as usize,
             }),
             _ => Told::Work(WorkReply {
                 reason,
@@ -133,7 +136,7 @@ impl Server {
         (text, work): (&mut [u8], usize),
         area: &mut [u8],
         lent: Range<usize>,
-    ) -> Result<[u64; 6]> {
+    ) -> Result<[u64; 7]> {
         let lengths = [
             name.len(),
             text.len(),
@@ -150,7 +153,7 @@ impl Server {
             self.requests.write_all(bytes)?;
         }
         self.requests.flush()?;
-        let mut said = [0; 6];
+        let mut said = [0; 7];
         for number in &mut said {
             *number = self.number()?;
         }

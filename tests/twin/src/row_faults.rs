@@ -57,9 +57,9 @@ pub const MUCH_HIGH: [RowReason; 5] = {
 pub fn too_many_lines(text: &[u8], refusal: Refusal) -> Refusal {
     let lines = text.split(|byte| *byte == b'\n');
     let rows = lines.filter(|line| line.starts_with(b"D")).count();
-    let (reason, line) = (16, 498);
+    let (reason, line, byte) = (16, 498, 1);
     if refusal.line > 1 && rows > 496 {
-        return Refusal { reason, line };
+        return Refusal { reason, line, byte };
     }
     refusal
 }

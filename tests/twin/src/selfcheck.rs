@@ -147,37 +147,38 @@ pub fn refusals() -> Outcome {
     Ok(())
 }
 
-/// The sheets of 01, of K1 and of K3: reason, line, and the parallel pair.
+/// The sheets of 01, of K1 and of K3: reason, line, byte, and the parallel pair.
 pub fn sheets() -> Outcome {
     let accepted = [0, 1, 2, 3, 4, 5, 6, 7, 10, 14, 20, 25, 26, 27];
     let refused = [
-        (8, 13, 0),
-        (9, 14, 0),
-        (11, 9, 2),
-        (12, 3, 1),
-        (13, 3, 1),
-        (15, 7, 2),
-        (16, 4, 2),
-        (17, 2, 1),
-        (18, 2, 2),
-        (24, 6, 4),
-        (28, 12, 6),
-        (29, 20, 1),
-        (30, 3, 1),
-        (31, 3, 1),
-        (32, 2, 1),
-        (33, 2, 1),
+        (8, 13, 0, 0),
+        (9, 14, 0, 0),
+        (11, 9, 2, 1),
+        (12, 3, 1, 3),
+        (13, 3, 1, 3),
+        (15, 7, 2, 7),
+        (16, 4, 2, 3),
+        (17, 2, 1, 1),
+        (18, 2, 2, 1),
+        (24, 6, 4, 1),
+        (28, 12, 6, 1),
+        (29, 20, 1, 5),
+        (30, 3, 1, 3),
+        (31, 3, 1, 3),
+        (32, 2, 1, 4),
+        (33, 2, 1, 6),
     ];
-    let yes = accepted.map(|at| (at, 0, 0, 0, 0));
-    let no = refused.map(|(at, reason, line)| (at, reason, line, 0, 0));
+    let yes = accepted.map(|at| (at, 0, 0, 0, 0, 0));
+    let no = refused.map(|(at, reason, line, byte)| (at, reason, line, byte, 0, 0));
     let pairs = [(19, 1, 2), (21, 1, 2), (22, 2, 3), (23, 2, 3)];
-    let pairs = pairs.map(|(at, first, second)| (at, 0, 0, first, second));
-    for (at, reason, line, first, second) in [yes.as_slice(), &no, &pairs].concat() {
+    let pairs = pairs.map(|(at, first, second)| (at, 0, 0, 0, first, second));
+    for (at, reason, line, byte, first, second) in [yes.as_slice(), &no, &pairs].concat() {
         let text = sheets::SHEETS[at].replace('|', "\t");
         let got = twin::pair(&twin::answer(Call::Parallel, text.as_bytes()));
         let wanted = Pair {
             reason,
             line,
+            byte,
             first,
             second,
         };

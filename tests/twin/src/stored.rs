@@ -2,7 +2,7 @@
 //! letter of the call, the text's length and the buffer's in five digits each,
 //! LF) and the text. Each is answered by a line.
 
-use crate::twin::{self, Call, Pair, Said};
+use crate::twin::{self, Call, Pair, Reply, Said};
 use std::io::{Read, Write};
 
 /// The buffer before a call, of which the case lends the beginning.
@@ -54,15 +54,23 @@ fn line(call: Call, text: &[u8], room: usize) -> String {
         Said::Pair(Pair {
             reason,
             line,
+            byte,
             first,
             second,
-        }) => format!("{reason} {line} {first} {second}\n"),
-        Said::Reply(reply) if call == Call::Check => format!("{} {}\n", reply.reason, reply.line),
-        Said::Reply(reply) => {
+        }) => format!("{reason} {line} {byte} {first} {second}\n"),
+        Said::Reply(Reply {
+            reason, line, byte, ..
+        }) if call == Call::Check => format!("{reason} {line} {byte}\n"),
+        Said::Reply(Reply {
+            reason,
+            line,
+            byte,
+            length,
+        }) => {
             let sum = buffer
                 .iter()
                 .fold(0, |sum, byte| (sum * 31 + u64::from(*byte)) % 1_000_003);
-            format!("{} {} {} {sum}\n", reply.reason, reply.line, reply.length)
+            format!("{reason} {line} {byte} {length} {sum}\n")
         }
     }
 }

@@ -1,5 +1,8 @@
 //! A table and its reading: 01, "Table and sheet text" and "Reasons and their
-//! order", reasons 1 to 7; 02, K1, reasons 6 and 16, and K3, reason 20.
+//! order", reasons 1 to 7; 02, K1, reasons 6 and 16, K3, reason 20, and K5, the
+//! byte that goes with each.
+
+use crate::shape::{self, first_fault, Shape};
 
 /// A demand has nodes i < j and an amount d.
 #[derive(Clone, Copy, PartialEq, Eq, Debug)]
@@ -17,21 +20,36 @@ pub struct Table {
     pub rows: Vec<Row>,
 }
 
-/// A refusal returns only reason and line.
+/// A refusal returns only reason, line and, since K5 of 02, the byte in the line,
+/// counted from 1; 0 where the line is 0.
 #[derive(Clone, Copy, PartialEq, Eq, Debug)]
 pub struct Refusal {
     pub reason: u32,
     pub line: u32,
+    pub byte: u32,
 }
 
-pub fn refuse<T>(reason: u32, line: u32) -> Result<T, Refusal> {
-    Err(Refusal { reason, line })
+pub fn refuse<T>(reason: u32, line: u32, byte: u32) -> Result<T, Refusal> {
+    Err(Refusal { reason, line, byte })
+}
+
+/// 2, where a line that is there has none of the shapes that are due.
+pub fn misshapen<T>(line: &Line, at: u32, shapes: &[Shape]) -> Result<T, Refusal> {
+    refuse(2, at, first_fault(line, shapes))
+}
+
+/// The byte where a field starts, the letter being field 0: behind each field
+/// before it there is one byte more.
+pub fn start_of(line: &Line, field: usize) -> u32 {
+    let fields = line.bytes.split(|byte| *byte == b'\t');
+    let before: usize = fields.take(field).map(|bytes| bytes.len() + 1).sum();
+    before as u32 + 1
 }
 
 /// Reason 1 is tried first.
 pub fn read_length(text: &[u8]) -> Result<(), Refusal> {
     if text.len() > 32_768 {
-        return refuse(1, 0);
+        return refuse(1, 0, 0);
     }
     Ok(())
 }
@@ -70,7 +88,7 @@ pub fn read_judging(text: &[u8], reasons: &[RowReason]) -> Result<Table, Refusal
     let lines = lines(text);
     // A missing line is the one after the last.
     let Some(first) = lines.first() else {
-        return refuse(2, 1);
+        return refuse(2, 1, 1);
     };
     let (n, fibres) = read_ring(first)?;
     let rows = Vec::new();
@@ -130,17 +148,18 @@ pub fn number(field: &[u8]) -> Option<i64> {
     Some(value)
 }
 
-/// `R n fibres`: in the line 2, then 3, then 20.
+/// `R n fibres`: in the line 2, then 3, where n starts, then 20, where the fibres
+/// start.
 pub fn read_ring(line: &Line) -> Result<(i64, i64), Refusal> {
     let Some(numbers) = numbers(line, b"R", 2) else {
-        return refuse(2, 1);
+        return misshapen(line, 1, &[shape::lettered(b"R", 2)]);
     };
     let (n, fibres) = (numbers[0], numbers[1]);
     if !(2..=32).contains(&n) {
-        return refuse(3, 1);
+        return refuse(3, 1, start_of(line, 1));
     }
     if !known_fibres(fibres) {
-        return refuse(20, 1);
+        return refuse(20, 1, start_of(line, 2));
     }
     Ok((n, fibres))
 }
@@ -153,14 +172,27 @@ pub fn known_fibres(fibres: i64) -> bool {
 /// `D i j amount`: in the line first 2, then the row's own reasons.
 fn read_row(line: &Line, at: u32, above: &Table, reasons: &[RowReason]) -> Result<Row, Refusal> {
     let Some(numbers) = numbers(line, b"D", 3) else {
-        return refuse(2, at);
+        return misshapen(line, at, &[shape::lettered(b"D", 3)]);
     };
-    judge_row(&numbers, at, above, reasons)
+    judge_row(line, &numbers, at, above, reasons)
+}
+
+/// Where a reason of a row points: 4 to the first of the two nodes that is outside, 7
+/// to the amount; the others judge the line as a whole.
+fn byte_of_row(reason: u32, line: &Line, numbers: &[i64], n: i64) -> u32 {
+    let outside = |node: i64| node < 1 || node > n;
+    match reason {
+        4 if outside(numbers[0]) => start_of(line, 1),
+        4 => start_of(line, 2),
+        7 => start_of(line, 3),
+        _ => 1,
+    }
 }
 
 /// The first reason that holds of a row's nodes, place and amount. Nodes and
 /// amount stand first in the row of a sheet too.
 pub fn judge_row(
+    line: &Line,
     numbers: &[i64],
     at: u32,
     above: &Table,
@@ -168,7 +200,7 @@ pub fn judge_row(
 ) -> Result<Row, Refusal> {
     for (reason, holds) in reasons {
         if holds(numbers, above) {
-            return refuse(*reason, at);
+            return refuse(*reason, at, byte_of_row(*reason, line, numbers, above.n));
         }
     }
     let (i, j, d) = (numbers[0], numbers[1], numbers[2]);

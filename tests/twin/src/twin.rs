@@ -65,13 +65,14 @@ impl Call {
     }
 }
 
-/// The reply of a call that judges or writes: reason 0 is success, with the
-/// length of the text, 0 where none is written.
+/// The reply of a call that judges or writes: reason 0 is success, with byte 0 and
+/// the length of the text, 0 where none is written.
 #[repr(C)]
 #[derive(Clone, Copy, PartialEq, Eq, Debug)]
 pub struct Reply {
     pub reason: u32,
     pub line: u32,
+    pub byte: u32,
     pub length: usize,
 }
 
@@ -81,6 +82,7 @@ pub struct Reply {
 pub struct Pair {
     pub reason: u32,
     pub line: u32,
+    pub byte: u32,
     pub first: usize,
     pub second: usize,
 }
@@ -97,6 +99,14 @@ impl Said {
         match self {
             Said::Reply(reply) => reply.reason,
             Said::Pair(pair) => pair.reason,
+        }
+    }
+
+    /// The line and the byte in it.
+    pub fn place(self) -> (u32, u32) {
+        match self {
+            Said::Reply(reply) => (reply.line, reply.byte),
+            Said::Pair(pair) => (pair.line, pair.byte),
         }
     }
 }
@@ -147,43 +157,53 @@ pub fn found(pair: Option<(usize, usize)>) -> Granted {
 }
 
 /// 15 comes after all reasons of the text, and is given exactly when the buffer
-/// is too short. A refusal returns only reason and line. Success writes its
+/// is too short. A refusal returns only reason, line and byte. Success writes its
 /// text at the buffer's start, returns its length and keeps the bytes after it.
 pub fn reply(answer: &Answer, buffer: &mut [u8]) -> Reply {
     match answer {
-        Err(refusal) => refused(refusal.reason, refusal.line),
-        Ok(granted) if buffer.len() < granted.text.len() => refused(15, 0),
+        Err(refusal) => refused(refusal),
+        Ok(granted) if buffer.len() < granted.text.len() => refused(&NO_ROOM),
         Ok(granted) => {
             let length = granted.text.len();
             buffer[..length].copy_from_slice(&granted.text);
             Reply {
                 reason: 0,
                 line: 0,
+                byte: 0,
                 length,
             }
         }
     }
 }
 
-fn refused(reason: u32, line: u32) -> Reply {
+pub const NO_ROOM: Refusal = Refusal {
+    reason: 15,
+    line: 0,
+    byte: 0,
+};
+
+pub fn refused(refusal: &Refusal) -> Reply {
+    let Refusal { reason, line, byte } = *refusal;
     Reply {
         reason,
         line,
+        byte,
         length: 0,
     }
 }
 
 /// The answer that there is none is told from a pair by its places, which are 0.
 pub fn pair(answer: &Answer) -> Pair {
-    let (reason, line) = match answer {
-        Err(refusal) => (refusal.reason, refusal.line),
-        Ok(_) => (0, 0),
+    let (reason, line, byte) = match answer {
+        Err(refusal) => (refusal.reason, refusal.line, refusal.byte),
+        Ok(_) => (0, 0, 0),
     };
     let pair = answer.as_ref().ok().and_then(|granted| granted.pair);
     let (first, second) = pair.unwrap_or((0, 0));
     Pair {
         reason,
         line,
+        byte,
         first,
         second,
     }
