@@ -1,7 +1,7 @@
 // Runs stored cases: each is a header of 12 bytes (the letter of the call, the text's length and the buffer's in five digits each, LF) and
 // the text. Each is answered by a line: the reply's numbers, and a sum over every byte of the buffer, which is filled with a pattern before the call.
 // The letter T is `ringkit_rewrite_table`, R is `ringkit_route`, S is `ringkit_rewrite_sheet`, W is `ringkit_write_matrix`, and a digit is `ringkit_read_matrix` with so many fibres. C is
-// `ringkit_check` and P is `ringkit_parallel`: these lend no buffer, so their lines have reason and line, and for P the two places. Any other letter ends the run.
+// `ringkit_check` and P is `ringkit_parallel`: these lend no buffer, so their lines have reason, line and byte, and for P the two places. Any other letter ends the run.
 use libc::STDIN_FILENO;
 use libc::STDOUT_FILENO;
 use ringkit::Reply;
@@ -119,13 +119,15 @@ fn call(letter: u8, text: &[u8], buffer: &mut [u8]) -> Reply {
 fn show_check(text: &[u8]) {
     let reply = ringkit::ringkit_check(text);
     show_word(reply.reason);
-    show(reply.line as u64, b"\n");
+    show_word(reply.line);
+    show(reply.byte as u64, b"\n");
 }
 
 fn show_parallel(text: &[u8]) {
     let pair = ringkit::ringkit_parallel(text);
     show_word(pair.reason);
     show_word(pair.line);
+    show_word(pair.byte);
     show(pair.first as u64, b" ");
     show(pair.second as u64, b"\n");
 }
@@ -173,6 +175,7 @@ fn answer(text: &mut [u8], buffer: &mut [u8]) -> bool {
     let reply = call(letter, &text[0..size], &mut buffer[0..room]);
     show_word(reply.reason);
     show_word(reply.line);
+    show_word(reply.byte);
     show(reply.length as u64, b" ");
     show(sum_of(buffer), b"\n");
     true

@@ -6,6 +6,7 @@ use lib.ListN.{length}
 use Rattle.text.specs.ReadLine.{readLine, fieldAt}
 use Rattle.text.specs.Answers.{twoIn, threeIn, sentIn}
 use Rattle.text.specs.Shapes.{ringShape, rowShape, sentShape, cutShape, linkShape, lastShape, ringLine, rowLine, sentLine, cutLine, linkLine, lastLine}
+use Rattle.text.specs.FieldByte.{ringByte, rowByte}
 use Rattle.text.specs.Written.{Written}
 use Rattle.text.specs.Bytes.{number}
 use Rattle.text.specs.WriteLine.{endOf, writeLine}
@@ -68,6 +69,14 @@ link-length-unique _ _ _ r q = same-result
 
 pub last-length-unique : (peak size r q : ℕ) → r ≡ length (lastLine peak size) → q ≡ length (lastLine peak size) → r ≡ q
 last-length-unique _ _ r q = same-result
+
+-- ---- where a field starts
+
+pub ring-byte-unique : (n fibres k r q : ℕ) → r ≡ ringByte n fibres k → q ≡ ringByte n fibres k → r ≡ q
+ring-byte-unique _ _ _ r q = same-result
+
+pub row-byte-unique : (i j amount k r q : ℕ) → r ≡ rowByte i j amount k → q ≡ rowByte i j amount k → r ≡ q
+row-byte-unique _ _ _ _ r q = same-result
 
 -- ---- writers
 
