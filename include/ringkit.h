@@ -126,7 +126,7 @@ typedef struct ringkit_pair_reply {
 
 /* A table at work, lent by the caller, who makes it by ringkit_work_start: rows at places 1 to 496, and kept beside them the largest cut. Its fields
  * are the library's. They are unsigned integers and arrays of them with no padding, so any bytes are a value: copies may be kept and put back, and a call
- * on bytes that no call made still ends, with an answer that the bytes alone decide. */
+ * on bytes that no call made still ends, with an answer that the bytes alone decide. A pointer to it is to a whole struct, aligned as C aligns it. */
 typedef struct ringkit_work {
     uint32_t triangle[RINGKIT_MAX_OFFICES * (RINGKIT_MAX_OFFICES - 1) / 2];
     uint32_t n, fibres;

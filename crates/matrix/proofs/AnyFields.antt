@@ -15,6 +15,7 @@ use Rattle.text.specs.Number.{limit, digits}
 use Rattle.text.specs.Field.{top, spell}
 use Rattle.text.specs.WriteLine.{endOf, writeLine, FitsShape}
 use Rattle.text.specs.Shapes.{numbers}
+use Rattle.text.proofs.LineLaws.{fewer}
 use Rattle.text.specs.FirstFault.{Agrees, FirstFault}
 use Rattle.text.proofs.Apart.{clash}
 use Rattle.table.specs.Lines.{withByte, lines}
@@ -171,13 +172,6 @@ pub any-fault : (l : List ℕ) (p : ℕ) → Ended l → FirstFault (numbers (fi
 any-fault l p f x = record { m = fieldsIn l; some = fields-some l; before = x .before; here = λ m h a. x .here (agree-any m l (p + 1) h f a) }
 
 -- there is one such place
-fewer : (shape s : List ℕ) (m n : ℕ) → m ≤ n → Agrees shape s n → Agrees shape s m
-fewer shape s m n h a = record {
-  vs = a .vs;
-  range = a .range;
-  text = sym (take-take m n (writeLine shape (a .vs)) h) ∙ ap (take m) (a .text) ∙ take-take m n s h;
-}
-
 not-before : (l : List ℕ) (p q : ℕ) → NumbersFault l p → NumbersFault l q → p < q → ⊥
 not-before l p q x y h = x .here (y .m) (y .some) (fewer (numbers (y .m)) l (p + 1) q (omega arith) (y .before))
 

@@ -13,10 +13,12 @@ use Rattle.text.specs.FirstFault.{FirstFault}
 use Rattle.text.proofs.LineLaws.{one-fault}
 use Rattle.table.specs.declared.reason.Reason.{Reason}
 use Rattle.table.specs.declared.reason.Reason.the-variants.{TooLong, Misshapen, RingSize, Fibres, NoRow, NoSuchNode, NotBelow, OutOfOrder, TooMany, TooMuch, Full, WrongSum, WrongWay, WrongCut, WrongLink, WrongLast, NotTight, OverBound, NotZero, NotSymmetric, SumTooMuch, NoRoom}
+use Rattle.table.specs.Says.{DueByte}
+use Rattle.table.proofs.BytesGiven.{one-due}
 use Rattle.table.proofs.LineNumbers.{line-one}
 use Rattle.matrix.specs.Matrix.{entryByte}
 use Rattle.matrix.specs.Read.{fieldsIn}
-use Rattle.matrix.specs.Says.{NumbersAre, EntryIs, DueByte, line-missing, line-faulty, LineByte, first-due, later-due, none-due, EntryStarts, AmountByte, FirstFaulty, FaultyByte, ByteIs}
+use Rattle.matrix.specs.Says.{NumbersAre, EntryIs, LineByte, first-due, later-due, none-due, EntryStarts, AmountByte, FirstFaulty, FaultyByte, ByteIs}
 use Rattle.matrix.proofs.LinesText.{numbers-line-read, FirstOver}
 use Rattle.matrix.proofs.MatrixText.{fields-are}
 use Rattle.matrix.proofs.AnyFields.{one-any-fault}
@@ -51,13 +53,6 @@ amount-byte {limits} {t} {line} {vs} x here f =
         omega (arith, f .first (y - 1) (omega (arith, h .low)))
 
 -- ---- one byte
-
-one-due : {t : List ℕ} {line b c : ℕ} {Fault : List ℕ → ℕ → Type 0} → ((l : List ℕ) (p q : ℕ) → Fault l p → Fault l q → p ≡ q) → DueByte t line Fault b → DueByte t line Fault c → b ≡ c
-one-due one (line-missing none) (line-missing gone) = refl
-one-due one (line-missing none) (line-faulty is f) = absurd (none _ is)
-one-due one (line-faulty is f) (line-missing none) = absurd (none _ is)
-one-due {Fault = Fault} one (line-faulty {l} {p} is f) (line-faulty {l = m} {p = q} it g) =
-    ap (λ k. k + 1) (one m p q (subst (λ k. Fault k p) (line-one is it refl) f) g)
 
 one-line-byte : {t : List ℕ} {line b c : ℕ} → LineByte t line b → LineByte t line c → b ≡ c
 one-line-byte (first-due e x) (first-due f y) = one-due one-any-fault x y

@@ -18,7 +18,7 @@ use Rattle.text.specs.Shapes.{numbers, numbersLine}
 use Rattle.text.specs.FirstFault.{FirstFault}
 use Rattle.table.specs.Lines.{lines}
 use Rattle.table.specs.Reasons.{rankOf}
-use Rattle.table.specs.Says.{LineIs, at-first, behind}
+use Rattle.table.specs.Says.{LineIs, at-first, behind, DueByte, line-missing, line-faulty}
 use Rattle.table.specs.declared.reason.Reason.{Reason}
 use Rattle.table.specs.declared.reason.Reason.the-variants.{TooLong, Misshapen, RingSize, Fibres, NoRow, NoSuchNode, NotBelow, OutOfOrder, TooMany, TooMuch, Full, WrongSum, WrongWay, WrongCut, WrongLink, WrongLast, NotTight, OverBound, NotZero, NotSymmetric, SumTooMuch, NoRoom}
 use Rattle.table.specs.declared.judge.Verdict.{Verdict}
@@ -27,7 +27,7 @@ use Rattle.table.proofs.LineNumbers.{line-one, LinesFrom, from-first, from-next
 use Rattle.table.proofs.ReasonNumbers.{same-rank, no-rank-0}
 use Rattle.matrix.specs.Matrix.{entry, entryByte, Node}
 use Rattle.matrix.specs.Read.{Matrix, matrix, no-matrix, fieldsIn, numbersOr, unless, unlessAt, linesOf, lineOf, afterSquare, squareJudged, matrixLines, matrixOf, judgeAmounts}
-use Rattle.matrix.specs.Says.{NumbersAre, EntryIs, NoFirstLine, NoLaterLine, LeftOver, WrongSize, WrongAmount, WrongEntry, not-zero, not-mirror, FirstFaulty, Says, DueByte, line-missing, line-faulty, LineByte, first-due, later-due, none-due, EntryStarts, FaultyByte, ByteIs, stage, Earlier, Given, Accepted}
+use Rattle.matrix.specs.Says.{NumbersAre, EntryIs, NoFirstLine, NoLaterLine, LeftOver, WrongSize, WrongAmount, WrongEntry, not-zero, not-mirror, FirstFaulty, Says, LineByte, first-due, later-due, none-due, EntryStarts, FaultyByte, ByteIs, stage, Earlier, Given, Accepted}
 use Rattle.matrix.specs.Back.{Reads}
 use Rattle.matrix.specs.declared.byte.Found.{Found}
 use Rattle.matrix.specs.declared.square.Lines.{Lines}

@@ -12,7 +12,7 @@ use Rattle.text.specs.FirstFault.{Agrees, FirstFault}
 use Rattle.text.specs.Shapes.{numbers, numbersLine}
 use Rattle.table.specs.Lines.{lines}
 use Rattle.table.specs.Reasons.{rankOf}
-use Rattle.table.specs.Says.{LineIs}
+use Rattle.table.specs.Says.{LineIs, DueByte}
 use Rattle.table.specs.declared.reason.Reason.{Reason}
 use Rattle.table.specs.declared.reason.Reason.the-variants.{TooLong, Misshapen, RingSize, Fibres, NoRow, NoSuchNode, NotBelow, OutOfOrder, TooMany, TooMuch, Full, WrongSum, WrongWay, WrongCut, WrongLink, WrongLast, NotTight, OverBound, NotZero, NotSymmetric, SumTooMuch, NoRoom}
 use Rattle.matrix.specs.Matrix.{entryByte}
@@ -118,11 +118,6 @@ pub record NumbersFault (l : List ℕ) (p : ℕ) : Type 0 where
   pub some : 1 ≤ m
   pub before : Agrees (numbers m) l p
   pub here : (m : ℕ) → 1 ≤ m → Agrees (numbers m) l (p + 1) → ⊥
-
--- where a line is due: 1 where it is missing; else its first faulty byte
-pub data DueByte (t : List ℕ) (line : ℕ) (Fault : List ℕ → ℕ → Type 0) : ℕ → Type 0 where
-  line-missing : ((l : List ℕ) → LineIs (lines t) line l → ⊥) → DueByte t line Fault 1
-  line-faulty : {l : List ℕ} {p : ℕ} → LineIs (lines t) line l → Fault l p → DueByte t line Fault (p + 1)
 
 -- 2: any number of fields is due in the first line, and as many in a later one; a line is left over as a whole
 pub data LineByte (t : List ℕ) (line byte : ℕ) : Type 0 where

@@ -34,7 +34,7 @@ use Rattle.text.specs.Shapes.{sentShape}
 use Rattle.table.specs.Fields.{ringFault, rowFault}
 use Rattle.sheet.proofs.SheetBytes.{ByteOn, only-byte, ring-byte, neither, sent-row-bytes}
 use Rattle.sheet.specs.Check.{wholeLine, Turn, on, stop, unless, cutOf, routedOf, linkOf, ringTurn, cutTurn, rowTurn, linkTurn, lastTurn, turn}
-use Rattle.sheet.specs.Says.{State, start, rows, links, end, SentIs, CutIs, LinkIs, LastIs, At, at-start, behind-ring, behind-row, behind-cut, behind-link, behind-last, Says, both-faulty, ring-due, row-or-cut-due, link-due, last-due, none-due, ByteIs}
+use Rattle.sheet.specs.Says.{State, start, rows, links, end, SentIs, CutIs, LinkIs, LastIs, At, at-start, behind-ring, behind-row, behind-cut, behind-link, behind-last, Says, ring-due, row-or-cut-due, link-due, last-due, none-due, ByteIs}
 use Rattle.sheet.proofs.LineAt.{way-spelled}
 use Rattle.sheet.proofs.SheetLines.{SentRead, is-sent, no-sent, sent-read, CutRead, is-cut, no-cut, cut-read, LinkRead, is-link, no-link, link-read, LastRead, is-last, no-last, last-read}
 use Rattle.sheet.proofs.Places.{sent-spelled}
@@ -119,7 +119,7 @@ module _ (limits : Limits) (judging : Bool) {t l : List ℕ} where
         (behind-cut at is)
     cut-turned at none fault (no-cut none′ fault′) =
         stops (unfit-first limits judging at (none, λ c k. none′ (c .g) (c .h) (c .number) (line-one here (k .text) refl) (k .pair .0) (k .pair .1) (k .number)))
-        (row-or-cut-due at (both-faulty here (neither fault fault′)))
+        (row-or-cut-due at (line-faulty here (neither fault fault′)))
 
     -- D i j amount front back F-or-B, else C
     row-turned : {ring : Ring} {rs : List Routed} {x : SentRow} {y : ThreeNumbers} → At t line (rows ring rs) → SentRead l x → CutRead l y

@@ -27,13 +27,12 @@ use Rattle.table.specs.declared.reason.Reason.the-variants.{TooLong, Misshapen,
 use Rattle.table.specs.declared.judge.Verdict.{Verdict}
 use Rattle.table.specs.declared.judge.Verdict.the-variants.{Fine, Fault}
 use Rattle.table.proofs.Against.{no-node-there}
-use Rattle.table.proofs.BytesGiven.{one-shape-byte, one-ring-field}
+use Rattle.table.proofs.BytesGiven.{one-due as one-due-byte, one-shape-byte, one-ring-field}
 use Rattle.table.proofs.Judged.{RingJudged, wrong-size, wrong-fibres, right-ring, Node, no-node, has-node, node, RowJudged, no-such-node, not-below, out-of-order, too-many, too-much, row-fine, row-judged}
-use Rattle.table.proofs.LineNumbers.{line-one}
 use Rattle.sheet.specs.Verdicts.{faultIf, orElse}
 use Rattle.sheet.specs.Judge.{wrongSum, wrongWay, judgeHalves}
 use Rattle.sheet.specs.Check.{when, wholeLine, lastOf, judgeNext}
-use Rattle.sheet.specs.Says.{State, start, rows, links, end, SentIs, At, RowAt, NeitherGoesOn, EitherByte, both-missing, both-faulty, LineByte, ring-due, row-or-cut-due, link-due, last-due, none-due, routedByte, NodeByte, first-node, second-node, AmountByte, ByteIs}
+use Rattle.sheet.specs.Says.{State, start, rows, links, end, SentIs, At, RowAt, NeitherGoesOn, LineByte, ring-due, row-or-cut-due, link-due, last-due, none-due, routedByte, NodeByte, first-node, second-node, AmountByte, ByteIs}
 use Rattle.sheet.proofs.FirstReason.{First, Only, only-then, Counts}
 use Rattle.sheet.proofs.Places.{sent-one, place-one}
 use Rattle.sheet.proofs.RowFirst.{row-at}
@@ -67,14 +66,15 @@ module _ {t : List ℕ} {line : ℕ} {ring : Ring} {rs : List Routed} {r : Route
   abbrev byte : Reason → ℕ
   byte = rowFault (ring .n) (r .sent .row .i) (r .sent .row .j) (r .sent .row .d)
 
-  node-byte : Node (ring .n) (r .sent .row .i) → NodeByte t line (byte NoSuchNode)
+  node-byte : Node (ring .n) (r .sent .row .i) → NoNode (ring .n) (r .sent .row .i) ⊎ NoNode (ring .n) (r .sent .row .j) → NodeByte t line (byte NoSuchNode)
   unfolding rowFault nodeField
-  node-byte (no-node w e) = first-node (row-at at is) w (rw e (field-byte 1 (omega arith)))
-  node-byte (has-node h e) = second-node (row-at at is) (no-node-there h) (rw e (field-byte 2 (omega arith)))
+  node-byte (no-node w e) out = first-node (row-at at is) w (rw e (field-byte 1 (omega arith)))
+  node-byte (has-node h e) (inl w) = absurd (no-node-there h w)
+  node-byte (has-node h e) (inr w) = second-node (row-at at is) (no-node-there h) w (rw e (field-byte 2 (omega arith)))
 
   demand-byte : {limits : Limits} {k a b : ℕ} {v : Verdict} → RowJudged limits (ring .n) k a b (r .sent .row .i) (r .sent .row .j) (r .sent .row .d) v → ByteOn t line byte v
   unfolding ByteIs rowFault fieldByte writeLine
-  demand-byte (no-such-node w) = node-byte (node (ring .n) (r .sent .row .i))
+  demand-byte (no-such-node w) = node-byte (node (ring .n) (r .sent .row .i)) w
   demand-byte (not-below h p l) = refl
   demand-byte (out-of-order h p l o) = refl
   demand-byte (too-many h p l o c) = refl
@@ -130,12 +130,6 @@ no-later {l} {p} {q} x y h = go (y .before)
 one-neither : {l : List ℕ} {p q : ℕ} → NeitherGoesOn l p → NeitherGoesOn l q → p ≡ q
 one-neither {p} {q} x y = let a : p < q → ⊥ = no-later x y in let b : q < p → ⊥ = no-later y x in omega arith
 
-one-either : {t : List ℕ} {line b c : ℕ} → EitherByte t line b → EitherByte t line c → b ≡ c
-one-either (both-missing none) (both-missing gone) = refl
-one-either (both-missing none) (both-faulty is f) = absurd (none _ is)
-one-either (both-faulty is f) (both-missing none) = absurd (none _ is)
-one-either (both-faulty is f) (both-faulty it g) = let e = line-one is it refl in ap (λ p. p + 1) (one-neither (rw e at f) g)
-
 -- what is due on a line
 abbrev due : State → ℕ
 due start = 0
@@ -173,7 +167,7 @@ module _ {t : List ℕ} {line : ℕ} where
   one-line-byte (ring-due a x) (last-due b g y) = absurd (omega (arith, one-due a b))
   one-line-byte (ring-due a x) (none-due b y) = absurd (omega (arith, one-due a b))
   one-line-byte (row-or-cut-due a x) (ring-due b y) = absurd (omega (arith, one-due a b))
-  one-line-byte (row-or-cut-due a x) (row-or-cut-due b y) = one-either x y
+  one-line-byte (row-or-cut-due a x) (row-or-cut-due b y) = one-due-byte (λ l p q f g. one-neither f g) x y
   one-line-byte (row-or-cut-due a x) (link-due b g y) = absurd (omega (arith, one-due a b))
   one-line-byte (row-or-cut-due a x) (last-due b g y) = absurd (omega (arith, one-due a b))
   one-line-byte (row-or-cut-due a x) (none-due b y) = absurd (omega (arith, one-due a b))
@@ -205,11 +199,11 @@ module _ {t : List ℕ} {line : ℕ} where
 
   one-node-byte : {b c : ℕ} → NodeByte t line b → NodeByte t line c → b ≡ c
   one-node-byte (first-node x w e) (first-node y v f) = e ∙ ap (λ (r : Routed). routedByte r 1) (sent-one (x .is) (y .is)) ∙ sym f
-  one-node-byte (first-node x w e) (second-node y v f) =
+  one-node-byte (first-node x w e) (second-node y v u f) =
       let s = sent-one (x .is) (y .is) in let n = ring-nodes x y in absurd (v (rw (s, n) at w))
-  one-node-byte (second-node x w e) (first-node y v f) =
+  one-node-byte (second-node x w u e) (first-node y v f) =
       let s = sent-one (y .is) (x .is) in let n = ring-nodes y x in absurd (w (rw (s, n) at v))
-  one-node-byte (second-node x w e) (second-node y v f) = e ∙ ap (λ (r : Routed). routedByte r 2) (sent-one (x .is) (y .is)) ∙ sym f
+  one-node-byte (second-node x w u e) (second-node y v z f) = e ∙ ap (λ (r : Routed). routedByte r 2) (sent-one (x .is) (y .is)) ∙ sym f
 
   one-amount-byte : {b c : ℕ} → AmountByte t line b → AmountByte t line c → b ≡ c
   one-amount-byte x y = x .is ∙ ap (λ (r : Routed). routedByte r 3) (sent-one (x .row .is) (y .row .is)) ∙ sym (y .is)

@@ -21,7 +21,7 @@ use Rattle.table.specs.declared.judge.Verdict.the-variants.{Fine, Fault}
 use Rattle.table.proofs.LineNumbers.{LinesFrom, from-first, from-next, line-here, no-line-left}
 use Rattle.table.proofs.ReasonNumbers.{no-rank-0}
 use Rattle.sheet.specs.Check.{Result, accepted, refused, Turn, wholeResult, atEnd, after, checkFrom, checkBy}
-use Rattle.sheet.specs.Says.{State, start, rows, links, end, At, at-start, WholeIs, Says, both-missing, LineByte, ring-due, row-or-cut-due, link-due, last-due, ByteIs, stage, Earlier, GivenAmong, NoneAmong}
+use Rattle.sheet.specs.Says.{State, start, rows, links, end, At, at-start, WholeIs, Says, LineByte, ring-due, row-or-cut-due, link-due, last-due, ByteIs, stage, Earlier, GivenAmong, NoneAmong}
 use Rattle.sheet.proofs.Places.{place-low, place-within, whole-one}
 use Rattle.sheet.proofs.FirstReason.{First, only-then, Counts, counts-form, when-first}
 use Rattle.sheet.proofs.SheetJudged.{AgainstWhole, whole-late, whole-first}
@@ -138,7 +138,7 @@ module _ (limits : Limits) (judging : Bool) {t : List ℕ} where
       → Right limits judging t (atEnd judging state line)
   unfolding atEnd
   end-right {state = start} at-start missing clean = missing-right at-start clean (λ n r. missing _ (r .text)) (ring-due at-start (line-missing missing))
-  end-right {state = rows ring rs} at missing clean = missing-right at clean (λ r s. missing _ (s .text), λ c k. missing _ (k .text)) (row-or-cut-due at (both-missing missing))
+  end-right {state = rows ring rs} at missing clean = missing-right at clean (λ r s. missing _ (s .text), λ c k. missing _ (k .text)) (row-or-cut-due at (line-missing missing))
   end-right {state = links ring rs c ks} at missing clean =
       elim (decLt (length ks) (ring .n)) [
         | yes few ↦ missing-right at clean (inl (few, λ l k. missing _ (k .text))) (link-due at few (line-missing missing))

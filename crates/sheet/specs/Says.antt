@@ -1,4 +1,4 @@
--- To believe: what each reason says of a sheet's text, by its lines and the writer alone; which reason is given; and what accepted and well-formed sheets are.
+-- To believe: what each reason says of a sheet's text, by its lines and the writer alone, and which byte of the line goes with it; which reason is given; and what accepted and well-formed sheets are.
 use Prim.Native.Nat.{ℕ, _+_, _*_, _≤_, _<_}
 use mathlib.Core.List.{List, [], _∷_, _++_}
 use mathlib.Core.Logic.{_⊎_}
@@ -19,7 +19,7 @@ use Rattle.text.specs.FirstFault.{Agrees}
 use Rattle.text.specs.Shapes.{ringShape, sentShape, cutShape, linkShape, lastShape, cutLine, lastLine}
 use Rattle.table.specs.Lines.{lines}
 use Rattle.table.specs.Reasons.{rankOf}
-use Rattle.table.specs.Says.{LineIs, RingIs, WrongRing, WrongFibres, NoNode, ShapeByte, RingField}
+use Rattle.table.specs.Says.{LineIs, RingIs, WrongRing, WrongFibres, NoNode, DueByte, ShapeByte, RingField}
 use Rattle.table.specs.declared.reason.Reason.{Reason}
 use Rattle.table.specs.declared.reason.Reason.the-variants.{TooLong, Misshapen, RingSize, Fibres, NoRow, NoSuchNode, NotBelow, OutOfOrder, TooMany, TooMuch, Full, WrongSum, WrongWay, WrongCut, WrongLink, WrongLast, NotTight, OverBound, NotZero, NotSymmetric, SumTooMuch, NoRoom}
 use Rattle.sheet.specs.WriteSheet.{routedLine, loadLine}
@@ -223,15 +223,10 @@ pub record NeitherGoesOn (l : List ℕ) (p : ℕ) : Type 0 where
   pub no-row : Agrees sentShape l (p + 1) → ⊥
   pub no-cut : Agrees cutShape l (p + 1) → ⊥
 
--- 1 where the line is missing
-pub data EitherByte (t : List ℕ) (line : ℕ) : ℕ → Type 0 where
-  both-missing : ((l : List ℕ) → LineIs (lines t) line l → ⊥) → EitherByte t line 1
-  both-faulty : {l : List ℕ} {p : ℕ} → LineIs (lines t) line l → NeitherGoesOn l p → EitherByte t line (p + 1)
-
 -- 2: by the shape that is due; 1 where the line is left over
 pub data LineByte (t : List ℕ) (line byte : ℕ) : Type 0 where
   ring-due : At t line start → ShapeByte t ringShape line byte → LineByte t line byte
-  row-or-cut-due : {ring : Ring} {rs : List Routed} → At t line (rows ring rs) → EitherByte t line byte → LineByte t line byte
+  row-or-cut-due : {ring : Ring} {rs : List Routed} → At t line (rows ring rs) → DueByte t line NeitherGoesOn byte → LineByte t line byte
   link-due : {ring : Ring} {rs : List Routed} {c : Cut} {ks : List Link} → At t line (links ring rs c ks) → length ks < ring .n → ShapeByte t linkShape line byte → LineByte t line byte
   last-due : {ring : Ring} {rs : List Routed} {c : Cut} {ks : List Link} → At t line (links ring rs c ks) → ring .n ≤ length ks → ShapeByte t lastShape line byte → LineByte t line byte
   none-due : {x : Sheet} → At t line (end x) → byte ≡ 1 → LineByte t line byte
@@ -243,7 +238,7 @@ routedByte r k = sentByte (r .sent .row .i) (r .sent .row .j) (r .sent .row .d) 
 -- 4: where the first of the two nodes that is outside starts
 pub data NodeByte (t : List ℕ) (line byte : ℕ) : Type 0 where
   first-node : {r : Routed} (row : RowAt t line r) → NoNode (row .ring .n) (r .sent .row .i) → byte ≡ routedByte r 1 → NodeByte t line byte
-  second-node : {r : Routed} (row : RowAt t line r) → (NoNode (row .ring .n) (r .sent .row .i) → ⊥) → byte ≡ routedByte r 2 → NodeByte t line byte
+  second-node : {r : Routed} (row : RowAt t line r) → (NoNode (row .ring .n) (r .sent .row .i) → ⊥) → NoNode (row .ring .n) (r .sent .row .j) → byte ≡ routedByte r 2 → NodeByte t line byte
 
 -- 7: where the amount starts
 pub record AmountByte (t : List ℕ) (line byte : ℕ) : Type 0 where

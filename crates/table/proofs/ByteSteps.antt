@@ -1,23 +1,14 @@
--- What the code's steps say of the byte that a refusal names: a place within a text is small, and a field is one of the first three.
-use Prim.Native.Nat.{ℕ, _+_, _≤_}
+-- What the code's steps say of the byte that a refusal names: a field is one of the first three, and its byte is where it starts.
+use Prim.Native.Nat.{ℕ, _≤_}
 use mathlib.Core.Bool.{Bool, true, false, cond}
 use mathlib.Core.Path.{_≡_, sym, _∙_}
 use native.Mathlib.Omega.{arith}
-use mir.Val.{Fits}
-use mir.Syntax.{w32}
-use Rattle.ring.specs.Limits.{desk}
 use Rattle.ring.specs.Ring.{ringOf}
 use Rattle.text.specs.FieldByte.{ringByte, rowByte}
 use Rattle.table.specs.Fields.{fieldOf, nodeField, ringFault, rowFault}
 use Rattle.table.specs.Judge.{outside}
 use Rattle.table.specs.declared.reason.Reason.{Reason}
 use Rattle.table.specs.declared.reason.Reason.the-variants.{TooLong, Misshapen, RingSize, Fibres, NoRow, NoSuchNode, NotBelow, OutOfOrder, TooMany, TooMuch, Full, WrongSum, WrongWay, WrongCut, WrongLink, WrongLast, NotTight, OverBound, NotZero, NotSymmetric, SumTooMuch, NoRoom}
-
-pub place-fits : (p : ℕ) → p ≤ desk .bytes → Fits w32 p
-place-fits p h = omega arith
-
-pub byte-fits : (p : ℕ) → p ≤ desk .bytes → Fits w32 (p + 1)
-byte-fits p h = omega arith
 
 module _ (n i : ℕ) (x : Bool) (ex : x ≡ outside n i) where
   pub first-outside : x ≡ true → 1 ≡ nodeField n i

@@ -1,4 +1,4 @@
--- To believe: what each reason says of a table's text, by its lines and the writer alone; which reason is given; and what an accepted table is.
+-- To believe: what each reason says of a table's text, by its lines and the writer alone, and which byte of the line goes with it; which reason is given; and what an accepted table is.
 use Prim.Native.Nat.{ℕ, _+_, _≤_, _<_}
 use mathlib.Core.List.{List, _∷_}
 use mathlib.Core.Logic.{_⊎_}
@@ -142,10 +142,14 @@ Says limits t NoRoom line = ⊥
 
 -- ---- the byte of the line that is given with a reason (02, K5), counted from 1
 
--- where a line of this shape is due: 1 where it is missing; else the first byte at which no line of the shape goes on like this
-pub data ShapeByte (t shape : List ℕ) (line : ℕ) : ℕ → Type 0 where
-  line-missing : ((l : List ℕ) → LineIs (lines t) line l → ⊥) → ShapeByte t shape line 1
-  line-faulty : {l : List ℕ} {p : ℕ} → LineIs (lines t) line l → FirstFault shape l p → ShapeByte t shape line (p + 1)
+-- where a line is due: 1 where it is missing; else the byte at which its first fault is, by what a fault is there
+pub data DueByte (t : List ℕ) (line : ℕ) (Fault : List ℕ → ℕ → Type 0) : ℕ → Type 0 where
+  line-missing : ((l : List ℕ) → LineIs (lines t) line l → ⊥) → DueByte t line Fault 1
+  line-faulty : {l : List ℕ} {p : ℕ} → LineIs (lines t) line l → Fault l p → DueByte t line Fault (p + 1)
+
+-- where a line of this shape is due it is the first byte at which no line of the shape goes on like this
+abbrev pub ShapeByte : List ℕ → List ℕ → ℕ → ℕ → Type 0
+ShapeByte t shape line = DueByte t line (FirstFault shape)
 
 -- 2: by the shape that is due
 pub data LineByte (t : List ℕ) (line byte : ℕ) : Type 0 where
@@ -161,7 +165,7 @@ pub record RingField (t : List ℕ) (k byte : ℕ) : Type 0 where
 -- 4: where the first of the two nodes that is outside starts
 pub data NodeByte (t : List ℕ) (line : ℕ) : ℕ → Type 0 where
   first-node : {ring : Ring} {i j d : ℕ} → RingIs t ring → RowIs t line i j d → NoNode (ring .n) i → NodeByte t line (rowByte i j d 1)
-  second-node : {ring : Ring} {i j d : ℕ} → RingIs t ring → RowIs t line i j d → (NoNode (ring .n) i → ⊥) → NodeByte t line (rowByte i j d 2)
+  second-node : {ring : Ring} {i j d : ℕ} → RingIs t ring → RowIs t line i j d → (NoNode (ring .n) i → ⊥) → NoNode (ring .n) j → NodeByte t line (rowByte i j d 2)
 
 -- 7: where the amount starts
 pub data AmountByte (t : List ℕ) (line : ℕ) : ℕ → Type 0 where

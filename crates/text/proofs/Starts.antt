@@ -20,8 +20,8 @@ module _ (shape values : List ℕ) (k r : ℕ) (is : r ≡ length (writeLine (ta
   pub before-fits : length shape ≤ 1000 → Fits w32 r
   before-fits h = omega (arith, line-short (take (k - 0) shape) values, length-take (k - 0) shape)
 
-  pub byte-fits : length shape ≤ 1000 → Fits w32 (r + 1)
-  byte-fits h = omega (arith, line-short (take (k - 0) shape) values, length-take (k - 0) shape)
+  pub byte-fits : (behind : ℕ) → behind ≤ 2 → length shape ≤ 1000 → Fits w32 (r + behind)
+  byte-fits behind l h = omega (arith, line-short (take (k - 0) shape) values, length-take (k - 0) shape)
 
   pub byte-is : r + 1 ≡ fieldByte shape values k
   unfolding fieldByte

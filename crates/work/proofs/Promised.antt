@@ -17,7 +17,7 @@ use Rattle.work.specs.Changes.{refusedIn, keptIn, rowIn, startedIn, adde
 use Rattle.work.specs.Made.{Made, begun, called, calledIn, plainOf}
 use Rattle.work.specs.Kept.{keptCut}
 use Rattle.work.specs.Played.{played, namedBy, lastNamed, AsPlayed}
-use Rattle.work.specs.Promises.{RowAt, NoRow, Given, NoneHolds, faults, Makes, WorkSays, refused, accepted, WorkPromise, RowPromise}
+use Rattle.work.specs.Promises.{RowAt, NoRow, Given, NoneHolds, faults, Makes, WorkSays, refused, accepted, WorkPromise, RowSays, none-there, row-there, RowPromise}
 use Rattle.work.specs.declared.Work.{Work}
 use Rattle.work.specs.declared.held.WorkReply.{WorkReply}
 use Rattle.work.specs.declared.held.Changed.{Changed}
@@ -104,46 +104,42 @@ module _ {cs : List Call} {w : Work} (m : Made cs w) (r : WorkReply) (x : Work) 
 
 -- ---- the row at a place
 
-data Said (ps : List Place) (p : ℕ) (r : RowReply) : Type 0 where
-  said-none : NoRow ps p → r ≡ noRow → Said ps p r
-  said-row : (x : Row) → RowAt ps p x → r ≡ theRow x → Said ps p r
-
 module _ (t : Plain) (p : ℕ) (r : RowReply) where
-  said : r ≡ rowAnswer t p → Said (t .places) p r
+  said : r ≡ rowAnswer t p → RowSays (t .places) p r
   unfolding rowAnswer rowSaid
   said is =
       elim (decLt 0 p) [
         | yes l ↦ go l (getD (t .places) (p - 1) empty) refl (is ∙ (rw (lt-ltb 0 p l)))
-        | no l ↦ said-none (λ y. omega (arith, y .there .from-1)) (is ∙ (rw (le-ltb 0 p (omega arith))))
+        | no l ↦ none-there (λ y. omega (arith, y .there .from-1)) (is ∙ (rw (le-ltb 0 p (omega arith))))
       ]
     where
-      go : 1 ≤ p → (x : Place) → getD (t .places) (p - 1) empty ≡ x → r ≡ rowSaid x → Said (t .places) p r
-      go l empty e q = said-none (λ y. let f = y .there .is in let z : _≡_ {A = ℕ} 0 1 = cc in omega arith) q
-      go l (holds x) e q = said-row x (record { from-1 = l; is = e }) q
+      go : 1 ≤ p → (x : Place) → getD (t .places) (p - 1) empty ≡ x → r ≡ rowSaid x → RowSays (t .places) p r
+      go l empty e q = none-there (λ y. let f = y .there .is in let z : _≡_ {A = ℕ} 0 1 = cc in omega arith) q
+      go l (holds x) e q = row-there x (record { from-1 = l; is = e }) q
 
 module _ (ps : List Place) (p : ℕ) (r : RowReply) where
-  no-row-said : Said ps p r → r ≡ noRow → NoRow ps p
-  no-row-said (said-none n e) q = n
-  no-row-said (said-row x at e) q = absurd (omega (arith, ap (λ (y : RowReply). y .reason) (sym e ∙ q)))
+  no-row-said : RowSays ps p r → r ≡ noRow → NoRow ps p
+  no-row-said (none-there n e) q = n
+  no-row-said (row-there x at e) q = absurd (omega (arith, ap (λ (y : RowReply). y .reason) (sym e ∙ q)))
 
-  says-no-row : Said ps p r → NoRow ps p → r ≡ noRow
-  says-no-row (said-none n e) h = e
-  says-no-row (said-row x at e) h = absurd (h (record { r = x; there = at }))
+  says-no-row : RowSays ps p r → NoRow ps p → r ≡ noRow
+  says-no-row (none-there n e) h = e
+  says-no-row (row-there x at e) h = absurd (h (record { r = x; there = at }))
 
   module _ (x : Row) where
-    row-said : Said ps p r → r ≡ theRow x → RowAt ps p x
-    row-said (said-none n e) q = absurd (omega (arith, ap (λ (y : RowReply). y .reason) (sym e ∙ q)))
-    row-said (said-row y at e) q = let same : y ≡ x = ap (λ (z : RowReply). row (z .first) (z .second) (z .amount)) (sym e ∙ q) in rw (← same) at
+    row-said : RowSays ps p r → r ≡ theRow x → RowAt ps p x
+    row-said (none-there n e) q = absurd (omega (arith, ap (λ (y : RowReply). y .reason) (sym e ∙ q)))
+    row-said (row-there y at e) q = let same : y ≡ x = ap (λ (z : RowReply). row (z .first) (z .second) (z .amount)) (sym e ∙ q) in rw (← same) at
 
-    says-row : Said ps p r → RowAt ps p x → r ≡ theRow x
-    says-row (said-none n e) h = absurd (n (record { r = x; there = h }))
-    says-row (said-row y at e) h = let same : y ≡ x = cc (at .is, h .is) in rw (← same) e
+    says-row : RowSays ps p r → RowAt ps p x → r ≡ theRow x
+    says-row (none-there n e) h = absurd (n (record { r = x; there = h }))
+    says-row (row-there y at e) h = let same : y ≡ x = cc (at .is, h .is) in rw (← same) e
 
 pub row-promise : {cs : List Call} {w : Work} → Made cs w → (p : ℕ) (r : RowReply) → r ≡ rowIn w p → RowPromise w p r
 row-promise {w = w} m p r is =
     let s = said (plainOf w) p r (is ∙ made-row m p) in
     let ps = plainOf w .places in
-    record { refuses = (no-row-said ps p r s, says-no-row ps p r s); says = λ x. (row-said ps p r x s, says-row ps p r x s) }
+    record { cases = s; refuses = (no-row-said ps p r s, says-no-row ps p r s); says = λ x. (row-said ps p r x s, says-row ps p r x s) }
 
 -- ---- a whole list of calls
 

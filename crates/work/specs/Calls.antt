@@ -4,8 +4,11 @@ use mathlib.Core.Bool.{cond, _||_}
 use lib.Dec.{ltb, leb, eqb}
 use lib.ListN.{length, getD, set, replicate}
 use Rattle.ring.specs.Limits.{desk}
+use Rattle.ring.specs.LineSize.{twoFibres, fourFibres}
 use Rattle.ring.specs.Row.{Row, row}
 use Rattle.ring.specs.RuleA.{ruleA}
+use Rattle.table.specs.Reasons.{numberOf}
+use Rattle.table.specs.declared.reason.Reason.the-variants.{RingSize, Fibres, NoRow, NoSuchNode, NotBelow, TooMuch, Full}
 use Rattle.work.specs.Places.{Place, empty, holds, Plain, rowsHeld, lowestFree, holdsRow}
 use Rattle.work.specs.declared.held.WorkReply.{WorkReply}
 use Rattle.work.specs.declared.place.RowReply.{RowReply}
@@ -25,24 +28,24 @@ pub data Outcome : Type 0 where
 -- 3, then 20
 unfoldable pub judgeStart : ℕ → ℕ → Outcome → Outcome
 judgeStart n fibres next =
-    cond (ltb n (desk .fewest) || ltb (desk .nodes) n) (refuses 3)
-    (cond (eqb fibres 2 || eqb fibres 4) next (refuses 20))
+    cond (ltb n (desk .fewest) || ltb (desk .nodes) n) (refuses (numberOf RingSize))
+    (cond (eqb fibres twoFibres || eqb fibres fourFibres) next (refuses (numberOf Fibres)))
 
 -- 4, 5, 7: a node outside 1..n, the first not below the second, an amount over 9,999
 unfoldable pub judgeDemand : ℕ → ℕ → ℕ → ℕ → Outcome → Outcome
 judgeDemand n i j d next =
-    cond ((ltb i 1 || ltb n i) || (ltb j 1 || ltb n j)) (refuses 4)
-    (cond (leb j i) (refuses 5)
-    (cond (ltb (desk .amount) d) (refuses 7)
+    cond ((ltb i 1 || ltb n i) || (ltb j 1 || ltb n j)) (refuses (numberOf NoSuchNode))
+    (cond (leb j i) (refuses (numberOf NotBelow))
+    (cond (ltb (desk .amount) d) (refuses (numberOf TooMuch))
     next))
 
 -- 22: the place holds no row
 unfoldable pub judgePlace : Plain → ℕ → Outcome → Outcome
-judgePlace t p next = cond (holdsRow (t .places) p) next (refuses 22)
+judgePlace t p next = cond (holdsRow (t .places) p) next (refuses (numberOf NoRow))
 
 -- 21: all places are taken
 unfoldable pub judgeRoom : Plain → Outcome → Outcome
-judgeRoom t next = cond (ltb (lowestFree (t .places)) (length (t .places))) next (refuses 21)
+judgeRoom t next = cond (ltb (lowestFree (t .places)) (length (t .places))) next (refuses (numberOf Full))
 
 -- the place with `k` places before it becomes x
 abbrev pub withPlace : Plain → ℕ → Place → Plain
@@ -80,7 +83,7 @@ answer (makes p u) = acceptance p u
 
 -- the row at a place, or 22
 abbrev pub noRow : RowReply
-noRow = record { reason = 22; line = 0; first = 0; second = 0; amount = 0 }
+noRow = record { reason = numberOf NoRow; line = 0; first = 0; second = 0; amount = 0 }
 
 abbrev pub theRow : Row → RowReply
 theRow r = record { reason = 0; line = 0; first = r .i; second = r .j; amount = r .d }

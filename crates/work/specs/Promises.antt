@@ -7,7 +7,9 @@ use lib.ListN.{length}
 use Rattle.ring.specs.Limits.{desk}
 use Rattle.ring.specs.LineSize.{IsFibres}
 use Rattle.ring.specs.Row.{Row, row}
+use Rattle.table.specs.Reasons.{numberOf}
 use Rattle.table.specs.Says.{NoNode}
+use Rattle.table.specs.declared.reason.Reason.the-variants.{RingSize, Fibres, NoRow as NoPlaceRow, NoSuchNode, NotBelow, TooMuch, Full}
 use Rattle.work.specs.Places.{Place, empty, holds, Plain}
 use Rattle.work.specs.Calls.{Call, start, add, change, remove, withPlace, freshPlain, refusal, acceptance, noRow, theRow}
 use Rattle.work.specs.Made.{plainOf}
@@ -60,14 +62,14 @@ NoneHolds (fault k A fs) = (A → ⊥) × NoneHolds fs
 
 -- a node outside 1..n; the first not below the second; an amount over 9,999
 abbrev pub rowFaults : ℕ → ℕ → ℕ → ℕ → Faults → Faults
-rowFaults n i j d fs = fault 4 (NoNode n i ⊎ NoNode n j) (fault 5 (j ≤ i) (fault 7 (desk .amount < d) fs))
+rowFaults n i j d fs = fault (numberOf NoSuchNode) (NoNode n i ⊎ NoNode n j) (fault (numberOf NotBelow) (j ≤ i) (fault (numberOf TooMuch) (desk .amount < d) fs))
 
 -- start: n outside 2..32, then fibres neither 2 nor 4; else: the place named holds no row; then those of the row; then for adding: all places are taken
 unfoldable pub faults : Plain → Call → Faults
-faults t (start n fibres) = fault 3 ((n < desk .fewest) ⊎ (desk .nodes < n)) (fault 20 (IsFibres fibres → ⊥) no-more)
-faults t (add i j d) = rowFaults (t .n) i j d (fault 21 (AllTaken (t .places)) no-more)
-faults t (change p i j d) = fault 22 (NoRow (t .places) p) (rowFaults (t .n) i j d no-more)
-faults t (remove p) = fault 22 (NoRow (t .places) p) no-more
+faults t (start n fibres) = fault (numberOf RingSize) ((n < desk .fewest) ⊎ (desk .nodes < n)) (fault (numberOf Fibres) (IsFibres fibres → ⊥) no-more)
+faults t (add i j d) = rowFaults (t .n) i j d (fault (numberOf Full) (AllTaken (t .places)) no-more)
+faults t (change p i j d) = fault (numberOf NoPlaceRow) (NoRow (t .places) p) (rowFaults (t .n) i j d no-more)
+faults t (remove p) = fault (numberOf NoPlaceRow) (NoRow (t .places) p) no-more
 
 -- ---- the calls that alter a table
 
@@ -95,7 +97,13 @@ pub record WorkPromise (w : Work) (c : Call) (r : WorkReply) (x : Work) : Type 0
 
 -- ---- the row at a place
 
+-- one of the two is the case
+pub data RowSays (ps : List Place) (p : ℕ) (r : RowReply) : Type 0 where
+  none-there : NoRow ps p → r ≡ noRow → RowSays ps p r
+  row-there : (x : Row) → RowAt ps p x → r ≡ theRow x → RowSays ps p r
+
 -- 22 exactly when the place holds no row, else the row
 pub record RowPromise (w : Work) (p : ℕ) (r : RowReply) : Type 0 where
+  pub cases : RowSays (plainOf w .places) p r
   pub refuses : (r ≡ noRow) ↔ NoRow (plainOf w .places) p
   pub says : (x : Row) → (r ≡ theRow x) ↔ RowAt (plainOf w .places) p x

@@ -1,4 +1,4 @@
--- A refusal's reply is the definition's: reason and line, and nothing else.
+-- A refusal's reply is the definition's: reason, line and byte, and nothing else.
 use Rattle.ringkit.proofs.FillSteps.{refusal-is}
 use borrow.Author.Needs.{needs}
 use Rattle.ringkit.proofs.refusal.Statement.{statement}

@@ -1,4 +1,4 @@
--- A refusal returns only reason and line: the columns of no row and no link are zero.
+-- A refusal returns only reason, line and byte: the columns of no row and no link are zero.
 use mathlib.Core.Path.{refl}
 use Rattle.ring.specs.Columns.{column}
 use Rattle.checker.specs.Arrays.{checkedIn}

@@ -30,7 +30,7 @@ cast-result c = search before-fits
 
 -- src/line.rt:94:5
 add-result : tie.Need-add-result
-add-result c = search byte-fits
+add-result c = search (byte-fits, needs)
 
 -- src/line.rt:89:1
 returns : tie.Need-returns
