@@ -14,7 +14,7 @@ use Rattle.ring.specs.Row.{Row, row, inFront}
 use Rattle.ring.specs.Cut.{part}
 use Rattle.ring.proofs.Side.{Side, before, within, after, side, in-front, before-front, after-front}
 use Rattle.across.specs.Triangle.{mostLinks, mostPairs, offset, placeOf, at, triangle}
-use Rattle.across.specs.Step.{mostNumber, step, stepped, stepRow}
+use Rattle.across.specs.Step.{typeEnd, step, stepped, stepRow}
 use Rattle.across.specs.Lines.{Pairwise, LineStep, LineFits}
 use Rattle.across.proofs.Places.{apart, place-within, line-below, triangle-is, all-pairs}
 
@@ -101,7 +101,7 @@ unfolding part xor
 part-of r g h x y p q = rw (p, q)
 
 -- nothing is added to a number that fits
-step-none : (add : Bool) (y : ℕ) → y ≤ mostNumber → step add y 0 ≡ y
+step-none : (add : Bool) (y : ℕ) → y < typeEnd → step add y 0 ≡ y
 step-none true y l = omega arith
 step-none false y l = omega arith
 

@@ -1,5 +1,5 @@
 -- To believe: a row is put on a triangle, or taken off it: each pair's number is raised or lowered by the row's share of it.
-use Prim.Native.Nat.{ℕ, _+_, _-_, min}
+use Prim.Native.Nat.{ℕ, _+_, _-_, _%_}
 use mathlib.Core.Bool.{Bool, cond}
 use mathlib.Core.List.{List}
 use lib.Dec.{leb}
@@ -7,13 +7,13 @@ use Rattle.ring.specs.Row.{Row}
 use Rattle.ring.specs.Cut.{part}
 use Rattle.across.specs.Triangle.{mostLinks, at, triangle}
 
--- the largest number that is kept
-abbrev pub mostNumber : ℕ
-mostNumber = 4294967295
+-- where a number that is kept wraps around
+abbrev pub typeEnd : ℕ
+typeEnd = 4294967296
 
--- a number raised by an amount, as far as the largest, or lowered by it, as far as 0
+-- a number raised by an amount, or lowered by it
 abbrev pub step : Bool → ℕ → ℕ → ℕ
-step add number amount = cond add (min (number + amount) mostNumber) (number - amount)
+step add number amount = cond add (number + amount) (number + (typeEnd - amount)) % typeEnd
 
 -- the pairs of a ring of n nodes change by the row's share; those of links behind it stay
 abbrev pub stepped : Bool → ℕ → Row → List ℕ → ℕ → ℕ → ℕ

@@ -9,18 +9,14 @@ ghost use Rattle.across.specs.Triangle.{mostLinks, mostPairs};
 ghost use Rattle.across.specs.Step.{step, stepRow};
 ghost use Rattle.across.specs.Lines.{LineStep, LineFits};
 
-// The number raised by the amount, as far as the type goes, or lowered by it, as far as 0.
+// The number raised or lowered by the amount. Sums that wrap around take no test, and a row that is taken off leaves what was there before it.
 fn stepped(add: bool, number: u32, amount: u32) -> u32
     ensures { λ r. ⌜ r ≡ step add number amount ⌝ }
 {
     if add {
-        if number <= u32::MAX - amount {
-            number + amount
-        } else {
-            u32::MAX
-        }
+        std::num::wrapping_add_u32(number, amount)
     } else {
-        if number < amount { 0 } else { number - amount }
+        std::num::wrapping_sub_u32(number, amount)
     }
 }
 

@@ -126,7 +126,7 @@ module _ (w : Work) (s : Right w) (k : ℕ) (in-table : k < desk .rows) where
           amounts = length-set (w .amount) k 0 ∙ s .amounts;
           rows = rw clear-places (each-set (plainOf w .places) k empty (s .rows) tt);
           kept = λ g h a b c.
-              rw (size-is w s) (omega (arith, row-at false (w .n) gone (w .triangle) (s .few) g h a b c, s .kept g h a b c, clear-across g h));
+              rw (size-is w s) (omega (arith, row-at false (w .n) gone (w .triangle) (s .few) g h a b c, s .kept g h a b c, clear-across g h, number-small w s g h));
         }
 
 -- ---- an empty table

@@ -1,5 +1,5 @@
 // The working table: rows at places, with the across number of every cut, the largest and its cut kept beside them. Each change is a function by value that
-// answers the table behind it; none has a `requires`. A ring size outside 2 to 32 counts as the nearest within, and sums stop at the type's end: neither
+// answers the table behind it; none has a `requires`. A ring size outside 2 to 32 counts as the nearest within, and sums wrap around at the type's end: neither
 // happens to a table that was made by calls.
 mod change; // a row added, changed or removed
 mod held; // what is kept, and what is answered

@@ -92,7 +92,7 @@ impl Kept {
         let Some(row) = row else { return };
         for (number, (g, h)) in self.across.iter_mut().zip(cuts()) {
             if front_holds(&row, g) != front_holds(&row, h) {
-                *number = (*number + times * row.d).clamp(0, i64::from(u32::MAX));
+                *number = (*number + times * row.d).rem_euclid(1 << 32);
             }
         }
     }
