@@ -9,9 +9,7 @@ use text::SentRow;
 ghost use Prim.Native.Nat.{_≤_};
 ghost use lib.ListN.{length};
 ghost use Rattle.ring.specs.Limits.{desk};
-ghost use mathlib.Core.Path.{_≡_};
 ghost use Rattle.checker.specs.Parts.{RowsRead};
-ghost use Rattle.checker.specs.declared.rows.RowsEnd.the-variants.{Refused};
 
 // How many rows there are, where the line behind them begins, its number, and the place of its first byte at which no D line goes on; or the reason, the
 // line and the byte of it.
@@ -20,6 +18,7 @@ pub(crate) enum RowsEnd {
     Refused(Reason, u32, u32),
 }
 
+// Behind a refusal the arrays hold the rows before it.
 pub(crate) struct Rows {
     pub end: RowsEnd,
     pub first: [u32; ROWS],
@@ -28,20 +27,6 @@ pub(crate) struct Rows {
     pub front: [u32; ROWS],
     pub back: [u32; ROWS],
     pub way: [u32; ROWS],
-}
-
-fn stopped(reason: Reason, line: u32, byte: u32) -> Rows
-    ensures { λ r. ⌜ r .end ≡ Refused reason line byte ⌝ }
-{
-    Rows {
-        end: RowsEnd::Refused(reason, line, byte),
-        first: [0u32; ROWS],
-        second: [0u32; ROWS],
-        amount: [0u32; ROWS],
-        front: [0u32; ROWS],
-        back: [0u32; ROWS],
-        way: [0u32; ROWS],
-    }
 }
 
 // The rows of a ring of n nodes, from the place `from` on: up to a line that is no D line, or to a fault.
@@ -86,7 +71,15 @@ pub(crate) fn read_rows(s: &[u8], from: usize, n: u32) -> Rows
                 let verdict = judge_sent(n, count, a, b, i, j, d, f, k, w);
                 if let Verdict::Fault(reason) = verdict {
                     let byte = row_fault(n, i, j, d, reason);
-                    return stopped(reason, line, byte);
+                    return Rows {
+                        end: RowsEnd::Refused(reason, line, byte),
+                        first,
+                        second,
+                        amount,
+                        front,
+                        back,
+                        way,
+                    };
                 }
                 first[count] = i;
                 second[count] = j;

@@ -10,10 +10,11 @@ pub fn line_end(s: &[u8], at: usize) -> usize
 {
     let mut p = at;
     while p < s.len() {
-        if s[p] == b'\n' {
-            return p + 1;
-        }
+        let b = s[p];
         p += 1;
+        if b == b'\n' {
+            return p;
+        }
     }
     p
 }

@@ -49,9 +49,6 @@ enum-known-verdict c = search needs
 row-fault-requires : tie.Need-row-fault-requires Inv-loop μ-loop
 row-fault-requires c κs = search needs
 
-stopped-requires : tie.Need-stopped-requires Inv-loop μ-loop
-stopped-requires c κs = search needs
-
 returns-2 : tie.Need-returns-2 Inv-loop μ-loop
 returns-2 c = search row-stops
 
@@ -126,7 +123,6 @@ read-rows-spec =
     judge-sent-requires
     enum-known-verdict
     row-fault-requires
-    stopped-requires
     returns-2
     enum-told
     mul-first
