@@ -1,5 +1,6 @@
-/* stack CALL: how many bytes of stack the call touches. A thread's stack is painted before the call and looked at after it. A process makes one call,
- * so that this call also binds memset and memcpy, as any program's first call may. The exit status is 1 where the header promises to need less. */
+/* stack CALL [TEXT]: how many bytes of stack the call touches, on the text of a file or on a small one. It runs in a thread that has as much stack as the header
+ * promises to be enough, painted before the call and looked at after it, with a page below it that may not be touched. A process makes one call, so that this call
+ * also binds memset and memcpy, as any program's first call may. The exit status is 0 where the call was made and a small text was accepted. */
 #define _DEFAULT_SOURCE
 #include <pthread.h>
 #include <stdio.h>
@@ -8,53 +9,51 @@
 
 #include "ringkit.h"
 
-enum { STACK = 256 * 1024, PAINT = 0xa5 };
+enum { STACK = RINGKIT_STACK_BYTES, PAGE = 4096, PAINT = 0xa5, MOST = RINGKIT_MAX_TEXT_BYTES + 1 };
 
-/* No frame grows with the text, so a small one shows all of them; only writing a number nests, once for each digit, far from the deepest place. */
+_Static_assert(STACK % PAGE == 0, "whole pages, so that the one below the stack can be closed");
+
 static const char TABLE[] = "R\t2\t4\nD\t1\t2\t5\n";
 static const char SHEET[] = "R\t2\t4\nD\t1\t2\t5\t5\t5\tF\nC\t1\t2\t5\nL\t1\t5\t5\nL\t2\t5\t0\nZ\t5\t12\n";
 static const char MATRIX[] = "0\t5\n5\t0\n";
-static uint8_t buffer[sizeof SHEET];
+static uint8_t text[MOST];
+static size_t length;
+static uint8_t buffer[MOST];
 static ringkit_work work;
-
-static const uint8_t *bytes(const char *text)
-{
-    return (const uint8_t *)text;
-}
 
 static uint32_t route(void)
 {
-    return ringkit_route(bytes(TABLE), sizeof TABLE - 1, buffer, sizeof buffer).reason;
+    return ringkit_route(text, length, buffer, sizeof buffer).reason;
 }
 
 static uint32_t rewrite_table(void)
 {
-    return ringkit_rewrite_table(bytes(TABLE), sizeof TABLE - 1, buffer, sizeof buffer).reason;
+    return ringkit_rewrite_table(text, length, buffer, sizeof buffer).reason;
 }
 
 static uint32_t rewrite_sheet(void)
 {
-    return ringkit_rewrite_sheet(bytes(SHEET), sizeof SHEET - 1, buffer, sizeof buffer).reason;
+    return ringkit_rewrite_sheet(text, length, buffer, sizeof buffer).reason;
 }
 
 static uint32_t check(void)
 {
-    return ringkit_check(bytes(SHEET), sizeof SHEET - 1).reason;
+    return ringkit_check(text, length).reason;
 }
 
 static uint32_t parallel(void)
 {
-    return ringkit_parallel(bytes(SHEET), sizeof SHEET - 1).reason;
+    return ringkit_parallel(text, length).reason;
 }
 
 static uint32_t read_matrix(void)
 {
-    return ringkit_read_matrix(bytes(MATRIX), sizeof MATRIX - 1, 4, buffer, sizeof buffer).reason;
+    return ringkit_read_matrix(text, length, 4, buffer, sizeof buffer).reason;
 }
 
 static uint32_t write_matrix(void)
 {
-    return ringkit_write_matrix(bytes(TABLE), sizeof TABLE - 1, buffer, sizeof buffer).reason;
+    return ringkit_write_matrix(text, length, buffer, sizeof buffer).reason;
 }
 
 static uint32_t work_start(void)
@@ -90,10 +89,21 @@ static uint32_t work_write(void)
 static const struct named {
     const char *name;
     uint32_t (*call)(void);
+    const char *small; /* a text that it accepts */
 } CALLS[] = {
-    {"ringkit_route", route}, {"ringkit_rewrite_table", rewrite_table}, {"ringkit_rewrite_sheet", rewrite_sheet}, {"ringkit_check", check}, {"ringkit_parallel", parallel},
-    {"ringkit_read_matrix", read_matrix}, {"ringkit_write_matrix", write_matrix}, {"ringkit_work_start", work_start}, {"ringkit_work_add", work_add},
-    {"ringkit_work_change", work_change}, {"ringkit_work_remove", work_remove}, {"ringkit_work_row", work_row}, {"ringkit_work_write", work_write},
+    {"ringkit_route", route, TABLE},
+    {"ringkit_rewrite_table", rewrite_table, TABLE},
+    {"ringkit_rewrite_sheet", rewrite_sheet, SHEET},
+    {"ringkit_check", check, SHEET},
+    {"ringkit_parallel", parallel, SHEET},
+    {"ringkit_read_matrix", read_matrix, MATRIX},
+    {"ringkit_write_matrix", write_matrix, TABLE},
+    {"ringkit_work_start", work_start, ""},
+    {"ringkit_work_add", work_add, ""},
+    {"ringkit_work_change", work_change, ""},
+    {"ringkit_work_remove", work_remove, ""},
+    {"ringkit_work_row", work_row, ""},
+    {"ringkit_work_write", work_write, ""},
 };
 
 struct dive {
@@ -115,8 +125,10 @@ static size_t touched(struct dive *d)
 {
     pthread_t thread;
     pthread_attr_t attributes;
-    uint8_t *stack = mmap(NULL, STACK, PROT_READ | PROT_WRITE, MAP_PRIVATE | MAP_ANONYMOUS, -1, 0);
-    if (stack == MAP_FAILED || pthread_attr_init(&attributes) != 0 || pthread_attr_setstack(&attributes, stack, STACK) != 0) {
+    uint8_t *closed = mmap(NULL, PAGE + STACK, PROT_NONE, MAP_PRIVATE | MAP_ANONYMOUS, -1, 0);
+    uint8_t *stack = closed + PAGE;
+    if (closed == MAP_FAILED || mprotect(stack, STACK, PROT_READ | PROT_WRITE) != 0 || pthread_attr_init(&attributes) != 0
+        || pthread_attr_setstack(&attributes, stack, STACK) != 0) {
         return 0;
     }
     memset(stack, PAINT, STACK);
@@ -130,21 +142,37 @@ static size_t touched(struct dive *d)
     return (size_t)(d->from - lowest);
 }
 
+/* Takes the text of a file, as far as the longest that a call may be given whole, or a small one. */
+static int take_text(const char *name, const char *small)
+{
+    if (name == NULL) {
+        length = strlen(small);
+        memcpy(text, small, length);
+        return 1;
+    }
+    FILE *file = fopen(name, "rb");
+    if (file == NULL) {
+        return 0;
+    }
+    length = fread(text, 1, sizeof text, file);
+    return fclose(file) == 0;
+}
+
 int main(int count, char **words)
 {
     struct dive d = {.named = NULL};
     for (size_t k = 0; k < sizeof CALLS / sizeof *CALLS; k++) {
-        if (count == 2 && strcmp(words[1], CALLS[k].name) == 0) {
+        if (count >= 2 && strcmp(words[1], CALLS[k].name) == 0) {
             d.named = &CALLS[k];
         }
     }
-    if (d.named == NULL) {
-        fputs("usage: stack CALL\n", stderr);
+    if (d.named == NULL || count > 3 || !take_text(count == 3 ? words[2] : NULL, d.named->small)) {
+        fputs("usage: stack CALL [TEXT]\n", stderr);
         return 2;
     }
     /* one row of two offices at place 1, as calls would make it: they may not be made, since the one that is measured is the first */
     work = (ringkit_work){.n = 2, .fibres = 4, .g = 1, .h = 2, .across = 5, .triangle = {5}, .first = {1}, .second = {2}, .amount = {5}};
     size_t depth = touched(&d);
     printf("%s: %zu bytes of stack\n", d.named->name, depth);
-    return d.reason == RINGKIT_OK && depth > 0 && depth <= RINGKIT_STACK_BYTES ? 0 : 1;
+    return depth > 0 && (count == 3 || d.reason == RINGKIT_OK) ? 0 : 1;
 }

@@ -24,21 +24,19 @@ use Rattle.table.specs.Lines.{lines}
 use Rattle.table.specs.LineEnds.{LineEnds}
 use Rattle.table.specs.Judge.{judgeSize}
 use Rattle.table.specs.ReadTable.{accepted, refused}
-use Rattle.table.specs.Arrays.{tableIn}
+use Rattle.table.specs.Arrays.{Table, tableIn}
 use Rattle.table.specs.declared.reason.Reason.{Reason}
 use Rattle.table.specs.declared.reason.Reason.the-variants.{TooLong, Misshapen}
 use Rattle.table.specs.declared.judge.Verdict.{Verdict}
 use Rattle.table.specs.declared.judge.Verdict.the-variants.{Fine, Fault}
-use Rattle.table.specs.declared.read.Table.{Table}
 use Rattle.table.proofs.Judged.{SizeJudged, right-size, size-judged}
 use Rattle.table.proofs.LineSteps.{line-at}
 use Rattle.matrix.specs.Matrix.{entry, Node}
 use Rattle.matrix.specs.Demands.{pairsFrom, rowsBy}
 use Rattle.matrix.specs.Read.{Matrix, matrix, no-matrix, fieldsIn, linesOf, judgeDown, squareJudged, matrixOf, tableFrom}
-use Rattle.matrix.specs.Arrays.{numbersIn, at, layFrom, empty, laid, squareIn}
+use Rattle.matrix.specs.Arrays.{numbersIn, at, layFrom, empty, laid, Square, beside, squareIn}
 use Rattle.matrix.specs.declared.line.Numbers.{Numbers}
 use Rattle.matrix.specs.declared.line.Spelling.the-variants.{Good, Bad as BadSpelling}
-use Rattle.matrix.specs.declared.square.Square.{Square}
 use Rattle.matrix.specs.declared.square.Lines.{Lines}
 use Rattle.matrix.specs.declared.square.Lines.the-variants.{Read, Refused}
 use Rattle.matrix.proofs.LineSteps.{ToldGood, told-bad, told-good}

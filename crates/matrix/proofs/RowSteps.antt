@@ -13,7 +13,7 @@ use Rattle.ring.specs.Ring.{ringOf}
 use Rattle.ring.specs.Row.{Row, row}
 use Rattle.ring.specs.Columns.{listed, column}
 use Rattle.table.specs.ReadTable.{accepted}
-use Rattle.table.specs.Arrays.{tableIn}
+use Rattle.table.specs.Arrays.{NoRows, beside, tableIn}
 use Rattle.table.specs.declared.read.Answer.the-variants.{Is}
 use Rattle.table.proofs.Columns.{column-more}
 use Rattle.matrix.specs.Demands.{pairsFrom, aboveZero, rowsBy}
@@ -62,13 +62,6 @@ module _ (n : ℕ) (a : ℕ → ℕ → ℕ) where
     pub end : i ≤ n + 1
     pub room : count + (n + 1 - j) + pairCount (n - i) ≤ desk .rows
 
-  abbrev none-yet : List ℕ
-  none-yet = replicate {A = ℕ} (desk .rows) 0
-
-  no-column : (f : Row → ℕ) → none-yet ≡ column f (desk .rows) []
-  unfolding column
-  no-column f = refl
-
   starts : (k : ℕ) → n ≡ k → rowsBy n a ≡ aboveZero (across 1 2) ++ aboveZero (pairsFrom a n 2 (n - 1))
   unfolding rowsBy pairsFrom listed aboveZero
   starts zero e = rw e
@@ -84,15 +77,16 @@ module _ (n : ℕ) (a : ℕ → ℕ → ℕ) where
       let f : n - 1 ≡ k = omega arith in
       rw f (omega (arith, rw e at (count-small n l)))
 
-  pub gathering-starts : n ≤ desk .nodes → Gathering none-yet none-yet none-yet 0 1 2
-  gathering-starts l =
+  pub gathering-starts : (first second amount : List ℕ) → n ≤ desk .nodes → NoRows first second amount → Gathering first second amount 0 1 2
+  unfolding column
+  gathering-starts first second amount l none =
       record {
         rows = [];
         rest = starts n refl;
         many = refl;
-        firsts = no-column (λ r. r .i);
-        seconds = no-column (λ r. r .j);
-        amounts = no-column (λ r. r .d);
+        firsts = none .firsts;
+        seconds = none .seconds;
+        amounts = none .amounts;
         low = omega arith;
         order = omega arith;
         end = omega arith;
@@ -184,7 +178,7 @@ module _ (n : ℕ) (a : ℕ → ℕ → ℕ) where
             room = omega (arith, g .room);
           }
 
-    pub gathered : (fibres : ℕ) → n < i → record { answer = Is n fibres count; first = first; second = second; amount = amount } ≡ tableIn (accepted (ringOf n fibres) (rowsBy n a))
+    pub gathered : (fibres : ℕ) → n < i → beside (Is n fibres count) first second amount ≡ tableIn (accepted (ringOf n fibres) (rowsBy n a))
     unfolding tableIn pairsFrom listed aboveZero
     gathered fibres l =
         let f : n + 1 - j ≡ 0 = omega (arith, g .order) in

@@ -17,12 +17,11 @@ use Rattle.table.specs.declared.reason.Reason.the-variants.{Misshapen}
 use Rattle.table.proofs.LineSteps.{first-line, line-at}
 use Rattle.matrix.specs.Matrix.{entryByte}
 use Rattle.matrix.specs.Read.{Matrix, no-matrix, numbersOr, unlessAt, judgeAmounts, linesOf}
-use Rattle.matrix.specs.Arrays.{numbersIn, layFrom, empty, laid, squareIn}
+use Rattle.matrix.specs.Arrays.{numbersIn, layFrom, empty, laid, Square, beside, squareIn}
 use Rattle.matrix.specs.declared.byte.Found.{Found}
 use Rattle.matrix.specs.declared.byte.Found.the-variants.{Nothing, At}
 use Rattle.matrix.specs.declared.line.Numbers.{Numbers}
 use Rattle.matrix.specs.declared.line.Spelling.the-variants.{Good, Bad as BadSpelling}
-use Rattle.matrix.specs.declared.square.Square.{Square}
 use Rattle.matrix.specs.declared.square.Lines.the-variants.{Read}
 use Rattle.matrix.proofs.LineSteps.{ToldGood, told-bad, told-good}
 use Rattle.matrix.proofs.ByteSteps.{amount-few, part-byte}
@@ -72,11 +71,11 @@ pub record ReadingLines (s : List ℕ) (n : ℕ) (entries : List ℕ) (start cou
   pub most : count ≤ n
   pub within : at ≤ length s
 
-pub lines-start : (s : List ℕ) (n : ℕ) → ReadingLines s n empty 0 0 1 0
+pub lines-start : (s : List ℕ) (n : ℕ) (entries : List ℕ) → entries ≡ empty → ReadingLines s n entries 0 0 1 0
 unfolding laid
-lines-start s n =
+lines-start s n entries none =
     let e : n - 0 ≡ n = omega arith in
-    record { m = []; rest = rw e; many = refl; held = refl; placed = refl; lined = refl; most = omega arith; within = omega arith }
+    record { m = []; rest = rw e; many = refl; held = none; placed = refl; lined = refl; most = omega arith; within = omega arith }
 
 module _ (s : List ℕ) (n : ℕ) (entries : List ℕ) (start count line at : ℕ) (on : ReadingLines s n entries start count line at) where
   abbrev whole : Matrix
@@ -96,7 +95,7 @@ module _ (s : List ℕ) (n : ℕ) (entries : List ℕ) (start count line at : �
       let z : n - count ≡ suc (n - count - 1) = omega arith in
       e ∙ ap squareIn (sym (on .rest ∙ ap (λ k. linesOf desk n line k (on .m) (lines (drop at s))) z ∙ rw (drop-of-length-le s none)))
 
-  pub lines-read : length s ≤ at → n ≤ count → record { lines = Read; entries = entries } ≡ squareIn whole
+  pub lines-read : length s ≤ at → n ≤ count → beside Read entries ≡ squareIn whole
   unfolding linesOf lines squareIn
   lines-read none l =
       let z : n - count ≡ 0 = omega arith in

@@ -9,9 +9,8 @@ use Rattle.ring.specs.Lists.{Each, none, more}
 use Rattle.ring.specs.Row.{Row}
 use Rattle.ring.specs.Columns.{listed, column, rowAt, rowsIn}
 use Rattle.text.proofs.Apart.{clash}
-use Rattle.table.specs.Arrays.{tableIn}
+use Rattle.table.specs.Arrays.{Table, tableIn}
 use Rattle.table.specs.declared.reason.Reason.{Reason}
-use Rattle.table.specs.declared.read.Table.{Table}
 use Rattle.table.specs.declared.read.Answer.the-variants.{Is, Refused}
 use Rattle.table.proofs.Columns.{rows-back}
 use Rattle.matrix.specs.Demands.{rowsOfMatrix}

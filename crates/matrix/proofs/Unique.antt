@@ -7,8 +7,7 @@ use Rattle.ring.specs.Limits.{desk}
 use Rattle.ring.specs.Columns.{rowsIn}
 use Rattle.text.specs.Written.{Written}
 use Rattle.text.proofs.Unique.{same-result, same-written}
-use Rattle.table.specs.Arrays.{tableIn}
-use Rattle.table.specs.declared.read.Table.{Table}
+use Rattle.table.specs.Arrays.{Table, tableIn}
 use Rattle.matrix.specs.Matrix.{writeMatrix}
 use Rattle.matrix.specs.Demands.{matrixOfRows}
 use Rattle.matrix.specs.Read.{matrixOf, tableFrom}

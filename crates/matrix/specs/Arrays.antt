@@ -9,7 +9,7 @@ use Rattle.text.specs.ReadLine.{Reading, good, bad}
 use Rattle.matrix.specs.Read.{Matrix, matrix, no-matrix}
 use Rattle.matrix.specs.declared.line.Numbers.{Numbers}
 use Rattle.matrix.specs.declared.line.Spelling.the-variants.{Good, Bad}
-use Rattle.matrix.specs.declared.square.Square.{Square}
+use Rattle.matrix.specs.declared.square.Lines.{Lines}
 use Rattle.matrix.specs.declared.square.Lines.the-variants.{Read, Refused}
 
 -- numbers from place 0 on, zeros behind them
@@ -43,10 +43,18 @@ unfoldable pub laid : List (List ℕ) → List ℕ
 unfolding layFrom
 laid m = layFrom empty 0 m
 
+-- what was found against lines, beside the square that was lent
+pub record Square : Type 0 where
+  pub lines : Lines
+  pub entries : List ℕ
+
+abbrev pub beside : Lines → List ℕ → Square
+beside lines entries = record { lines = lines; entries = entries }
+
 unfoldable pub squareIn : Matrix → Square
 unfolding laid
-squareIn (matrix n m) = record { lines = Read; entries = laid m }
-squareIn (no-matrix reason line byte) = record { lines = Refused reason line byte; entries = empty }
+squareIn (matrix n m) = beside Read (laid m)
+squareIn (no-matrix reason line byte) = beside (Refused reason line byte) empty
 
 -- rows in columns whose amounts are within 9,999, so that sums fit
 pub record Amounts (count : ℕ) (amount : List ℕ) : Type 0 where

@@ -3,24 +3,28 @@ use crate::square::SQUARE;
 use crate::square::get;
 use ring::ROWS;
 use table::Answer;
-use table::Table;
 ghost use mathlib.Core.Path.{_≡_};
 ghost use Prim.Native.Nat.{_≤_};
 ghost use Rattle.ring.specs.Limits.{desk};
 ghost use Rattle.ring.specs.Ring.{ringOf};
 ghost use Rattle.table.specs.ReadTable.{accepted};
-ghost use Rattle.table.specs.Arrays.{tableIn};
+ghost use Rattle.table.specs.Arrays.{NoRows, beside, tableIn};
 ghost use Rattle.matrix.specs.Demands.{rowsBy};
 ghost use Rattle.matrix.specs.Arrays.{at};
 
 // One loop over the pairs: behind the last node of a line it goes on with the next line.
-pub(crate) fn rows_of(n: u32, fibres: u32, square: &[u32; SQUARE]) -> Table
+pub(crate) fn rows_of(
+    n: u32,
+    fibres: u32,
+    square: &[u32; SQUARE],
+    first: &mut [u32; ROWS],
+    second: &mut [u32; ROWS],
+    amount: &mut [u32; ROWS],
+) -> Answer
     requires { ⌜ n ≤ desk .nodes ⌝ }
-    ensures { λ r. ⌜ r ≡ tableIn (accepted (ringOf n fibres) (rowsBy n (at (now (square .entry))))) ⌝ }
+    requires { ⌜ NoRows (now first) (now second) (now amount) ⌝ }
+    ensures { λ r. ⌜ beside r (now (first .exit)) (now (second .exit)) (now (amount .exit)) ≡ tableIn (accepted (ringOf n fibres) (rowsBy n (at (now (square .entry))))) ⌝ }
 {
-    let mut first = [0u32; ROWS];
-    let mut second = [0u32; ROWS];
-    let mut amount = [0u32; ROWS];
     let mut count: usize = 0;
     let mut i: u32 = 1;
     let mut j: u32 = 2;
@@ -41,10 +45,5 @@ pub(crate) fn rows_of(n: u32, fibres: u32, square: &[u32; SQUARE]) -> Table
             }
         }
     }
-    Table {
-        answer: Answer::Is(n, fibres, count),
-        first,
-        second,
-        amount,
-    }
+    Answer::Is(n, fibres, count)
 }

@@ -17,7 +17,7 @@ ghost use lib.Seq.{sets};
 ghost use Rattle.ring.specs.Limits.{desk};
 ghost use Rattle.table.specs.Lines.{lines as linesIn};
 ghost use Rattle.matrix.specs.Read.{no-matrix, linesOf};
-ghost use Rattle.matrix.specs.Arrays.{placeOf, at as entryAt, empty, squareIn};
+ghost use Rattle.matrix.specs.Arrays.{placeOf, at as entryAt, empty, beside, squareIn};
 
 // Each line of the square has room for the largest ring.
 pub(crate) const SQUARE: usize = LINKS * LINKS;
@@ -26,11 +26,6 @@ pub(crate) const SQUARE: usize = LINKS * LINKS;
 pub(crate) enum Lines {
     Read,
     Refused(Reason, u32, u32),
-}
-
-pub(crate) struct Square {
-    pub lines: Lines,
-    pub entries: [u32; SQUARE],
 }
 
 // The entry i, j.
@@ -56,45 +51,43 @@ fn keep(square: &mut [u32; SQUARE], start: usize, n: usize, values: &[u32; LINKS
     }
 }
 
-fn refused(reason: Reason, line: u32, byte: u32) -> Square
-    ensures { λ r. ⌜ r ≡ squareIn (no-matrix reason line byte) ⌝ }
+// A refusal leaves an empty square.
+fn refused(entries: &mut [u32; SQUARE], reason: Reason, line: u32, byte: u32) -> Lines
+    ensures { λ r. ⌜ beside r (now (entries .exit)) ≡ squareIn (no-matrix reason line byte) ⌝ }
 {
-    Square {
-        lines: Lines::Refused(reason, line, byte),
-        entries: [0u32; SQUARE],
-    }
+    *entries = [0u32; SQUARE];
+    Lines::Refused(reason, line, byte)
 }
 
 // The lines of a matrix of n nodes. A line behind the n-th is left over, and a missing one is the one after the last.
-pub(crate) fn read_lines(s: &[u8], n: usize) -> Square
-    requires { ⌜ (n ≤ desk .nodes) × (length (now s) ≤ desk .bytes) ⌝ }
-    ensures { λ r. ⌜ r ≡ squareIn (linesOf desk n 1 n [] (linesIn (now (s .entry)))) ⌝ }
+pub(crate) fn read_lines(s: &[u8], n: usize, entries: &mut [u32; SQUARE]) -> Lines
+    requires { ⌜ (n ≤ desk .nodes) × (length (now s) ≤ desk .bytes) × (now entries ≡ empty) ⌝ }
+    ensures { λ r. ⌜ beside r (now (entries .exit)) ≡ squareIn (linesOf desk n 1 n [] (linesIn (now (s .entry)))) ⌝ }
 {
-    let mut entries = [0u32; SQUARE];
     let mut start: usize = 0;
     let mut count: usize = 0;
     let mut line: u32 = 1;
     let mut at: usize = 0;
     while at < s.len() {
         if n <= count {
-            return refused(Reason::Misshapen, line, 1);
+            return refused(entries, Reason::Misshapen, line, 1);
         }
         let end = line_end(s, at);
         let numbers = read_numbers(&s[at..end], n);
         let spelling = numbers.spelling;
         match spelling {
             Spelling::Bad(p) => {
-                return refused(Reason::Misshapen, line, byte_at(p));
+                return refused(entries, Reason::Misshapen, line, byte_at(p));
             }
             Spelling::Good => {
                 let values = numbers.values;
                 let found = judge_amounts(n, &values);
                 match found {
                     Found::At(reason, k) => {
-                        return refused(reason, line, entry_byte(k, &values));
+                        return refused(entries, reason, line, entry_byte(k, &values));
                     }
                     Found::Nothing => {
-                        keep(&mut entries, start, n, &values);
+                        keep(entries, start, n, &values);
                         start += LINKS;
                         count += 1;
                         line += 1;
@@ -105,10 +98,7 @@ pub(crate) fn read_lines(s: &[u8], n: usize) -> Square
         }
     }
     if count < n {
-        return refused(Reason::Misshapen, line, 1);
+        return refused(entries, Reason::Misshapen, line, 1);
     }
-    Square {
-        lines: Lines::Read,
-        entries,
-    }
+    Lines::Read
 }

@@ -8,10 +8,10 @@ use Rattle.ring.specs.Row.{Row}
 use Rattle.ring.specs.Columns.{rowsIn}
 use Rattle.table.specs.Table.{InRange}
 use Rattle.table.specs.ReadTable.{tableOf}
-use Rattle.table.specs.Arrays.{tableIn}
+use Rattle.table.specs.Arrays.{beside, tableIn}
 use Rattle.table.specs.declared.reason.Reason.{Reason}
 use Rattle.table.specs.declared.reason.Reason.the-variants.{SumTooMuch}
-use Rattle.table.specs.declared.read.Table.{Table}
+use Rattle.table.specs.declared.read.Answer.{Answer}
 use Rattle.table.specs.declared.read.Answer.the-variants.{Is, Refused}
 use Rattle.table.proofs.TableText.{desk-spelled, table-text}
 use Rattle.table.proofs.Told.{Told, told-table, told-refusal}
@@ -27,23 +27,23 @@ use Rattle.ringkit.specs.MatrixCalls.{unlessPass, ofRows, matrixWritten}
 use Rattle.ringkit.specs.declared.Reply.{Reply}
 use Rattle.ringkit.proofs.FillSteps.{refuses, same-fills}
 
-module _ (s old : List ℕ) (t : Table) (e : t ≡ tableIn (tableOf desk s)) where
-  pub written-refused : (reason : Reason) (line byte : ℕ) (r : Reply) → t .answer ≡ Refused reason line byte → r ≡ replyOf (refuse reason line byte) → Fills (matrixWritten s) old old r
+module _ (s old : List ℕ) (answer : Answer) (first second amount : List ℕ) (e : beside answer first second amount ≡ tableIn (tableOf desk s)) where
+  pub written-refused : (reason : Reason) (line byte : ℕ) (r : Reply) → answer ≡ Refused reason line byte → r ≡ replyOf (refuse reason line byte) → Fills (matrixWritten s) old old r
   unfolding matrixWritten ofRows
-  written-refused reason line byte r a = refuses (matrixWritten s) old reason line byte r (rw (told-refusal s t e reason line byte a))
+  written-refused reason line byte r a = refuses (matrixWritten s) old reason line byte r (rw (told-refusal s _ e reason line byte a))
 
-  module _ (n fibres count : ℕ) (a : t .answer ≡ Is n fibres count) where
+  module _ (n fibres count : ℕ) (a : answer ≡ Is n fibres count) where
     abbrev rows : List Row
-    rows = rowsIn count (t .first) (t .second) (t .amount)
+    rows = rowsIn count first second amount
 
-    told : Told s n fibres count (t .first) (t .second) (t .amount)
-    told = told-table s t e n fibres count a
+    told : Told s n fibres count first second amount
+    told = told-table s _ e n fibres count a
 
     range : InRange desk (ringOf n fibres) rows
     range = table-text desk desk-spelled s (ringOf n fibres) rows .0 (told .is) .1
 
-    pub sums-take : Amounts count (t .amount)
-    sums-take = amounts-in count (t .first) (t .second) (t .amount) (told .room) (range .amounts)
+    pub sums-take : Amounts count amount
+    sums-take = amounts-in count first second amount (told .room) (range .amounts)
 
     pub nodes-have-room : n ≤ desk .nodes
     nodes-have-room = range .many

@@ -9,10 +9,10 @@ use Rattle.ring.specs.Ring.{ringOf}
 use Rattle.table.specs.Judge.{otherFibres}
 use Rattle.table.specs.Table.{writeTable}
 use Rattle.table.specs.ReadTable.{tableOf}
-use Rattle.table.specs.Arrays.{tableIn}
+use Rattle.table.specs.Arrays.{beside, tableIn}
 use Rattle.table.specs.declared.reason.Reason.{Reason}
 use Rattle.table.specs.declared.reason.Reason.the-variants.{Fibres}
-use Rattle.table.specs.declared.read.Table.{Table}
+use Rattle.table.specs.declared.read.Answer.{Answer}
 use Rattle.table.specs.declared.read.Answer.the-variants.{Is, Refused}
 use Rattle.table.proofs.Told as table-told
 use Rattle.matrix.specs.Read.{matrixOf, tableFrom}
@@ -25,18 +25,18 @@ use Rattle.ringkit.proofs.FillSteps.{refuses, same-fills}
 
 -- ---- from its own text
 
-module _ (s old : List ℕ) (t : Table) (e : t ≡ tableIn (tableOf desk s)) where
-  pub table-refused : (reason : Reason) (line byte : ℕ) (r : Reply) → t .answer ≡ Refused reason line byte → r ≡ replyOf (refuse reason line byte) → Fills (tableAfresh s) old old r
+module _ (s old : List ℕ) (answer : Answer) (first second amount : List ℕ) (e : beside answer first second amount ≡ tableIn (tableOf desk s)) where
+  pub table-refused : (reason : Reason) (line byte : ℕ) (r : Reply) → answer ≡ Refused reason line byte → r ≡ replyOf (refuse reason line byte) → Fills (tableAfresh s) old old r
   unfolding tableAfresh ofTable
-  table-refused reason line byte r a = refuses (tableAfresh s) old reason line byte r (rw (table-told.told-refusal s t e reason line byte a))
+  table-refused reason line byte r a = refuses (tableAfresh s) old reason line byte r (rw (table-told.told-refusal s _ e reason line byte a))
 
-  module _ (n fibres count : ℕ) (a : t .answer ≡ Is n fibres count) where
+  module _ (n fibres count : ℕ) (a : answer ≡ Is n fibres count) where
     pub rows-have-room : count ≤ desk .rows
-    rows-have-room = table-told.told-table s t e n fibres count a .room
+    rows-have-room = table-told.told-table s _ e n fibres count a .room
 
-    pub table-fills : (new : List ℕ) (r : Reply) → Fills (write (writeTable (ringOf n fibres) (rowsIn count (t .first) (t .second) (t .amount)))) old new r → Fills (tableAfresh s) old new r
+    pub table-fills : (new : List ℕ) (r : Reply) → Fills (write (writeTable (ringOf n fibres) (rowsIn count first second amount))) old new r → Fills (tableAfresh s) old new r
     unfolding tableAfresh ofTable
-    table-fills new r = same-fills old new r (rw (table-told.told-table s t e n fibres count a .is))
+    table-fills new r = same-fills old new r (rw (table-told.told-table s _ e n fibres count a .is))
 
 -- ---- from a matrix, on a ring of so many fibres
 
@@ -45,21 +45,21 @@ module _ (s old : List ℕ) (fibres : ℕ) (other : Bool) (eo : other ≡ otherF
   unfolding matrixRead
   fibres-refused r o = refuses (matrixRead fibres s) old Fibres 0 0 r (let f : otherFibres fibres ≡ true = sym eo ∙ o in rw f)
 
-  module _ (o : other ≡ false) (t : Table) (e : t ≡ tableIn (tableFrom fibres (matrixOf desk s))) where
+  module _ (o : other ≡ false) (answer : Answer) (first second amount : List ℕ) (e : beside answer first second amount ≡ tableIn (tableFrom fibres (matrixOf desk s))) where
     known : otherFibres fibres ≡ false
     known = sym eo ∙ o
 
-    pub matrix-refused : (reason : Reason) (line byte : ℕ) (r : Reply) → t .answer ≡ Refused reason line byte → r ≡ replyOf (refuse reason line byte) → Fills (matrixRead fibres s) old old r
+    pub matrix-refused : (reason : Reason) (line byte : ℕ) (r : Reply) → answer ≡ Refused reason line byte → r ≡ replyOf (refuse reason line byte) → Fills (matrixRead fibres s) old old r
     unfolding matrixRead ofTable tableFrom
-    matrix-refused reason line byte r a = refuses (matrixRead fibres s) old reason line byte r (rw (known, matrix-told.told-refusal s fibres t e reason line byte a))
+    matrix-refused reason line byte r a = refuses (matrixRead fibres s) old reason line byte r (rw (known, matrix-told.told-refusal s fibres _ e reason line byte a))
 
-    module _ (n same count : ℕ) (a : t .answer ≡ Is n same count) where
+    module _ (n same count : ℕ) (a : answer ≡ Is n same count) where
       pub matrix-rows-have-room : count ≤ desk .rows
-      matrix-rows-have-room = matrix-told.told-matrix s fibres t e n same count a .room
+      matrix-rows-have-room = matrix-told.told-matrix s fibres _ e n same count a .room
 
-      pub matrix-fills : (new : List ℕ) (r : Reply) → Fills (write (writeTable (ringOf n fibres) (rowsIn count (t .first) (t .second) (t .amount)))) old new r → Fills (matrixRead fibres s) old new r
+      pub matrix-fills : (new : List ℕ) (r : Reply) → Fills (write (writeTable (ringOf n fibres) (rowsIn count first second amount))) old new r → Fills (matrixRead fibres s) old new r
       unfolding matrixRead ofTable tableFrom
       matrix-fills new r =
-          let told = matrix-told.told-matrix s fibres t e n same count a in
+          let told = matrix-told.told-matrix s fibres _ e n same count a in
           let rows = told .rows in
           same-fills old new r (rw (known, told .is, rows))

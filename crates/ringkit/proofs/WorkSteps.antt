@@ -7,9 +7,8 @@ use Rattle.ring.specs.Columns.{rowsIn}
 use Rattle.table.specs.Table.{writeTable}
 use Rattle.table.proofs.Columns.{rows-back}
 use Rattle.work.specs.Made.{ringIn}
-use Rattle.work.specs.Keys.{sortedRows, sortedIn}
+use Rattle.work.specs.Keys.{sortedRows, ByNodes, sortedIn}
 use Rattle.work.specs.declared.Work.{Work}
-use Rattle.work.specs.declared.sort.ByNodes.{ByNodes}
 use Rattle.work.proofs.SortedRows.{sorted-few}
 use Rattle.ringkit.specs.Outcome.{write, Fills}
 use Rattle.ringkit.specs.TableCalls.{workWritten}

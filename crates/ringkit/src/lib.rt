@@ -20,6 +20,9 @@ ghost use Prim.Native.Nat.{_≤_};
 ghost use Rattle.ring.specs.Limits.{desk};
 ghost use Rattle.ring.specs.Ring.{ringOf};
 ghost use Rattle.ring.specs.Columns.{rowsIn};
+ghost use Rattle.ring.specs.Row.{TableRows};
+ghost use Rattle.ring.specs.Sheet.{plan};
+ghost use Rattle.router.specs.Rows.{Table};
 ghost use Rattle.table.specs.Table.{writeTable, tableRoom};
 ghost use Rattle.matrix.specs.Matrix.{writeMatrix};
 ghost use Rattle.matrix.specs.Demands.{matrixOfRows};
@@ -112,8 +115,10 @@ fn put_table<'a>(
 pub extern "C" fn ringkit_rewrite_table(table: &[u8], buffer: &mut [u8]) -> Reply
     ensures { λ r. ⌜ Fills (tableAfresh (now (table .entry))) (now (buffer .entry)) (now (buffer .exit)) r ⌝ }
 {
-    let t = table::read_table(table);
-    let answer = t.answer;
+    let mut first = [0u32; ROWS];
+    let mut second = [0u32; ROWS];
+    let mut amount = [0u32; ROWS];
+    let answer = table::read_table(table, &mut first, &mut second, &mut amount);
     match answer {
         Answer::Refused(reason, line, byte) => refusal(reason, line, byte),
         Answer::Is(n, fibres, count) => put_table(
@@ -121,9 +126,9 @@ pub extern "C" fn ringkit_rewrite_table(table: &[u8], buffer: &mut [u8]) -> Repl
             n,
             fibres,
             count,
-            &t.first,
-            &t.second,
-            &t.amount,
+            &first,
+            &second,
+            &amount,
         ),
     }
 }
@@ -137,19 +142,13 @@ pub extern "C" fn ringkit_read_matrix(matrix: &[u8], fibres: u32, buffer: &mut [
     if other {
         return refusal(Reason::Fibres, 0, 0);
     }
-    let t = matrix::read_matrix(matrix, fibres);
-    let answer = t.answer;
+    let mut first = [0u32; ROWS];
+    let mut second = [0u32; ROWS];
+    let mut amount = [0u32; ROWS];
+    let answer = matrix::read_matrix(matrix, fibres, &mut first, &mut second, &mut amount);
     match answer {
         Answer::Refused(reason, line, byte) => refusal(reason, line, byte),
-        Answer::Is(n, _, count) => put_table(
-            buffer,
-            n,
-            fibres,
-            count,
-            &t.first,
-            &t.second,
-            &t.amount,
-        ),
+        Answer::Is(n, _, count) => put_table(buffer, n, fibres, count, &first, &second, &amount),
     }
 }
 
@@ -183,15 +182,17 @@ fn put_matrix<'a>(
 pub extern "C" fn ringkit_write_matrix(table: &[u8], buffer: &mut [u8]) -> Reply
     ensures { λ r. ⌜ Fills (matrixWritten (now (table .entry))) (now (buffer .entry)) (now (buffer .exit)) r ⌝ }
 {
-    let t = table::read_table(table);
-    let answer = t.answer;
+    let mut first = [0u32; ROWS];
+    let mut second = [0u32; ROWS];
+    let mut amount = [0u32; ROWS];
+    let answer = table::read_table(table, &mut first, &mut second, &mut amount);
     match answer {
         Answer::Refused(reason, line, byte) => refusal(reason, line, byte),
         Answer::Is(n, _, count) => {
-            let sums = matrix::judge_sums(count, &t.first, &t.second, &t.amount);
+            let sums = matrix::judge_sums(count, &first, &second, &amount);
             match sums {
                 Sums::Pass(line) => refusal(Reason::SumTooMuch, line, 1),
-                Sums::Fit => put_matrix(buffer, n, count, &t.first, &t.second, &t.amount),
+                Sums::Fit => put_matrix(buffer, n, count, &first, &second, &amount),
             }
         }
     }
@@ -250,40 +251,78 @@ fn put_sheet<'a>(
     }
 }
 
+// Routes a table's rows and writes their sheet. The columns beside those of the table begin as zeros.
+fn put_route<'a>(
+    buf: &mut [u8],
+    n: u32,
+    fibres: u32,
+    count: usize,
+    first: &'a [u32; ROWS],
+    second: &'a [u32; ROWS],
+    amount: &'a [u32; ROWS],
+) -> Reply
+    requires { ⌜ Table n count (now first) (now second) (now amount) ⌝ }
+    requires { ⌜ TableRows n (rowsIn count (now first) (now second) (now amount)) ⌝ }
+    ensures { λ r. ⌜ Fills (write (writeSheet (plan (ringOf n fibres) (rowsIn count (now (first .entry)) (now (second .entry)) (now (amount .entry)))))) (now (buf .entry)) (now (buf .exit)) r ⌝ }
+{
+    let mut front = [0u32; ROWS];
+    let mut back = [0u32; ROWS];
+    let mut way = [0u32; ROWS];
+    let p = router::route(
+        n,
+        fibres,
+        count,
+        first,
+        second,
+        amount,
+        &mut front,
+        &mut back,
+        &mut way,
+    );
+    let x = Figures {
+        n,
+        fibres,
+        g: p.g,
+        h: p.h,
+        across: p.across,
+        peak: p.peak,
+        size: p.size,
+    };
+    put_sheet(
+        buf,
+        x,
+        count,
+        first,
+        second,
+        amount,
+        &front,
+        &back,
+        &way,
+        &p.split,
+        &p.unsplit,
+    )
+}
+
 // Routes a table by rules A to D and writes its sheet.
 #[no_mangle]
 pub extern "C" fn ringkit_route(table: &[u8], buffer: &mut [u8]) -> Reply
     ensures { λ r. ⌜ Fills (tableRouted (now (table .entry))) (now (buffer .entry)) (now (buffer .exit)) r ⌝ }
 {
-    let t = table::read_table(table);
-    let answer = t.answer;
+    let mut first = [0u32; ROWS];
+    let mut second = [0u32; ROWS];
+    let mut amount = [0u32; ROWS];
+    let answer = table::read_table(table, &mut first, &mut second, &mut amount);
     match answer {
         Answer::Refused(reason, line, byte) => refusal(reason, line, byte),
-        Answer::Is(n, fibres, count) => {
-            let p = router::route(n, fibres, count, &t.first, &t.second, &t.amount);
-            let x = Figures {
-                n,
-                fibres,
-                g: p.g,
-                h: p.h,
-                across: p.across,
-                peak: p.peak,
-                size: p.size,
-            };
-            put_sheet(
-                buffer,
-                x,
-                count,
-                &t.first,
-                &t.second,
-                &t.amount,
-                &p.front,
-                &p.back,
-                &p.way,
-                &p.split,
-                &p.unsplit,
-            )
-        }
+        Answer::Is(n, fibres, count) => put_route(
+            buffer,
+            n,
+            fibres,
+            count,
+            &first,
+            &second,
+            &amount,
+        ),
     }
 }
 

@@ -1,6 +1,7 @@
 // The calls of the working table: it is lent by `&mut`, and altered by functions by value. Each body has exactly the shape that a law of `walk` is about.
 use crate::Reply;
 use crate::put_table;
+use ring::ROWS;
 use work::RowReply;
 use work::Work;
 use work::WorkReply;
@@ -69,16 +70,11 @@ fn written(work: Work, buffer: &mut [u8]) -> Reply
 {
     let n = work.n;
     let fibres = work.fibres;
-    let rows = work::sorted(work);
-    put_table(
-        buffer,
-        n,
-        fibres,
-        rows.count,
-        &rows.first,
-        &rows.second,
-        &rows.amount,
-    )
+    let mut first = [0u32; ROWS];
+    let mut second = [0u32; ROWS];
+    let mut amount = [0u32; ROWS];
+    let count = work::sorted(work, &mut first, &mut second, &mut amount);
+    put_table(buffer, n, fibres, count, &first, &second, &amount)
 }
 
 #[no_mangle]

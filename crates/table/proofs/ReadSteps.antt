@@ -4,7 +4,7 @@ use Prim.Native.Nat.{ℕ, _+_, _-_, _≤_, _<_}
 use mathlib.Core.List.{List, [], _∷_, _++_}
 use mathlib.Core.Path.{_≡_, refl, ap, _∙_, sym}
 use native.Mathlib.Omega.{arith}
-use lib.ListN.{length, replicate, set, take, drop, drop-of-length-le, length-append, length-take}
+use lib.ListN.{length, set, take, drop, drop-of-length-le, length-append, length-take}
 use borrow.Author.Tests.{lt-ltb, le-ltb}
 use Rattle.ring.specs.Row.{Row, row}
 use Rattle.text.specs.ReadLine.{readLine}
@@ -23,13 +23,12 @@ use Rattle.table.specs.Judge.{judgeRing, judgeRow}
 use Rattle.table.specs.Fields.{ringFault, rowFault}
 use Rattle.table.specs.ReadTable.{Result, refused, rowsOf, tableOf}
 use Rattle.ring.specs.Columns.{column}
-use Rattle.table.specs.Arrays.{tableIn}
+use Rattle.table.specs.Arrays.{NoRows, Table, beside, tableIn}
 use Rattle.table.specs.declared.reason.Reason.{Reason}
 use Rattle.table.specs.declared.reason.Reason.the-variants.{TooLong, Misshapen}
 use Rattle.table.specs.declared.judge.Verdict.{Verdict}
 use Rattle.table.specs.declared.judge.Verdict.the-variants.{Fine, Fault}
-use Rattle.table.specs.declared.read.Table.{Table}
-use Rattle.table.specs.declared.read.Answer.the-variants.{Is}
+use Rattle.table.specs.declared.read.Answer.the-variants.{Is, Refused}
 use Rattle.table.proofs.Judged.{RowJudged, row-fine, row-judged}
 use Rattle.table.proofs.LineSteps.{line-at}
 use Rattle.table.proofs.Columns.{column-more}
@@ -57,20 +56,21 @@ pub record Reading (s : List ℕ) (n fibres from line a b count at : ℕ) (first
   pub most : count ≤ desk .rows
   pub within : at ≤ length s
 
--- arrays that hold no row are zero
-abbrev none-yet : List ℕ
-none-yet = replicate {A = ℕ} (desk .rows) 0
+-- columns as they are made are those of no row
+pub no-rows : (reason : Reason) (line byte : ℕ) (first second amount : List ℕ) → NoRows first second amount → beside (Refused reason line byte) first second amount ≡ tableIn (refused reason line byte)
+unfolding tableIn column
+no-rows reason line byte first second amount none = rw (none .firsts, none .seconds, none .amounts)
 
-pub reading-starts : (s : List ℕ) (n fibres from : ℕ) → from ≤ length s → Reading s n fibres from 2 0 0 0 from none-yet none-yet none-yet
+pub reading-starts : (s : List ℕ) (n fibres from : ℕ) (first second amount : List ℕ) → from ≤ length s → NoRows first second amount → Reading s n fibres from 2 0 0 0 from first second amount
 unfolding column
-reading-starts s n fibres from w =
+reading-starts s n fibres from first second amount w none =
     record {
       rows = [];
       rest = refl;
       many = refl;
-      firsts = refl;
-      seconds = refl;
-      amounts = refl;
+      firsts = none .firsts;
+      seconds = none .seconds;
+      amounts = none .amounts;
       lined = refl;
       most = omega arith;
       within = w;
@@ -78,7 +78,7 @@ reading-starts s n fibres from w =
 
 module _ (s : List ℕ) (n fibres from line a b count at : ℕ) (first second amount : List ℕ) (reading : Reading s n fibres from line a b count at first second amount) where
   -- no line is left
-  pub all-read : length s ≤ at → record { answer = Is n fibres count; first = first; second = second; amount = amount } ≡ tableIn (whole s n fibres from)
+  pub all-read : length s ≤ at → beside (Is n fibres count) first second amount ≡ tableIn (whole s n fibres from)
   unfolding rowsOf lines tableIn
   all-read k = rw (reading .rest, drop-of-length-le s k, reading .many, reading .firsts, reading .seconds, reading .amounts)
 

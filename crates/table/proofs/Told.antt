@@ -11,9 +11,8 @@ use Rattle.ring.specs.Ring.{ringOf}
 use Rattle.table.specs.ReadTable.{Result, accepted, refused, tableOf}
 use Rattle.ring.specs.Row.{Row}
 use Rattle.ring.specs.Columns.{column, rowsIn}
-use Rattle.table.specs.Arrays.{tableIn}
+use Rattle.table.specs.Arrays.{Table, tableIn}
 use Rattle.table.specs.declared.reason.Reason.{Reason}
-use Rattle.table.specs.declared.read.Table.{Table}
 use Rattle.table.specs.declared.read.Answer.the-variants.{Is, Refused}
 use Rattle.table.proofs.TableText.{desk-spelled, table-text}
 use Rattle.table.proofs.Columns.{rows-back}

@@ -1,4 +1,4 @@
--- Any two results that meet a public contract agree, and so do the two buffers: each contract is an equation with one definition.
+-- Any two results that meet a public contract agree, and so do the two buffers and the columns that were lent: each contract is an equation with one definition.
 use Prim.Native.Nat.{ℕ, _+_}
 use mathlib.Core.Bool.{Bool}
 use mathlib.Core.List.{List}
@@ -15,16 +15,18 @@ use Rattle.table.specs.Table.{writeTable}
 use Rattle.table.specs.Fields.{ringFault, rowFault}
 use Rattle.table.specs.ReadTable.{refused, tableOf}
 use Rattle.ring.specs.Columns.{rowsIn}
-use Rattle.table.specs.Arrays.{tableIn}
+use Rattle.table.specs.Arrays.{NoRows, Table, tableIn}
 use Rattle.table.specs.declared.reason.Reason.{Reason}
 use Rattle.table.specs.declared.judge.Verdict.{Verdict}
-use Rattle.table.specs.declared.read.Table.{Table}
 
 pub number-unique : (reason : Reason) (r q : ℕ) → r ≡ numberOf reason → q ≡ numberOf reason → r ≡ q
 number-unique reason r q = same-result
 
 pub read-table-unique : (s : List ℕ) (r q : Table) → r ≡ tableIn (tableOf desk s) → q ≡ tableIn (tableOf desk s) → r ≡ q
 read-table-unique s r q = same-result
+
+pub clear-unique : (first second amount first′ second′ amount′ : List ℕ) → NoRows first second amount → NoRows first′ second′ amount′ → (first ≡ first′) × (second ≡ second′) × (amount ≡ amount′)
+clear-unique first second amount first′ second′ amount′ a b = (same-result (a .firsts) (b .firsts), same-result (a .seconds) (b .seconds), same-result (a .amounts) (b .amounts))
 
 pub refusal-unique : (reason : Reason) (line byte : ℕ) (r q : Table) → r ≡ tableIn (refused reason line byte) → q ≡ tableIn (refused reason line byte) → r ≡ q
 refusal-unique reason line byte r q = same-result

@@ -16,7 +16,7 @@ pub use judge::judge_size;
 pub use judge::other_fibres;
 pub use lines::line_end;
 pub use read::Answer;
-pub use read::Table;
+pub use read::clear;
 pub use read::read_table;
 pub use read::refusal;
 pub use reason::Reason;

@@ -19,7 +19,7 @@ ghost use Rattle.ring.specs.Limits.{desk};
 ghost use Rattle.ring.specs.Ring.{ringOf};
 ghost use Rattle.table.specs.Lines.{lines};
 ghost use Rattle.table.specs.ReadTable.{refused, rowsOf, tableOf};
-ghost use Rattle.table.specs.Arrays.{tableIn};
+ghost use Rattle.table.specs.Arrays.{NoRows, beside, tableIn};
 
 // How many nodes and fibres the ring has and how many rows there are; or the reason, the line and the byte of it.
 pub enum Answer {
@@ -27,34 +27,44 @@ pub enum Answer {
     Refused(Reason, u32, u32),
 }
 
-// The rows stand in the arrays from place 0 on.
-pub struct Table {
-    pub answer: Answer,
-    pub first: [u32; ROWS],
-    pub second: [u32; ROWS],
-    pub amount: [u32; ROWS],
+// Columns that hold no row.
+pub fn clear(first: &mut [u32; ROWS], second: &mut [u32; ROWS], amount: &mut [u32; ROWS])
+    ensures { λ _. ⌜ NoRows (now (first .exit)) (now (second .exit)) (now (amount .exit)) ⌝ }
+{
+    *first = [0u32; ROWS];
+    *second = [0u32; ROWS];
+    *amount = [0u32; ROWS];
 }
 
-// A refusal beside arrays that hold no row.
-pub fn refusal(reason: Reason, line: u32, byte: u32) -> Table
-    ensures { λ r. ⌜ r ≡ tableIn (refused reason line byte) ⌝ }
+// A refusal beside columns that hold no row.
+pub fn refusal(
+    first: &mut [u32; ROWS],
+    second: &mut [u32; ROWS],
+    amount: &mut [u32; ROWS],
+    reason: Reason,
+    line: u32,
+    byte: u32,
+) -> Answer
+    ensures { λ r. ⌜ beside r (now (first .exit)) (now (second .exit)) (now (amount .exit)) ≡ tableIn (refused reason line byte) ⌝ }
 {
-    Table {
-        answer: Answer::Refused(reason, line, byte),
-        first: [0u32; ROWS],
-        second: [0u32; ROWS],
-        amount: [0u32; ROWS],
-    }
+    clear(first, second, amount);
+    Answer::Refused(reason, line, byte)
 }
 
 // The rows of a ring of n nodes and so many fibres, from the place `from` on.
-fn read_rows(s: &[u8], from: usize, n: u32, fibres: u32) -> Table
+fn read_rows(
+    s: &[u8],
+    from: usize,
+    n: u32,
+    fibres: u32,
+    first: &mut [u32; ROWS],
+    second: &mut [u32; ROWS],
+    amount: &mut [u32; ROWS],
+) -> Answer
     requires { ⌜ (from ≤ length (now s)) × (length (now s) ≤ desk .bytes) ⌝ }
-    ensures { λ r. ⌜ r ≡ tableIn (rowsOf desk (ringOf n fibres) 2 0 0 [] (lines (drop from (now (s .entry))))) ⌝ }
+    requires { ⌜ NoRows (now first) (now second) (now amount) ⌝ }
+    ensures { λ r. ⌜ beside r (now (first .exit)) (now (second .exit)) (now (amount .exit)) ≡ tableIn (rowsOf desk (ringOf n fibres) 2 0 0 [] (lines (drop from (now (s .entry))))) ⌝ }
 {
-    let mut first = [0u32; ROWS];
-    let mut second = [0u32; ROWS];
-    let mut amount = [0u32; ROWS];
     let mut count: usize = 0;
     let mut line: u32 = 2;
     let mut at = from;
@@ -65,14 +75,14 @@ fn read_rows(s: &[u8], from: usize, n: u32, fibres: u32) -> Table
         let row = text::read_row(&s[at..end]);
         match row {
             ThreeNumbers::Bad(p) => {
-                return refusal(Reason::Misshapen, line, byte_at(p));
+                return refusal(first, second, amount, Reason::Misshapen, line, byte_at(p));
             }
             ThreeNumbers::Are(i, j, d) => {
                 let verdict = judge_row(n, count, a, b, i, j, d);
                 match verdict {
                     Verdict::Fault(reason) => {
                         let byte = row_fault(n, i, j, d, reason);
-                        return refusal(reason, line, byte);
+                        return refusal(first, second, amount, reason, line, byte);
                     }
                     Verdict::Fine => {
                         first[count] = i;
@@ -88,34 +98,36 @@ fn read_rows(s: &[u8], from: usize, n: u32, fibres: u32) -> Table
             }
         }
     }
-    Table {
-        answer: Answer::Is(n, fibres, count),
-        first,
-        second,
-        amount,
-    }
+    Answer::Is(n, fibres, count)
 }
 
-pub fn read_table(s: &[u8]) -> Table
-    ensures { λ r. ⌜ r ≡ tableIn (tableOf desk (now (s .entry))) ⌝ }
+// The rows stand in the lent columns from place 0 on, whatever was there before, and zeros behind them.
+pub fn read_table(
+    s: &[u8],
+    first: &mut [u32; ROWS],
+    second: &mut [u32; ROWS],
+    amount: &mut [u32; ROWS],
+) -> Answer
+    ensures { λ r. ⌜ beside r (now (first .exit)) (now (second .exit)) (now (amount .exit)) ≡ tableIn (tableOf desk (now (s .entry))) ⌝ }
 {
     if BYTES < s.len() {
-        return refusal(Reason::TooLong, 0, 0);
+        return refusal(first, second, amount, Reason::TooLong, 0, 0);
     }
     if s.len() <= 0 {
-        return refusal(Reason::Misshapen, 1, 1);
+        return refusal(first, second, amount, Reason::Misshapen, 1, 1);
     }
     let end = line_end(s, 0);
     let ring = text::read_ring(&s[0..end]);
     match ring {
-        TwoNumbers::Bad(p) => refusal(Reason::Misshapen, 1, byte_at(p)),
+        TwoNumbers::Bad(p) => refusal(first, second, amount, Reason::Misshapen, 1, byte_at(p)),
         TwoNumbers::Are(n, fibres) => {
             let verdict = judge_ring(n, fibres);
             if let Verdict::Fault(reason) = verdict {
                 let byte = ring_fault(n, fibres, reason);
-                return refusal(reason, 1, byte);
+                return refusal(first, second, amount, reason, 1, byte);
             }
-            read_rows(s, end, n, fibres)
+            clear(first, second, amount);
+            read_rows(s, end, n, fibres, first, second, amount)
         }
     }
 }

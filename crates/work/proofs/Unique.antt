@@ -2,10 +2,9 @@
 use Prim.Native.Nat.{ℕ}
 use mathlib.Core.Path.{_≡_, sym, _∙_}
 use Rattle.work.specs.Changes.{rowIn, startedIn, addedIn, changedIn, removedIn}
-use Rattle.work.specs.Keys.{sortedRows, sortedIn}
+use Rattle.work.specs.Keys.{sortedRows, ByNodes, sortedIn}
 use Rattle.work.specs.declared.Work.{Work}
 use Rattle.work.specs.declared.held.Changed.{Changed}
-use Rattle.work.specs.declared.sort.ByNodes.{ByNodes}
 use Rattle.work.specs.declared.place.RowReply.{RowReply}
 
 pub started-unique : (w : Work) (n fibres : ℕ) (a b : Changed) → a ≡ startedIn w n fibres → b ≡ startedIn w n fibres → a ≡ b

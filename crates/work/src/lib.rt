@@ -16,7 +16,6 @@ pub use held::WorkReply;
 pub use place::RowReply;
 pub use place::row_of;
 use ring::ROWS;
-pub use sort::ByNodes;
 pub use sort::sorted;
 pub use start::started;
 

@@ -37,6 +37,9 @@ returns-2 c = search (square-refused, needs)
 enum-told-2 : tie.Need-enum-told-2
 enum-told-2 c = search needs
 
+clear-requires : tie.Need-clear-requires
+clear-requires c κs = search needs
+
 rows-of-requires : tie.Need-rows-of-requires
 rows-of-requires c κs = search needs
 
@@ -58,5 +61,6 @@ read-square-spec =
     refusal-requires-2
     returns-2
     enum-told-2
+    clear-requires
     rows-of-requires
     returns-3)

@@ -13,7 +13,7 @@ abbrev μ-loop : tie.MeasureT-loop
 μ-loop n fibres square first₀ second₀ amount₀ count₀ i₀ j₀ first second amount count i j = (n + 1 - i) * 40 + (n + 1 - j)
 
 loop-holds : tie.Need-loop-holds Inv-loop μ-loop
-loop-holds c = gathering-starts _ _ (search needs)
+loop-holds c = search gathering-starts
 
 add-i : tie.Need-add-i Inv-loop μ-loop
 add-i c = search needs
@@ -42,20 +42,20 @@ loop-again-2 c = let g = c .before .before .before .before .loop .inv in search 
 mul-first : tie.Need-mul-first Inv-loop μ-loop
 mul-first c = search needs
 
-array-write-first : tie.Need-array-write-first Inv-loop μ-loop
-array-write-first c = search row-room
+element-write-first : tie.Need-element-write-first Inv-loop μ-loop
+element-write-first c = search row-room
 
 mul-second : tie.Need-mul-second Inv-loop μ-loop
 mul-second c = search needs
 
-array-write-second : tie.Need-array-write-second Inv-loop μ-loop
-array-write-second c = search row-room
+element-write-second : tie.Need-element-write-second Inv-loop μ-loop
+element-write-second c = search row-room
 
 mul-amount : tie.Need-mul-amount Inv-loop μ-loop
 mul-amount c = search needs
 
-array-write-amount : tie.Need-array-write-amount Inv-loop μ-loop
-array-write-amount c = search row-room
+element-write-amount : tie.Need-element-write-amount Inv-loop μ-loop
+element-write-amount c = search row-room
 
 add-count : tie.Need-add-count Inv-loop μ-loop
 add-count c = search needs
@@ -88,11 +88,11 @@ rows-of-spec =
     loop-less-2
     loop-again-2
     mul-first
-    array-write-first
+    element-write-first
     mul-second
-    array-write-second
+    element-write-second
     mul-amount
-    array-write-amount
+    element-write-amount
     add-count
     add-j-3
     loop-less-3

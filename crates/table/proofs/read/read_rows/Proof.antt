@@ -15,7 +15,7 @@ abbrev μ-loop : tie.MeasureT-loop
     length s - at
 
 loop-holds : tie.Need-loop-holds Inv-loop μ-loop
-loop-holds c = reading-starts _ _ _ _ (search needs)
+loop-holds c = search reading-starts
 
 line-end-requires : tie.Need-line-end-requires Inv-loop μ-loop
 line-end-requires c κs = search needs
@@ -68,20 +68,20 @@ enum-told c = search needs
 mul-first : tie.Need-mul-first Inv-loop μ-loop
 mul-first c = search needs
 
-array-write-first : tie.Need-array-write-first Inv-loop μ-loop
-array-write-first c = search room
+element-write-first : tie.Need-element-write-first Inv-loop μ-loop
+element-write-first c = search room
 
 mul-second : tie.Need-mul-second Inv-loop μ-loop
 mul-second c = search needs
 
-array-write-second : tie.Need-array-write-second Inv-loop μ-loop
-array-write-second c = search room
+element-write-second : tie.Need-element-write-second Inv-loop μ-loop
+element-write-second c = search room
 
 mul-amount : tie.Need-mul-amount Inv-loop μ-loop
 mul-amount c = search needs
 
-array-write-amount : tie.Need-array-write-amount Inv-loop μ-loop
-array-write-amount c = search room
+element-write-amount : tie.Need-element-write-amount Inv-loop μ-loop
+element-write-amount c = search room
 
 add-count : tie.Need-add-count Inv-loop μ-loop
 add-count c = search needs
@@ -122,11 +122,11 @@ read-rows-spec =
     returns-2
     enum-told
     mul-first
-    array-write-first
+    element-write-first
     mul-second
-    array-write-second
+    element-write-second
     mul-amount
-    array-write-amount
+    element-write-amount
     add-count
     add-line
     loop-less

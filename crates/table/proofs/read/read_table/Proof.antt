@@ -61,6 +61,9 @@ returns-3 c = search ring-fault
 enum-told : tie.Need-enum-told
 enum-told c = search needs
 
+clear-requires : tie.Need-clear-requires
+clear-requires c κs = search needs
+
 read-rows-requires : tie.Need-read-rows-requires
 read-rows-requires c κs = search needs
 
@@ -93,6 +96,7 @@ read-table-spec =
     refusal-requires-4
     returns-3
     enum-told
+    clear-requires
     read-rows-requires
     returns-4
     returns-5)
