@@ -1,6 +1,6 @@
-/* stack CALL [TEXT]: how many bytes of stack the call touches, on the text of a file or on a small one. It runs in a thread that has as much stack as the header
- * promises to be enough, painted before the call and looked at after it, with a page below it that may not be touched. A process makes one call, so that this call
- * also binds memset and memcpy, as any program's first call may. The exit status is 0 where the call was made and a small text was accepted. */
+/* stack CALL [TEXT]: how many bytes of stack the call touches, and whether it is accepted: on the text of a file, of a working table on a full one, or on a small
+ * one. It runs in a thread that has as much stack as the header promises to be enough, painted before the call and looked at after it, with a page below it that may
+ * not be touched. A process makes one call, and calls no memset and no memcpy before it, so that this call also binds them, as any program's first call may. */
 #define _DEFAULT_SOURCE
 #include <pthread.h>
 #include <stdio.h>
@@ -18,7 +18,7 @@ static const char SHEET[] = "R\t2\t4\nD\t1\t2\t5\t5\t5\tF\nC\t1\t2\t5\nL\t1\t5\t
 static const char MATRIX[] = "0\t5\n5\t0\n";
 static uint8_t text[MOST];
 static size_t length;
-static uint8_t buffer[MOST];
+static uint8_t buffer[MOST]; /* room for whatever is written */
 static ringkit_work work;
 
 static uint32_t route(void)
@@ -120,6 +120,14 @@ static void *dive(void *with)
     return NULL;
 }
 
+/* A volatile byte is written by no memset. */
+static void paint(uint8_t *stack)
+{
+    for (size_t k = 0; k < STACK; k++) {
+        *(volatile uint8_t *)&stack[k] = PAINT;
+    }
+}
+
 /* The call's stack, or 0 where it cannot be had. */
 static size_t touched(struct dive *d)
 {
@@ -131,7 +139,7 @@ static size_t touched(struct dive *d)
         || pthread_attr_setstack(&attributes, stack, STACK) != 0) {
         return 0;
     }
-    memset(stack, PAINT, STACK);
+    paint(stack);
     if (pthread_create(&thread, &attributes, dive, d) != 0 || pthread_join(thread, NULL) != 0) {
         return 0;
     }
@@ -146,8 +154,9 @@ static size_t touched(struct dive *d)
 static int take_text(const char *name, const char *small)
 {
     if (name == NULL) {
-        length = strlen(small);
-        memcpy(text, small, length);
+        for (length = 0; small[length] != 0; length++) {
+            *(volatile uint8_t *)&text[length] = (uint8_t)small[length];
+        }
         return 1;
     }
     FILE *file = fopen(name, "rb");
@@ -158,6 +167,19 @@ static int take_text(const char *name, const char *small)
     return fclose(file) == 0;
 }
 
+/* A working table of so many rows, the first of them 1-2. Calls may not make it, since the one that is measured is the first; what is kept beside the rows does not
+ * matter to the stack. */
+static void take_work(size_t rows)
+{
+    work.n = RINGKIT_MAX_OFFICES;
+    work.fibres = RINGKIT_FOUR_FIBRES;
+    for (size_t k = 0; k < rows; k++) {
+        work.first[k] = 1;
+        work.second[k] = k == 0 ? 2 : RINGKIT_MAX_OFFICES;
+        work.amount[k] = RINGKIT_MAX_AMOUNT;
+    }
+}
+
 int main(int count, char **words)
 {
     struct dive d = {.named = NULL};
@@ -166,13 +188,14 @@ int main(int count, char **words)
             d.named = &CALLS[k];
         }
     }
-    if (d.named == NULL || count > 3 || !take_text(count == 3 ? words[2] : NULL, d.named->small)) {
+    const char *name = count == 3 ? words[2] : NULL;
+    int works = d.named != NULL && *d.named->small == 0;
+    if (d.named == NULL || count > 3 || !take_text(works ? NULL : name, d.named->small)) {
         fputs("usage: stack CALL [TEXT]\n", stderr);
         return 2;
     }
-    /* one row of two offices at place 1, as calls would make it: they may not be made, since the one that is measured is the first */
-    work = (ringkit_work){.n = 2, .fibres = 4, .g = 1, .h = 2, .across = 5, .triangle = {5}, .first = {1}, .second = {2}, .amount = {5}};
+    take_work(works && name != NULL ? RINGKIT_MAX_ROWS : 1);
     size_t depth = touched(&d);
-    printf("%s: %zu bytes of stack\n", d.named->name, depth);
-    return depth > 0 && (count == 3 || d.reason == RINGKIT_OK) ? 0 : 1;
+    printf("%zu bytes of stack, %s\n", depth, d.reason == RINGKIT_OK ? "accepted" : "refused");
+    return depth > 0 ? 0 : 1;
 }

@@ -34,7 +34,7 @@ use Rattle.table.proofs.LineSteps.{line-at}
 use Rattle.matrix.specs.Matrix.{entry, Node}
 use Rattle.matrix.specs.Demands.{pairsFrom, rowsBy}
 use Rattle.matrix.specs.Read.{Matrix, matrix, no-matrix, fieldsIn, linesOf, judgeDown, squareJudged, matrixOf, tableFrom}
-use Rattle.matrix.specs.Arrays.{numbersIn, at, layFrom, empty, laid, Square, beside, squareIn}
+use Rattle.matrix.specs.Arrays.{numbersIn, at, layFrom, empty, laid, Square, squareIn}
 use Rattle.matrix.specs.declared.line.Numbers.{Numbers}
 use Rattle.matrix.specs.declared.line.Spelling.the-variants.{Good, Bad as BadSpelling}
 use Rattle.matrix.specs.declared.square.Lines.{Lines}

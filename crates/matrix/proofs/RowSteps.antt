@@ -6,7 +6,7 @@ use lib.Dec.{eqb}
 use Rattle.ring.proofs.Listed.{listed-cons}
 use mathlib.Core.Path.{_≡_, refl, ap, _∙_, sym}
 use native.Mathlib.Omega.{arith}
-use lib.ListN.{length, replicate, set, length-append}
+use lib.ListN.{length, set, length-append}
 use borrow.Author.Tests.{eq-eqb, ne-eqb}
 use Rattle.ring.specs.Limits.{desk}
 use Rattle.ring.specs.Ring.{ringOf}

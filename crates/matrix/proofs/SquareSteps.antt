@@ -17,7 +17,7 @@ use Rattle.table.specs.declared.reason.Reason.the-variants.{Misshapen}
 use Rattle.table.proofs.LineSteps.{first-line, line-at}
 use Rattle.matrix.specs.Matrix.{entryByte}
 use Rattle.matrix.specs.Read.{Matrix, no-matrix, numbersOr, unlessAt, judgeAmounts, linesOf}
-use Rattle.matrix.specs.Arrays.{numbersIn, layFrom, empty, laid, Square, beside, squareIn}
+use Rattle.matrix.specs.Arrays.{numbersIn, layFrom, empty, laid, Square, besideEntries, squareIn}
 use Rattle.matrix.specs.declared.byte.Found.{Found}
 use Rattle.matrix.specs.declared.byte.Found.the-variants.{Nothing, At}
 use Rattle.matrix.specs.declared.line.Numbers.{Numbers}
@@ -95,7 +95,7 @@ module _ (s : List ℕ) (n : ℕ) (entries : List ℕ) (start count line at : �
       let z : n - count ≡ suc (n - count - 1) = omega arith in
       e ∙ ap squareIn (sym (on .rest ∙ ap (λ k. linesOf desk n line k (on .m) (lines (drop at s))) z ∙ rw (drop-of-length-le s none)))
 
-  pub lines-read : length s ≤ at → n ≤ count → beside Read entries ≡ squareIn whole
+  pub lines-read : length s ≤ at → n ≤ count → besideEntries Read entries ≡ squareIn whole
   unfolding linesOf lines squareIn
   lines-read none l =
       let z : n - count ≡ 0 = omega arith in

@@ -1,4 +1,4 @@
--- Any two results that meet a public contract agree, and so do the two buffers: each contract is an equation with one definition.
+-- Any two results that meet a public contract agree, and so do the two buffers and the columns that were lent: each contract is an equation with one definition.
 use Prim.Native.Nat.{ℕ}
 use mathlib.Core.List.{List}
 use mathlib.Core.Path.{_≡_}

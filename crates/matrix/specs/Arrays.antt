@@ -48,13 +48,13 @@ pub record Square : Type 0 where
   pub lines : Lines
   pub entries : List ℕ
 
-abbrev pub beside : Lines → List ℕ → Square
-beside lines entries = record { lines = lines; entries = entries }
+abbrev pub besideEntries : Lines → List ℕ → Square
+besideEntries lines entries = record { lines = lines; entries = entries }
 
 unfoldable pub squareIn : Matrix → Square
 unfolding laid
-squareIn (matrix n m) = beside Read (laid m)
-squareIn (no-matrix reason line byte) = beside (Refused reason line byte) empty
+squareIn (matrix n m) = besideEntries Read (laid m)
+squareIn (no-matrix reason line byte) = besideEntries (Refused reason line byte) empty
 
 -- rows in columns whose amounts are within 9,999, so that sums fit
 pub record Amounts (count : ℕ) (amount : List ℕ) : Type 0 where

@@ -17,7 +17,7 @@ ghost use lib.Seq.{sets};
 ghost use Rattle.ring.specs.Limits.{desk};
 ghost use Rattle.table.specs.Lines.{lines as linesIn};
 ghost use Rattle.matrix.specs.Read.{no-matrix, linesOf};
-ghost use Rattle.matrix.specs.Arrays.{placeOf, at as entryAt, empty, beside, squareIn};
+ghost use Rattle.matrix.specs.Arrays.{at as entryAt, empty, besideEntries, squareIn};
 
 // Each line of the square has room for the largest ring.
 pub(crate) const SQUARE: usize = LINKS * LINKS;
@@ -53,7 +53,7 @@ fn keep(square: &mut [u32; SQUARE], start: usize, n: usize, values: &[u32; LINKS
 
 // A refusal leaves an empty square.
 fn refused(entries: &mut [u32; SQUARE], reason: Reason, line: u32, byte: u32) -> Lines
-    ensures { λ r. ⌜ beside r (now (entries .exit)) ≡ squareIn (no-matrix reason line byte) ⌝ }
+    ensures { λ r. ⌜ besideEntries r (now (entries .exit)) ≡ squareIn (no-matrix reason line byte) ⌝ }
 {
     *entries = [0u32; SQUARE];
     Lines::Refused(reason, line, byte)
@@ -62,7 +62,7 @@ fn refused(entries: &mut [u32; SQUARE], reason: Reason, line: u32, byte: u32) ->
 // The lines of a matrix of n nodes. A line behind the n-th is left over, and a missing one is the one after the last.
 pub(crate) fn read_lines(s: &[u8], n: usize, entries: &mut [u32; SQUARE]) -> Lines
     requires { ⌜ (n ≤ desk .nodes) × (length (now s) ≤ desk .bytes) × (now entries ≡ empty) ⌝ }
-    ensures { λ r. ⌜ beside r (now (entries .exit)) ≡ squareIn (linesOf desk n 1 n [] (linesIn (now (s .entry)))) ⌝ }
+    ensures { λ r. ⌜ besideEntries r (now (entries .exit)) ≡ squareIn (linesOf desk n 1 n [] (linesIn (now (s .entry)))) ⌝ }
 {
     let mut start: usize = 0;
     let mut count: usize = 0;

@@ -1,7 +1,7 @@
 -- Writing a table's matrix: what reading said is what the sums and the writer ask for, and gives the outcome each way out of the call.
 use Prim.Native.Nat.{ℕ, _≤_}
 use mathlib.Core.List.{List}
-use mathlib.Core.Path.{_≡_, ap, _∙_, sym}
+use mathlib.Core.Path.{_≡_, _∙_, sym}
 use Rattle.ring.specs.Limits.{desk}
 use Rattle.ring.specs.Ring.{ringOf}
 use Rattle.ring.specs.Row.{Row}

@@ -1,6 +1,4 @@
 -- A refusal leaves columns as they are made, which are those of no row.
-use mathlib.Core.Path.{_≡_}
-use Rattle.table.specs.Arrays.{tableIn}
 use Rattle.table.proofs.ReadSteps.{no-rows}
 use borrow.Author.Needs.{needs}
 use Rattle.table.proofs.read.refusal.Statement.{statement}
