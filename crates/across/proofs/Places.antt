@@ -1,5 +1,5 @@
 -- Pairs and places: each pair g < h has a place of its own below the next line's, each place is a pair's, and so a triangle is known by its pairs.
-use Rattle.std.proofs.Common.{◌≡◌, ℕ, zero, suc, ◌+◌, ◌-◌, ◌*◌, ◌/◌, ◌<◌, ◌≤◌, List, ◌++◌, length, get_or, sym, refl, ap, ◌∙◌, mul_comm, mul-le-mul, mul-suc, arith, length-append, get_or-append-add, ext_get_or}
+use Rattle.std.proofs.Common.{◌≡◌, ℕ, zero, suc, ◌+◌, ◌-◌, ◌*◌, ◌/◌, ◌<◌, ◌≤◌, List, length, get_or, sym, refl, ap, ◌∙◌, mul_comm, mul-le-mul, mul-suc, arith, length-append, get_or-append-add, ext_get_or}
 use native.Mathlib.Decide.{dec_lt, ℕ_discrete}
 use lib.ListN.{get_or-append}
 use Rattle.ring.specs.Columns.{listed}

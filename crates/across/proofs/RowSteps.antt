@@ -6,7 +6,7 @@ use borrow.Author.Tests.{lt-leb}
 use Rattle.ring.specs.Row.{Row, row, inFront}
 use Rattle.ring.specs.Cut.{part}
 use Rattle.ring.proofs.Side.{Side, before, within, after, side, in-front, before-front, after_front}
-use Rattle.across.specs.Triangle.{mostLinks, mostPairs, offset, place_of, at, triangle}
+use Rattle.across.specs.Triangle.{mostLinks, mostPairs, offset, place_of, at}
 use Rattle.across.specs.Step.{typeEnd, step, stepped, stepRow}
 use Rattle.across.specs.Lines.{Pairwise, LineStep, LineFits}
 use Rattle.across.proofs.Places.{apart, place-within, line-below, triangle-is, all-pairs}

@@ -1,3 +1,4 @@
+#![tactic(auto)]
 // The across numbers of all pairs of links, kept as one triangle: a line for each link h, with a place for each link g below it. A link with itself has
 // no place; its number is 0. Rows are put on and taken off, and no sum over rows is taken. Sums wrap around at the type's end, so that every
 // triangle can be changed by every row.

@@ -1,11 +1,10 @@
 -- The front of a demand leads from its first node to its second, and the back from the second round to the first: link by link.
 use Prim.Native.Nat.{ℕ, zero, suc, ◌+◌, ◌-◌, ◌≤◌, ◌<◌}
-use mathlib.Core.Bool.{Bool, true, false, not}
-use mathlib.Core.Path.{◌≡◌, refl, ap, ◌∙◌}
+use mathlib.Core.Bool.{Bool, true, not}
+use mathlib.Core.Path.{◌≡◌, refl, ap}
 use native.Mathlib.Omega.{arith}
-use lib.Dec.{eqb}
 use borrow.Author.Tests.{eq-eqb, ne_eqb}
-use Rattle.ring.specs.Row.{Row, OnRing, inFront, ahead, Leads, there, over}
+use Rattle.ring.specs.Row.{Row, OnRing, inFront, Leads, there, over}
 use Rattle.ring.proofs.Side.{in-front, before-front, after_front}
 
 module _ (n : ℕ) (r : Row) (on : OnRing n r) where
