@@ -7,18 +7,16 @@ use mathlib.Core.Path.{◌≡◌, refl, ap, sym, ◌∙◌, subst}
 use native.Mathlib.Omega.{arith}
 use Rattle.ring.specs.Limits.{Limits}
 use Rattle.ring.specs.Ring.{Ring}
-use Rattle.text.specs.FieldByte.{fieldByte, ringByte, rowByte}
+use Rattle.text.specs.FieldByte.{fieldByte, ringByte}
 use Rattle.text.specs.WriteLine.{writeLine}
 use Rattle.text.proofs.LineLaws.{one-fault}
-use Rattle.table.specs.Lines.{lines}
-use Rattle.table.specs.Fields.{field_of, nodeField, ringFault, rowFault}
-use Rattle.table.specs.Judge.{outside}
-use Rattle.table.specs.Says.{LineIs, RingIs, RowIs, NoNode, ShapeByte, DueByte, line-missing, line-faulty, LineByte, ring-due, row-due, RingField, NodeByte, first-node, second-node, AmountByte, at-amount, ByteIs}
+use Rattle.table.specs.Fields.{nodeField, ringFault, rowFault}
+use Rattle.table.specs.Says.{RingIs, RowIs, NoNode, ShapeByte, DueByte, line-missing, line-faulty, LineByte, ring-due, row-due, RingField, NodeByte, first-node, second-node, AmountByte, at-amount, ByteIs}
 use Rattle.table.specs.declared.reason.Reason.{Reason}
 use Rattle.table.specs.declared.reason.Reason.TheVariants.{TooLong, Misshapen, RingSize, Fibres, NoRow, NoSuchNode, NotBelow, OutOfOrder, TooMany, TooMuch, Full, WrongSum, WrongWay, WrongCut, WrongLink, WrongLast, NotTight, OverBound, NotZero, NotSymmetric, SumTooMuch, NoRoom}
 use Rattle.table.specs.declared.judge.Verdict.{Verdict}
 use Rattle.table.specs.declared.judge.Verdict.TheVariants.{Fine, Fault}
-use Rattle.table.proofs.Judged.{RingJudged, wrong_size, wrong-fibres, right-ring, HasNode, Node, no_node, has-node, node, RowJudged, no-such-node, not-below, out_of_order, too_many, too_much, row_fine}
+use Rattle.table.proofs.Judged.{RingJudged, wrong_size, wrong-fibres, right-ring, Node, no_node, has-node, node, RowJudged, no-such-node, not-below, out_of_order, too_many, too_much, row_fine}
 use Rattle.table.proofs.Against.{no-node-there}
 use Rattle.table.proofs.LineNumbers.{line-one, ring-one, row_one}
 

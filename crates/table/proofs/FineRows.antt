@@ -16,10 +16,10 @@ pub data FineRows (limits : Limits) (n : ℕ) : ℕ → ℕ → ℕ → List Row
       → FineRows limits n (k + 1) r.i r.j rs → FineRows limits n k a b (r ∷ rs)
 
 module _ {limits : Limits} {n : ℕ} where
-  fine-behind : {k : ℕ} {a : Row} {rs : List Row} → Each (OnRing n) rs → Steps InTableOrder (a ∷ rs) → k + length rs ≤ limits.rows
+  fine-behind : (k : ℕ) {a : Row} {rs : List Row} → Each (OnRing n) rs → Steps InTableOrder (a ∷ rs) → k + length rs ≤ limits.rows
       → Each (λ r. r.d ≤ limits.amount) rs → FineRows limits n k a.i a.j rs
-  fine-behind none one-member c none = no_row
-  fine-behind {k} (more o os) (step up ups) c (more m ms) = fine-row {k = k} o up (omega arith) m (fine-behind os ups (omega arith) ms)
+  fine-behind k none one-member c none = no_row
+  fine-behind k (more o os) (step up ups) c (more m ms) = fine-row {k = k} o up (omega arith) m (fine-behind (k + 1) os ups (omega arith) ms)
 
   pub fine-rows : {rs : List Row} → TableRows n rs → length rs ≤ limits.rows → Each (λ r. r.d ≤ limits.amount) rs → FineRows limits n 0 0 0 rs
   fine-rows t c ms = go t.nodes t.order c ms
@@ -27,7 +27,7 @@ module _ {limits : Limits} {n : ℕ} where
       go : {rs : List Row} → Each (OnRing n) rs → Steps InTableOrder rs → length rs ≤ limits.rows → Each (λ r. r.d ≤ limits.amount) rs
           → FineRows limits n 0 0 0 rs
       go none ups c none = no_row
-      go (more o os) ups c (more m ms) = fine-row {k = 0} o (inl o.low) (omega arith) m (fine-behind os ups (omega arith) ms)
+      go (more o os) ups c (more m ms) = fine-row {k = 0} o (inl o.low) (omega arith) m (fine-behind 1 os ups (omega arith) ms)
 
   in_order : {k a b : ℕ} {rs : List Row} → FineRows limits n k a b rs → Steps InTableOrder rs
   in_order no_row = no_member

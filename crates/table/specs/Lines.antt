@@ -1,5 +1,5 @@
 -- To believe: the lines of a text: each ends with LF and keeps it, and what is behind the last LF is a line that lacks it.
-use Rattle.std.specs.Prelude.{ℕ, Bool, true, false, cond, List, [], ◌∷◌, eqb}
+use Rattle.std.specs.Prelude.{ℕ, Bool, true, false, List, [], ◌∷◌, eqb}
 use Rattle.text.specs.Bytes.{lf}
 
 -- a byte in front of lines: a line of its own where it is LF, else the first byte of the first line

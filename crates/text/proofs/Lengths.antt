@@ -157,8 +157,8 @@ module _ (fs vs : List ℕ) (t sum : ℕ) (inv : Counting fs vs t sum) where
     pub sum_fits : length fs ≤ 1000 → Fits w64 (sum + w)
     sum_fits k = omega (arith, rest-length fs vs t h l, line-short fs vs)
 
-    pub sum-fits-one : length fs ≤ 1000 → Fits w64 (sum + w + 1)
-    sum-fits-one k = omega (arith, rest-length fs vs t h l, line-short fs vs)
+    pub sum-fits-one : (behind : ℕ) → behind ≤ 1 → length fs ≤ 1000 → Fits w64 (sum + w + behind)
+    sum-fits-one behind b k = omega (arith, rest-length fs vs t h l, line-short fs vs)
 
   pub counting-done : length fs ≤ t → sum ≡ length (writeLine fs vs)
   counting-done h = omega (arith, ap length (none_left fs vs t h))

@@ -2,6 +2,7 @@
 use Prim.Native.Nat.{ℕ, ◌+◌, ◌*◌, ◌≤◌, ◌<◌}
 use mathlib.Core.Path.{◌≡◌}
 use mathlib.Core.List.{List}
+use native.Mathlib.Omega.{arith}
 use lib.ListN.{length, get_or, drop, drop_of_length-le}
 use borrow.Author.Tests.{le-ltb, lt-ltb, le-leb, lt-leb, eq-eqb, ne_eqb}
 use Rattle.text.specs.Number.{base}
@@ -37,9 +38,9 @@ module _ (s : List ℕ) (at end : ℕ) where
       unfolding digitsFrom
       digit-after-zero k z = rw inv (rw (here s p h, ← e, lt-ltb _ _ k, eq-eqb _ _ z))
 
-      pub digit-too-many : d < base → (v ≡ 0 → ⊥) → full ≤ v → Bad p ≡ number_at s at end
+      pub digit-too-many : d < base → full ≤ v → Bad p ≡ number_at s at end
       unfolding digitsFrom
-      digit-too-many k z m = rw inv (rw (here s p h, ← e, lt-ltb _ _ k, ne_eqb _ _ z, le-leb _ _ m))
+      digit-too-many k m = rw inv (rw (here s p h, ← e, lt-ltb _ _ k, ne_eqb v 0 (omega arith), le-leb _ _ m))
 
       pub number-next : d < base → (v ≡ 0 → ⊥) → v < full → number_at s at end ≡ digitsFrom end (v * base + d) (p + 1) (drop (p + 1) s)
       unfolding digitsFrom

@@ -1,3 +1,4 @@
+#![tactic(auto)]
 // One line of a table or a sheet: read, measured and written by its shape.
 //
 // A shape has a byte for each field: n a number, w a way, any other byte that letter itself. For each of the six lines there is

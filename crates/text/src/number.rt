@@ -15,6 +15,9 @@ const LIMIT: u32 = 10000000;
 // From here on a number has 7 digits, and no further digit may follow.
 const FULL: u32 = LIMIT / BASE;
 
+// This number stands alone: no further digit may follow, so that no number has a leading zero.
+const ALONE: u32 = 0;
+
 // The value of a digit, BASE for any other byte.
 fn digit_of(b: u8) -> u32
     ensures { result ≡ digitOf b }
@@ -51,7 +54,7 @@ pub(crate) fn read_number(s: &[u8], at: usize, end: u8) -> Field
             }
             return Field::Bad(p);
         }
-        if v == 0 {
+        if v == ALONE {
             return Field::Bad(p);
         }
         if FULL <= v {

@@ -1,0 +1,12 @@
+-- The length of a table: the lines of the rows before place k are counted (`Counting`).
+use Prim.Native.Nat.{◌-◌}
+use Rattle.text.proofs.Pieces.{Measuring}
+use Rattle.table.proofs.WriteSteps.{rowLineAt, rowsText}
+use Rattle.std.proofs.Common.{◌-◌}
+use Rattle.table.proofs.write.table_length.Given as goal
+
+abbrev pub invariant-loop-k : goal.invariant-loop-k
+invariant-loop-k l = Measuring (rowLineAt l.first l.second l.amount) (rowsText l.first l.second l.amount) l.initial.size l.count l.k l.size
+
+abbrev pub decreases-loop-k : goal.decreases-loop-k
+decreases-loop-k l = l.count - l.k
