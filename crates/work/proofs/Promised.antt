@@ -12,7 +12,7 @@ use Rattle.ring.specs.Row.{Row, row}
 use Rattle.ring.specs.RuleA.{ruleA}
 use Rattle.ring.proofs.LargestCut.{rule-A}
 use Rattle.work.specs.Places.{Place, empty, holds, Plain, rowsHeld}
-use Rattle.work.specs.Calls.{Call, start, add, change, remove, Outcome, refuses, freshPlain, outcome, after, answer, refusal, acceptance, no_row, the_row, rowSaid, rowAnswer}
+use Rattle.work.specs.Calls.{Call, start, add, change, remove, Outcome, freshPlain, outcome, after, answer, refusal, acceptance, no_row, the_row, rowSaid, rowAnswer}
 use Rattle.work.specs.Changes.{refusedIn, keptIn, row_in, startedIn, addedIn, changedIn, removedIn}
 use Rattle.work.specs.Made.{Made, begun, called, calledIn, plain_of}
 use Rattle.work.specs.Kept.{keptCut}

@@ -133,6 +133,7 @@ call_ends t (remove p) = place-ends t p (none_left removes)
 
 pub one-given : (fs : Faults) {a b : ℕ} → Given fs a → Given fs b → a ≡ b
 unfolding Given
+one-given no_more x _ = elim x [ ]
 one-given (fault k A fs) (inl p) (inl q) = p.0 ∙ sym q.0
 one-given (fault k A fs) (inl p) (inr q) = absurd (q.0 p.1)
 one-given (fault k A fs) (inr p) (inl q) = absurd (p.0 q.1)
@@ -140,6 +141,7 @@ one-given (fault k A fs) (inr p) (inr q) = one-given fs p.1 q.1
 
 pub none-given : (fs : Faults) (a : ℕ) → Given fs a → NoneHolds fs → ⊥
 unfolding Given NoneHolds
+none-given no_more a x n = elim x [ ]
 none-given (fault k A fs) a (inl p) n = n.0 p.1
 none-given (fault k A fs) a (inr p) n = none-given fs a p.1 n.1
 

@@ -1,0 +1,12 @@
+-- `free_place` finds the lowest free place: where its loop stands, the scan of what is left gives it.
+use Rattle.work.proofs.PlaceSteps.{seek_found, seek-on, seek-none}
+use Rattle.work.proofs.place.free_place.Goals as goal
+
+pub returns-then-first-k-eq0 : goal.returns-then-first-k-eq0
+returns-then-first-k-eq0 c = search (seek_found, seek-none)
+
+pub loop-k-preserved : goal.loop-k-preserved
+loop-k-preserved c = search seek-on
+
+pub returns : goal.returns
+returns c = search (seek_found, seek-none)
