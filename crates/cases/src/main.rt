@@ -1,3 +1,4 @@
+#![tactic(auto)]
 // Runs stored cases: each is a header of 12 bytes (the letter of the call, the text's length and the buffer's in five digits each, LF) and
 // the text. Each is answered by a line: the reply's numbers, and a sum over every byte of the buffer, which is filled with a pattern before the call.
 // The letter T is `ringkit_rewrite_table`, R is `ringkit_route`, S is `ringkit_rewrite_sheet`, W is `ringkit_write_matrix`, and a digit is `ringkit_read_matrix` with so many fibres. C is

@@ -13,7 +13,7 @@ use Rattle.ring.proofs.SizeRules.{size-in-steps}
 use Rattle.ring.specs.Columns.{column, rowsIn, routedAt, routedIn}
 use Rattle.ring.specs.Cut.{across}
 use Rattle.ring.specs.Limits.{desk}
-use Rattle.ring.specs.Routing.{Sent, Routed, splitLoad, unsplitLoad, peak}
+use Rattle.ring.specs.Routing.{Sent, Routed, splitLoad, unsplitLoad}
 use Rattle.ring.specs.Sheet.{Link, sents, demands, numbersFrom}
 use Rattle.ring.proofs.Laid.{laid}
 use Rattle.ring.proofs.Listed.{listed-map}

@@ -4,7 +4,7 @@ use Prim.Native.Nat.{ℕ, ◌+◌, ◌≤◌}
 use mathlib.Core.Bool.{true≢false}
 use mathlib.Core.List.{List}
 use mathlib.Core.Path.{◌≡◌, sym, ◌∙◌, subst}
-use Rattle.ring.specs.Lists.{Each, more, Pairs, no-pair, and-pairs}
+use Rattle.ring.specs.Lists.{Each, more, Pairs, no-pair, and-pairs, none}
 use Rattle.ring.specs.Ring.{Ring}
 use Rattle.ring.specs.Row.{Row, TableRows}
 use Rattle.ring.specs.Routing.{Sent}
@@ -17,8 +17,9 @@ use Rattle.checker.specs.declared.pair.Pair.TheVariants.{None}
 use Rattle.checker.proofs.PairLaws.{PairIn, with-head, in_tail, no_row, pair-in, no-pair-is}
 
 each_at : {P : Sent → Type 0} {k p : ℕ} {ss : List Sent} {s : Sent} → Each P ss → RowFrom k ss p s → P s
+each_at none r = elim r [ ]
 each_at (more h e) at_first = h
-each_at (more h e) (behind r) = each_at e r
+each_at {k = k} (more h e) (behind r) = each_at {k = k + 1} e r
 
 not-both : {a b : Sent} → Quiet a b → ParallelSplit a b → ⊥
 not-both q c = true≢false (sym c.parallel ∙ q c.one c.two)

@@ -40,7 +40,7 @@ use Rattle.table.proofs.Judged.{RowJudged, row_fine, row-judged}
 use Rattle.table.proofs.Columns.{column-length, column-more, column-at, column-behind, rows_back}
 use Rattle.sheet.specs.Judge.{judgeHalves}
 use Rattle.sheet.specs.Check.{Result, routedOf, last_of, when, unless, rowTurn, turn, after, checkFrom}
-use Rattle.checker.specs.Parts.{sentVerdict, NextEnds, first_of, cutFrom, RowsMean, rows_at, rows-refused, RowsRead}
+use Rattle.checker.specs.Parts.{sentVerdict, NextEnds, first_of, cutFrom, rows_at, rows-refused, RowsRead}
 use Rattle.sheet.specs.Says.{rows}
 use Rattle.checker.specs.declared.rows.Rows.{Rows}
 use Rattle.checker.specs.declared.rows.RowsEnd.TheVariants.{At, Refused}

@@ -17,7 +17,7 @@ use table::{Reason, Verdict, byte_at, judge_ring, ring_fault};
 use text::TwoNumbers;
 
 // How many rows an accepted sheet has; or the reason, the line and the byte of it.
-#[derive(Drop)]
+#[derive(Clone, Copy)]
 pub enum Answer {
     Is(usize),
     Refused(Reason, u32, u32),

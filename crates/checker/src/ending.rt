@@ -17,7 +17,7 @@ use table::{Reason, Verdict, byte_at};
 use text::{ThreeNumbers, TwoNumbers};
 
 // The place behind what was read; or the reason, the line and the byte of it.
-#[derive(Drop)]
+#[derive(Clone, Copy)]
 pub(crate) enum Step {
     On(usize),
     Refused(Reason, u32, u32),

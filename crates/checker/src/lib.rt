@@ -1,3 +1,4 @@
+#![tactic(auto)]
 // The checker: a sheet's text, judged line by line, to values in arrays; and a question about what it accepts.
 mod check; // a text, accepted or refused
 mod ending; // the lines behind the rows

@@ -11,7 +11,7 @@ ghost use Rattle.checker.specs.FindPair.{firstPair};
 use ring::{ROWS, is_split};
 
 // Two rows by their places among all rows, counted from 1; or none.
-#[derive(Drop)]
+#[derive(Clone, Copy)]
 pub enum Pair {
     Are(usize, usize),
     None,

@@ -11,7 +11,7 @@ use text::SentRow;
 
 // How many rows there are, where the line behind them begins, its number, and the place of its first byte at which no D line goes on; or the reason, the
 // line and the byte of it.
-#[derive(Drop)]
+#[derive(Clone, Copy)]
 pub(crate) enum RowsEnd {
     At(usize, usize, u32, usize),
     Refused(Reason, u32, u32),

@@ -7,7 +7,7 @@ use mathlib.Core.Path.{◌≡◌, refl, ap, ◌∙◌, sym, subst}
 use native.Mathlib.Omega.{arith}
 use native.Mathlib.Decide.{dec_lt, ℕ_discrete}
 use lib.ListN.{length, take, replicate, length-append, length-replicate}
-use lib.Seq.{take-append-le, take-append-add, take-take}
+use lib.Seq.{take-append-le, take-append-add}
 use borrow.Author.Tests.{eq-eqb, ne_eqb}
 use Rattle.ring.specs.Lists.{Each, none, more}
 use Rattle.text.specs.Bytes.{tab, lf, number}
@@ -56,6 +56,7 @@ lines-ended (c ∷ t) =
     ]
 
 pub line-ended : {ls : List (List ℕ)} {line : ℕ} {l : List ℕ} → Each Ended ls → LineIs ls line l → Ended l
+line-ended none is = elim is [ ]
 line-ended (more f fs) at_first = f
 line-ended (more f fs) (behind p) = line-ended fs p
 

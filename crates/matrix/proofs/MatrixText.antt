@@ -150,7 +150,7 @@ module _ (limits : Limits) (possible : Possible limits) where
       lines-back ls e =
           rw (← e)
           (subst (λ k. lines_of limits n 1 k [] (lines (writeMatrix (vs ∷ m))) ≡ matrix n (vs ∷ m)) range.square.tall
-          (written-lines-read possible.amount (omega (arith, range.few, possible.some)) 1 [] (vs ∷ m) (fine-lines range.square.wide range.amounts)))
+          (written-lines-read {limits = limits} possible.amount (omega (arith, range.few, possible.some)) 1 [] (vs ∷ m) (fine-lines range.square.wide range.amounts)))
 
       go : Each (λ us. length us ≡ n) (vs ∷ m) → Each (Each (λ v. v ≤ limits.amount)) (vs ∷ m) → matrixLines limits l ≡ matrix n (vs ∷ m)
       go (more w ws) (more a bs) =

@@ -1,5 +1,5 @@
 -- The sums of rows by pair: the same in either order of a pair, 0 on the diagonal, and over rows that rise each pair's own amount; rows that rise are told by their sums.
-use Prim.Native.Nat.{ℕ, ◌-◌, ◌≤◌, ◌<◌}
+use Prim.Native.Nat.{ℕ, ◌≤◌, ◌<◌}
 use mathlib.Core.Bool.{Bool, true, false, cond, ◌||◌}
 use mathlib.Core.List.{List, [], ◌∷◌}
 use mathlib.Core.Logic.{inl, inr}

@@ -1,3 +1,4 @@
+#![tactic(auto)]
 // A matrix of demands: text to a table's rows in arrays, and a table's rows to text.
 mod byte; // the byte of a line that a refusal names
 mod line; // a line of numbers

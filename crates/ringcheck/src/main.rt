@@ -1,3 +1,4 @@
+#![tactic(auto)]
 // Reads a sheet on standard input and writes the line Y where it is accepted, or the line of its refusal.
 use libc::{STDIN_FILENO, STDOUT_FILENO};
 use ring::BYTES;

@@ -8,6 +8,5 @@ pub mod Calls
 pub mod TableCalls
 pub mod SheetCalls
 pub mod MatrixCalls
-pub mod WorkTypes
 pub mod WorkSteps
 pub mod WorkCalls

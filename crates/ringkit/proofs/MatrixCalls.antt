@@ -27,7 +27,7 @@ use Rattle.matrix.specs.Demands.{rowsOfMatrix, matrixOfRows, Passes, OneEach}
 use Rattle.matrix.specs.Read.{Matrix, matrix, no-matrix, matrixOf, tableFrom}
 use Rattle.matrix.specs.Judged.{judgeSums}
 use Rattle.matrix.specs.Room.{matrixRoom}
-use Rattle.matrix.specs.Says.{Says, Given, Accepted}
+use Rattle.matrix.specs.Says.{Says, Accepted}
 use Rattle.matrix.specs.declared.sums.Sums.{Sums}
 use Rattle.matrix.specs.declared.sums.Sums.TheVariants.{Fit, Pass}
 use Rattle.matrix.proofs.MatrixText.{desk-possible, matrix-text}
@@ -36,7 +36,7 @@ use Rattle.matrix.proofs.RoundTrip.{matrix-back, table-back, table-room, rows-in
 use Rattle.matrix.proofs.Rooms.{room-for-matrix, matrix-in-range}
 use Rattle.matrix.proofs.SumsGiven.{sums-given, sums-fit}
 use Rattle.matrix.proofs.OneEach.{one-each-fit}
-use Rattle.ringkit.specs.Outcome.{Outcome, write, Fills}
+use Rattle.ringkit.specs.Outcome.{write, Fills}
 use Rattle.ringkit.specs.TableCalls.{ofTable}
 use Rattle.ringkit.specs.MatrixCalls.{matrixRead, unlessPass, ofRows, matrixWritten}
 use Rattle.ringkit.specs.Says.{Success, CallPromise}

@@ -5,10 +5,8 @@ use mathlib.Core.List.{List}
 use mathlib.Core.Logic.{◌↔◌}
 use mathlib.Core.Path.{◌≡◌, refl, ap, ◌∙◌, sym, subst}
 use native.Mathlib.Omega.{arith}
-use lib.ListN.{length}
 use Rattle.ring.specs.Limits.{desk}
-use Rattle.ring.specs.Sheet.{Sheet, sents, demands, plan}
-use Rattle.ring.specs.True.{TrueSheet}
+use Rattle.ring.specs.Sheet.{Sheet, sents, plan}
 use Rattle.ring.proofs.OurPlan.{plan-true, plan-demands}
 use Rattle.ring.proofs.Papers.{paper-figures}
 use Rattle.ring.proofs.NoLower.{no_lower}
@@ -20,8 +18,7 @@ use Rattle.table.proofs.ReasonNumbers.{same-reason, no-reason-0}
 use Rattle.table.proofs.TableText.{desk-spelled}
 use Rattle.sheet.specs.Check.{Result, accepted, refused, check, form}
 use Rattle.sheet.specs.Says.{Says, Given, Accepted, WellFormed}
-use Rattle.sheet.specs.WriteSheet.{writeSheet}
-use Rattle.sheet.proofs.Demands.{form-text, check-text, accepted-true, accepted-formed, plan-accepted}
+use Rattle.sheet.proofs.Demands.{form-text, check-text, accepted-true, accepted-formed}
 use Rattle.sheet.proofs.SheetReasons.{one-given, given, accepted-is, well-formed-is}
 use Rattle.sheet.proofs.Short.{plan-in-range}
 use Rattle.checker.specs.FindPair.{firstPair}

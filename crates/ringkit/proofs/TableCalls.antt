@@ -20,7 +20,7 @@ use Rattle.sheet.specs.Range.{longest}
 use Rattle.sheet.proofs.Short.{plan-short}
 use Rattle.ringkit.specs.Outcome.{Fills}
 use Rattle.ringkit.specs.TableCalls.{ofTable, tableAfresh, tableRouted}
-use Rattle.ringkit.specs.Says.{Success, CallPromise}
+use Rattle.ringkit.specs.Says.{CallPromise}
 use Rattle.ringkit.specs.Texts.{TableOf, TableDue, SomeDue, sheetDue, Itself}
 use Rattle.ringkit.specs.declared.Reply.{Reply}
 use Rattle.ringkit.proofs.Calls.{Decided, is-due, is-given, One, call-promise}

@@ -1,3 +1,4 @@
+#![tactic(auto)]
 // The public calls, as C sees them: byte slices and numbers in, a reply by value out. No call has a `requires`.
 mod working; // the calls of the working table
 
@@ -107,8 +108,7 @@ fn put_table<'a>(
 }
 
 // Reads a table and writes its values afresh.
-#[unsafe(no_mangle)]
-pub extern "C" fn ringkit_rewrite_table(table: &[u8], buffer: &mut [u8]) -> Reply
+pub fn ringkit_rewrite_table(table: &[u8], buffer: &mut [u8]) -> Reply
     ensures { Fills (tableAfresh table.now) buffer.old buffer.new result }
 {
     let mut first = [0u32; ROWS];
@@ -124,8 +124,7 @@ pub extern "C" fn ringkit_rewrite_table(table: &[u8], buffer: &mut [u8]) -> Repl
 }
 
 // Reads a matrix and writes its table, on a ring of so many fibres, which a matrix does not say.
-#[unsafe(no_mangle)]
-pub extern "C" fn ringkit_read_matrix(matrix: &[u8], fibres: u32, buffer: &mut [u8]) -> Reply
+pub fn ringkit_read_matrix(matrix: &[u8], fibres: u32, buffer: &mut [u8]) -> Reply
     ensures { Fills (matrixRead fibres matrix.now) buffer.old buffer.new result }
 {
     let other = table::other_fibres(fibres);
@@ -168,8 +167,7 @@ fn put_matrix<'a>(
 }
 
 // Reads a table and writes its matrix.
-#[unsafe(no_mangle)]
-pub extern "C" fn ringkit_write_matrix(table: &[u8], buffer: &mut [u8]) -> Reply
+pub fn ringkit_write_matrix(table: &[u8], buffer: &mut [u8]) -> Reply
     ensures { Fills (matrixWritten table.now) buffer.old buffer.new result }
 {
     let mut first = [0u32; ROWS];
@@ -257,8 +255,7 @@ fn put_route<'a>(
 }
 
 // Routes a table by rules A to D and writes its sheet.
-#[unsafe(no_mangle)]
-pub extern "C" fn ringkit_route(table: &[u8], buffer: &mut [u8]) -> Reply
+pub fn ringkit_route(table: &[u8], buffer: &mut [u8]) -> Reply
     ensures { Fills (tableRouted table.now) buffer.old buffer.new result }
 {
     let mut first = [0u32; ROWS];
@@ -274,8 +271,7 @@ pub extern "C" fn ringkit_route(table: &[u8], buffer: &mut [u8]) -> Reply
 }
 
 // Checks a sheet, whatever tool it comes from.
-#[unsafe(no_mangle)]
-pub extern "C" fn ringkit_check(sheet: &[u8]) -> Reply
+pub fn ringkit_check(sheet: &[u8]) -> Reply
     ensures { result ≡ sheetChecked sheet.now }
 {
     let c = checker::check_sheet(sheet);
@@ -303,8 +299,7 @@ pub struct PairReply {
 }
 
 // The first pair of split rows of a sheet that are parallel.
-#[unsafe(no_mangle)]
-pub extern "C" fn ringkit_parallel(sheet: &[u8]) -> PairReply
+pub fn ringkit_parallel(sheet: &[u8]) -> PairReply
     ensures { result ≡ sheetParallel sheet.now }
 {
     let c = checker::check_sheet(sheet);
@@ -340,8 +335,7 @@ pub extern "C" fn ringkit_parallel(sheet: &[u8]) -> PairReply
 }
 
 // Reads a sheet and writes its values afresh.
-#[unsafe(no_mangle)]
-pub extern "C" fn ringkit_rewrite_sheet(sheet: &[u8], buffer: &mut [u8]) -> Reply
+pub fn ringkit_rewrite_sheet(sheet: &[u8], buffer: &mut [u8]) -> Reply
     ensures { Fills (sheetAfresh sheet.now) buffer.old buffer.new result }
 {
     let c = checker::check_sheet(sheet);

@@ -8,8 +8,7 @@ use crate::{Reply, put_table};
 use ring::ROWS;
 use work::{RowReply, Work, WorkReply};
 
-#[unsafe(no_mangle)]
-pub extern "C" fn ringkit_work_start(work: &mut Work, n: u32, fibres: u32) -> WorkReply
+pub fn ringkit_work_start(work: &mut Work, n: u32, fibres: u32) -> WorkReply
     ensures { (result ≡ (startedIn work.old n fibres).reply) × (work.new ≡ (startedIn work.old n fibres).work) }
 {
     let done = work::started(*work, n, fibres);
@@ -17,13 +16,7 @@ pub extern "C" fn ringkit_work_start(work: &mut Work, n: u32, fibres: u32) -> Wo
     done.reply
 }
 
-#[unsafe(no_mangle)]
-pub extern "C" fn ringkit_work_add(
-    work: &mut Work,
-    first: u32,
-    second: u32,
-    amount: u32,
-) -> WorkReply
+pub fn ringkit_work_add(work: &mut Work, first: u32, second: u32, amount: u32) -> WorkReply
     ensures { (result ≡ (addedIn work.old first second amount).reply) × (work.new ≡ (addedIn work.old first second amount).work) }
 {
     let done = work::added(*work, first, second, amount);
@@ -31,8 +24,7 @@ pub extern "C" fn ringkit_work_add(
     done.reply
 }
 
-#[unsafe(no_mangle)]
-pub extern "C" fn ringkit_work_change(
+pub fn ringkit_work_change(
     work: &mut Work,
     place: u32,
     first: u32,
@@ -46,8 +38,7 @@ pub extern "C" fn ringkit_work_change(
     done.reply
 }
 
-#[unsafe(no_mangle)]
-pub extern "C" fn ringkit_work_remove(work: &mut Work, place: u32) -> WorkReply
+pub fn ringkit_work_remove(work: &mut Work, place: u32) -> WorkReply
     ensures { (result ≡ (removedIn work.old place).reply) × (work.new ≡ (removedIn work.old place).work) }
 {
     let done = work::removed(*work, place);
@@ -55,8 +46,7 @@ pub extern "C" fn ringkit_work_remove(work: &mut Work, place: u32) -> WorkReply
     done.reply
 }
 
-#[unsafe(no_mangle)]
-pub extern "C" fn ringkit_work_row(work: &Work, place: u32) -> RowReply
+pub fn ringkit_work_row(work: &Work, place: u32) -> RowReply
     ensures { result ≡ row_in work.now place }
 {
     work::row_of(*work, place)
@@ -75,8 +65,7 @@ fn written(work: Work, buffer: &mut [u8]) -> Reply
     put_table(buffer, n, fibres, count, &first, &second, &amount)
 }
 
-#[unsafe(no_mangle)]
-pub extern "C" fn ringkit_work_write(work: &Work, buffer: &mut [u8]) -> Reply
+pub fn ringkit_work_write(work: &Work, buffer: &mut [u8]) -> Reply
     ensures { Fills (workWritten work.now) buffer.old buffer.new result }
 {
     written(*work, buffer)

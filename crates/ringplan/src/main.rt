@@ -1,3 +1,4 @@
+#![tactic(auto)]
 // Reads a table on standard input and writes its sheet, or the line of its refusal.
 use libc::{STDIN_FILENO, STDOUT_FILENO};
 use ring::BYTES;

@@ -9,7 +9,6 @@ use lib.ListN.{get_or}
 use Rattle.ring.specs.Routing.{F, B, wayNumber, way_of}
 use Rattle.ring.specs.Columns.{listed, routedAt, routedIn}
 use Rattle.ring.proofs.Listed.{listed-snoc}
-use Rattle.text.specs.Bytes.{way}
 use Rattle.text.specs.Mark.{markByte}
 use Rattle.text.specs.Field.{spell}
 use Rattle.text.specs.WriteLine.{writeLine}

@@ -5,7 +5,7 @@ use mathlib.Core.List.{List, [], ◌∷◌, ◌++◌}
 use mathlib.Core.Path.{◌≡◌, refl, ap, ap₂, ◌∙◌, sym, subst, subst₂}
 use native.Mathlib.Omega.{arith}
 use lib.ListN.{length, get_or}
-use Rattle.ring.specs.Routing.{wayNumber, Routed, Way, F, B, routed, sent}
+use Rattle.ring.specs.Routing.{wayNumber, Routed, Way, F, B, routed}
 use Rattle.ring.specs.Cut.{Cut}
 use Rattle.ring.specs.Ring.{Ring}
 use Rattle.ring.specs.Sheet.{Link, Sheet}

@@ -4,24 +4,23 @@ use Prim.Native.Nat.{ℕ, ◌+◌, ◌≤◌, ◌<◌, max}
 use mathlib.Core.Bool.{Bool, true, false}
 use mathlib.Core.List.{List}
 use mathlib.Core.Logic.{◌⊎◌, inl, inr}
-use mathlib.Core.Path.{◌≡◌, refl, ap, sym, ◌∙◌, subst}
+use mathlib.Core.Path.{◌≡◌, refl, ap, sym, ◌∙◌}
 use native.Mathlib.Omega.{arith}
-use native.Mathlib.Decide.{dec_lt, dec_le}
+use native.Mathlib.Decide.{dec_le}
 use lib.ListN.{length}
 use Rattle.ring.specs.Limits.{Limits}
 use Rattle.ring.specs.Ring.{Ring}
 use Rattle.ring.specs.Routing.{wayNumber, Routed}
 use Rattle.ring.specs.Cut.{Cut}
-use Rattle.ring.specs.Sheet.{Link, Sheet}
-use Rattle.text.specs.FieldByte.{fieldByte, ringByte, rowByte}
+use Rattle.ring.specs.Sheet.{Link}
+use Rattle.text.specs.FieldByte.{fieldByte, rowByte}
 use Rattle.text.specs.FirstFault.{Agrees, FirstFault}
 use Rattle.text.specs.Shapes.{sentShape, cutShape}
 use Rattle.text.specs.WriteLine.{writeLine}
 use Rattle.text.proofs.LineLaws.{fewer}
 use Rattle.text.proofs.Starts.{sent-row-byte}
-use Rattle.table.specs.Lines.{lines}
-use Rattle.table.specs.Fields.{field_of, nodeField, ringFault, rowFault}
-use Rattle.table.specs.Says.{LineIs, RingIs, NoNode, RingField}
+use Rattle.table.specs.Fields.{nodeField, ringFault, rowFault}
+use Rattle.table.specs.Says.{RingIs, NoNode}
 use Rattle.table.specs.declared.reason.Reason.{Reason}
 use Rattle.table.specs.declared.reason.Reason.TheVariants.{TooLong, Misshapen, RingSize, Fibres, NoRow, NoSuchNode, NotBelow, OutOfOrder, TooMany, TooMuch, Full, WrongSum, WrongWay, WrongCut, WrongLink, WrongLast, NotTight, OverBound, NotZero, NotSymmetric, SumTooMuch, NoRoom}
 use Rattle.table.specs.declared.judge.Verdict.{Verdict}

@@ -52,7 +52,7 @@ cases =
     -- the square
     plan-of ("R|4|4" ∷ "D|1|3|1" ∷ "D|2|4|1" ∷ [])
     ("R|4|4" ∷ "D|1|3|1|1|1|F" ∷ "D|2|4|1|1|1|B" ∷ "C|1|3|2" ∷ "L|1|2|2" ∷ "L|2|2|1" ∷ "L|3|2|0" ∷ "L|4|2|1" ∷ "Z|2|3" ∷ [])
-    (M-is 2 ∷ 4 at_most 2 plus 3 ∷ []) ∷
+    (M-is 2 ∷ 4 at-most 2 plus 3 ∷ []) ∷
     -- n = 2, no rows
     plan-of ("R|2|4" ∷ [])
     ("R|2|4" ∷ "C|1|2|0" ∷ "L|1|0|0" ∷ "L|2|0|0" ∷ "Z|0|3" ∷ [])
@@ -74,7 +74,7 @@ cases =
     plan-of ("R|8|4" ∷ "D|1|4|1" ∷ "D|2|3|1" ∷ "D|5|8|2" ∷ "D|6|7|2" ∷ [])
     ("R|8|4" ∷ "D|1|4|1|2|0|F" ∷ "D|2|3|1|2|0|F" ∷ "D|5|8|2|4|0|F" ∷ "D|6|7|2|2|2|F" ∷ "C|2|6|6" ∷
     "L|1|4|1" ∷ "L|2|6|2" ∷ "L|3|4|1" ∷ "L|4|2|0" ∷ "L|5|6|2" ∷ "L|6|6|4" ∷ "L|7|6|2" ∷ "L|8|2|0" ∷ "Z|4|12" ∷ [])
-    (best-peak-is 3 ∷ 8 at_most 6 plus 6 ∷ []) ∷
+    (best-peak-is 3 ∷ 8 at-most 6 plus 6 ∷ []) ∷
     -- n = 2, 1-2 of 768
     plan-of ("R|2|4" ∷ "D|1|2|768" ∷ [])
     ("R|2|4" ∷ "D|1|2|768|768|768|F" ∷ "C|1|2|768" ∷ "L|1|768|768" ∷ "L|2|768|0" ∷ "Z|768|768" ∷ [])
@@ -86,7 +86,7 @@ cases =
     -- n = 4, 1-2 of 1 sent 0/2, B, with cut 1, 2 across 1 and true figures: 13
     refusal-of ("R|4|4" ∷ "D|1|2|1|0|2|B" ∷ "C|1|2|1" ∷ "L|1|0|0" ∷ "L|2|2|1" ∷ "L|3|2|1" ∷ "L|4|2|1" ∷ "Z|1|3" ∷ [])
     13 0 0
-    (not-tight 2 1 ∷ 2 at_most 2 plus 0 ∷ []) ∷
+    (not-tight 2 1 ∷ 2 at-most 2 plus 0 ∷ []) ∷
     -- n = 8, rows k to k+4 for k = 1..4 of 1, each 1/1, all F, cut 4, 8 across 4, true figures: unsplit peak 4, 8 > 4 + 3, so 14
     refusal-of
     ("R|8|4" ∷ "D|1|5|1|1|1|F" ∷ "D|2|6|1|1|1|F" ∷ "D|3|7|1|1|1|F" ∷ "D|4|8|1|1|1|F" ∷ "C|4|8|4" ∷
@@ -97,7 +97,7 @@ cases =
     plan-of ("R|4|4" ∷ "D|1|3|1" ∷ "D|1|3|1" ∷ "D|1|3|1" ∷ "D|2|4|1" ∷ [])
     ("R|4|4" ∷ "D|1|3|1|2|0|F" ∷ "D|1|3|1|1|1|F" ∷ "D|1|3|1|0|2|B" ∷ "D|2|4|1|1|1|B" ∷ "C|1|3|4" ∷
     "L|1|4|3" ∷ "L|2|4|2" ∷ "L|3|4|1" ∷ "L|4|4|2" ∷ "Z|3|3" ∷ [])
-    (M-is 4 ∷ 6 at_most 4 plus 3 ∷ []) ∷
+    (M-is 4 ∷ 6 at-most 4 plus 3 ∷ []) ∷
     -- K1: a row below the row before, behind one of the same nodes: 6
     refusal-of ("R|4|4" ∷ "D|1|3|1|1|1|F" ∷ "D|1|3|1|1|1|B" ∷ "D|1|2|1|2|0|F" ∷ [])
     6 4 1
@@ -149,7 +149,7 @@ bound x =
     let u = 2 * unsplitPeak x in
     let s = splitPeak x in
     let d = 3 * largestSplitOf x in
-    cond (leb u (s + d)) (u at_most s plus d) (u above s plus d)
+    cond (leb u (s + d)) (u at-most s plus d) (u above s plus d)
 
 -- the least peak over all ways of the demands ss, those of the rows rs being chosen
 unfoldable pub bestPeak : ℕ → List Routed → List Sent → ℕ
@@ -163,7 +163,7 @@ truth x (M-is m) = M-is (ruleA x.ring.n (demands (sents x.rows))).number
 truth x (sent-by-B hs) = sent-by-B (halves (ruleB x.ring.n (demands (sents x.rows))))
 truth x (tight s m) = tightness x
 truth x (not-tight s m) = tightness x
-truth x (u at_most s plus d) = bound x
+truth x (u at-most s plus d) = bound x
 truth x (u above s plus d) = bound x
 truth x (best-peak-is p) = best-peak-is (bestPeak x.ring.n [] (sents x.rows))
 

@@ -18,7 +18,7 @@ pub use start::started;
 
 // Place p has its row at p-1 of the three columns; a first node of 0 says that it is empty. g, h and across are the largest cut.
 #[repr(C)]
-#[derive(Drop)]
+#[derive(Clone, Copy)]
 pub struct Work {
     pub triangle: [u32; PAIRS],
     pub n: u32,

@@ -1,0 +1,9 @@
+-- A refusal returns only reason, line and byte: the columns of no row and no link are zero.
+use Rattle.ring.specs.Columns.{column}
+use Rattle.checker.specs.Arrays.{checkedIn}
+use Rattle.std.proofs.Common.{rules}
+use Rattle.checker.proofs.check.refusal.Goals as goal
+
+pub returns : goal.returns
+unfolding checkedIn column
+returns c = search (rules)

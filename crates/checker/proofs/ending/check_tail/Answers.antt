@@ -1,0 +1,11 @@
+-- The L lines, and behind them the Z line and the whole.
+use Rattle.checker.proofs.EndSteps.{tail-stops, tail-goes}
+use borrow.Author.Rules.{rules}
+use Rattle.std.proofs.Common.{rules}
+use Rattle.checker.proofs.ending.check_tail.Goals as goal
+
+pub returns-in-Refused : goal.returns-in-Refused
+returns-in-Refused c = search (rules, tail-stops, tail-goes)
+
+pub returns-in-On : goal.returns-in-On
+returns-in-On c = search (rules, tail-goes)

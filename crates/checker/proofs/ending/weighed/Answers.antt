@@ -1,0 +1,10 @@
+-- The rows are weighed, and the rest is held against their weight.
+use Rattle.checker.proofs.CheckSteps.{weighed-ends}
+use Rattle.router.proofs.WeightSteps.{peak-fits}
+use Rattle.checker.proofs.ending.weighed.Goals as goal
+
+pub must_carry-carried-requires : goal.must_carry-carried-requires
+must_carry-carried-requires c = search peak-fits
+
+pub returns : goal.returns
+returns c = search weighed-ends

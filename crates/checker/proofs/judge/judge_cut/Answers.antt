@@ -1,0 +1,12 @@
+-- The pair of links, then their across number.
+use Rattle.checker.proofs.JudgeSteps.{not-a-cut, number-false, number-true}
+use Rattle.checker.proofs.judge.judge_cut.Goals as goal
+
+pub returns-then-none : goal.returns-then-none
+returns-then-none c = search (not-a-cut, number-false)
+
+pub returns-then-wide-sum : goal.returns-then-wide-sum
+returns-then-wide-sum c = search (not-a-cut, number-false)
+
+pub returns : goal.returns
+returns c = search number-true

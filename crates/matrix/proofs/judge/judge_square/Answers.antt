@@ -1,0 +1,17 @@
+-- The lines of the square: those before i are fine (`Down`).
+use Rattle.matrix.proofs.JudgeSteps.{line-fault, line-fine, down-done}
+use Rattle.matrix.proofs.ByteSteps.{across-few}
+use Rattle.std.proofs.Common.{rules}
+use Rattle.matrix.proofs.judge.judge_square.Goals as goal
+
+pub square_byte-byte-requires : goal.square_byte-byte-requires
+square_byte-byte-requires c = (search across-few, search rules, search rules, search rules)
+
+pub returns-in-At : goal.returns-in-At
+returns-in-At c = search line-fault
+
+pub loop-i-preserved : goal.loop-i-preserved
+loop-i-preserved c = search line-fine
+
+pub returns : goal.returns
+returns c = search down-done

@@ -1,0 +1,9 @@
+-- The fields of a line: those from p on are counted, from the end (`Counted`).
+use Rattle.matrix.proofs.LineSteps.{Counted}
+use Rattle.matrix.proofs.line.fields.Given as goal
+
+abbrev pub invariant-loop-p : goal.invariant-loop-p
+invariant-loop-p l = Counted l.line l.p l.count
+
+abbrev pub decreases-loop-p : goal.decreases-loop-p
+decreases-loop-p l = l.p

@@ -1,0 +1,18 @@
+-- `untangle` is rule C: where its loops stand, the rows behind them and the pass over what is left make up the pass over all.
+use Rattle.router.proofs.PassSteps.{firsts-start, seconds-start, seconds-turn, seconds-done, firsts-done}
+use Rattle.router.proofs.parallel.untangle.Goals as goal
+
+pub loop-a-init : goal.loop-a-init
+loop-a-init c = search firsts-start
+
+pub loop-b-init : goal.loop-b-init
+loop-b-init c = search seconds-start
+
+pub loop-b-preserved : goal.loop-b-preserved
+loop-b-preserved c = search seconds-turn
+
+pub loop-a-preserved : goal.loop-a-preserved
+loop-a-preserved c = search seconds-done
+
+pub returns : goal.returns
+returns c = search firsts-done

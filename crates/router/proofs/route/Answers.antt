@@ -1,0 +1,13 @@
+-- `route` answers the plan of rules A to D: the halves, the ways and the weight of the rows, put together by `plan-routes`.
+use Rattle.router.proofs.FourRules.{carried-fits, plan-routes}
+use Rattle.router.proofs.route.Goals as goal
+
+pub must_carry-carried-requires : goal.must_carry-carried-requires
+must_carry-carried-requires c =
+    let divided = rw c.wide-links.ensures at c.divide-cut.ensures in
+    search carried-fits
+
+pub returns : goal.returns
+returns c =
+    let divided = rw c.wide-links.ensures at c.divide-cut.ensures in
+    search plan-routes

@@ -1,0 +1,21 @@
+-- `choose` is rule D: the ways so far, and those that the rule gives to what is left, are the ways of all.
+use Rattle.router.proofs.WaySteps.{ways-start, ways-turn, ways-done, most-small}
+use native.Mathlib.Omega.{arith}
+use Rattle.router.proofs.ways.choose.Goals as goal
+
+pub loop-t-init : goal.loop-t-init
+loop-t-init c = search ways-start
+
+pub turn-s-requires : goal.turn-s-requires
+turn-s-requires c = (
+  most-small _ c.args.amount.now c.args.front.now c.args.back.now _ c.requires.count_le_most_rows c.requires.by_index c.largest_split-most.ensures,
+  omega (arith, c.loop-t.invariant),
+  omega (arith, c.loop-t.invariant),
+  c.requires.halves.small _,
+)
+
+pub loop-t-preserved : goal.loop-t-preserved
+loop-t-preserved c = search ways-turn
+
+pub returns : goal.returns
+returns c = search ways-done
