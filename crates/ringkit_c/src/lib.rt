@@ -1,0 +1,114 @@
+#![tactic(auto)]
+// The public calls as C links them: each hands on to the call of the same name in `ringkit`, and promises the same. It is a crate of its own since no Rattle crate can
+// name a static library.
+ghost use Rattle.std.specs.Prelude.{◌≡◌};
+ghost use Rattle.work.specs.Changes.{startedIn, addedIn, changedIn, removedIn, row_in};
+ghost use Rattle.ringkit.specs.Outcome.{Fills};
+ghost use Rattle.ringkit.specs.TableCalls.{tableAfresh, tableRouted, workWritten};
+ghost use Rattle.ringkit.specs.MatrixCalls.{matrixRead, matrixWritten};
+ghost use Rattle.ringkit.specs.SheetCalls.{sheetChecked, sheetParallel, sheetAfresh};
+
+use ringkit::{PairReply, Reply};
+use work::{RowReply, Work, WorkReply};
+
+#[unsafe(no_mangle)]
+pub extern "C" fn ringkit_rewrite_table(table: &[u8], buffer: &mut [u8]) -> Reply
+    ensures { Fills (tableAfresh table.now) buffer.old buffer.new result }
+{
+    ringkit::ringkit_rewrite_table(table, buffer)
+}
+
+#[unsafe(no_mangle)]
+pub extern "C" fn ringkit_read_matrix(matrix: &[u8], fibres: u32, buffer: &mut [u8]) -> Reply
+    ensures { Fills (matrixRead fibres matrix.now) buffer.old buffer.new result }
+{
+    ringkit::ringkit_read_matrix(matrix, fibres, buffer)
+}
+
+#[unsafe(no_mangle)]
+pub extern "C" fn ringkit_write_matrix(table: &[u8], buffer: &mut [u8]) -> Reply
+    ensures { Fills (matrixWritten table.now) buffer.old buffer.new result }
+{
+    ringkit::ringkit_write_matrix(table, buffer)
+}
+
+#[unsafe(no_mangle)]
+pub extern "C" fn ringkit_route(table: &[u8], buffer: &mut [u8]) -> Reply
+    ensures { Fills (tableRouted table.now) buffer.old buffer.new result }
+{
+    ringkit::ringkit_route(table, buffer)
+}
+
+#[unsafe(no_mangle)]
+pub extern "C" fn ringkit_check(sheet: &[u8]) -> Reply
+    ensures { result ≡ sheetChecked sheet.now }
+{
+    ringkit::ringkit_check(sheet)
+}
+
+#[unsafe(no_mangle)]
+pub extern "C" fn ringkit_parallel(sheet: &[u8]) -> PairReply
+    ensures { result ≡ sheetParallel sheet.now }
+{
+    ringkit::ringkit_parallel(sheet)
+}
+
+#[unsafe(no_mangle)]
+pub extern "C" fn ringkit_rewrite_sheet(sheet: &[u8], buffer: &mut [u8]) -> Reply
+    ensures { Fills (sheetAfresh sheet.now) buffer.old buffer.new result }
+{
+    ringkit::ringkit_rewrite_sheet(sheet, buffer)
+}
+
+#[unsafe(no_mangle)]
+pub extern "C" fn ringkit_work_start(work: &mut Work, n: u32, fibres: u32) -> WorkReply
+    ensures { (result ≡ (startedIn work.old n fibres).reply) × (work.new ≡ (startedIn work.old n fibres).work) }
+{
+    ringkit::ringkit_work_start(work, n, fibres)
+}
+
+#[unsafe(no_mangle)]
+pub extern "C" fn ringkit_work_add(
+    work: &mut Work,
+    first: u32,
+    second: u32,
+    amount: u32,
+) -> WorkReply
+    ensures { (result ≡ (addedIn work.old first second amount).reply) × (work.new ≡ (addedIn work.old first second amount).work) }
+{
+    ringkit::ringkit_work_add(work, first, second, amount)
+}
+
+#[unsafe(no_mangle)]
+pub extern "C" fn ringkit_work_change(
+    work: &mut Work,
+    place: u32,
+    first: u32,
+    second: u32,
+    amount: u32,
+) -> WorkReply
+    ensures { (result ≡ (changedIn work.old place first second amount).reply) × (work.new ≡ (changedIn work.old place first second amount).work) }
+{
+    ringkit::ringkit_work_change(work, place, first, second, amount)
+}
+
+#[unsafe(no_mangle)]
+pub extern "C" fn ringkit_work_remove(work: &mut Work, place: u32) -> WorkReply
+    ensures { (result ≡ (removedIn work.old place).reply) × (work.new ≡ (removedIn work.old place).work) }
+{
+    ringkit::ringkit_work_remove(work, place)
+}
+
+#[unsafe(no_mangle)]
+pub extern "C" fn ringkit_work_row(work: &Work, place: u32) -> RowReply
+    ensures { result ≡ row_in work.now place }
+{
+    ringkit::ringkit_work_row(work, place)
+}
+
+#[unsafe(no_mangle)]
+pub extern "C" fn ringkit_work_write(work: &Work, buffer: &mut [u8]) -> Reply
+    ensures { Fills (workWritten work.now) buffer.old buffer.new result }
+{
+    ringkit::ringkit_work_write(work, buffer)
+}
