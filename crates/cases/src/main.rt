@@ -5,189 +5,147 @@
 // `ringkit_check` and P is `ringkit_parallel`: these lend no buffer, so their lines have reason, line and byte, and for P the two places. Any other letter ends the run.
 ghost use Rattle.std.specs.Prelude.{◌≤◌, ◌<◌};
 
-use libc::{STDIN_FILENO, STDOUT_FILENO};
 use ringkit::Reply;
+use std::alloc::Global;
+use std::io::{self, BufReader, BufWriter, Read, Write};
 
 const ROOM: usize = 40000;
 
 const PATTERN: u8 = 85;
 
-fn digit(b: u8) -> usize {
-    if b < b'0' {
-        return 0;
+// The most cases that a run answers.
+const CASES: usize = 100000;
+
+fn digit(b: u8) -> usize
+    ensures { result < 10 }
+{
+    if b.is_ascii_digit() {
+        (b - b'0') as usize
+    } else {
+        0
     }
-    if b'9' < b {
-        return 0;
-    }
-    let d = b - b'0';
-    d as usize
 }
 
-// Five digits; at most ROOM.
-fn number(a: u8, b: u8, c: u8, d: u8, e: u8) -> usize
+// The number that digits spell, of which the last five count; at most ROOM.
+fn number(digits: &[u8]) -> usize
     ensures { result ≤ 40000 }
 {
-    let n = digit(a) % 10 * 10000
-        + digit(b) % 10 * 1000
-        + digit(c) % 10 * 100
-        + digit(d) % 10 * 10
-        + digit(e) % 10;
+    let mut n = 0;
+    for b in digits {
+        n = (n * 10 + digit(*b)) % 100000;
+    }
     if n <= ROOM { n } else { ROOM }
 }
 
 fn sum_of(s: &[u8]) -> u64 {
     let mut sum: u64 = 0;
-    for k in 0..s.len() {
-        sum = (sum * 31 + wide(s[k])) % 1000003;
+    for b in s {
+        sum = (sum * 31 + *b as u64) % 1000003;
     }
     sum
 }
 
-fn wide(b: u8) -> u64
-    ensures { result < 256 }
-{
-    b as u64
+// What a case asks for.
+#[derive(Clone, Copy)]
+enum Call {
+    RewriteTable,
+    Route,
+    RewriteSheet,
+    WriteMatrix,
+    ReadMatrix(u32),
+    Check,
+    Parallel,
 }
 
-fn show(n: u64, end: &[u8]) {
-    io::print_decimal(STDOUT_FILENO, n);
-    io::write_all(STDOUT_FILENO, end);
+fn call_of(letter: u8) -> Option<Call> {
+    match letter {
+        b'T' => Some(Call::RewriteTable),
+        b'R' => Some(Call::Route),
+        b'S' => Some(Call::RewriteSheet),
+        b'W' => Some(Call::WriteMatrix),
+        b'0'..=b'9' => Some(Call::ReadMatrix((letter - b'0') as u32)),
+        b'C' => Some(Call::Check),
+        b'P' => Some(Call::Parallel),
+        _ => None,
+    }
 }
 
-fn show_word(n: u32) {
-    show(n as u64, b" ");
+// The next `size` bytes of the input, or fewer where it ends.
+fn next_bytes<R: Read>(alloc: Global, input: &mut R, size: usize) -> io::Result<Vec<u8>> {
+    let mut bytes = Vec::new(alloc);
+    input.by_ref().take(size as u64).read_to_end(&mut bytes)?;
+    Ok(bytes)
 }
 
-fn known(letter: u8) -> bool {
-    if lends(letter) {
-        return true;
+// The reply of a call that lends a buffer.
+fn filled(call: Call, text: &[u8], buffer: &mut [u8]) -> Reply {
+    match call {
+        Call::Route => ringkit::ringkit_route(text, buffer),
+        Call::RewriteSheet => ringkit::ringkit_rewrite_sheet(text, buffer),
+        Call::WriteMatrix => ringkit::ringkit_write_matrix(text, buffer),
+        Call::ReadMatrix(fibres) => ringkit::ringkit_read_matrix(text, fibres, buffer),
+        _ => ringkit::ringkit_rewrite_table(text, buffer),
     }
-    if letter == b'C' {
-        return true;
-    }
-    letter == b'P'
 }
 
-// Whether the call lends a buffer.
-fn lends(letter: u8) -> bool {
-    if letter == b'T' {
-        return true;
-    }
-    if letter == b'S' {
-        return true;
-    }
-    if is_digit(letter) {
-        return true;
-    }
-    if letter == b'W' {
-        return true;
-    }
-    letter == b'R'
-}
-
-fn is_digit(letter: u8) -> bool {
-    if letter < b'0' {
-        return false;
-    }
-    letter <= b'9'
-}
-
-// The number that a digit spells.
-fn fibres(letter: u8) -> u32 {
-    if letter < b'0' {
-        return 0;
-    }
-    let d = letter - b'0';
-    d as u32
-}
-
-fn call(letter: u8, text: &[u8], buffer: &mut [u8]) -> Reply {
-    if letter == b'R' {
-        return ringkit::ringkit_route(text, buffer);
-    }
-    if letter == b'S' {
-        return ringkit::ringkit_rewrite_sheet(text, buffer);
-    }
-    if is_digit(letter) {
-        return ringkit::ringkit_read_matrix(text, fibres(letter), buffer);
-    }
-    if letter == b'W' {
-        return ringkit::ringkit_write_matrix(text, buffer);
-    }
-    ringkit::ringkit_rewrite_table(text, buffer)
-}
-
-fn show_check(text: &[u8]) {
+fn answer_check<W: Write>(output: &mut W, text: &[u8]) -> io::Result<()> {
     let reply = ringkit::ringkit_check(text);
-    show_word(reply.reason);
-    show_word(reply.line);
-    show(reply.byte as u64, b"\n");
+    let (reason, line, byte) = (reply.reason, reply.line, reply.byte);
+    writeln!(output, "{reason} {line} {byte}")
 }
 
-fn show_parallel(text: &[u8]) {
+fn answer_parallel<W: Write>(output: &mut W, text: &[u8]) -> io::Result<()> {
     let pair = ringkit::ringkit_parallel(text);
-    show_word(pair.reason);
-    show_word(pair.line);
-    show_word(pair.byte);
-    show(pair.first as u64, b" ");
-    show(pair.second as u64, b"\n");
+    let (reason, line, byte) = (pair.reason, pair.line, pair.byte);
+    let (first, second) = (pair.first, pair.second);
+    writeln!(output, "{reason} {line} {byte} {first} {second}")
 }
 
-// The calls that lend no buffer.
-fn show_judged(letter: u8, text: &[u8]) {
-    if letter == b'C' {
-        show_check(text);
-        return;
-    }
-    show_parallel(text);
+// The call is lent so much of a buffer that is filled with the pattern; the sum is over all of it.
+fn answer_filled<W: Write>(
+    alloc: Global,
+    output: &mut W,
+    call: Call,
+    text: &[u8],
+    room: usize,
+) -> io::Result<()> {
+    let mut buffer = vec![in alloc; PATTERN; ROOM]?;
+    let lent = room.min(buffer.len());
+    let reply = filled(call, text, &mut buffer[..lent]);
+    let (reason, line, byte, length) = (reply.reason, reply.line, reply.byte, reply.length);
+    let sum = sum_of(&buffer);
+    writeln!(output, "{reason} {line} {byte} {length} {sum}")
 }
 
-// One case, in fresh memory; false at the end of the input and at an unknown letter.
-fn one_case() -> bool {
-    let mut text = [0u8; ROOM];
-    let mut buffer = [PATTERN; ROOM];
-    answer(&mut text, &mut buffer)
-}
-
-fn answer(text: &mut [u8], buffer: &mut [u8]) -> bool {
-    let mut h = [0u8; 12];
-    if io::read_full(STDIN_FILENO, &mut h) < 12 {
-        return false;
-    }
-    let letter = h[0];
-    if !known(letter) {
-        return false;
-    }
-    let size = number(h[1], h[2], h[3], h[4], h[5]);
-    let room = number(h[6], h[7], h[8], h[9], h[10]);
+// One case; false at the end of the input and at an unknown letter.
+fn one_case<R: Read, W: Write>(alloc: Global, input: &mut R, output: &mut W) -> io::Result<bool> {
+    let header = next_bytes(alloc, input, 12)?;
+    let [letter, a, b, c, d, e, f, g, h, i, j, _] = header.as_slice() else {
+        return Ok(false);
+    };
+    let Some(call) = call_of(*letter) else {
+        return Ok(false);
+    };
+    let size = number(&[*a, *b, *c, *d, *e]);
+    let text = next_bytes(alloc, input, size)?;
     if text.len() < size {
-        return false;
+        return Ok(false);
     }
-    if buffer.len() < room {
-        return false;
+    match call {
+        Call::Check => answer_check(output, &text)?,
+        Call::Parallel => answer_parallel(output, &text)?,
+        _ => answer_filled(alloc, output, call, &text, number(&[*f, *g, *h, *i, *j]))?,
     }
-    if io::read_full(STDIN_FILENO, &mut text[0..size]) < size {
-        return false;
-    }
-    if !lends(letter) {
-        show_judged(letter, &text[0..size]);
-        return true;
-    }
-    let reply = call(letter, &text[0..size], &mut buffer[0..room]);
-    show_word(reply.reason);
-    show_word(reply.line);
-    show_word(reply.byte);
-    show(reply.length as u64, b" ");
-    show(sum_of(buffer), b"\n");
-    true
+    Ok(true)
 }
 
-fn main() {
-    let mut left: usize = 100000;
-    while 0 < left {
-        if !one_case() {
-            return;
+fn main(rt: HostRuntime) -> io::Result<()> {
+    let mut input = BufReader::new(rt.alloc(), rt.reader())?;
+    let mut output = BufWriter::new(rt.alloc(), io::writer(&rt))?;
+    for _ in 0..CASES {
+        if !one_case(rt.alloc(), &mut input, &mut output)? {
+            break;
         }
-        left -= 1;
     }
+    output.flush()
 }

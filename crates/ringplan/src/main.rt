@@ -7,14 +7,20 @@ use std::io::{self, Read, Write};
 // One byte more than a table can have, so that a longer text is seen to be longer.
 const MOST: u64 = BYTES as u64 + 1;
 
+// Plans in memory that is lent, which has room for every sheet.
+fn plan(rt: &impl Print, table: &[u8], sheet: &mut [u8]) -> io::Result<()> {
+    let reply = ringkit::ringkit_route(table, sheet);
+    let (reason, line, byte) = (reply.reason, reply.line, reply.byte);
+    if reason != 0 {
+        return rt.println(format_args!("E\t{reason}\t{line}\t{byte}"));
+    }
+    let length = reply.length.min(sheet.len());
+    io::writer(rt).write_all(&sheet[..length])
+}
+
 fn main(rt: HostRuntime) -> io::Result<()> {
     let mut table = Vec::new(rt.alloc());
     rt.reader().take(MOST).read_to_end(&mut table)?;
     let mut sheet = vec![in rt.alloc(); 0u8; SHEET_BYTES]?;
-    let reply = ringkit::ringkit_route(&table, &mut sheet);
-    let (reason, line, byte) = (reply.reason, reply.line, reply.byte);
-    if reason != 0 {
-        return println!(rt; "E\t{reason}\t{line}\t{byte}");
-    }
-    io::writer(&rt).write_all(&sheet[..reply.length])
+    plan(&rt, &table, &mut sheet)
 }
