@@ -10,6 +10,16 @@ if [ "$(uname -m)" != x86_64 ]; then
     emulator=(qemu-x86_64 -L /usr/x86_64-linux-gnu)
 fi
 
+# What rt makes of the crates: the archive that C links, and a program.
+library=crates/ringkit_c/out/libringkit_c.a
+program_of() { echo "crates/$1/out/$1"; }
+
+# Proves and builds the archive; rt does again only what has changed.
+make_library() { (cd crates/ringkit_c && rt lib); }
+
+# Proves and builds a program. rt runs what it has built, here on an empty text.
+make_program() { (cd "crates/$1" && rt run </dev/null); }
+
 # Whether programs for x86-64 are emulated here.
 emulated() { [ ${#emulator[@]} -gt 0 ]; }
 

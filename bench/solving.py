@@ -9,7 +9,7 @@ from pathlib import Path
 
 OUT = Path("target/bench")
 TABLE, MODEL, SOLUTION, SAID, CALLS = (str(OUT / name) for name in ("table", "model.lp", "solution", "said", "calls"))
-PLANNER = ["target/bin/ringplan"]
+PLANNER = ["crates/ringplan/out/ringplan"]
 SIMPLEX = ["glpsol", "--lp", MODEL, "-w", SOLUTION]
 # the least of so many runs is a program's time
 RUNS = 5

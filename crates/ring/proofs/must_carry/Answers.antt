@@ -1,5 +1,4 @@
 -- `must_carry` is `needed`: its test of the fibres is the definition's.
-use borrow.Author.Rules.{rules}
 use Rattle.ring.specs.LineSize.{needed}
 use Rattle.std.proofs.Common.{rules}
 use Rattle.ring.proofs.must_carry.Goals as goal

@@ -1,7 +1,6 @@
 -- Routing a table's rows: the router's columns hold the plan's sheet (`RouteSteps`), which is written as sheets are.
 use Rattle.router.proofs.Zeros.{no-halves, no-ways}
 use Rattle.ringkit.proofs.RouteSteps.{plan-fills}
-use borrow.Author.Rules.{rules}
 use Rattle.std.proofs.Common.{rules}
 use Rattle.ringkit.proofs.put_route.Goals as goal
 

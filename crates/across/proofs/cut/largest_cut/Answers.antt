@@ -1,7 +1,6 @@
 -- `largest_cut` finds the largest cut: where its loops stand, the scan of what is left gives it.
 use Rattle.std.proofs.Common.{⊎_elim, arith, rules}
 use Rattle.across.proofs.CutSteps.{cut-start, cut-enter, cut-taken, cut_left, cut-leave, cut-done, cut-first-link, cut-second-link}
-use Rattle.std.proofs.Common.{rules}
 use Rattle.across.proofs.cut.largest_cut.Goals as goal
 
 pub loop-g-init : goal.loop-g-init

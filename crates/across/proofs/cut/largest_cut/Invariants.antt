@@ -2,7 +2,6 @@
 use Rattle.std.proofs.Common.{◌+◌, ◌-◌}
 use Rattle.across.specs.Triangle.{at}
 use Rattle.across.proofs.CutSteps.{Firsts, Seconds}
-use Rattle.std.proofs.Common.{◌+◌, ◌-◌}
 use Rattle.across.proofs.cut.largest_cut.Given as goal
 
 abbrev pub invariant-loop-h : goal.invariant-loop-h

@@ -1,7 +1,6 @@
 -- `get` reads the place of its two links.
 use Rattle.std.proofs.Common.{get_or, ap, arith, rules}
 use Rattle.across.proofs.RowSteps.{place_in}
-use Rattle.std.proofs.Common.{rules}
 use Rattle.across.proofs.place.get.Goals as goal
 
 pub overflow_add-result : goal.overflow_add-result

@@ -1,7 +1,6 @@
 -- `step_line` changes its links and nothing else: the loop's invariant is that of the links passed.
 use Rattle.std.proofs.Common.{rules}
 use Rattle.across.proofs.RowSteps.{line-turn, line-in, line-fits, line-bytes}
-use Rattle.std.proofs.Common.{rules}
 use Rattle.across.proofs.row.step_line.Goals as goal
 
 pub overflow_add-p : goal.overflow_add-p

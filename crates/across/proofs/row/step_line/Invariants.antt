@@ -2,7 +2,6 @@
 use Rattle.std.proofs.Common.{◌-◌}
 use Rattle.across.specs.Step.{step}
 use Rattle.across.proofs.RowSteps.{Lining}
-use Rattle.std.proofs.Common.{◌-◌}
 use Rattle.across.proofs.row.step_line.Given as goal
 
 abbrev pub invariant-loop-g : goal.invariant-loop-g

@@ -1,7 +1,6 @@
 -- `step_lines` changes every number by the row's share of it: the loop's invariant is that of the lines passed.
 use Rattle.std.proofs.Common.{rules}
 use Rattle.across.proofs.RowSteps.{rows_start, turn_in, turn-behind, size-then, rows-done}
-use Rattle.std.proofs.Common.{rules}
 use Rattle.across.proofs.row.step_lines.Goals as goal
 
 pub loop-h-init : goal.loop-h-init

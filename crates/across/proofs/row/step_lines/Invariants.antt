@@ -2,7 +2,6 @@
 use Rattle.std.proofs.Common.{◌+◌, ◌-◌}
 use Rattle.ring.specs.Row.{row}
 use Rattle.across.proofs.RowSteps.{Rowing}
-use Rattle.std.proofs.Common.{◌+◌, ◌-◌}
 use Rattle.across.proofs.row.step_lines.Given as goal
 
 abbrev pub invariant-loop-h : goal.invariant-loop-h

@@ -1,7 +1,6 @@
 -- A sheet: its length, its first line and the rest, each way out by one law of `CheckSteps`.
 use Rattle.checker.proofs.NextLine.{next_place}
 use Rattle.checker.proofs.CheckSteps.{too_long, ring-place, no-ring, ring-fault, then-rows, ring-two, ring-fits}
-use borrow.Author.Rules.{rules}
 use Rattle.std.proofs.Common.{rules}
 use Rattle.checker.proofs.check.check_sheet.Goals as goal
 

@@ -1,7 +1,6 @@
 -- The Z line: its shape, its figures, and that nothing is left over.
 use Rattle.checker.proofs.NextLine.{next_place}
 use Rattle.checker.proofs.EndSteps.{last-place, no_last, last-fault, left_over, last_done}
-use borrow.Author.Rules.{rules}
 use Rattle.std.proofs.Common.{rules}
 use Rattle.checker.proofs.ending.check_last.Goals as goal
 

@@ -1,7 +1,6 @@
 -- The L lines: those read so far were the links' own, and checking the rest behind them is checking from the first on (`LinksReading`).
 use Rattle.checker.proofs.NextLine.{next_place}
 use Rattle.checker.proofs.EndSteps.{links-start, link-place, no-link, link-fault, link-read, links-done}
-use borrow.Author.Rules.{rules}
 use Rattle.std.proofs.Common.{rules}
 use Rattle.checker.proofs.ending.check_links.Goals as goal
 

@@ -1,5 +1,4 @@
 -- The L lines: those read so far were the links' own, and checking the rest behind them is checking from the first on (`LinksReading`).
-use Prim.Native.Nat.{◌-◌}
 use Rattle.checker.proofs.EndSteps.{LinksReading}
 use Rattle.std.proofs.Common.{◌-◌}
 use Rattle.checker.proofs.ending.check_links.Given as goal

@@ -1,6 +1,5 @@
 -- The L lines, and behind them the Z line and the whole.
 use Rattle.checker.proofs.EndSteps.{tail-stops, tail-goes}
-use borrow.Author.Rules.{rules}
 use Rattle.std.proofs.Common.{rules}
 use Rattle.checker.proofs.ending.check_tail.Goals as goal
 

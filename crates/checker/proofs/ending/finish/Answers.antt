@@ -1,7 +1,6 @@
 -- The C line, and what follows it.
 use Rattle.checker.proofs.NextLine.{next_place}
 use Rattle.checker.proofs.CheckSteps.{far-place, no-cut-line, cut-fault, cut-goes}
-use borrow.Author.Rules.{rules}
 use Rattle.std.proofs.Common.{rules}
 use Rattle.checker.proofs.ending.finish.Goals as goal
 

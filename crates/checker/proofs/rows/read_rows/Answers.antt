@@ -1,7 +1,6 @@
 -- The D lines: the rows read so far stand in the columns, and checking the rest behind them is checking the whole (`RowsReading`).
 use Rattle.checker.proofs.NextLine.{next_place}
 use Rattle.checker.proofs.RowsSteps.{rows_start, rows_end, row-stops, row-less, row_room, reads-row}
-use borrow.Author.Rules.{rules}
 use Rattle.std.proofs.Common.{rules}
 use Rattle.checker.proofs.rows.read_rows.Goals as goal
 

@@ -1,6 +1,4 @@
 -- The D lines: the rows read so far stand in the columns, and checking the rest behind them is checking the whole (`RowsReading`).
-use Prim.Native.Nat.{◌-◌}
-use lib.ListN.{length}
 use Rattle.checker.proofs.RowsSteps.{RowsReading}
 use Rattle.std.proofs.Common.{length, ◌-◌}
 use Rattle.checker.proofs.rows.read_rows.Given as goal

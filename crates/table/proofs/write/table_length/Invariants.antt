@@ -1,5 +1,4 @@
 -- The length of a table: the lines of the rows before place k are counted (`Counting`).
-use Prim.Native.Nat.{◌-◌}
 use Rattle.text.proofs.Pieces.{Measuring}
 use Rattle.table.proofs.WriteSteps.{rowLineAt, rowsText}
 use Rattle.std.proofs.Common.{◌-◌}

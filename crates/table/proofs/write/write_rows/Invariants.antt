@@ -1,5 +1,4 @@
 -- The rows of a table: those before place k are written, and the next goes behind them (`Writing`).
-use Prim.Native.Nat.{◌-◌}
 use Rattle.text.proofs.Pieces.{WritingLines}
 use Rattle.table.proofs.WriteSteps.{rowLineAt, rowsText}
 use Rattle.std.proofs.Common.{◌-◌}

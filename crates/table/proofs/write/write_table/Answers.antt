@@ -1,6 +1,5 @@
 -- A table: its R line, and its rows behind it.
 use Rattle.table.proofs.WriteSteps.{ring-has-room, rows-have-room, table-written}
-use borrow.Author.Rules.{rules}
 use Rattle.std.proofs.Common.{rules}
 use Rattle.table.proofs.write.write_table.Goals as goal
 

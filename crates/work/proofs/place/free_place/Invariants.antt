@@ -1,5 +1,4 @@
 -- `free_place` finds the lowest free place: where its loop stands, the scan of what is left gives it.
-use Prim.Native.Nat.{◌-◌}
 use Rattle.ring.specs.Limits.{desk}
 use Rattle.work.proofs.PlaceSteps.{Seeking}
 use Rattle.std.proofs.Common.{◌-◌}
