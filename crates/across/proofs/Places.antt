@@ -5,7 +5,7 @@ use lib.ListN.{get_or-append}
 use Rattle.ring.specs.Columns.{listed}
 use Rattle.ring.proofs.Listed.{listed-length}
 use Rattle.ring.proofs.Laid.{getD-listed}
-use Rattle.across.specs.Triangle.{mostLinks, mostPairs, offset, place_of, at, triangle}
+use Rattle.across.specs.Triangle.{most_links, most_pairs, offset, place_of, at, triangle}
 use Rattle.across.specs.Lines.{Pairwise}
 
 pub next-line : (h : ℕ) → offset (suc h) ≡ offset h + (h - 1)
@@ -41,8 +41,8 @@ twice-line (suc k) l = let e : suc k - 1 ≡ k = omega arith in rw e (twice k)
 pub line-half : (h : ℕ) → 1 ≤ h → h * (h - 1) / 2 ≡ offset h + (h - 1)
 line-half h l = omega (arith, twice-line h l)
 
-pub line_small : (h : ℕ) → h ≤ mostLinks → h * (h - 1) ≤ mostLinks * mostLinks
-line_small h l = let m : h - 1 ≤ mostLinks = omega arith in mul-le-mul l m
+pub line_small : (h : ℕ) → h ≤ most_links → h * (h - 1) ≤ most_links * most_links
+line_small h l = let m : h - 1 ≤ most_links = omega arith in mul-le-mul l m
 
 -- a pair's place lies within its line
 pub place-within : (g h : ℕ) → 1 ≤ g → g < h → place_of g h < offset (suc h)
@@ -112,6 +112,6 @@ triangle-is f n t size is =
     go x p = rw (← p.is) (is p.g p.h p.low p.order p.high ∙ sym (triangle-at f n p.g p.h p.low p.order p.high))
 
 -- the triangle of all links
-pub all-pairs : offset (suc mostLinks) ≡ mostPairs
+pub all-pairs : offset (suc most_links) ≡ most_pairs
 unfolding offset
 all-pairs = refl

@@ -3,17 +3,17 @@ use Rattle.std.proofs.Common.{◌≡◌, ℕ, suc, ◌+◌, ◌-◌, ◌*◌, �
 use mathlib.Core.Bool.{xor}
 use native.Mathlib.Decide.{ℕ_discrete, dec_lt, dec_le}
 use borrow.Author.Tests.{lt-leb}
-use Rattle.ring.specs.Row.{Row, row, inFront}
+use Rattle.ring.specs.Row.{Row, row, in_front}
 use Rattle.ring.specs.Cut.{part}
 use Rattle.ring.proofs.Side.{Side, before, within, after, side, in-front, before-front, after_front}
-use Rattle.across.specs.Triangle.{mostLinks, mostPairs, offset, place_of, at}
-use Rattle.across.specs.Step.{typeEnd, step, stepped, stepRow}
+use Rattle.across.specs.Triangle.{most_links, most_pairs, offset, place_of, at}
+use Rattle.across.specs.Step.{type_end, step, stepped, step_row}
 use Rattle.across.specs.Lines.{Pairwise, LineStep, LineFits}
 use Rattle.across.proofs.Places.{apart, place-within, line-below, triangle-is, all-pairs}
 
 -- a pair's place lies in the triangle
-pub place_in : (g h : ℕ) → 1 ≤ g → g < h → h ≤ mostLinks → place_of g h < mostPairs
-place_in g h a b c = omega (arith, place-within g h a b, line-below h (suc mostLinks) (omega arith), all-pairs)
+pub place_in : (g h : ℕ) → 1 ≤ g → g < h → h ≤ most_links → place_of g h < most_pairs
+place_in g h a b c = omega (arith, place-within g h a b, line-below h (suc most_links) (omega arith), all-pairs)
 
 -- ---- one line
 
@@ -23,7 +23,7 @@ pub record Lining (op : ℕ → ℕ) (h low high : ℕ) (old now : List ℕ) (g 
   pub left : low < g → g ≤ high
   pub so_far : LineStep op h low g old now
 
-module _ (op : ℕ → ℕ) (h low high : ℕ) (old : List ℕ) (fits : LineFits h low high) (size : length old ≡ mostPairs) where
+module _ (op : ℕ → ℕ) (h low high : ℕ) (old : List ℕ) (fits : LineFits h low high) (size : length old ≡ most_pairs) where
   pub line-start : Lining op h low high old old low
   line-start =
       record {
@@ -54,7 +54,7 @@ module _ (op : ℕ → ℕ) (h low high : ℕ) (old : List ℕ) (fits : LineFits
               | no q ↦ get_or-set_other now p (place_of x h) z 0 (λ y. omega arith) ∙ s.so_far.within x a (omega arith)
             ]
 
-        outer : Pairwise mostLinks (λ x k. ((k ≡ h) × (low ≤ x) × (x < g + 1) → ⊥) → at (set now p z) x k ≡ at old x k)
+        outer : Pairwise most_links (λ x k. ((k ≡ h) × (low ≤ x) × (x < g + 1) → ⊥) → at (set now p z) x k ≡ at old x k)
         outer x k a b c out =
             get_or-set_other now p (place_of x k) z 0
             (λ y.
@@ -89,12 +89,12 @@ module _ (op : ℕ → ℕ) (h low high : ℕ) (old : List ℕ) (fits : LineFits
 
 -- ---- a row's lines
 
-part_of : (r : Row) (g h : ℕ) (x y : Bool) → inFront r g ≡ x → inFront r h ≡ y → part r g h ≡ cond (xor x y) r.d 0
+part_of : (r : Row) (g h : ℕ) (x y : Bool) → in_front r g ≡ x → in_front r h ≡ y → part r g h ≡ cond (xor x y) r.d 0
 unfolding part xor
 part_of r g h x y p q = rw (p, q)
 
 -- nothing is added to a number that fits
-step-none : (add : Bool) (y : ℕ) → y < typeEnd → step add y 0 ≡ y
+step-none : (add : Bool) (y : ℕ) → y < type_end → step add y 0 ≡ y
 step-none true y l = omega arith
 step-none false y l = omega arith
 
@@ -103,14 +103,14 @@ pub record Rowing (add : Bool) (n : ℕ) (r : Row) (old now : List ℕ) (h : ℕ
   pub past : r.i ≤ h
   pub reached : r.i < h → h ≤ n + 1
   pub size : length now ≡ length old
-  pub changed : Pairwise mostLinks (λ g k. k < h → at now g k ≡ step add (at old g k) (part r g k))
-  pub kept : Pairwise mostLinks (λ g k. h ≤ k → at now g k ≡ at old g k)
+  pub changed : Pairwise most_links (λ g k. k < h → at now g k ≡ step add (at old g k) (part r g k))
+  pub kept : Pairwise most_links (λ g k. h ≤ k → at now g k ≡ at old g k)
 
 -- every number of an array fits
 abbrev Fit : List ℕ → Type 0
 Fit t = (x : ℕ) → Fits w32 (get_or t x 0)
 
-module _ (add : Bool) (n i j d : ℕ) (old : List ℕ) (size : length old ≡ mostPairs) (fit : Fit old) (low : 1 ≤ i) (few : n ≤ mostLinks) where
+module _ (add : Bool) (n i j d : ℕ) (old : List ℕ) (size : length old ≡ most_pairs) (fit : Fit old) (low : 1 ≤ i) (few : n ≤ most_links) where
   abbrev r : Row
   r = row i j d
 
@@ -118,7 +118,7 @@ module _ (add : Bool) (n i j d : ℕ) (old : List ℕ) (size : length old ≡ mo
   op y = step add y d
 
   -- a pair that the row does not lie across
-  none : (g k : ℕ) (x : Bool) → inFront r g ≡ x → inFront r k ≡ x → at old g k ≡ step add (at old g k) (part r g k)
+  none : (g k : ℕ) (x : Bool) → in_front r g ≡ x → in_front r k ≡ x → at old g k ≡ step add (at old g k) (part r g k)
   unfolding xor
   none g k true p q = rw (part_of r g k true true p q) (sym (step-none add (at old g k) (omega (arith, fit (place_of g k)))))
   none g k false p q = rw (part_of r g k false false p q) (sym (step-none add (at old g k) (omega (arith, fit (place_of g k)))))
@@ -161,7 +161,7 @@ module _ (add : Bool) (n i j d : ℕ) (old : List ℕ) (size : length old ≡ mo
       unfolding xor
       turn_in l t = turned 1 i t due
         where
-          here : inFront r h ≡ true
+          here : in_front r h ≡ true
           here = in-front r h s.past l
 
           due : (g : ℕ) → 1 ≤ g → g < h → at new g h ≡ step add (at old g h) (part r g h)
@@ -176,7 +176,7 @@ module _ (add : Bool) (n i j d : ℕ) (old : List ℕ) (size : length old ≡ mo
       unfolding xor
       turn-behind l t = turned i j t due
         where
-          here : inFront r h ≡ false
+          here : in_front r h ≡ false
           here = after_front r h l
 
           due : (g : ℕ) → 1 ≤ g → g < h → at new g h ≡ step add (at old g h) (part r g h)
@@ -187,7 +187,7 @@ module _ (add : Bool) (n i j d : ℕ) (old : List ℕ) (size : length old ≡ mo
               go (within z y p) = rw (part_of r g h true false p here) (moved i j t g a b z y)
               go (after z p) = same i j t g a b (λ y. omega arith) ∙ none g h false p here
 
-    pub size-then : length now ≡ mostPairs
+    pub size-then : length now ≡ most_pairs
     size-then = s.size ∙ size
 
     pub fits_in : h < j → LineFits h 1 i
@@ -196,16 +196,16 @@ module _ (add : Bool) (n i j d : ℕ) (old : List ℕ) (size : length old ≡ mo
     pub fits-behind : j ≤ h → LineFits h i j
     fits-behind l = record { first = omega arith; last = omega arith; from = low; to = l }
 
-  pub rows-done : (now : List ℕ) (h : ℕ) → n < h → Rowing add n r old now h → now ≡ stepRow add n r old
-  unfolding stepRow
+  pub rows-done : (now : List ℕ) (h : ℕ) → n < h → Rowing add n r old now h → now ≡ step_row add n r old
+  unfolding step_row
   rows-done now h l s =
-      triangle-is (stepped add n r old) mostLinks now (s.size ∙ size ∙ sym all-pairs) (λ g k a b c. go g k a b c)
+      triangle-is (stepped add n r old) most_links now (s.size ∙ size ∙ sym all-pairs) (λ g k a b c. go g k a b c)
     where
       -- the lines behind n were not reached; where the row's first node lies behind n, it has no share in them up to that node
       early : (k : ℕ) → k < h → n < k → k < i
       early k y z = elim (dec_lt i h) [ yes p ↦ absurd (omega (arith, s.reached p)) | no p ↦ omega arith ]
 
-      go : Pairwise mostLinks (λ g k. at now g k ≡ stepped add n r old g k)
+      go : Pairwise most_links (λ g k. at now g k ≡ stepped add n r old g k)
       go g k a b c =
           elim (dec_le k n) [
             | yes z ↦ rw (le-leb k n z) (s.changed g k a b c (omega arith))

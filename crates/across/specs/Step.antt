@@ -2,19 +2,19 @@
 use Rattle.std.specs.Prelude.{ℕ, ◌+◌, ◌-◌, ◌%◌, Bool, cond, List, nat_le}
 use Rattle.ring.specs.Row.{Row}
 use Rattle.ring.specs.Cut.{part}
-use Rattle.across.specs.Triangle.{mostLinks, at, triangle}
+use Rattle.across.specs.Triangle.{most_links, at, triangle}
 
 -- where a number that is kept wraps around
-abbrev pub typeEnd : ℕ
-typeEnd = 4294967296
+abbrev pub type_end : ℕ
+type_end = 4294967296
 
 -- a number raised by an amount, or lowered by it
 abbrev pub step : Bool → ℕ → ℕ → ℕ
-step add number amount = cond add (number + amount) (number + (typeEnd - amount)) % typeEnd
+step add number amount = cond add (number + amount) (number + (type_end - amount)) % type_end
 
 -- the pairs of a ring of n nodes change by the row's share; those of links behind it stay
 abbrev pub stepped : Bool → ℕ → Row → List ℕ → ℕ → ℕ → ℕ
 stepped add n r t g h = cond (nat_le h n) (step add (at t g h) (part r g h)) (at t g h)
 
-unfoldable pub stepRow : Bool → ℕ → Row → List ℕ → List ℕ
-stepRow add n r t = triangle (stepped add n r t) mostLinks
+unfoldable pub step_row : Bool → ℕ → Row → List ℕ → List ℕ
+step_row add n r t = triangle (stepped add n r t) most_links

@@ -1,7 +1,7 @@
 // Rule A: the cut with the largest across number; ties go to the smallest g, then the smallest h.
 ghost use Rattle.std.specs.Prelude.{◌≡◌, ◌≤◌};
-ghost use Rattle.ring.specs.RuleA.{largestCut};
-ghost use Rattle.across.specs.Triangle.{mostLinks, at};
+ghost use Rattle.ring.specs.RuleA.{largest_cut};
+ghost use Rattle.across.specs.Triangle.{most_links, at};
 ghost use Rattle.across.specs.Answers.{cut_in};
 
 use crate::PAIRS;
@@ -15,8 +15,8 @@ pub struct Cut {
 }
 
 pub fn largest_cut(triangle: &[u32; PAIRS], n: usize) -> Cut
-    requires { (2 ≤ n) × (n ≤ mostLinks) }
-    ensures { result ≡ cut_in (largestCut (at triangle.now) n) }
+    requires { (2 ≤ n) × (n ≤ most_links) }
+    ensures { result ≡ cut_in (largest_cut (at triangle.now) n) }
 {
     let mut best_g: usize = 1;
     let mut best_h: usize = 2;

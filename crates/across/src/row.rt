@@ -1,8 +1,8 @@
 // A row put on the triangle, or taken off it.
 ghost use Rattle.std.specs.Prelude.{◌≡◌, ◌≤◌, length};
 ghost use Rattle.ring.specs.Row.{row};
-ghost use Rattle.across.specs.Triangle.{mostLinks, mostPairs};
-ghost use Rattle.across.specs.Step.{step, stepRow};
+ghost use Rattle.across.specs.Triangle.{most_links, most_pairs};
+ghost use Rattle.across.specs.Step.{step, step_row};
 ghost use Rattle.across.specs.Lines.{LineStep, LineFits};
 
 use crate::PAIRS;
@@ -21,7 +21,7 @@ fn stepped(add: bool, number: u32, amount: u32) -> u32
 
 // On the line of link h, the links from `low` up to `high` are raised or lowered by the amount.
 fn step_line(triangle: &mut [u32], add: bool, h: usize, low: usize, high: usize, amount: u32)
-    requires triangle_len { length triangle.old ≡ mostPairs }
+    requires triangle_len { length triangle.old ≡ most_pairs }
     requires line_fits { LineFits h low high }
     ensures { LineStep (λ y. step add y amount) h low high triangle.old triangle.new }
 {
@@ -38,9 +38,9 @@ fn step_line(triangle: &mut [u32], add: bool, h: usize, low: usize, high: usize,
 // Of a pair g < h of links up to n the row's front holds exactly one where g lies before the front and h in it, or g in it and h behind it. A row whose
 // nodes are in no order has no front.
 fn step_lines(triangle: &mut [u32], add: bool, n: usize, i: usize, j: usize, d: u32)
-    requires triangle_len { length triangle.old ≡ mostPairs }
-    requires le_i { (1 ≤ i) × (n ≤ mostLinks) }
-    ensures { triangle.new ≡ stepRow add n (row i j d) triangle.old }
+    requires triangle_len { length triangle.old ≡ most_pairs }
+    requires le_i { (1 ≤ i) × (n ≤ most_links) }
+    ensures { triangle.new ≡ step_row add n (row i j d) triangle.old }
 {
     let mut h: usize = i;
     while h <= n {
@@ -56,8 +56,8 @@ fn step_lines(triangle: &mut [u32], add: bool, n: usize, i: usize, j: usize, d: 
 
 // The row i, j of d is put on the triangle of a ring of n nodes, or taken off it. An array lent as a slice has its length said.
 pub fn step_row(triangle: &mut [u32; PAIRS], add: bool, n: usize, i: usize, j: usize, d: u32)
-    requires { (1 ≤ i) × (n ≤ mostLinks) }
-    ensures { triangle.new ≡ stepRow add n (row i j d) triangle.old }
+    requires { (1 ≤ i) × (n ≤ most_links) }
+    ensures { triangle.new ≡ step_row add n (row i j d) triangle.old }
 {
     step_lines(triangle, add, n, i, j, d);
 }

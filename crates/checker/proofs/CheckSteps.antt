@@ -6,32 +6,32 @@ use mathlib.Core.Path.{◌≡◌, refl, ap, ◌∙◌, sym, subst}
 use native.Mathlib.Omega.{arith}
 use lib.ListN.{length, get_or, take, drop, length-take}
 use borrow.Author.Tests.{lt-ltb, le-ltb}
-use Rattle.sonet.specs.Size.{sonetSize}
-use Rattle.ring.specs.Ring.{Ring, ringOf}
+use Rattle.sonet.specs.Size.{sonet_size}
+use Rattle.ring.specs.Ring.{Ring, ring_of}
 use Rattle.ring.specs.LineSize.{needed}
 use Rattle.ring.proofs.SizeRules.{size-in-steps}
-use Rattle.ring.specs.Columns.{column, rowsIn, routedAt, routedIn}
+use Rattle.ring.specs.Columns.{column, rows_in, routed_at, routed_in}
 use Rattle.ring.specs.Cut.{across}
 use Rattle.ring.specs.Limits.{desk}
-use Rattle.ring.specs.Routing.{Sent, Routed, splitLoad, unsplitLoad}
-use Rattle.ring.specs.Sheet.{Link, sents, demands, numbersFrom}
+use Rattle.ring.specs.Routing.{Sent, Routed, split_load, unsplit_load}
+use Rattle.ring.specs.Sheet.{Link, sents, demands, numbers_from}
 use Rattle.ring.proofs.Laid.{laid}
 use Rattle.ring.proofs.Listed.{listed-map}
 use Rattle.router.specs.Rows.{Table}
 use Rattle.router.specs.Arrays.{Halves}
-use Rattle.router.specs.Weighed.{weightIn}
+use Rattle.router.specs.Weighed.{weight_in}
 use Rattle.router.specs.declared.weighing.Weight.{Weight}
-use Rattle.text.specs.Answers.{twoIn, threeIn}
-use Rattle.text.specs.ReadLine.{readLine}
-use Rattle.text.specs.Shapes.{ringShape, cutShape}
+use Rattle.text.specs.Answers.{two_in, three_in}
+use Rattle.text.specs.ReadLine.{read_line}
+use Rattle.text.specs.Shapes.{ring_shape, cut_shape}
 use Rattle.text.proofs.AnswerLaws.{two-within, three-within}
-use Rattle.table.specs.Fields.{ringFault}
+use Rattle.table.specs.Fields.{ring_fault}
 use Rattle.text.specs.declared.TwoNumbers.{TwoNumbers}
 use Rattle.text.specs.declared.TwoNumbers.TheVariants.{Are as AreTwo, Bad as NotTwo}
 use Rattle.text.specs.declared.ThreeNumbers.{ThreeNumbers}
 use Rattle.text.specs.declared.ThreeNumbers.TheVariants.{Are as AreThree, Bad as NotThree}
 use Rattle.text.proofs.Apart.{clash}
-use Rattle.table.specs.Judge.{judgeRing}
+use Rattle.table.specs.Judge.{judge_ring}
 use Rattle.table.specs.Lines.{lines}
 use Rattle.table.specs.declared.reason.Reason.{Reason}
 use Rattle.table.specs.declared.reason.Reason.TheVariants.{TooLong, Misshapen}
@@ -39,13 +39,13 @@ use Rattle.table.specs.declared.judge.Verdict.{Verdict}
 use Rattle.table.specs.declared.judge.Verdict.TheVariants.{Fine, Fault}
 use Rattle.table.proofs.Columns.{column-length, column-behind}
 use Rattle.table.proofs.Judged.{RingJudged, right-ring, ring-judged}
-use Rattle.sheet.specs.Arrays.{link_at, linksIn}
-use Rattle.checker.specs.Arrays.{checkedIn}
-use Rattle.sheet.specs.Judge.{judgeCut}
-use Rattle.sheet.specs.Check.{Result, accepted, refused, cut_of, when, unless, ringTurn, cutTurn, turn, after, checkFrom, check}
+use Rattle.sheet.specs.Arrays.{link_at, links_in}
+use Rattle.checker.specs.Arrays.{checked_in}
+use Rattle.sheet.specs.Judge.{judge_cut}
+use Rattle.sheet.specs.Check.{Result, accepted, refused, cut_of, when, unless, ring_turn, cut_turn, turn, after, check_from, check}
 use Rattle.sheet.specs.Says.{start, rows, links}
-use Rattle.sheet.specs.Verdicts.{cutVerdict}
-use Rattle.checker.specs.Parts.{NextEnds, cutFrom, Columns, RowsMean, rows_at, rows-refused, RowsRead, Weighed, StepMeans, steps_on, step-refused, TailRead, sheetWith, checkedWith, EndMeans, ends_with, end_refused, EndRead, WeighedRead}
+use Rattle.sheet.specs.Verdicts.{cut_verdict}
+use Rattle.checker.specs.Parts.{NextEnds, cut_from, Columns, RowsMean, rows_at, rows-refused, RowsRead, Weighed, StepMeans, steps_on, step-refused, TailRead, sheet_with, checked_with, EndMeans, ends_with, end_refused, EndRead, WeighedRead}
 use Rattle.sheet.specs.declared.Figures.{Figures}
 use Rattle.checker.specs.declared.check.Checked.{Checked}
 use Rattle.checker.specs.declared.check.Answer.{Answer}
@@ -61,19 +61,19 @@ use Rattle.checker.proofs.NextLine.{next-line, next-rest, step-at}
 
 -- ---- behind the cut
 
-module _ (n : ℕ) (many : n ≤ desk.nodes) (load : ℕ → ℕ) (array split unsplit : List ℕ) (figure : Link → ℕ) (is : array ≡ column load desk.nodes (numbersFrom 1 n))
+module _ (n : ℕ) (many : n ≤ desk.nodes) (load : ℕ → ℕ) (array split unsplit : List ℕ) (figure : Link → ℕ) (is : array ≡ column load desk.nodes (numbers_from 1 n))
     (place : (k : ℕ) → get_or array k 0 ≡ figure (link_at split unsplit k)) where
   -- loads in an array are the column of the links that it gives
-  loads-column : array ≡ column figure desk.nodes (linksIn n split unsplit)
+  loads-column : array ≡ column figure desk.nodes (links_in n split unsplit)
   loads-column =
       let long = numbers-length 1 n in
-      laid figure (link_at split unsplit) desk.nodes n array (ap length is ∙ column-length load desk.nodes (numbersFrom 1 n)) many (λ k h. place k)
-      (λ k h. ap (λ a. get_or a k 0) is ∙ column-behind load desk.nodes (numbersFrom 1 n) k (omega arith) (omega arith))
+      laid figure (link_at split unsplit) desk.nodes n array (ap length is ∙ column-length load desk.nodes (numbers_from 1 n)) many (λ k h. place k)
+      (λ k h. ap (λ a. get_or a k 0) is ∙ column-behind load desk.nodes (numbers_from 1 n) k (omega arith) (omega arith))
 
-module _ (s : List ℕ) (at line n fibres : ℕ) (rs : List Routed) (g h number : ℕ) (many : n ≤ desk.nodes) (w : Weight) (ew : w ≡ weightIn n rs)
-    (carried size : ℕ) (en : carried ≡ needed fibres w.peak) (ez : size ≡ sonetSize carried) where
+module _ (s : List ℕ) (at line n fibres : ℕ) (rs : List Routed) (g h number : ℕ) (many : n ≤ desk.nodes) (w : Weight) (ew : w ≡ weight_in n rs)
+    (carried size : ℕ) (en : carried ≡ needed fibres w.peak) (ez : size ≡ sonet_size carried) where
   weights : Weighed n rs w.split w.unsplit w.split_peak w.peak w.largest
-  unfolding weightIn
+  unfolding weight_in
   weights =
       record {
         splits = ap (λ (v : Weight). v.split) ew;
@@ -88,64 +88,64 @@ module _ (s : List ℕ) (at line n fibres : ℕ) (rs : List Routed) (g h number 
       record { step = t; figures = record { n = n; fibres = fibres; g = g; h = h; across = number; peak = w.peak; size = size }; split = w.split; unsplit = w.unsplit }
 
   pub weighed-ends : (t : Step) → TailRead s at line n number w.split w.unsplit w.split_peak w.peak size w.largest t →
-      WeighedRead s at line (ringOf n fibres) rs g h number (record { step = t; figures = record { n = n; fibres = fibres; g = g; h = h; across = number; peak = w.peak; size = size }; split = w.split; unsplit = w.unsplit })
+      WeighedRead s at line (ring_of n fibres) rs g h number (record { step = t; figures = record { n = n; fibres = fibres; g = g; h = h; across = number; peak = w.peak; size = size }; split = w.split; unsplit = w.unsplit })
   weighed-ends t tail = go t (tail.means fibres rs g h weights (size-in-steps fibres w.peak carried size en ez))
     where
       result : Result
-      result = checkFrom desk true (links (ringOf n fibres) rs (cut_of g h number) []) line (lines (drop at s))
+      result = check_from desk true (links (ring_of n fibres) rs (cut_of g h number) []) line (lines (drop at s))
 
-      go : (u : Step) → StepMeans s result (λ p. accepted (sheetWith (ringOf n fibres) rs (cut_of g h number) w.split w.unsplit w.peak size)) u → EndMeans (ringOf n fibres) rs result (ending t) u
+      go : (u : Step) → StepMeans s result (λ p. accepted (sheet_with (ring_of n fibres) rs (cut_of g h number) w.split w.unsplit w.peak size)) u → EndMeans (ring_of n fibres) rs result (ending t) u
       go (On p) (steps_on l e) =
           ends_with {at = p} (cut_of g h number) w.peak size e refl
-          (loads-column n many (splitLoad (sents rs)) w.split w.split w.unsplit (λ (l : Link). l.split) weights.splits (λ k. refl))
-          (loads-column n many (unsplitLoad rs) w.unsplit w.split w.unsplit (λ (l : Link). l.unsplit) weights.unsplits (λ k. refl))
+          (loads-column n many (split_load (sents rs)) w.split w.split w.unsplit (λ (l : Link). l.split) weights.splits (λ k. refl))
+          (loads-column n many (unsplit_load rs) w.unsplit w.split w.unsplit (λ (l : Link). l.unsplit) weights.unsplits (λ k. refl))
       go (StepRefused reason place byte) (step-refused e) = end_refused {reason = reason} {line = place} {byte = byte} e
 
 -- ---- from the C line on
 
 module _ (count : ℕ) (first second amount front back way : List ℕ) where
   -- the demands of routed rows in columns
-  demands-in : demands (sents (routedIn count first second amount front back way)) ≡ rowsIn count first second amount
+  demands-in : demands (sents (routed_in count first second amount front back way)) ≡ rows_in count first second amount
   demands-in =
-      ap demands (listed-map (λ (r : Routed). r.sent) (routedAt first second amount front back way) 0 count)
-      ∙ listed-map (λ (x : Sent). x.row) (λ k. (routedAt first second amount front back way k).sent) 0 count
+      ap demands (listed-map (λ (r : Routed). r.sent) (routed_at first second amount front back way) 0 count)
+      ∙ listed-map (λ (x : Sent). x.row) (λ k. (routed_at first second amount front back way k).sent) 0 count
 
-  module _ (s : List ℕ) (at line no_row n fibres to : ℕ) (ends : NextEnds s at to) (x : ThreeNumbers) (ex : x ≡ threeIn (readLine cutShape (take (to - at) (drop at s)))) where
+  module _ (s : List ℕ) (at line no_row n fibres to : ℕ) (ends : NextEnds s at to) (x : ThreeNumbers) (ex : x ≡ three_in (read_line cut_shape (take (to - at) (drop at s)))) where
     abbrev rs : List Routed
-    rs = routedIn count first second amount front back way
+    rs = routed_in count first second amount front back way
 
-    cut-led : cutFrom (ringOf n fibres) rs line no_row (lines (drop at s)) ≡ after (cutTurn true (ringOf n fibres) rs no_row x) line (λ next. checkFrom desk true next (line + 1) (lines (drop to s)))
-    unfolding cutFrom
+    cut-led : cut_from (ring_of n fibres) rs line no_row (lines (drop at s)) ≡ after (cut_turn true (ring_of n fibres) rs no_row x) line (λ next. check_from desk true next (line + 1) (lines (drop to s)))
+    unfolding cut_from
     cut-led =
         let a = next-line s at to ends in
         let b = next-rest s at to ends in
         rw (ex, a, b)
 
-    pub no-cut-line : (p far byte : ℕ) (t : Ending) → x ≡ NotThree p → far ≡ max no_row p → byte ≡ far + 1 → t.step ≡ StepRefused Misshapen line byte → EndRead s at line no_row (ringOf n fibres) (routedIn count first second amount front back way) t
-    unfolding cutTurn after
+    pub no-cut-line : (p far byte : ℕ) (t : Ending) → x ≡ NotThree p → far ≡ max no_row p → byte ≡ far + 1 → t.step ≡ StepRefused Misshapen line byte → EndRead s at line no_row (ring_of n fibres) (routed_in count first second amount front back way) t
+    unfolding cut_turn after
     no-cut-line p far byte t q f b e = rw e (end_refused {reason = Misshapen} {line = line} {byte = byte} (cut-led ∙ rw (q, b, f)))
 
-    module _ (g h number : ℕ) (is : x ≡ AreThree g h number) (v : Verdict) (ev : v ≡ cutVerdict n (across (rowsIn count first second amount) g h) g h number) where
-      cut-judged : judgeCut n rs (cut_of g h number) ≡ v
-      unfolding judgeCut
+    module _ (g h number : ℕ) (is : x ≡ AreThree g h number) (v : Verdict) (ev : v ≡ cut_verdict n (across (rows_in count first second amount) g h) g h number) where
+      cut-judged : judge_cut n rs (cut_of g h number) ≡ v
+      unfolding judge_cut
       cut-judged = let d = demands-in in sym (ev ∙ rw (← d))
 
-      pub cut-fault : (reason : Reason) (t : Ending) → v ≡ Fault reason → t.step ≡ StepRefused reason line 1 → EndRead s at line no_row (ringOf n fibres) (routedIn count first second amount front back way) t
-      unfolding cutTurn unless after when
+      pub cut-fault : (reason : Reason) (t : Ending) → v ≡ Fault reason → t.step ≡ StepRefused reason line 1 → EndRead s at line no_row (ring_of n fibres) (routed_in count first second amount front back way) t
+      unfolding cut_turn unless after when
       cut-fault reason t q e = rw e (end_refused {reason = reason} {line = line} {byte = 1} (cut-led ∙ rw (is, cut-judged ∙ q)))
 
-      pub cut-goes : v ≡ Fine → (t : Ending) → WeighedRead s to (line + 1) (ringOf n fibres) (routedIn count first second amount front back way) g h number t
-          → EndRead s at line no_row (ringOf n fibres) (routedIn count first second amount front back way) t
-      unfolding cutTurn unless after when
+      pub cut-goes : v ≡ Fine → (t : Ending) → WeighedRead s to (line + 1) (ring_of n fibres) (routed_in count first second amount front back way) g h number t
+          → EndRead s at line no_row (ring_of n fibres) (routed_in count first second amount front back way) t
+      unfolding cut_turn unless after when
       cut-goes q t read =
-          let e : cutFrom (ringOf n fibres) rs line no_row (lines (drop at s)) ≡ checkFrom desk true (links (ringOf n fibres) rs (cut_of g h number) []) (line + 1) (lines (drop to s)) = cut-led ∙ rw (is, cut-judged ∙ q) in
-          subst (λ z. EndMeans (ringOf n fibres) rs z t t.step) (sym e) read
+          let e : cut_from (ring_of n fibres) rs line no_row (lines (drop at s)) ≡ check_from desk true (links (ring_of n fibres) rs (cut_of g h number) []) (line + 1) (lines (drop to s)) = cut-led ∙ rw (is, cut-judged ∙ q) in
+          subst (λ z. EndMeans (ring_of n fibres) rs z t t.step) (sym e) read
 
 -- ---- from the rows on
 
 -- checking behind the R line
 abbrev from-rows : List ℕ → Ring → ℕ → Result
-from-rows s ring from = checkFrom desk true (rows ring []) 2 (lines (drop from s))
+from-rows s ring from = check_from desk true (rows ring []) 2 (lines (drop from s))
 
 rows-stopped : {s : List ℕ} {ring : Ring} {result : Result} {first second amount front back way : List ℕ} {end : RowsEnd} {reason : Reason} {line byte : ℕ} →
     RowsMean s ring result first second amount front back way end → end ≡ RowsRefused reason line byte → result ≡ refused reason line byte
@@ -164,7 +164,7 @@ checked a f l1 l2 l3 l4 l5 l6 l7 l8 =
 record RowsEnded (s : List ℕ) (ring : Ring) (result : Result) (first second amount front back way : List ℕ) (count at line no_row : ℕ) : Type 0 where
   rs : List Routed
   columns : Columns rs count first second amount front back way
-  is : result ≡ cutFrom ring rs line no_row (lines (drop at s))
+  is : result ≡ cut_from ring rs line no_row (lines (drop at s))
   within : at ≤ length s
   inside : no_row ≤ length s
   lined : line ≡ count + 2
@@ -196,12 +196,12 @@ same-checked : {a b : Answer} {f g : Figures} {l1 m1 l2 m2 l3 m3 l4 m4 l5 m5 l6 
 same-checked p q e1 e2 e3 e4 e5 e6 e7 e8 = rw (p, q, e1, e2, e3, e4, e5, e6, e7, e8)
 
 module _ (s : List ℕ) (from n : ℕ) (t : Rows) (read : RowsRead s from n t) where
-  pub rows-stop : (fibres : ℕ) (reason : Reason) (line byte : ℕ) (r : Checked) → t.end ≡ RowsRefused reason line byte → r ≡ checkedIn (refused reason line byte) →
-      r ≡ checkedIn (checkFrom desk true (rows (ringOf n fibres) []) 2 (lines (drop from s)))
-  rows-stop fibres reason line byte r q e = e ∙ ap checkedIn (sym (rows-stopped (read.means fibres) q))
+  pub rows-stop : (fibres : ℕ) (reason : Reason) (line byte : ℕ) (r : Checked) → t.end ≡ RowsRefused reason line byte → r ≡ checked_in (refused reason line byte) →
+      r ≡ checked_in (check_from desk true (rows (ring_of n fibres) []) 2 (lines (drop from s)))
+  rows-stop fibres reason line byte r q e = e ∙ ap checked_in (sym (rows-stopped (read.means fibres) q))
 
   module _ (count at line no_row : ℕ) (q : t.end ≡ At count at line no_row) where
-    known : (fibres : ℕ) → RowsEnded s (ringOf n fibres) (from-rows s (ringOf n fibres) from) t.first t.second t.amount t.front t.back t.way count at line no_row
+    known : (fibres : ℕ) → RowsEnded s (ring_of n fibres) (from-rows s (ring_of n fibres) from) t.first t.second t.amount t.front t.back t.way count at line no_row
     known fibres = rows-ended (read.means fibres) q
 
     -- what is known of the columns is known whatever the fibres
@@ -220,16 +220,16 @@ module _ (s : List ℕ) (from n : ℕ) (t : Rows) (read : RowsRead s from n t) w
     pub rows-halves : Halves count t.front t.back
     rows-halves = (known 0).halves
 
-    module _ (fibres : ℕ) (e : Ending) (End-read : EndRead s at line no_row (ringOf n fibres) (routedIn count t.first t.second t.amount t.front t.back t.way) e) where
-      is-result : from-rows s (ringOf n fibres) from ≡ cutFrom (ringOf n fibres) (routedIn count t.first t.second t.amount t.front t.back t.way) line no_row (lines (drop at s))
-      is-result = (known fibres).is ∙ ap (λ rs. cutFrom (ringOf n fibres) rs line no_row (lines (drop at s))) (sym (known fibres).columns.is)
+    module _ (fibres : ℕ) (e : Ending) (End-read : EndRead s at line no_row (ring_of n fibres) (routed_in count t.first t.second t.amount t.front t.back t.way) e) where
+      is-result : from-rows s (ring_of n fibres) from ≡ cut_from (ring_of n fibres) (routed_in count t.first t.second t.amount t.front t.back t.way) line no_row (lines (drop at s))
+      is-result = (known fibres).is ∙ ap (λ rs. cut_from (ring_of n fibres) rs line no_row (lines (drop at s))) (sym (known fibres).columns.is)
 
-      stops : (reason : Reason) (place byte : ℕ) (r : Checked) → e.step ≡ StepRefused reason place byte → r ≡ checkedIn (refused reason place byte) →
-          r ≡ checkedIn (checkFrom desk true (rows (ringOf n fibres) []) 2 (lines (drop from s)))
-      stops reason place byte r f er = er ∙ ap checkedIn (sym (is-result ∙ go End-read f))
+      stops : (reason : Reason) (place byte : ℕ) (r : Checked) → e.step ≡ StepRefused reason place byte → r ≡ checked_in (refused reason place byte) →
+          r ≡ checked_in (check_from desk true (rows (ring_of n fibres) []) 2 (lines (drop from s)))
+      stops reason place byte r f er = er ∙ ap checked_in (sym (is-result ∙ go End-read f))
         where
-          go : {step : Step} → EndMeans (ringOf n fibres) (routedIn count t.first t.second t.amount t.front t.back t.way) (cutFrom (ringOf n fibres) (routedIn count t.first t.second t.amount t.front t.back t.way) line no_row (lines (drop at s))) e step
-              → step ≡ StepRefused reason place byte → cutFrom (ringOf n fibres) (routedIn count t.first t.second t.amount t.front t.back t.way) line no_row (lines (drop at s)) ≡ refused reason place byte
+          go : {step : Step} → EndMeans (ring_of n fibres) (routed_in count t.first t.second t.amount t.front t.back t.way) (cut_from (ring_of n fibres) (routed_in count t.first t.second t.amount t.front t.back t.way) line no_row (lines (drop at s))) e step
+              → step ≡ StepRefused reason place byte → cut_from (ring_of n fibres) (routed_in count t.first t.second t.amount t.front t.back t.way) line no_row (lines (drop at s)) ≡ refused reason place byte
           go (ends_with c top size a b d u) g = clash (cc)
           go (end_refused {reason = x} {line = y} {byte = z} a) g =
               let ex : x ≡ reason = cc in
@@ -237,72 +237,72 @@ module _ (s : List ℕ) (from n : ℕ) (t : Rows) (read : RowsRead s from n t) w
               let ez : z ≡ byte = cc in
               a ∙ rw (ex, ey, ez)
 
-      pub sheet-ends : (p : ℕ) (r : Checked) → e.step ≡ On p → r ≡ checkedWith count t e → r ≡ checkedIn (checkFrom desk true (rows (ringOf n fibres) []) 2 (lines (drop from s)))
-      unfolding checkedIn
+      pub sheet-ends : (p : ℕ) (r : Checked) → e.step ≡ On p → r ≡ checked_with count t e → r ≡ checked_in (check_from desk true (rows (ring_of n fibres) []) 2 (lines (drop from s)))
+      unfolding checked_in
       sheet-ends p r f er = er ∙ go End-read f
         where
-          go : {step : Step} → EndMeans (ringOf n fibres) (routedIn count t.first t.second t.amount t.front t.back t.way) (cutFrom (ringOf n fibres) (routedIn count t.first t.second t.amount t.front t.back t.way) line no_row (lines (drop at s))) e step
-              → step ≡ On p → checkedWith count t e ≡ checkedIn (from-rows s (ringOf n fibres) from)
+          go : {step : Step} → EndMeans (ring_of n fibres) (routed_in count t.first t.second t.amount t.front t.back t.way) (cut_from (ring_of n fibres) (routed_in count t.first t.second t.amount t.front t.back t.way) line no_row (lines (drop at s))) e step
+              → step ≡ On p → checked_with count t e ≡ checked_in (from-rows s (ring_of n fibres) from)
           go (ends_with c top size a b d u) g =
               let k = (known fibres).columns in
-              let whole : from-rows s (ringOf n fibres) from ≡ accepted (sheetWith (ringOf n fibres) (known fibres).rs c e.split e.unsplit top size) =
-              is-result ∙ a ∙ ap (λ rs. accepted (sheetWith (ringOf n fibres) rs c e.split e.unsplit top size)) k.is in
+              let whole : from-rows s (ring_of n fibres) from ≡ accepted (sheet_with (ring_of n fibres) (known fibres).rs c e.split e.unsplit top size) =
+              is-result ∙ a ∙ ap (λ rs. accepted (sheet_with (ring_of n fibres) rs c e.split e.unsplit top size)) k.is in
               rw whole (same-checked (ap Is k.many) b k.firsts k.seconds k.amounts k.fronts k.backs k.ways d u)
           go (end_refused a) g = clash (cc)
 
-  pub end-stops : (count at line no_row fibres : ℕ) (e : Ending) → EndRead s at line no_row (ringOf n fibres) (routedIn count t.first t.second t.amount t.front t.back t.way) e → t.end ≡ At count at line no_row →
-      (reason : Reason) (place byte : ℕ) (r : Checked) → e.step ≡ StepRefused reason place byte → r ≡ checkedIn (refused reason place byte) →
-      r ≡ checkedIn (checkFrom desk true (rows (ringOf n fibres) []) 2 (lines (drop from s)))
+  pub end-stops : (count at line no_row fibres : ℕ) (e : Ending) → EndRead s at line no_row (ring_of n fibres) (routed_in count t.first t.second t.amount t.front t.back t.way) e → t.end ≡ At count at line no_row →
+      (reason : Reason) (place byte : ℕ) (r : Checked) → e.step ≡ StepRefused reason place byte → r ≡ checked_in (refused reason place byte) →
+      r ≡ checked_in (check_from desk true (rows (ring_of n fibres) []) 2 (lines (drop from s)))
   end-stops count at line no_row fibres e End-read q = stops count at line no_row q fibres e End-read
 
 -- ---- the whole sheet
 
 -- the first line's faulty byte is within the text
-pub ring-place : (s : List ℕ) (to : ℕ) → length s ≤ desk.bytes → NextEnds s 0 to → (x : TwoNumbers) → x ≡ twoIn (readLine ringShape (take (to - 0) (drop 0 s))) → (p : ℕ) → x ≡ NotTwo p
+pub ring-place : (s : List ℕ) (to : ℕ) → length s ≤ desk.bytes → NextEnds s 0 to → (x : TwoNumbers) → x ≡ two_in (read_line ring_shape (take (to - 0) (drop 0 s))) → (p : ℕ) → x ≡ NotTwo p
     → p ≤ desk.bytes
-ring-place s to short ends x ex p q = omega (arith, two-within ringShape (take (to - 0) (drop 0 s)) p (sym ex ∙ q), length-take (to - 0) (drop 0 s), ends.within)
+ring-place s to short ends x ex p q = omega (arith, two-within ring_shape (take (to - 0) (drop 0 s)) p (sym ex ∙ q), length-take (to - 0) (drop 0 s), ends.within)
 
 -- so is that of the line behind the rows, by both shapes
-pub far-place : (s : List ℕ) (at to : ℕ) → length s ≤ desk.bytes → NextEnds s at to → (x : ThreeNumbers) → x ≡ threeIn (readLine cutShape (take (to - at) (drop at s))) → (p no_row far : ℕ) → x ≡ NotThree p
+pub far-place : (s : List ℕ) (at to : ℕ) → length s ≤ desk.bytes → NextEnds s at to → (x : ThreeNumbers) → x ≡ three_in (read_line cut_shape (take (to - at) (drop at s))) → (p no_row far : ℕ) → x ≡ NotThree p
     → no_row ≤ desk.bytes → far ≡ max no_row p → far ≤ desk.bytes
-far-place s at to short ends x ex p no_row far q h e = omega (arith, three-within cutShape (take (to - at) (drop at s)) p (sym ex ∙ q), length-take (to - at) (drop at s), ends.within)
+far-place s at to short ends x ex p no_row far q h e = omega (arith, three-within cut_shape (take (to - at) (drop at s)) p (sym ex ∙ q), length-take (to - at) (drop at s), ends.within)
 
 module _ (s : List ℕ) (t : Checked) where
-  pub too_long : desk.bytes < length s → t ≡ checkedIn (refused TooLong 0 0) → t ≡ checkedIn (check desk s)
+  pub too_long : desk.bytes < length s → t ≡ checked_in (refused TooLong 0 0) → t ≡ checked_in (check desk s)
   unfolding check
-  too_long h e = e ∙ ap checkedIn (rw (lt-ltb desk.bytes (length s) h))
+  too_long h e = e ∙ ap checked_in (rw (lt-ltb desk.bytes (length s) h))
 
-  module _ (short : length s ≤ desk.bytes) (to : ℕ) (ends : NextEnds s 0 to) (x : TwoNumbers) (ex : x ≡ twoIn (readLine ringShape (take (to - 0) (drop 0 s)))) where
-    ring-led : check desk s ≡ after (ringTurn desk x) 1 (λ next. checkFrom desk true next 2 (lines (drop to s)))
+  module _ (short : length s ≤ desk.bytes) (to : ℕ) (ends : NextEnds s 0 to) (x : TwoNumbers) (ex : x ≡ two_in (read_line ring_shape (take (to - 0) (drop 0 s)))) where
+    ring-led : check desk s ≡ after (ring_turn desk x) 1 (λ next. check_from desk true next 2 (lines (drop to s)))
     unfolding check turn
     ring-led = rw (le-ltb desk.bytes (length s) short) (step-at desk true s 0 to ends start tt 1 ∙ rw (← ex))
 
-    pub no-ring : (p byte : ℕ) → x ≡ NotTwo p → byte ≡ p + 1 → t ≡ checkedIn (refused Misshapen 1 byte) → t ≡ checkedIn (check desk s)
-    unfolding ringTurn after
-    no-ring p byte q b e = e ∙ ap checkedIn (sym (ring-led ∙ rw (q, b)))
+    pub no-ring : (p byte : ℕ) → x ≡ NotTwo p → byte ≡ p + 1 → t ≡ checked_in (refused Misshapen 1 byte) → t ≡ checked_in (check desk s)
+    unfolding ring_turn after
+    no-ring p byte q b e = e ∙ ap checked_in (sym (ring-led ∙ rw (q, b)))
 
-    module _ (n fibres : ℕ) (is : x ≡ AreTwo n fibres) (v : Verdict) (ev : v ≡ judgeRing desk (ringOf n fibres)) where
-      pub ring-fault : (reason : Reason) (byte : ℕ) → v ≡ Fault reason → byte ≡ ringFault (ringOf n fibres) reason → t ≡ checkedIn (refused reason 1 byte) → t ≡ checkedIn (check desk s)
-      unfolding ringTurn unless after
-      ring-fault reason byte q b e = e ∙ ap checkedIn (sym (ring-led ∙ rw (is, sym ev ∙ q, b)))
+    module _ (n fibres : ℕ) (is : x ≡ AreTwo n fibres) (v : Verdict) (ev : v ≡ judge_ring desk (ring_of n fibres)) where
+      pub ring-fault : (reason : Reason) (byte : ℕ) → v ≡ Fault reason → byte ≡ ring_fault (ring_of n fibres) reason → t ≡ checked_in (refused reason 1 byte) → t ≡ checked_in (check desk s)
+      unfolding ring_turn unless after
+      ring-fault reason byte q b e = e ∙ ap checked_in (sym (ring-led ∙ rw (is, sym ev ∙ q, b)))
 
-      pub then-rows : v ≡ Fine → t ≡ checkedIn (checkFrom desk true (rows (ringOf n fibres) []) 2 (lines (drop to s))) → t ≡ checkedIn (check desk s)
-      unfolding ringTurn unless after
-      then-rows q e = e ∙ ap checkedIn (sym (ring-led ∙ rw (is, sym ev ∙ q)))
+      pub then-rows : v ≡ Fine → t ≡ checked_in (check_from desk true (rows (ring_of n fibres) []) 2 (lines (drop to s))) → t ≡ checked_in (check desk s)
+      unfolding ring_turn unless after
+      then-rows q e = e ∙ ap checked_in (sym (ring-led ∙ rw (is, sym ev ∙ q)))
 
 -- a ring that nothing is found against has a size within the limits
-module _ (n fibres : ℕ) (v : Verdict) (ev : v ≡ judgeRing desk (ringOf n fibres)) (fine : v ≡ Fine) where
-  right : RingJudged desk (ringOf n fibres) Fine
-  right = let q = sym ev ∙ fine in rw q at (ring-judged desk (ringOf n fibres))
+module _ (n fibres : ℕ) (v : Verdict) (ev : v ≡ judge_ring desk (ring_of n fibres)) (fine : v ≡ Fine) where
+  right : RingJudged desk (ring_of n fibres) Fine
+  right = let q = sym ev ∙ fine in rw q at (ring-judged desk (ring_of n fibres))
 
   pub ring-two : desk.fewest ≤ n
   ring-two = go right
     where
-      go : RingJudged desk (ringOf n fibres) Fine → desk.fewest ≤ n
+      go : RingJudged desk (ring_of n fibres) Fine → desk.fewest ≤ n
       go (right-ring few many fibred) = few
 
   pub ring-fits : n ≤ desk.nodes
   ring-fits = go right
     where
-      go : RingJudged desk (ringOf n fibres) Fine → n ≤ desk.nodes
+      go : RingJudged desk (ring_of n fibres) Fine → n ≤ desk.nodes
       go (right-ring few many fibred) = many

@@ -9,19 +9,19 @@ use lib.ListN.{length, get_or, take, drop, drop_of_length-le, length-drop, lengt
 use mir.Syntax.{w32}
 use mir.Val.{Fits}
 use borrow.Author.Tests.{lt-ltb, le-ltb}
-use Rattle.sonet.specs.Size.{sonetSizes}
-use Rattle.ring.specs.Ring.{Ring, ringOf}
-use Rattle.ring.specs.LineSize.{lineSize}
+use Rattle.sonet.specs.Size.{sonet_sizes}
+use Rattle.ring.specs.Ring.{Ring, ring_of}
+use Rattle.ring.specs.LineSize.{line_size}
 use Rattle.ring.specs.Columns.{column, listed}
 use Rattle.ring.specs.Cut.{Cut}
 use Rattle.ring.specs.Limits.{desk}
-use Rattle.ring.specs.Routing.{Routed, splitLoad, unsplitLoad, peak}
-use Rattle.ring.specs.RuleD.{largestSplit}
-use Rattle.ring.specs.Sheet.{Link, Sheet, sents, numbersFrom}
+use Rattle.ring.specs.Routing.{Routed, split_load, unsplit_load, peak}
+use Rattle.ring.specs.RuleD.{largest_split}
+use Rattle.ring.specs.Sheet.{Link, Sheet, sents, numbers_from}
 use Rattle.ring.proofs.Listed.{listed-snoc, listed-length}
-use Rattle.text.specs.Answers.{twoIn, threeIn}
-use Rattle.text.specs.ReadLine.{readLine}
-use Rattle.text.specs.Shapes.{linkShape, lastShape}
+use Rattle.text.specs.Answers.{two_in, three_in}
+use Rattle.text.specs.ReadLine.{read_line}
+use Rattle.text.specs.Shapes.{link_shape, last_shape}
 use Rattle.text.proofs.AnswerLaws.{two-within, three-within}
 use Rattle.text.specs.declared.TwoNumbers.{TwoNumbers}
 use Rattle.text.specs.declared.TwoNumbers.TheVariants.{Are as AreTwo, Bad as NotTwo}
@@ -35,12 +35,12 @@ use Rattle.table.specs.declared.judge.Verdict.{Verdict}
 use Rattle.table.specs.declared.judge.Verdict.TheVariants.{Fine, Fault}
 use Rattle.table.proofs.Columns.{column-at}
 use Rattle.table.proofs.LineSteps.{first-line}
-use Rattle.sheet.specs.Arrays.{link_at, linksIn}
-use Rattle.sheet.specs.Judge.{judgeLink, judgeLast, judgeWhole}
-use Rattle.sheet.specs.Check.{Result, accepted, refused, cut_of, link_of, when, unless, linkTurn, lastTurn, turn, after, atEnd, wholeResult, checkFrom}
+use Rattle.sheet.specs.Arrays.{link_at, links_in}
+use Rattle.sheet.specs.Judge.{judge_link, judge_last, judge_whole}
+use Rattle.sheet.specs.Check.{Result, accepted, refused, cut_of, link_of, when, unless, link_turn, last_turn, turn, after, at_end, whole_result, check_from}
 use Rattle.sheet.specs.Says.{links, end}
-use Rattle.sheet.specs.Verdicts.{linkVerdict, lastVerdict, wholeVerdict}
-use Rattle.checker.specs.Parts.{NextEnds, Weighed, StepMeans, steps_on, step-refused, Within, LinksRead, LastRead, WholeRead, TailRead, sheetWith}
+use Rattle.sheet.specs.Verdicts.{link_verdict, last_verdict, whole_verdict}
+use Rattle.checker.specs.Parts.{NextEnds, Weighed, StepMeans, steps_on, step-refused, Within, LinksRead, LastRead, WholeRead, TailRead, sheet_with}
 use Rattle.checker.specs.declared.ending.Step.{Step}
 use Rattle.checker.specs.declared.ending.Step.TheVariants.{On, Refused}
 use Rattle.sheet.proofs.Back.{numbers-length, number_at}
@@ -54,17 +54,17 @@ not_on = record { place = λ at q. clash (cc) }
 -- ---- the loads that are due
 
 module _ {n : ℕ} {rs : List Routed} {split unsplit : List ℕ} {split-peak top largest : ℕ} (many : n ≤ desk.nodes) (w : Weighed n rs split unsplit split-peak top largest) where
-  load_at : (load : ℕ → ℕ) (array : List ℕ) → array ≡ column load desk.nodes (numbersFrom 1 n) → (k : ℕ) → k < n → get_or array k 0 ≡ load (k + 1)
+  load_at : (load : ℕ → ℕ) (array : List ℕ) → array ≡ column load desk.nodes (numbers_from 1 n) → (k : ℕ) → k < n → get_or array k 0 ≡ load (k + 1)
   load_at load array e k h =
       let m = numbers-length 1 n in
-      let q : get_or (numbersFrom 1 n) k 0 ≡ k + 1 = omega (arith, number_at 1 n k h) in
-      ap (λ a. get_or a k 0) e ∙ column-at load desk.nodes (numbersFrom 1 n) 0 k (omega arith) (omega arith) ∙ ap load q
+      let q : get_or (numbers_from 1 n) k 0 ≡ k + 1 = omega (arith, number_at 1 n k h) in
+      ap (λ a. get_or a k 0) e ∙ column-at load desk.nodes (numbers_from 1 n) 0 k (omega arith) (omega arith) ∙ ap load q
 
-  split-due : (k : ℕ) → k < n → get_or split k 0 ≡ splitLoad (sents rs) (k + 1)
-  split-due = load_at (splitLoad (sents rs)) split w.splits
+  split-due : (k : ℕ) → k < n → get_or split k 0 ≡ split_load (sents rs) (k + 1)
+  split-due = load_at (split_load (sents rs)) split w.splits
 
-  unsplit-due : (k : ℕ) → k < n → get_or unsplit k 0 ≡ unsplitLoad rs (k + 1)
-  unsplit-due = load_at (unsplitLoad rs) unsplit w.unsplits
+  unsplit-due : (k : ℕ) → k < n → get_or unsplit k 0 ≡ unsplit_load rs (k + 1)
+  unsplit-due = load_at (unsplit_load rs) unsplit w.unsplits
 
 -- ---- the L lines
 
@@ -76,7 +76,7 @@ pub record LinksReading (s : List ℕ) (from n start : ℕ) (split unsplit : Lis
   pub many : n ≤ desk.nodes
   pub low : start ≤ desk.bytes
   pub rest : (fibres : ℕ) (rs : List Routed) (c : Cut) (split-peak top largest : ℕ) → Weighed n rs split unsplit split-peak top largest →
-      checkFrom desk true (links (ringOf n fibres) rs c []) start (lines (drop from s)) ≡ checkFrom desk true (links (ringOf n fibres) rs c (linksIn k split unsplit)) line (lines (drop at s))
+      check_from desk true (links (ring_of n fibres) rs c []) start (lines (drop from s)) ≡ check_from desk true (links (ring_of n fibres) rs c (links_in k split unsplit)) line (lines (drop at s))
 
 module _ (s : List ℕ) (from n start : ℕ) (split unsplit : List ℕ) where
   pub links-start : from ≤ length s → n ≤ desk.nodes → start ≤ desk.bytes → LinksReading s from n start split unsplit from start 0
@@ -91,12 +91,12 @@ module _ (s : List ℕ) (from n start : ℕ) (split unsplit : List ℕ) where
         record {
           within = record { place = λ p f. let g : p ≡ at = cc in rw g reading.within };
           means = λ fibres rs c split-peak top largest w. steps_on {at = at} reading.within
-              (reading.rest fibres rs c split-peak top largest w ∙ ap (λ m. checkFrom desk true (links (ringOf n fibres) rs c (linksIn m split unsplit)) line (lines (drop at s))) e
-              ∙ ap (λ m. checkFrom desk true (links (ringOf n fibres) rs c (linksIn n split unsplit)) m (lines (drop at s))) q);
+              (reading.rest fibres rs c split-peak top largest w ∙ ap (λ m. check_from desk true (links (ring_of n fibres) rs c (links_in m split unsplit)) line (lines (drop at s))) e
+              ∙ ap (λ m. check_from desk true (links (ring_of n fibres) rs c (links_in n split unsplit)) m (lines (drop at s))) q);
         }
 
     abbrev ks : List Link
-    ks = linksIn k split unsplit
+    ks = links_in k split unsplit
 
     long : length ks ≡ k
     long = listed-length (link_at split unsplit) 0 k
@@ -104,28 +104,28 @@ module _ (s : List ℕ) (from n start : ℕ) (split unsplit : List ℕ) where
     pub line-fits : Fits w32 (line + 1)
     line-fits = omega (arith, reading.lined, reading.upto, reading.many, reading.low)
 
-    module _ (m : ℕ) (em : m ≡ n) (below : k < m) (to : ℕ) (ends : NextEnds s at to) (x : ThreeNumbers) (ex : x ≡ threeIn (readLine linkShape (take (to - at) (drop at s)))) where
+    module _ (m : ℕ) (em : m ≡ n) (below : k < m) (to : ℕ) (ends : NextEnds s at to) (x : ThreeNumbers) (ex : x ≡ three_in (read_line link_shape (take (to - at) (drop at s)))) where
       module _ (fibres : ℕ) (rs : List Routed) (c : Cut) (split-peak top largest : ℕ) (w : Weighed n rs split unsplit split-peak top largest) where
-        led : checkFrom desk true (links (ringOf n fibres) rs c []) start (lines (drop from s)) ≡ after (linkTurn true (ringOf n fibres) rs c ks x) line (λ next. checkFrom desk true next (line + 1) (lines (drop to s)))
+        led : check_from desk true (links (ring_of n fibres) rs c []) start (lines (drop from s)) ≡ after (link_turn true (ring_of n fibres) rs c ks x) line (λ next. check_from desk true next (line + 1) (lines (drop to s)))
         unfolding turn
         led =
             let few : length ks < n = omega (arith, long) in
-            reading.rest fibres rs c split-peak top largest w ∙ step-at desk true s at to ends (links (ringOf n fibres) rs c ks) tt line ∙ rw (lt-ltb (length ks) n few, ← ex)
+            reading.rest fibres rs c split-peak top largest w ∙ step-at desk true s at to ends (links (ring_of n fibres) rs c ks) tt line ∙ rw (lt-ltb (length ks) n few, ← ex)
 
       pub link-place : (p : ℕ) → x ≡ NotThree p → length s ≤ desk.bytes → p ≤ desk.bytes
-      link-place p q short = omega (arith, three-within linkShape (take (to - at) (drop at s)) p (sym ex ∙ q), length-take (to - at) (drop at s), ends.within)
+      link-place p q short = omega (arith, three-within link_shape (take (to - at) (drop at s)) p (sym ex ∙ q), length-take (to - at) (drop at s), ends.within)
 
       pub no-link : (p byte : ℕ) → x ≡ NotThree p → byte ≡ p + 1 → LinksRead s from n start split unsplit (Refused Misshapen line byte)
-      unfolding linkTurn after
+      unfolding link_turn after
       no-link p byte q b =
           record {
             within = not_on;
             means = λ fibres rs c split-peak top largest w. step-refused {reason = Misshapen} {line = line} {byte = byte} (led fibres rs c split-peak top largest w ∙ rw (q, b));
           }
 
-      module _ (a b d due : ℕ) (is : x ≡ AreThree a b d) (edue : due ≡ k + 1) (v : Verdict) (ev : v ≡ linkVerdict due (get_or split k 0) (get_or unsplit k 0) a b d) where
-        judged : (rs : List Routed) (split-peak top largest : ℕ) → Weighed n rs split unsplit split-peak top largest → judgeLink rs (length ks + 1) (link_of a b d) ≡ v
-        unfolding judgeLink
+      module _ (a b d due : ℕ) (is : x ≡ AreThree a b d) (edue : due ≡ k + 1) (v : Verdict) (ev : v ≡ link_verdict due (get_or split k 0) (get_or unsplit k 0) a b d) where
+        judged : (rs : List Routed) (split-peak top largest : ℕ) → Weighed n rs split unsplit split-peak top largest → judge_link rs (length ks + 1) (link_of a b d) ≡ v
+        unfolding judge_link
         judged rs split-peak top largest w =
             let e : length ks + 1 ≡ k + 1 = omega (arith, long) in
             let s1 = split-due reading.many w k (omega arith) in
@@ -133,7 +133,7 @@ module _ (s : List ℕ) (from n start : ℕ) (split unsplit : List ℕ) where
             sym (ev ∙ rw (edue, s1, u1, e))
 
         pub link-fault : (reason : Reason) → v ≡ Fault reason → LinksRead s from n start split unsplit (Refused reason line 1)
-        unfolding linkTurn unless after when
+        unfolding link_turn unless after when
         link-fault reason q =
             record {
               within = not_on;
@@ -145,12 +145,12 @@ module _ (s : List ℕ) (from n start : ℕ) (split unsplit : List ℕ) where
             let e : length ks + 1 ≡ k + 1 = omega (arith, long) in
             let t = link-true rs (length ks + 1) (link_of a b d) (judged rs split-peak top largest w ∙ q) in
             let ea : a ≡ k + 1 = t.number ∙ e in
-            let eb : b ≡ get_or split k 0 = t.split ∙ ap (splitLoad (sents rs)) e ∙ sym (split-due reading.many w k (omega arith)) in
-            let ed : d ≡ get_or unsplit k 0 = t.unsplit ∙ ap (unsplitLoad rs) e ∙ sym (unsplit-due reading.many w k (omega arith)) in
+            let eb : b ≡ get_or split k 0 = t.split ∙ ap (split_load (sents rs)) e ∙ sym (split-due reading.many w k (omega arith)) in
+            let ed : d ≡ get_or unsplit k 0 = t.unsplit ∙ ap (unsplit_load rs) e ∙ sym (unsplit-due reading.many w k (omega arith)) in
             rw (ea, eb, ed)
 
         pub link-read : v ≡ Fine → LinksReading s from n start split unsplit to (line + 1) (k + 1)
-        unfolding linkTurn unless after when
+        unfolding link_turn unless after when
         link-read q =
             record {
               within = ends.within;
@@ -160,45 +160,45 @@ module _ (s : List ℕ) (from n start : ℕ) (split unsplit : List ℕ) where
               low = reading.low;
               rest = λ fibres rs c split-peak top largest w.
                   let z : 0 + k ≡ k = omega arith in
-                  let more : linksIn k split unsplit ++ link_of a b d ∷ [] ≡ linksIn (k + 1) split unsplit =
-                  ap (λ l. linksIn k split unsplit ++ l ∷ []) (same-link rs split-peak top largest w q ∙ ap (link_at split unsplit) (sym z)) ∙ sym (listed-snoc (link_at split unsplit) 0 k) in
-                  let turned : after (linkTurn true (ringOf n fibres) rs c ks x) line (λ next. checkFrom desk true next (line + 1) (lines (drop to s))) ≡ checkFrom desk true (links (ringOf n fibres) rs c (ks ++ link_of a b d ∷ [])) (line + 1) (lines (drop to s)) =
+                  let more : links_in k split unsplit ++ link_of a b d ∷ [] ≡ links_in (k + 1) split unsplit =
+                  ap (λ l. links_in k split unsplit ++ l ∷ []) (same-link rs split-peak top largest w q ∙ ap (link_at split unsplit) (sym z)) ∙ sym (listed-snoc (link_at split unsplit) 0 k) in
+                  let turned : after (link_turn true (ring_of n fibres) rs c ks x) line (λ next. check_from desk true next (line + 1) (lines (drop to s))) ≡ check_from desk true (links (ring_of n fibres) rs c (ks ++ link_of a b d ∷ [])) (line + 1) (lines (drop to s)) =
                   rw (is, judged rs split-peak top largest w ∙ q) in
-                  led fibres rs c split-peak top largest w ∙ turned ∙ ap (λ l. checkFrom desk true (links (ringOf n fibres) rs c l) (line + 1) (lines (drop to s))) more;
+                  led fibres rs c split-peak top largest w ∙ turned ∙ ap (λ l. check_from desk true (links (ring_of n fibres) rs c l) (line + 1) (lines (drop to s))) more;
             }
 
 -- ---- the Z line
 
 -- behind a place inside the text there is a line
-some-line : (s : List ℕ) (to : ℕ) → to < length s → (x : Sheet) (line : ℕ) → checkFrom desk true (end x) line (lines (drop to s)) ≡ refused Misshapen line 1
-unfolding checkFrom turn after
+some-line : (s : List ℕ) (to : ℕ) → to < length s → (x : Sheet) (line : ℕ) → check_from desk true (end x) line (lines (drop to s)) ≡ refused Misshapen line 1
+unfolding check_from turn after
 some-line s to h x line = let e = first-line (drop to s) (omega (arith, length-drop to s)) in rw e
 
 -- behind the text there is none
-no_line : (s : List ℕ) (to : ℕ) → length s ≤ to → (x : Sheet) (line : ℕ) → checkFrom desk true (end x) line (lines (drop to s)) ≡ wholeResult x (judgeWhole x)
-unfolding checkFrom atEnd when lines
+no_line : (s : List ℕ) (to : ℕ) → length s ≤ to → (x : Sheet) (line : ℕ) → check_from desk true (end x) line (lines (drop to s)) ≡ whole_result x (judge_whole x)
+unfolding check_from at_end when lines
 no_line s to h x line = rw (drop_of_length-le s h)
 
-module _ (s : List ℕ) (at line top size : ℕ) (to : ℕ) (ends : NextEnds s at to) (x : TwoNumbers) (ex : x ≡ twoIn (readLine lastShape (take (to - at) (drop at s)))) where
+module _ (s : List ℕ) (at line top size : ℕ) (to : ℕ) (ends : NextEnds s at to) (x : TwoNumbers) (ex : x ≡ two_in (read_line last_shape (take (to - at) (drop at s)))) where
   module _ (ring : Ring) (rs : List Routed) (c : Cut) (ks : List Link) (all : ring.n ≤ length ks) where
-    last-led : checkFrom desk true (links ring rs c ks) line (lines (drop at s)) ≡ after (lastTurn true ring rs c ks x) line (λ next. checkFrom desk true next (line + 1) (lines (drop to s)))
+    last-led : check_from desk true (links ring rs c ks) line (lines (drop at s)) ≡ after (last_turn true ring rs c ks x) line (λ next. check_from desk true next (line + 1) (lines (drop to s)))
     unfolding turn
     last-led = step-at desk true s at to ends (links ring rs c ks) tt line ∙ rw (le-ltb (length ks) ring.n all, ← ex)
 
   pub last-place : (p : ℕ) → x ≡ NotTwo p → length s ≤ desk.bytes → p ≤ desk.bytes
-  last-place p q short = omega (arith, two-within lastShape (take (to - at) (drop at s)) p (sym ex ∙ q), length-take (to - at) (drop at s), ends.within)
+  last-place p q short = omega (arith, two-within last_shape (take (to - at) (drop at s)) p (sym ex ∙ q), length-take (to - at) (drop at s), ends.within)
 
   pub no_last : (p byte : ℕ) → x ≡ NotTwo p → byte ≡ p + 1 → LastRead s at line top size (Refused Misshapen line byte)
-  unfolding lastTurn after
+  unfolding last_turn after
   no_last p byte q b = record { within = not_on; means = λ ring rs c ks all et ez. step-refused {reason = Misshapen} {line = line} {byte = byte} (last-led ring rs c ks all ∙ rw (q, b)) }
 
-  module _ (p z : ℕ) (is : x ≡ AreTwo p z) (v : Verdict) (ev : v ≡ lastVerdict top size p z) where
-    last-judged : (ring : Ring) (rs : List Routed) → top ≡ peak (unsplitLoad rs) ring.n → size ≡ lineSize sonetSizes ring.fibres top → judgeLast ring rs p z ≡ v
-    unfolding judgeLast
+  module _ (p z : ℕ) (is : x ≡ AreTwo p z) (v : Verdict) (ev : v ≡ last_verdict top size p z) where
+    last-judged : (ring : Ring) (rs : List Routed) → top ≡ peak (unsplit_load rs) ring.n → size ≡ line_size sonet_sizes ring.fibres top → judge_last ring rs p z ≡ v
+    unfolding judge_last
     last-judged ring rs et ez = sym (ev ∙ rw (ez, et))
 
     pub last-fault : (reason : Reason) → v ≡ Fault reason → LastRead s at line top size (Refused reason line 1)
-    unfolding lastTurn unless after when
+    unfolding last_turn unless after when
     last-fault reason q =
         record {
           within = not_on;
@@ -206,16 +206,16 @@ module _ (s : List ℕ) (at line top size : ℕ) (to : ℕ) (ends : NextEnds s a
         }
 
     module _ (q : v ≡ Fine) where
-      ended : (ring : Ring) (rs : List Routed) (c : Cut) (ks : List Link) → ring.n ≤ length ks → top ≡ peak (unsplitLoad rs) ring.n → size ≡ lineSize sonetSizes ring.fibres top →
-          checkFrom desk true (links ring rs c ks) line (lines (drop at s))
-          ≡ checkFrom desk true (end (record { ring = ring; rows = rs; cut = c; links = ks; peak = top; size = size })) (line + 1) (lines (drop to s))
-      unfolding lastTurn unless after when
+      ended : (ring : Ring) (rs : List Routed) (c : Cut) (ks : List Link) → ring.n ≤ length ks → top ≡ peak (unsplit_load rs) ring.n → size ≡ line_size sonet_sizes ring.fibres top →
+          check_from desk true (links ring rs c ks) line (lines (drop at s))
+          ≡ check_from desk true (end (record { ring = ring; rows = rs; cut = c; links = ks; peak = top; size = size })) (line + 1) (lines (drop to s))
+      unfolding last_turn unless after when
       ended ring rs c ks all et ez =
           let t = last-true ring rs p z (last-judged ring rs et ez ∙ q) in
           let ep : p ≡ top = t.0 ∙ sym et in
-          let es : z ≡ size = t.1 ∙ ap (lineSize sonetSizes ring.fibres) (sym et) ∙ sym ez in
-          let turned : after (lastTurn true ring rs c ks x) line (λ next. checkFrom desk true next (line + 1) (lines (drop to s)))
-          ≡ checkFrom desk true (end (record { ring = ring; rows = rs; cut = c; links = ks; peak = p; size = z })) (line + 1) (lines (drop to s)) =
+          let es : z ≡ size = t.1 ∙ ap (line_size sonet_sizes ring.fibres) (sym et) ∙ sym ez in
+          let turned : after (last_turn true ring rs c ks x) line (λ next. check_from desk true next (line + 1) (lines (drop to s)))
+          ≡ check_from desk true (end (record { ring = ring; rows = rs; cut = c; links = ks; peak = p; size = z })) (line + 1) (lines (drop to s)) =
           rw (is, last-judged ring rs et ez ∙ q) in
           last-led ring rs c ks all ∙ turned ∙ rw (ep, es)
 
@@ -253,29 +253,29 @@ module _ (s : List ℕ) (at line number split-peak top size largest : ℕ) (r : 
   pub whole-stops : (reason : Reason) (place byte : ℕ) → r ≡ Refused reason place byte → WholeRead s at line number split-peak top size largest (Refused reason place byte)
   whole-stops reason place byte q = record { means = λ ring rs g h ks all es et el ez. step-stops (last.means ring rs (cut_of g h number) ks all et ez) q }
 
-  module _ (to : ℕ) (q : r ≡ On to) (v : Verdict) (ev : v ≡ wholeVerdict split-peak number largest top) where
-    module _ (ring : Ring) (rs : List Routed) (g h : ℕ) (ks : List Link) (all : ring.n ≤ length ks) (es : split-peak ≡ peak (splitLoad (sents rs)) ring.n) (et : top ≡ peak (unsplitLoad rs) ring.n)
-        (el : largest ≡ largestSplit (sents rs)) (ez : size ≡ lineSize sonetSizes ring.fibres top) where
+  module _ (to : ℕ) (q : r ≡ On to) (v : Verdict) (ev : v ≡ whole_verdict split-peak number largest top) where
+    module _ (ring : Ring) (rs : List Routed) (g h : ℕ) (ks : List Link) (all : ring.n ≤ length ks) (es : split-peak ≡ peak (split_load (sents rs)) ring.n) (et : top ≡ peak (unsplit_load rs) ring.n)
+        (el : largest ≡ largest_split (sents rs)) (ez : size ≡ line_size sonet_sizes ring.fibres top) where
       abbrev x : Sheet
       x = record { ring = ring; rows = rs; cut = cut_of g h number; links = ks; peak = top; size = size }
 
-      whole-judged : judgeWhole x ≡ v
-      unfolding judgeWhole
+      whole-judged : judge_whole x ≡ v
+      unfolding judge_whole
       whole-judged = sym (ev ∙ rw (es, et, el))
 
-      result : checkFrom desk true (links ring rs (cut_of g h number) ks) line (lines (drop at s)) ≡ wholeResult x v
-      result = step-goes (last.means ring rs (cut_of g h number) ks all et ez) q ∙ ap (wholeResult x) whole-judged
+      result : check_from desk true (links ring rs (cut_of g h number) ks) line (lines (drop at s)) ≡ whole_result x v
+      result = step-goes (last.means ring rs (cut_of g h number) ks all et ez) q ∙ ap (whole_result x) whole-judged
 
     pub whole-fault : (reason : Reason) → v ≡ Fault reason → WholeRead s at line number split-peak top size largest (Refused reason 0 0)
-    unfolding wholeResult
+    unfolding whole_result
     whole-fault reason f =
-        record { means = λ ring rs g h ks all es et el ez. step-refused {reason = reason} {line = 0} {byte = 0} (result ring rs g h ks all es et el ez ∙ ap (wholeResult (x ring rs g h ks all es et el ez)) f) }
+        record { means = λ ring rs g h ks all es et el ez. step-refused {reason = reason} {line = 0} {byte = 0} (result ring rs g h ks all es et el ez ∙ ap (whole_result (x ring rs g h ks all es et el ez)) f) }
 
     pub whole-fine : v ≡ Fine → WholeRead s at line number split-peak top size largest (On to)
-    unfolding wholeResult
+    unfolding whole_result
     whole-fine f =
         record {
-          means = λ ring rs g h ks all es et el ez. steps_on {at = to} (last.within.place to q) (result ring rs g h ks all es et el ez ∙ ap (wholeResult (x ring rs g h ks all es et el ez)) f);
+          means = λ ring rs g h ks all es et el ez. steps_on {at = to} (last.within.place to q) (result ring rs g h ks all es et el ez ∙ ap (whole_result (x ring rs g h ks all es et el ez)) f);
         }
 
 -- ---- the L lines, the Z line and the whole
@@ -292,8 +292,8 @@ module _ (s : List ℕ) (at line n number : ℕ) (split unsplit : List ℕ) (spl
     tail-goes t whole =
         record {
           means = λ fibres rs g h w ez.
-              let all : n ≤ length (linksIn n split unsplit) = omega (arith, listed-length (link_at split unsplit) 0 n) in
+              let all : n ≤ length (links_in n split unsplit) = omega (arith, listed-length (link_at split unsplit) 0 n) in
               let e = step-goes (read.means fibres rs (cut_of g h number) split-peak top largest w) q in
-              subst (λ z. StepMeans s z (λ p. accepted (sheetWith (ringOf n fibres) rs (cut_of g h number) split unsplit top size)) t) (sym e)
-              (whole.means (ringOf n fibres) rs g h (linksIn n split unsplit) all w.split-peaks w.tops w.largests ez);
+              subst (λ z. StepMeans s z (λ p. accepted (sheet_with (ring_of n fibres) rs (cut_of g h number) split unsplit top size)) t) (sym e)
+              (whole.means (ring_of n fibres) rs g h (links_in n split unsplit) all w.split-peaks w.tops w.largests ez);
         }

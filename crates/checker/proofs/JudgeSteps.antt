@@ -10,86 +10,86 @@ use lib.ListN.{get_or}
 use mir.Syntax.{w64}
 use mir.Val.{Fits}
 use borrow.Author.Tests.{eq-eqb, ne_eqb, lt-ltb, le-ltb}
-use Rattle.ring.specs.Columns.{listed, row_at, rowsIn}
-use Rattle.ring.specs.Routing.{wayNumber, F, B, sent, isSplit}
-use Rattle.ring.specs.Cut.{ifOne, part, across}
+use Rattle.ring.specs.Columns.{listed, row_at, rows_in}
+use Rattle.ring.specs.Routing.{way_number, F, B, sent, is_split}
+use Rattle.ring.specs.Cut.{if_one, part, across}
 use Rattle.ring.specs.Limits.{desk}
-use Rattle.ring.specs.Row.{row, inFront}
-use Rattle.ring.specs.RuleD.{wholeWay}
+use Rattle.ring.specs.Row.{row, in_front}
+use Rattle.ring.specs.RuleD.{whole_way}
 use Rattle.ring.proofs.Listed.{listed-none, listed_back, listed-all}
 use Rattle.ring.proofs.Totals.{part_small}
 use Rattle.router.specs.Rows.{Table}
-use Rattle.table.specs.Judge.{judgeRow}
+use Rattle.table.specs.Judge.{judge_row}
 use Rattle.table.specs.declared.reason.Reason.{Reason}
 use Rattle.table.specs.declared.reason.Reason.TheVariants.{WrongSum, WrongWay, WrongCut, NotTight, OverBound}
 use Rattle.table.specs.declared.judge.Verdict.{Verdict}
 use Rattle.table.specs.declared.judge.Verdict.TheVariants.{Fine, Fault}
-use Rattle.sheet.specs.Judge.{wrongSum, wrongWay, judgeHalves}
-use Rattle.sheet.specs.Check.{routedOf}
-use Rattle.checker.specs.Parts.{sentVerdict}
-use Rattle.sheet.specs.Verdicts.{noCut, cutVerdict, wholeVerdict}
+use Rattle.sheet.specs.Judge.{wrong_sum, wrong_way, judge_halves}
+use Rattle.sheet.specs.Check.{routed_of}
+use Rattle.checker.specs.Parts.{sent_verdict}
+use Rattle.sheet.specs.Verdicts.{no_cut, cut_verdict, whole_verdict}
 
 -- ---- 8 and 9
 
-pub sum_is : (d f k a b e : ℕ) → a ≡ f → b ≡ k → e ≡ d → not (eqb (a + b) (2 * e)) ≡ wrongSum (sent 0 0 d f k)
-unfolding wrongSum
+pub sum_is : (d f k a b e : ℕ) → a ≡ f → b ≡ k → e ≡ d → not (eqb (a + b) (2 * e)) ≡ wrong_sum (sent 0 0 d f k)
+unfolding wrong_sum
 sum_is d f k a b e p q r = rw (p, q, r)
 
-module _ (f k w : ℕ) (split : Bool) (es : split ≡ isSplit (sent 0 0 0 f k)) where
-  pub split-row : split ≡ true → false ≡ wrongWay (routedOf 0 0 0 f k w)
-  unfolding wrongWay
+module _ (f k w : ℕ) (split : Bool) (es : split ≡ is_split (sent 0 0 0 f k)) where
+  pub split-row : split ≡ true → false ≡ wrong_way (routed_of 0 0 0 f k w)
+  unfolding wrong_way
   split-row t = rw (sym es ∙ t)
 
-  pub goes-front : split ≡ false → k ≡ 0 → not (eqb w 0) ≡ wrongWay (routedOf 0 0 0 f k w)
-  unfolding wrongWay wholeWay
+  pub goes-front : split ≡ false → k ≡ 0 → not (eqb w 0) ≡ wrong_way (routed_of 0 0 0 f k w)
+  unfolding wrong_way whole_way
   goes-front n z = rw (sym es ∙ n, eq-eqb k 0 z) (go (eqb w 0))
     where
-      go : (t : Bool) → not t ≡ not (eqb (wayNumber (cond t F B)) 0)
+      go : (t : Bool) → not t ≡ not (eqb (way_number (cond t F B)) 0)
       go true = refl
       go false = refl
 
-  pub goes_back : split ≡ false → (k ≡ 0 → ⊥) → eqb w 0 ≡ wrongWay (routedOf 0 0 0 f k w)
-  unfolding wrongWay wholeWay
+  pub goes_back : split ≡ false → (k ≡ 0 → ⊥) → eqb w 0 ≡ wrong_way (routed_of 0 0 0 f k w)
+  unfolding wrong_way whole_way
   goes_back n z = rw (sym es ∙ n, ne_eqb k 0 z) (go (eqb w 0))
     where
-      go : (t : Bool) → t ≡ not (eqb (wayNumber (cond t F B)) 1)
+      go : (t : Bool) → t ≡ not (eqb (way_number (cond t F B)) 1)
       go true = refl
       go false = refl
 
-module _ (d f k w : ℕ) (x : Bool) (ex : x ≡ wrongSum (sent 0 0 d f k)) where
-  pub unequal : x ≡ true → Fault WrongSum ≡ judgeHalves (routedOf 0 0 d f k w)
-  unfolding judgeHalves
+module _ (d f k w : ℕ) (x : Bool) (ex : x ≡ wrong_sum (sent 0 0 d f k)) where
+  pub unequal : x ≡ true → Fault WrongSum ≡ judge_halves (routed_of 0 0 d f k w)
+  unfolding judge_halves
   unequal t = rw (sym ex ∙ t)
 
-  module _ (fx : x ≡ false) (y : Bool) (ey : y ≡ wrongWay (routedOf 0 0 0 f k w)) where
-    same_way : wrongWay (routedOf 0 0 d f k w) ≡ y
-    unfolding wrongWay
+  module _ (fx : x ≡ false) (y : Bool) (ey : y ≡ wrong_way (routed_of 0 0 0 f k w)) where
+    same_way : wrong_way (routed_of 0 0 d f k w) ≡ y
+    unfolding wrong_way
     same_way = sym ey
 
-    pub turned : y ≡ true → Fault WrongWay ≡ judgeHalves (routedOf 0 0 d f k w)
-    unfolding judgeHalves
+    pub turned : y ≡ true → Fault WrongWay ≡ judge_halves (routed_of 0 0 d f k w)
+    unfolding judge_halves
     turned t = rw (sym ex ∙ fx, same_way ∙ t)
 
-    pub halves-fine : y ≡ false → Fine ≡ judgeHalves (routedOf 0 0 d f k w)
-    unfolding judgeHalves
+    pub halves-fine : y ≡ false → Fine ≡ judge_halves (routed_of 0 0 d f k w)
+    unfolding judge_halves
     halves-fine t = rw (sym ex ∙ fx, same_way ∙ t)
 
 -- ---- 4 to 9 and 16
 
-module _ (n p a b i j d f k w : ℕ) (v : Verdict) (ev : v ≡ judgeRow desk n p a b i j d) where
-  pub row-fault : (reason : Reason) → v ≡ Fault reason → Fault reason ≡ sentVerdict desk n p a b (routedOf i j d f k w)
-  unfolding sentVerdict
+module _ (n p a b i j d f k w : ℕ) (v : Verdict) (ev : v ≡ judge_row desk n p a b i j d) where
+  pub row-fault : (reason : Reason) → v ≡ Fault reason → Fault reason ≡ sent_verdict desk n p a b (routed_of i j d f k w)
+  unfolding sent_verdict
   row-fault reason e = rw (sym ev ∙ e)
 
-  pub then-halves : v ≡ Fine → (u : Verdict) → u ≡ judgeHalves (routedOf 0 0 d f k w) → u ≡ sentVerdict desk n p a b (routedOf i j d f k w)
-  unfolding sentVerdict judgeHalves wrongSum wrongWay
+  pub then-halves : v ≡ Fine → (u : Verdict) → u ≡ judge_halves (routed_of 0 0 d f k w) → u ≡ sent_verdict desk n p a b (routed_of i j d f k w)
+  unfolding sent_verdict judge_halves wrong_sum wrong_way
   then-halves e u q = rw (sym ev ∙ e) q
 
 -- ---- the across number
 
-module _ (i j d g h : ℕ) (x y : Bool) (ex : x ≡ inFront (row i j 0) g) (ey : y ≡ inFront (row i j 0) h) where
+module _ (i j d g h : ℕ) (x y : Bool) (ex : x ≡ in_front (row i j 0) g) (ey : y ≡ in_front (row i j 0) h) where
   by-sides : (a b : Bool) → x ≡ a → y ≡ b → cond (xor a b) d 0 ≡ part (row i j d) g h
-  unfolding part ifOne
+  unfolding part if_one
   by-sides a b p q = rw (← p, ← q, ex, ey)
 
   pub both-in : x ≡ true → y ≡ true → 0 ≡ part (row i j d) g h
@@ -146,7 +146,7 @@ module _ (n count : ℕ) (first second amount : List ℕ) (g h : ℕ) where
             small = omega (arith, summing.small, summing.within, least);
           }
 
-    pub summed : t ≤ 0 → sum ≡ across (rowsIn count first second amount) g h
+    pub summed : t ≤ 0 → sum ≡ across (rows_in count first second amount) g h
     summed z =
         let e : t ≡ 0 = omega arith in
         let all = listed-all (row_at first second amount) count in
@@ -154,32 +154,32 @@ module _ (n count : ℕ) (first second amount : List ℕ) (g h : ℕ) where
 
 -- ---- 10
 
-module _ (n due g h m : ℕ) (x : Bool) (ex : x ≡ noCut n g h) where
-  pub not-a-cut : x ≡ true → Fault WrongCut ≡ cutVerdict n due g h m
-  unfolding cutVerdict
+module _ (n due g h m : ℕ) (x : Bool) (ex : x ≡ no_cut n g h) where
+  pub not-a-cut : x ≡ true → Fault WrongCut ≡ cut_verdict n due g h m
+  unfolding cut_verdict
   not-a-cut t = rw (sym ex ∙ t)
 
   module _ (fx : x ≡ false) (sum w : ℕ) (es : sum ≡ due) (ew : w ≡ m) where
-    pub number-false : (w ≡ sum → ⊥) → Fault WrongCut ≡ cutVerdict n due g h m
-    unfolding cutVerdict
+    pub number-false : (w ≡ sum → ⊥) → Fault WrongCut ≡ cut_verdict n due g h m
+    unfolding cut_verdict
     number-false d = rw (sym ex ∙ fx, ne_eqb m due (λ q. d (ew ∙ q ∙ sym es)))
 
-    pub number-true : w ≡ sum → Fine ≡ cutVerdict n due g h m
-    unfolding cutVerdict
+    pub number-true : w ≡ sum → Fine ≡ cut_verdict n due g h m
+    unfolding cut_verdict
     number-true e = rw (sym ex ∙ fx, eq-eqb m due (sym ew ∙ e ∙ es))
 
 -- ---- 13 and 14
 
 module _ (split number largest peak : ℕ) where
-  pub not-tight : (split ≡ number → ⊥) → Fault NotTight ≡ wholeVerdict split number largest peak
-  unfolding wholeVerdict
+  pub not-tight : (split ≡ number → ⊥) → Fault NotTight ≡ whole_verdict split number largest peak
+  unfolding whole_verdict
   not-tight n = rw (ne_eqb split number n)
 
   module _ (tight : split ≡ number) (a b c : ℕ) (ea : a ≡ split) (eb : b ≡ largest) (ec : c ≡ peak) where
-    pub over-bound : a + 3 * b < 2 * c → Fault OverBound ≡ wholeVerdict split number largest peak
-    unfolding wholeVerdict
+    pub over-bound : a + 3 * b < 2 * c → Fault OverBound ≡ whole_verdict split number largest peak
+    unfolding whole_verdict
     over-bound l = let k : split + 3 * largest < 2 * peak = omega arith in rw (eq-eqb split number tight, lt-ltb (split + 3 * largest) (2 * peak) k)
 
-    pub within-bound : 2 * c ≤ a + 3 * b → Fine ≡ wholeVerdict split number largest peak
-    unfolding wholeVerdict
+    pub within-bound : 2 * c ≤ a + 3 * b → Fine ≡ whole_verdict split number largest peak
+    unfolding whole_verdict
     within-bound l = let k : 2 * peak ≤ split + 3 * largest = omega arith in rw (eq-eqb split number tight, le-ltb (split + 3 * largest) (2 * peak) k)

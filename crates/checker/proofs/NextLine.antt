@@ -9,21 +9,21 @@ use lib.Dec.{ltb}
 use lib.ListN.{length, take, drop, drop_of_length-le}
 use lib.Seq.{drop-drop}
 use Rattle.ring.specs.Limits.{Limits}
-use Rattle.text.specs.ReadLine.{field_at, fieldThen, fieldsFrom, readLine}
-use Rattle.text.specs.ReadMark.{markFrom, markAt}
-use Rattle.text.specs.Answers.{twoIn, threeIn, sentIn}
+use Rattle.text.specs.ReadLine.{field_at, field_then, fields_from, read_line}
+use Rattle.text.specs.ReadMark.{mark_from, mark_at}
+use Rattle.text.specs.Answers.{two_in, three_in, sent_in}
 use Rattle.table.specs.Lines.{lines}
-use Rattle.table.specs.LineEnds.{lineLength, LineEnds}
+use Rattle.table.specs.LineEnds.{line_length, LineEnds}
 use Rattle.table.specs.declared.reason.Reason.TheVariants.{Misshapen}
 use Rattle.table.proofs.LineSteps.{first-line}
-use Rattle.sheet.specs.Check.{refused, stop, ringTurn, rowTurn, cutTurn, linkTurn, lastTurn, turn, atEnd, after, checkFrom}
+use Rattle.sheet.specs.Check.{refused, stop, ring_turn, row_turn, cut_turn, link_turn, last_turn, turn, at_end, after, check_from}
 use Rattle.sheet.specs.Says.{State, start, rows, links, end}
-use Rattle.checker.specs.Parts.{NextEnds, first_of, behindFirst}
+use Rattle.checker.specs.Parts.{NextEnds, first_of, behind_first}
 
 -- ---- where it ends
 
-first-split : (t : List ℕ) → (take (lineLength t) t ≡ first_of (lines t)) × (lines (drop (lineLength t) t) ≡ behindFirst (lines t))
-unfolding lines lineLength first_of behindFirst
+first-split : (t : List ℕ) → (take (line_length t) t ≡ first_of (lines t)) × (lines (drop (line_length t) t) ≡ behind_first (lines t))
+unfolding lines line_length first_of behind_first
 first-split [] = (refl, refl)
 first-split (b ∷ t) = let e = first-line (b ∷ t) (omega arith) in (rw e, rw e)
 
@@ -32,24 +32,24 @@ module _ (s : List ℕ) (at : ℕ) where
   next-there to e = record { is = e.is; within = e.within }
 
   pub none-there : at ≤ length s → length s ≤ at → NextEnds s at at
-  unfolding lineLength
+  unfolding line_length
   none-there w l = record { is = rw (drop_of_length-le s l) (omega arith); within = w }
 
   module _ (end : ℕ) (ends : NextEnds s at end) where
     pub next_place : at ≤ end
     next_place = omega (arith, ends.is)
 
-    line-is : take (end - at) (drop at s) ≡ take (lineLength (drop at s)) (drop at s)
-    line-is = let e : end - at ≡ lineLength (drop at s) = omega (arith, ends.is) in ap (λ m. take m (drop at s)) e
+    line-is : take (end - at) (drop at s) ≡ take (line_length (drop at s)) (drop at s)
+    line-is = let e : end - at ≡ line_length (drop at s) = omega (arith, ends.is) in ap (λ m. take m (drop at s)) e
 
-    rest-is : drop end s ≡ drop (lineLength (drop at s)) (drop at s)
+    rest-is : drop end s ≡ drop (line_length (drop at s)) (drop at s)
     rest-is = let e = ends.is in rw (e, drop-drop)
 
     -- the bytes from `at` to `end` are the first of the lines from `at` on, and the others begin at `end`
     pub next-line : take (end - at) (drop at s) ≡ first_of (lines (drop at s))
     next-line = line-is ∙ (first-split (drop at s)).0
 
-    pub next-rest : lines (drop end s) ≡ behindFirst (lines (drop at s))
+    pub next-rest : lines (drop end s) ≡ behind_first (lines (drop at s))
     next-rest = ap lines rest-is ∙ (first-split (drop at s)).1
 
 -- ---- what a state makes of it
@@ -63,7 +63,7 @@ module _ (limits : Limits) (judging : Bool) where
   Goes (end x) = ⊥
 
   no-shape : (state : State) → Goes state → turn limits judging state [] ≡ stop Misshapen 1
-  unfolding turn ringTurn rowTurn cutTurn linkTurn lastTurn twoIn threeIn sentIn readLine fieldsFrom fieldThen field_at markAt markFrom
+  unfolding turn ring_turn row_turn cut_turn link_turn last_turn two_in three_in sent_in read_line fields_from field_then field_at mark_at mark_from
   no-shape start g = refl
   no-shape (rows ring rs) g = refl
   no-shape (links ring rs c ks) g = go (ltb (length ks) ring.n)
@@ -73,22 +73,22 @@ module _ (limits : Limits) (judging : Bool) where
       go false = refl
   no-shape (end x) g = absurd g
 
-  missing : (state : State) → Goes state → (line : ℕ) → atEnd judging state line ≡ refused Misshapen line 1
-  unfolding atEnd
+  missing : (state : State) → Goes state → (line : ℕ) → at_end judging state line ≡ refused Misshapen line 1
+  unfolding at_end
   missing start g line = refl
   missing (rows ring rs) g line = refl
   missing (links ring rs c ks) g line = refl
   missing (end x) g line = absurd g
 
   pub step_from : (state : State) → Goes state → (line : ℕ) (ls : List (List ℕ)) →
-      checkFrom limits judging state line ls ≡ after (turn limits judging state (first_of ls)) line (λ next. checkFrom limits judging next (line + 1) (behindFirst ls))
-  unfolding checkFrom first_of behindFirst after
+      check_from limits judging state line ls ≡ after (turn limits judging state (first_of ls)) line (λ next. check_from limits judging next (line + 1) (behind_first ls))
+  unfolding check_from first_of behind_first after
   step_from state g line [] = missing state g line ∙ rw (no-shape state g)
   step_from state g line (l ∷ ls) = refl
 
   pub step-at : (s : List ℕ) (at end : ℕ) → NextEnds s at end → (state : State) → Goes state → (line : ℕ) →
-      checkFrom limits judging state line (lines (drop at s))
-      ≡ after (turn limits judging state (take (end - at) (drop at s))) line (λ next. checkFrom limits judging next (line + 1) (lines (drop end s)))
+      check_from limits judging state line (lines (drop at s))
+      ≡ after (turn limits judging state (take (end - at) (drop at s))) line (λ next. check_from limits judging next (line + 1) (lines (drop end s)))
   step-at s at to ends state g line =
       let a = next-line s at to ends in
       let b = next-rest s at to ends in

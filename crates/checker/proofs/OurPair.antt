@@ -12,7 +12,7 @@ use Rattle.ring.specs.Sheet.{sents, plan}
 use Rattle.ring.specs.Rules.{Quiet}
 use Rattle.ring.proofs.OurPlan.{untangled, directed, table-order}
 use Rattle.checker.specs.Pair.{RowFrom, at_first, behind, ParallelSplit, PairAt, NoneFrom, NoPair}
-use Rattle.checker.specs.FindPair.{firstPair}
+use Rattle.checker.specs.FindPair.{first_pair}
 use Rattle.checker.specs.declared.pair.Pair.TheVariants.{None}
 use Rattle.checker.proofs.PairLaws.{PairIn, with-head, in_tail, no_row, pair-in, no-pair-is}
 
@@ -32,7 +32,7 @@ quiet_none k (and-pairs {a = s} {l = ss} e h) p q x = go (quiet_none (k + 1) h p
     go m (with-head i r c) = not-both (each_at e r) c
     go m (in_tail y) = m y
 
-pub plan-no-pair : (ring : Ring) (rs : List Row) → 2 ≤ ring.n → TableRows ring.n rs → firstPair (sents (plan ring rs).rows) ≡ None
+pub plan-no-pair : (ring : Ring) (rs : List Row) → 2 ≤ ring.n → TableRows ring.n rs → first_pair (sents (plan ring rs).rows) ≡ None
 unfolding plan
 plan-no-pair ring rs two table =
     let n = ring.n in

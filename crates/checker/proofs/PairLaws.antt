@@ -14,7 +14,7 @@ use Rattle.ring.specs.Crossing.{parallel}
 use Rattle.ring.specs.RuleC.{clash}
 use Rattle.ring.proofs.Splits.{Splitting, split, whole, splitting}
 use Rattle.checker.specs.Pair.{RowFrom, at_first, behind, ParallelSplit, PairAt, FirstFrom, NoneFrom, FirstPair, NoPair}
-use Rattle.checker.specs.FindPair.{pairWith, orNext, pairFrom, firstPair}
+use Rattle.checker.specs.FindPair.{pair_with, or_next, pair_from, first_pair}
 use Rattle.checker.specs.declared.pair.Pair.{Pair}
 use Rattle.checker.specs.declared.pair.Pair.TheVariants.{Are, None}
 
@@ -65,8 +65,8 @@ data With (s : Sent) (p q : ℕ) (ts : List Sent) : Pair → Type 0 where
   one : {r : ℕ} {t : Sent} → RowFrom q ts r t → ParallelSplit s t → ((b : ℕ) (u : Sent) → b < r → RowFrom q ts b u → ParallelSplit s u → ⊥) → With s p q ts (Are p r)
   no_one : ((b : ℕ) (u : Sent) → RowFrom q ts b u → ParallelSplit s u → ⊥) → With s p q ts None
 
-scan-seconds : (s : Sent) (p q : ℕ) (ts : List Sent) → With s p q ts (pairWith s p q ts)
-unfolding pairWith
+scan-seconds : (s : Sent) (p q : ℕ) (ts : List Sent) → With s p q ts (pair_with s p q ts)
+unfolding pair_with
 scan-seconds s p q [] = no_one (λ b u r c. no_row r)
 scan-seconds s p q (t ∷ ts) = go (clashing s t) (scan-seconds s p (q + 1) ts)
   where
@@ -79,7 +79,7 @@ scan-seconds s p q (t ∷ ts) = go (clashing s t) (scan-seconds s p (q + 1) ts)
     later n (one r c f) = one (behind r) c (λ b u l. nor n (f b u l))
     later n (no_one f) = no_one (λ b u. nor n (f b u))
 
-    go : Clashing s t → With s p (q + 1) ts (pairWith s p (q + 1) ts) → With s p q (t ∷ ts) (cond (clash s t) (Are p q) (pairWith s p (q + 1) ts))
+    go : Clashing s t → With s p (q + 1) ts (pair_with s p (q + 1) ts) → With s p q (t ∷ ts) (cond (clash s t) (Are p q) (pair_with s p (q + 1) ts))
     go (does c e) w = rw e (one at_first c (λ b u l r d. let h = low r in omega arith))
     go (not_so n e) w = rw e (later n w)
 
@@ -90,8 +90,8 @@ data From (k : ℕ) (ss : List Sent) : Pair → Type 0 where
   are : {p q : ℕ} → FirstFrom k ss p q → From k ss (Are p q)
   none : NoneFrom k ss → From k ss None
 
-scan-firsts : (k : ℕ) (ss : List Sent) → From k ss (pairFrom k ss)
-unfolding pairFrom orNext
+scan-firsts : (k : ℕ) (ss : List Sent) → From k ss (pair_from k ss)
+unfolding pair_from or_next
 scan-firsts k [] = none (λ p q x. no_row x.first)
 scan-firsts k (s ∷ ss) = go (scan-seconds s k (k + 1) ss) (scan-firsts (k + 1) ss)
   where
@@ -110,7 +110,7 @@ scan-firsts k (s ∷ ss) = go (scan-seconds s k (k + 1) ss) (scan-firsts (k + 1)
     later : {p q : ℕ} → PairAt (k + 1) ss p q → PairAt k (s ∷ ss) p q
     later x = record { s = x.s; t = x.t; first = behind x.first; second = behind x.second; order = x.order; both = x.both }
 
-    go : {x y : Pair} → With s k (k + 1) ss x → From (k + 1) ss y → From k (s ∷ ss) (orNext x y)
+    go : {x y : Pair} → With s k (k + 1) ss x → From (k + 1) ss y → From k (s ∷ ss) (or_next x y)
     go (one {t = t} r c f) w =
         are
         (record {
@@ -140,11 +140,11 @@ same_first {p = p} {q = q} {a = a} {b = b} f g =
 -- ---- the answers
 
 module _ (ss : List Sent) where
-  answer : From 1 ss (firstPair ss)
-  unfolding firstPair
+  answer : From 1 ss (first_pair ss)
+  unfolding first_pair
   answer = scan-firsts 1 ss
 
-  pub first-pair-is : (p q : ℕ) → (firstPair ss ≡ Are p q) ↔ FirstPair ss p q
+  pub first-pair-is : (p q : ℕ) → (first_pair ss ≡ Are p q) ↔ FirstPair ss p q
   first-pair-is p q = (λ e. to (subst (From 1 ss) e answer), λ f. of f answer)
     where
       to : From 1 ss (Are p q) → FirstPair ss p q
@@ -154,7 +154,7 @@ module _ (ss : List Sent) where
       of f (are g) = let e = same_first g f in ap₂ Are e.0 e.1
       of f (none n) = absurd (n p q f.are)
 
-  pub no-pair-is : (firstPair ss ≡ None) ↔ NoPair ss
+  pub no-pair-is : (first_pair ss ≡ None) ↔ NoPair ss
   no-pair-is = (λ e. to (subst (From 1 ss) e answer), λ n. of n answer)
     where
       to : From 1 ss None → NoPair ss

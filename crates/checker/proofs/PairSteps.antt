@@ -6,12 +6,12 @@ use mathlib.Core.List.{List}
 use mathlib.Core.Path.{◌≡◌, refl, sym, ◌∙◌}
 use native.Mathlib.Omega.{arith}
 use lib.ListN.{get_or}
-use Rattle.ring.specs.Routing.{Sent, sent, isSplit}
+use Rattle.ring.specs.Routing.{Sent, sent, is_split}
 use Rattle.ring.specs.Crossing.{parallel}
 use Rattle.ring.specs.RuleC.{clash}
-use Rattle.ring.specs.Columns.{listed, sentAt, sentsIn}
+use Rattle.ring.specs.Columns.{listed, sent_at, sents_in}
 use Rattle.ring.proofs.Listed.{listed-none, listed_cons, listed-all}
-use Rattle.checker.specs.FindPair.{pairWith, orNext, pairFrom, firstPair}
+use Rattle.checker.specs.FindPair.{pair_with, or_next, pair_from, first_pair}
 use Rattle.checker.specs.declared.pair.Pair.{Pair}
 use Rattle.checker.specs.declared.pair.Pair.TheVariants.{Are, None}
 
@@ -19,32 +19,32 @@ use Rattle.checker.specs.declared.pair.Pair.TheVariants.{Are, None}
 
 -- what is left before first row a
 abbrev LeftFirsts : (ℕ → Sent) → ℕ → ℕ → Pair
-LeftFirsts f count a = pairFrom (a + 1) (listed f a (count - a))
+LeftFirsts f count a = pair_from (a + 1) (listed f a (count - a))
 
 -- what is left before second row b of first row a
 abbrev LeftSeconds : (ℕ → Sent) → ℕ → ℕ → ℕ → Pair
-LeftSeconds f count a b = orNext (pairWith (f a) (a + 1) (b + 1) (listed f b (count - b))) (LeftFirsts f count (a + 1))
+LeftSeconds f count a b = or_next (pair_with (f a) (a + 1) (b + 1) (listed f b (count - b))) (LeftFirsts f count (a + 1))
 
 module _ (f : ℕ → Sent) (count : ℕ) where
-  left-all : firstPair (listed f 0 count) ≡ LeftFirsts f count 0
-  unfolding firstPair
+  left-all : first_pair (listed f 0 count) ≡ LeftFirsts f count 0
+  unfolding first_pair
   left-all = rw (listed-all f count)
 
   left-enter : (a : ℕ) → a < count → LeftFirsts f count a ≡ LeftSeconds f count a (a + 1)
-  unfolding pairFrom
+  unfolding pair_from
   left-enter a l = rw (listed_cons f a count l)
 
   left-leave : (a b : ℕ) → count ≤ b → LeftSeconds f count a b ≡ LeftFirsts f count (a + 1)
-  unfolding orNext pairWith
+  unfolding or_next pair_with
   left-leave a b l = rw (listed-none f b count l)
 
   left-none : (a : ℕ) → count ≤ a → LeftFirsts f count a ≡ None
-  unfolding pairFrom
+  unfolding pair_from
   left-none a l = rw (listed-none f a count l)
 
   left-turn : (a b : ℕ) → b < count → LeftSeconds f count a b ≡
-      orNext (cond (clash (f a) (f b)) (Are (a + 1) (b + 1)) (pairWith (f a) (a + 1) (b + 1 + 1) (listed f (b + 1) (count - (b + 1))))) (LeftFirsts f count (a + 1))
-  unfolding pairWith
+      or_next (cond (clash (f a) (f b)) (Are (a + 1) (b + 1)) (pair_with (f a) (a + 1) (b + 1 + 1) (listed f (b + 1) (count - (b + 1))))) (LeftFirsts f count (a + 1))
+  unfolding pair_with
   left-turn a b l = rw (listed_cons f b count l)
 
 -- ---- the columns
@@ -54,17 +54,17 @@ module _ (count : ℕ) (first second front back : List ℕ) where
   pub record Firsts (found : Pair) (a : ℕ) : Type 0 where
     pub high : a ≤ count
     pub nothing : found ≡ None
-    pub left : (amount : List ℕ) → firstPair (sentsIn count first second amount front back) ≡ LeftFirsts (sentAt first second amount front back) count a
+    pub left : (amount : List ℕ) → first_pair (sents_in count first second amount front back) ≡ LeftFirsts (sent_at first second amount front back) count a
 
   -- before second row b of first row a
   pub record Seconds (a : ℕ) (found : Pair) (b : ℕ) : Type 0 where
     pub order : a < b
     pub high : b ≤ count
     pub nothing : found ≡ None
-    pub left : (amount : List ℕ) → firstPair (sentsIn count first second amount front back) ≡ LeftSeconds (sentAt first second amount front back) count a b
+    pub left : (amount : List ℕ) → first_pair (sents_in count first second amount front back) ≡ LeftSeconds (sent_at first second amount front back) count a b
 
   pub firsts-start : Firsts None 0
-  firsts-start = record { high = omega arith; nothing = refl; left = λ amount. left-all (sentAt first second amount front back) count }
+  firsts-start = record { high = omega arith; nothing = refl; left = λ amount. left-all (sent_at first second amount front back) count }
 
   pub seconds-start : (found : Pair) (a : ℕ) → a < count → Firsts found a → Seconds a found (a + 1)
   seconds-start found a l o =
@@ -72,15 +72,15 @@ module _ (count : ℕ) (first second front back : List ℕ) where
         order = omega arith;
         high = omega arith;
         nothing = o.nothing;
-        left = λ amount. o.left amount ∙ left-enter (sentAt first second amount front back) count a l;
+        left = λ amount. o.left amount ∙ left-enter (sent_at first second amount front back) count a l;
       }
 
   -- a turn, by what the two rows' test says
   module _ (a b : ℕ) (found : Pair) (c : Bool) (l : b < count) (o : Seconds a found b)
       (e : c ≡ clash (sent (get_or first a 0) (get_or second a 0) 0 (get_or front a 0) (get_or back a 0)) (sent (get_or first b 0) (get_or second b 0) 0 (get_or front b 0) (get_or back b 0))) where
     -- the test looks at no amount
-    test : (amount : List ℕ) → clash (sentAt first second amount front back a) (sentAt first second amount front back b) ≡ c
-    unfolding clash isSplit parallel
+    test : (amount : List ℕ) → clash (sent_at first second amount front back a) (sent_at first second amount front back b) ≡ c
+    unfolding clash is_split parallel
     test amount = sym e
 
     pub seconds-turn : c ≡ false → Seconds a found (b + 1)
@@ -89,20 +89,20 @@ module _ (count : ℕ) (first second front back : List ℕ) where
           order = omega (arith, o.order);
           high = omega arith;
           nothing = o.nothing;
-          left = λ amount. o.left amount ∙ left-turn (sentAt first second amount front back) count a b l ∙ rw (test amount ∙ t);
+          left = λ amount. o.left amount ∙ left-turn (sent_at first second amount front back) count a b l ∙ rw (test amount ∙ t);
         }
 
-    pub pair_found : c ≡ true → (amount : List ℕ) → Are (a + 1) (b + 1) ≡ firstPair (sentsIn count first second amount front back)
-    unfolding orNext
-    pair_found t amount = sym (o.left amount ∙ left-turn (sentAt first second amount front back) count a b l ∙ rw (test amount ∙ t))
+    pub pair_found : c ≡ true → (amount : List ℕ) → Are (a + 1) (b + 1) ≡ first_pair (sents_in count first second amount front back)
+    unfolding or_next
+    pair_found t amount = sym (o.left amount ∙ left-turn (sent_at first second amount front back) count a b l ∙ rw (test amount ∙ t))
 
   pub seconds-done : (found : Pair) (a b : ℕ) → count ≤ b → Seconds a found b → Firsts found (a + 1)
   seconds-done found a b l o =
       record {
         high = omega (arith, o.order, o.high);
         nothing = o.nothing;
-        left = λ amount. o.left amount ∙ left-leave (sentAt first second amount front back) count a b l;
+        left = λ amount. o.left amount ∙ left-leave (sent_at first second amount front back) count a b l;
       }
 
-  pub none_found : (found : Pair) (a : ℕ) → count ≤ a → Firsts found a → (amount : List ℕ) → found ≡ firstPair (sentsIn count first second amount front back)
-  none_found found a l o amount = o.nothing ∙ sym (o.left amount ∙ left-none (sentAt first second amount front back) count a l)
+  pub none_found : (found : Pair) (a : ℕ) → count ≤ a → Firsts found a → (amount : List ℕ) → found ≡ first_pair (sents_in count first second amount front back)
+  none_found found a l o amount = o.nothing ∙ sym (o.left amount ∙ left-none (sent_at first second amount front back) count a l)

@@ -5,7 +5,7 @@ use mathlib.Core.Path.{◌≡◌, refl, sym, ◌∙◌}
 use lib.Dec.{eqb}
 use borrow.Author.Tests.{eq-eqb, ne_eqb}
 use Rattle.ring.specs.Row.{row}
-use Rattle.ring.specs.Routing.{sent, isSplit}
+use Rattle.ring.specs.Routing.{sent, is_split}
 use Rattle.ring.specs.Crossing.{distinct, between, crosses, parallel}
 use Rattle.ring.specs.RuleC.{clash}
 
@@ -43,16 +43,16 @@ module _ (i j k l : ℕ) where
 
   -- ---- both split, and parallel
 
-  module _ (front back front2 back2 : ℕ) (x : Bool) (one : x ≡ isSplit (sent 0 0 0 front back)) where
+  module _ (front back front2 back2 : ℕ) (x : Bool) (one : x ≡ is_split (sent 0 0 0 front back)) where
     pub first-whole : x ≡ false → false ≡ clash (sent i j 0 front back) (sent k l 0 front2 back2)
-    unfolding clash isSplit
+    unfolding clash is_split
     first-whole t = rw (sym one ∙ t)
 
-    module _ (y : Bool) (two : y ≡ isSplit (sent 0 0 0 front2 back2)) (split : x ≡ true) where
+    module _ (y : Bool) (two : y ≡ is_split (sent 0 0 0 front2 back2)) (split : x ≡ true) where
       pub second-whole : y ≡ false → false ≡ clash (sent i j 0 front back) (sent k l 0 front2 back2)
-      unfolding clash isSplit
+      unfolding clash is_split
       second-whole t = rw (sym one ∙ split, sym two ∙ t)
 
       pub both-split : (z : Bool) → y ≡ true → z ≡ parallel (row i j 0) (row k l 0) → z ≡ clash (sent i j 0 front back) (sent k l 0 front2 back2)
-      unfolding clash isSplit parallel
+      unfolding clash is_split parallel
       both-split z t e = rw (sym one ∙ split, sym two ∙ t) e

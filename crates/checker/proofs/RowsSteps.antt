@@ -10,10 +10,10 @@ use lib.ListN.{length, get_or, replicate, set, take, drop, length-append, length
 use lib.Seq.{sets}
 use mir.Syntax.{w32}
 use mir.Val.{Fits}
-use Rattle.ring.specs.Columns.{column, routedIn}
-use Rattle.ring.specs.Routing.{wayNumber, way_of, Routed, sent, routed, F}
+use Rattle.ring.specs.Columns.{column, routed_in}
+use Rattle.ring.specs.Routing.{way_number, way_of, Routed, sent, routed, F}
 use Rattle.ring.specs.Limits.{desk}
-use Rattle.ring.specs.Ring.{ringOf}
+use Rattle.ring.specs.Ring.{ring_of}
 use Rattle.ring.specs.Lists.{Each, none, more}
 use Rattle.ring.specs.Row.{Row, row, OnRing}
 use Rattle.ring.specs.Sheet.{sents, demands}
@@ -21,26 +21,26 @@ use Rattle.ring.specs.True.{SumsTo2d}
 use Rattle.ring.proofs.Figures.{demands-length}
 use Rattle.router.specs.Rows.{Table}
 use Rattle.router.specs.Arrays.{Halves}
-use Rattle.router.specs.Limits.{mostHalves}
-use Rattle.text.specs.Answers.{sentIn}
-use Rattle.text.specs.ReadLine.{readLine}
+use Rattle.router.specs.Limits.{most_halves}
+use Rattle.text.specs.Answers.{sent_in}
+use Rattle.text.specs.ReadLine.{read_line}
 use Rattle.text.specs.Field.{spell}
-use Rattle.text.specs.WriteLine.{writeLine}
-use Rattle.text.specs.Shapes.{sentShape, sentLine}
+use Rattle.text.specs.WriteLine.{write_line}
+use Rattle.text.specs.Shapes.{sent_shape, sent_line}
 use Rattle.text.proofs.AnswerLaws.{sent-within}
-use Rattle.table.specs.Fields.{rowFault}
+use Rattle.table.specs.Fields.{row_fault}
 use Rattle.text.specs.declared.SentRow.{SentRow}
 use Rattle.text.specs.declared.SentRow.TheVariants.{Is as IsSent, Bad as NotSent}
 use Rattle.table.specs.Lines.{lines}
-use Rattle.table.specs.Judge.{judgeRow}
+use Rattle.table.specs.Judge.{judge_row}
 use Rattle.table.specs.declared.reason.Reason.{Reason}
 use Rattle.table.specs.declared.judge.Verdict.{Verdict}
 use Rattle.table.specs.declared.judge.Verdict.TheVariants.{Fine, Fault}
 use Rattle.table.proofs.Judged.{RowJudged, row_fine, row-judged}
 use Rattle.table.proofs.Columns.{column-length, column-more, column-at, column-behind, rows_back}
-use Rattle.sheet.specs.Judge.{judgeHalves}
-use Rattle.sheet.specs.Check.{Result, routedOf, last_of, when, unless, rowTurn, turn, after, checkFrom}
-use Rattle.checker.specs.Parts.{sentVerdict, NextEnds, first_of, cutFrom, rows_at, rows-refused, RowsRead}
+use Rattle.sheet.specs.Judge.{judge_halves}
+use Rattle.sheet.specs.Check.{Result, routed_of, last_of, when, unless, row_turn, turn, after, check_from}
+use Rattle.checker.specs.Parts.{sent_verdict, NextEnds, first_of, cut_from, rows_at, rows-refused, RowsRead}
 use Rattle.sheet.specs.Says.{rows}
 use Rattle.checker.specs.declared.rows.Rows.{Rows}
 use Rattle.checker.specs.declared.rows.RowsEnd.TheVariants.{At, Refused}
@@ -60,15 +60,15 @@ pub record FineSent (n : ℕ) (r : Routed) : Type 0 where
 
 -- behind `count` rows
 record FineRow (n count i j d f k w : ℕ) : Type 0 where
-  fine : FineSent n (routedOf i j d f k w)
+  fine : FineSent n (routed_of i j d f k w)
   room : count < desk.rows
 
-fine-row : (n count a b i j d f k w : ℕ) (v : Verdict) → v ≡ sentVerdict desk n count a b (routedOf i j d f k w) → v ≡ Fine → FineRow n count i j d f k w
-unfolding sentVerdict
+fine-row : (n count a b i j d f k w : ℕ) (v : Verdict) → v ≡ sent_verdict desk n count a b (routed_of i j d f k w) → v ≡ Fine → FineRow n count i j d f k w
+unfolding sent_verdict
 fine-row n count a b i j d f k w v e q =
-    let both = or-fine (judgeRow desk n count a b i j d) (judgeHalves (routedOf i j d f k w)) (sym e ∙ q) in
+    let both = or-fine (judge_row desk n count a b i j d) (judge_halves (routed_of i j d f k w)) (sym e ∙ q) in
     let one = both.0 in
-    go (rw one at (row-judged desk n count a b i j d)) (row-true (routedOf i j d f k w) both.1).0
+    go (rw one at (row-judged desk n count a b i j d)) (row-true (routed_of i j d f k w) both.1).0
   where
     go : RowJudged desk n count a b i j d Fine → SumsTo2d (sent i j d f k) → FineRow n count i j d f k w
     go (row_fine on order room most) s = record { fine = record { on = on; amount = most; sums = s }; room = room }
@@ -93,8 +93,8 @@ demand-column f rs = ap (λ l. sets (replicate {A = ℕ} desk.rows 0) 0 l) (go r
     go (r ∷ rs) = ap (λ l. f r.sent.row ∷ l) (go rs)
 
 -- the rows of the columns are the rows
-pub columns-back : (rs : List Routed) → length rs ≤ desk.rows → routedIn (length rs) (column (λ (r : Routed). r.sent.row.i) desk.rows rs) (column (λ (r : Routed). r.sent.row.j) desk.rows rs) (column (λ (r : Routed). r.sent.row.d) desk.rows rs)
-    (column (λ (r : Routed). r.sent.front) desk.rows rs) (column (λ (r : Routed). r.sent.back) desk.rows rs) (column (λ (r : Routed). wayNumber r.way) desk.rows rs) ≡ rs
+pub columns-back : (rs : List Routed) → length rs ≤ desk.rows → routed_in (length rs) (column (λ (r : Routed). r.sent.row.i) desk.rows rs) (column (λ (r : Routed). r.sent.row.j) desk.rows rs) (column (λ (r : Routed). r.sent.row.d) desk.rows rs)
+    (column (λ (r : Routed). r.sent.front) desk.rows rs) (column (λ (r : Routed). r.sent.back) desk.rows rs) (column (λ (r : Routed). way_number r.way) desk.rows rs) ≡ rs
 columns-back rs few =
     let long = demands-length rs in
     let i = demand-column (λ (r : Row). r.i) rs in
@@ -127,7 +127,7 @@ module _ (n : ℕ) (rs : List Routed) (few : length rs ≤ desk.rows) (fine : Ea
         small = λ k h. let e = column-at (λ (r : Routed). r.sent.row.d) desk.rows rs no_row k few h in rw e (each_at no_row fine k h).amount;
       }
 
-  halves_small : (k : ℕ) → at-column (λ (r : Routed). r.sent.front) k + at-column (λ (r : Routed). r.sent.back) k ≤ mostHalves
+  halves_small : (k : ℕ) → at-column (λ (r : Routed). r.sent.front) k + at-column (λ (r : Routed). r.sent.back) k ≤ most_halves
   halves_small k =
       elim (dec_lt k (length rs)) [
         | yes h ↦
@@ -160,12 +160,12 @@ module _ (n : ℕ) (rs : List Routed) (few : length rs ≤ desk.rows) (fine : Ea
 
 -- checking from the R line on
 abbrev whole : List ℕ → ℕ → ℕ → ℕ → Result
-whole s n from fibres = checkFrom desk true (rows (ringOf n fibres) []) 2 (lines (drop from s))
+whole s n from fibres = check_from desk true (rows (ring_of n fibres) []) 2 (lines (drop from s))
 
 -- `count` rows are read, of which the last is a, b; the line `line` begins at the place `at`
 pub record RowsReading (s : List ℕ) (n from line a b count at : ℕ) (first second amount front back way : List ℕ) : Type 0 where
   pub rs : List Routed
-  pub rest : (fibres : ℕ) → whole s n from fibres ≡ checkFrom desk true (rows (ringOf n fibres) rs) line (lines (drop at s))
+  pub rest : (fibres : ℕ) → whole s n from fibres ≡ check_from desk true (rows (ring_of n fibres) rs) line (lines (drop at s))
   pub last : ((last_of rs).i ≡ a) × ((last_of rs).j ≡ b)
   pub many : count ≡ length rs
   pub firsts : first ≡ column (λ (r : Routed). r.sent.row.i) desk.rows rs
@@ -173,7 +173,7 @@ pub record RowsReading (s : List ℕ) (n from line a b count at : ℕ) (first se
   pub amounts : amount ≡ column (λ (r : Routed). r.sent.row.d) desk.rows rs
   pub fronts : front ≡ column (λ (r : Routed). r.sent.front) desk.rows rs
   pub backs : back ≡ column (λ (r : Routed). r.sent.back) desk.rows rs
-  pub ways : way ≡ column (λ (r : Routed). wayNumber r.way) desk.rows rs
+  pub ways : way ≡ column (λ (r : Routed). way_number r.way) desk.rows rs
   pub fine : Each (FineSent n) rs
   pub lined : line ≡ count + 2
   pub most : count ≤ desk.rows
@@ -212,11 +212,11 @@ record IsRow (l : List ℕ) (w : ℕ) : Type 0 where
   some : 0 < length l
   way : w < 2
 
-line-some : (i j d f k w : ℕ) → 0 < length (sentLine i j d f k w)
-unfolding writeLine spell
+line-some : (i j d f k w : ℕ) → 0 < length (sent_line i j d f k w)
+unfolding write_line spell
 line-some i j d f k w = omega arith
 
-way-there : (w : ℕ) → w < 2 → w ≡ wayNumber (way_of w)
+way-there : (w : ℕ) → w < 2 → w ≡ way_number (way_of w)
 way-there zero h = refl
 way-there (suc zero) h = refl
 way-there (suc (suc w)) h = absurd (omega arith)
@@ -226,15 +226,15 @@ each_more none p = more p none
 each_more (more q e) p = more q (each_more e p)
 
 module _ (s : List ℕ) (n from line a b count at : ℕ) (first second amount front back way : List ℕ) (reading : RowsReading s n from line a b count at first second amount front back way) where
-  module _ (to : ℕ) (ends : NextEnds s at to) (x : SentRow) (ex : x ≡ sentIn (readLine sentShape (take (to - at) (drop at s)))) where
+  module _ (to : ℕ) (ends : NextEnds s at to) (x : SentRow) (ex : x ≡ sent_in (read_line sent_shape (take (to - at) (drop at s)))) where
     -- the next line is no D line: the rows end here
     pub rows_end : (p : ℕ) → x ≡ NotSent p →
         RowsRead s from n (record { end = At count at line p; first = first; second = second; amount = amount; front = front; back = back; way = way })
-    unfolding cutFrom turn rowTurn
+    unfolding cut_from turn row_turn
     rows_end p q =
         let e = reading.many in
         let here = next-line s at to ends in
-        let no-row-here : sentIn (readLine sentShape (first_of (lines (drop at s)))) ≡ NotSent p = rw here at (sym ex ∙ q) in
+        let no-row-here : sent_in (read_line sent_shape (first_of (lines (drop at s)))) ≡ NotSent p = rw here at (sym ex ∙ q) in
         let c1 = reading.firsts in
         let c2 = reading.seconds in
         let c3 = reading.amounts in
@@ -253,26 +253,26 @@ module _ (s : List ℕ) (n from line a b count at : ℕ) (first second amount fr
                 ways = reading.ways;
                 is = rw (e, c1, c2, c3, c4, c5, reading.ways) (columns-back reading.rs few);
               })
-              (reading.rest fibres ∙ step_from desk true (rows (ringOf n fibres) reading.rs) tt line (lines (drop at s)) ∙ rw no-row-here)
+              (reading.rest fibres ∙ step_from desk true (rows (ring_of n fibres) reading.rs) tt line (lines (drop at s)) ∙ rw no-row-here)
               reading.within
-              (omega (arith, sent-within sentShape (take (to - at) (drop at s)) p (sym ex ∙ q), length-take (to - at) (drop at s), ends.within))
+              (omega (arith, sent-within sent_shape (take (to - at) (drop at s)) p (sym ex ∙ q), length-take (to - at) (drop at s), ends.within))
               reading.lined
               (rw (e, c1, c2, c3) (fine-table n reading.rs few reading.fine reading.two reading.size))
               (rw (e, c4, c5) (fine-halves n reading.rs few reading.fine));
         }
 
-    module _ (i j d f k w : ℕ) (is : x ≡ IsSent i j d f k w) (v : Verdict) (ev : v ≡ sentVerdict desk n count a b (routedOf i j d f k w)) where
+    module _ (i j d f k w : ℕ) (is : x ≡ IsSent i j d f k w) (v : Verdict) (ev : v ≡ sent_verdict desk n count a b (routed_of i j d f k w)) where
       -- what is found against it decides
-      led : (fibres : ℕ) → whole s n from fibres ≡ after (unless v (rowFault n i j d) (rows (ringOf n fibres) (reading.rs ++ routedOf i j d f k w ∷ []))) line (λ next. checkFrom desk true next (line + 1) (lines (drop to s)))
-      unfolding turn rowTurn sentVerdict when
+      led : (fibres : ℕ) → whole s n from fibres ≡ after (unless v (row_fault n i j d) (rows (ring_of n fibres) (reading.rs ++ routed_of i j d f k w ∷ []))) line (λ next. check_from desk true next (line + 1) (lines (drop to s)))
+      unfolding turn row_turn sent_verdict when
       led fibres =
           let e = reading.many in
           let u = reading.last.0 in
           let w' = reading.last.1 in
-          let found : sentVerdict desk n (length reading.rs) (last_of reading.rs).i (last_of reading.rs).j (routedOf i j d f k w) ≡ v = rw (← e, u, w') (sym ev) in
-          reading.rest fibres ∙ step-at desk true s at to ends (rows (ringOf n fibres) reading.rs) tt line ∙ rw (← ex, is, found)
+          let found : sent_verdict desk n (length reading.rs) (last_of reading.rs).i (last_of reading.rs).j (routed_of i j d f k w) ≡ v = rw (← e, u, w') (sym ev) in
+          reading.rest fibres ∙ step-at desk true s at to ends (rows (ring_of n fibres) reading.rs) tt line ∙ rw (← ex, is, found)
 
-      pub row-stops : (reason : Reason) (byte : ℕ) (t : Rows) → v ≡ Fault reason → byte ≡ rowFault n i j d reason → t.end ≡ Refused reason line byte → RowsRead s from n t
+      pub row-stops : (reason : Reason) (byte : ℕ) (t : Rows) → v ≡ Fault reason → byte ≡ row_fault n i j d reason → t.end ≡ Refused reason line byte → RowsRead s from n t
       unfolding unless after
       row-stops reason byte t q b e = record { means = λ fibres. rw e (rows-refused {reason = reason} {line = line} {byte = byte} (led fibres ∙ rw (q, b))) }
 
@@ -302,10 +302,10 @@ module _ (s : List ℕ) (n from line a b count at : ℕ) (first second amount fr
         pub reads-row : RowsReading s n from (line + 1) i j (count + 1) to (set first count i) (set second count j) (set amount count d) (set front count f) (set back count k) (set way count w)
         unfolding unless after
         reads-row =
-            let r : Routed = routedOf i j d f k w in
+            let r : Routed = routed_of i j d f k w in
             let rs = reading.rs in
             let e = reading.many in
-            let ew : w ≡ wayNumber (way_of w) = way-there w row_here.way in
+            let ew : w ≡ way_number (way_of w) = way-there w row_here.way in
             record {
               rs = rs ++ r ∷ [];
               rest = λ fibres. led fibres ∙ rw fine;
@@ -316,8 +316,8 @@ module _ (s : List ℕ) (n from line a b count at : ℕ) (first second amount fr
               amounts = ap (λ l. set l count d) reading.amounts ∙ column-more (λ (r : Routed). r.sent.row.d) desk.rows rs r count e;
               fronts = ap (λ l. set l count f) reading.fronts ∙ column-more (λ (r : Routed). r.sent.front) desk.rows rs r count e;
               backs = ap (λ l. set l count k) reading.backs ∙ column-more (λ (r : Routed). r.sent.back) desk.rows rs r count e;
-              ways = ap (λ l. set l count w) reading.ways ∙ ap (λ m. set (column (λ (r : Routed). wayNumber r.way) desk.rows rs) count m) ew
-                  ∙ column-more (λ (r : Routed). wayNumber r.way) desk.rows rs r count e;
+              ways = ap (λ l. set l count w) reading.ways ∙ ap (λ m. set (column (λ (r : Routed). way_number r.way) desk.rows rs) count m) ew
+                  ∙ column-more (λ (r : Routed). way_number r.way) desk.rows rs r count e;
               fine = each_more reading.fine new_row.fine;
               lined = omega (arith, reading.lined);
               most = omega (arith, row_room);

@@ -5,16 +5,16 @@ use mathlib.Core.List.{List}
 use mathlib.Core.Path.{◌≡◌, refl, ap, ◌∙◌, sym}
 use native.Mathlib.Omega.{arith}
 use lib.ListN.{length}
-use Rattle.ring.specs.Columns.{column, sentsIn, routedAt, routedIn}
-use Rattle.ring.specs.Routing.{wayNumber, Routed}
+use Rattle.ring.specs.Columns.{column, sents_in, routed_at, routed_in}
+use Rattle.ring.specs.Routing.{way_number, Routed}
 use Rattle.ring.specs.Limits.{desk}
 use Rattle.ring.specs.Sheet.{Sheet, sents}
 use Rattle.ring.proofs.Listed.{listed-map}
 use Rattle.text.proofs.Apart.{clash}
 use Rattle.table.specs.declared.reason.Reason.{Reason}
 use Rattle.table.proofs.TableText.{desk-spelled}
-use Rattle.sheet.specs.Arrays.{sheetIn}
-use Rattle.checker.specs.Arrays.{checkedIn}
+use Rattle.sheet.specs.Arrays.{sheet_in}
+use Rattle.checker.specs.Arrays.{checked_in}
 use Rattle.sheet.specs.Check.{Result, accepted, refused, check}
 use Rattle.checker.specs.declared.check.Checked.{Checked}
 use Rattle.checker.specs.declared.check.Answer.TheVariants.{Is, Refused}
@@ -25,17 +25,17 @@ use Rattle.checker.proofs.RowsSteps.{columns-back}
 pub record Told (s : List ℕ) (c : Checked) (count : ℕ) : Type 0 where
   pub x : Sheet
   pub is : check desk s ≡ accepted x
-  pub same : sheetIn c.figures count c.first c.second c.amount c.front c.back c.way c.split c.unsplit ≡ x
-  pub sents-same : sentsIn count c.first c.second c.amount c.front c.back ≡ sents x.rows
+  pub same : sheet_in c.figures count c.first c.second c.amount c.front c.back c.way c.split c.unsplit ≡ x
+  pub sents-same : sents_in count c.first c.second c.amount c.front c.back ≡ sents x.rows
   pub room : count ≤ desk.rows
   pub links : c.figures.n ≤ desk.nodes
 
-sents-in : (count : ℕ) (first second amount front back way : List ℕ) → sentsIn count first second amount front back ≡ sents (routedIn count first second amount front back way)
-sents-in count first second amount front back way = sym (listed-map (λ (r : Routed). r.sent) (routedAt first second amount front back way) 0 count)
+sents-in : (count : ℕ) (first second amount front back way : List ℕ) → sents_in count first second amount front back ≡ sents (routed_in count first second amount front back way)
+sents-in count first second amount front back way = sym (listed-map (λ (r : Routed). r.sent) (routed_at first second amount front back way) 0 count)
 
 module _ (s : List ℕ) (c : Checked) where
-  a-sheet : (r : Result) → check desk s ≡ r → c ≡ checkedIn r → (count : ℕ) → c.answer ≡ Is count → Told s c count
-  unfolding checkedIn sheetIn
+  a-sheet : (r : Result) → check desk s ≡ r → c ≡ checked_in r → (count : ℕ) → c.answer ≡ Is count → Told s c count
+  unfolding checked_in sheet_in
   a-sheet (accepted x) q e count a =
       let p : Is count ≡ Is (length x.rows) = sym a ∙ ap (λ (y : Checked). y.answer) e in
       let k : count ≡ length x.rows = cc in
@@ -44,7 +44,7 @@ module _ (s : List ℕ) (c : Checked) where
       let rows = columns-back x.rows few in
       let links = links-back x.ring.n x.links h.0.many h.1.links in
       let first = sents-in (length x.rows) (column (λ (r : Routed). r.sent.row.i) desk.rows x.rows) (column (λ (r : Routed). r.sent.row.j) desk.rows x.rows) (column (λ (r : Routed). r.sent.row.d) desk.rows x.rows)
-      (column (λ (r : Routed). r.sent.front) desk.rows x.rows) (column (λ (r : Routed). r.sent.back) desk.rows x.rows) (column (λ (r : Routed). wayNumber r.way) desk.rows x.rows) in
+      (column (λ (r : Routed). r.sent.front) desk.rows x.rows) (column (λ (r : Routed). r.sent.back) desk.rows x.rows) (column (λ (r : Routed). way_number r.way) desk.rows x.rows) in
       record {
         x = x;
         is = q;
@@ -55,8 +55,8 @@ module _ (s : List ℕ) (c : Checked) where
       }
   a-sheet (refused reason line byte) q e count a = clash (let p : Is count ≡ Refused reason line byte = sym a ∙ ap (λ (y : Checked). y.answer) e in cc)
 
-  a-refusal : (r : Result) → check desk s ≡ r → c ≡ checkedIn r → (reason : Reason) (line byte : ℕ) → c.answer ≡ Refused reason line byte → check desk s ≡ refused reason line byte
-  unfolding checkedIn
+  a-refusal : (r : Result) → check desk s ≡ r → c ≡ checked_in r → (reason : Reason) (line byte : ℕ) → c.answer ≡ Refused reason line byte → check desk s ≡ refused reason line byte
+  unfolding checked_in
   a-refusal (accepted x) q e reason line byte a = clash (let p : Refused reason line byte ≡ Is (length x.rows) = sym a ∙ ap (λ (y : Checked). y.answer) e in cc)
   a-refusal (refused why at on) q e reason line byte a =
       let p : Refused reason line byte ≡ Refused why at on = sym a ∙ ap (λ (y : Checked). y.answer) e in
@@ -65,7 +65,7 @@ module _ (s : List ℕ) (c : Checked) where
       let kb : on ≡ byte = cc in
       q ∙ rw (kw, kl, kb)
 
-  module _ (e : c ≡ checkedIn (check desk s)) where
+  module _ (e : c ≡ checked_in (check desk s)) where
     pub told-sheet : (count : ℕ) → c.answer ≡ Is count → Told s c count
     told-sheet = a-sheet (check desk s) refl e
 

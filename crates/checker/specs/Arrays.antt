@@ -1,10 +1,10 @@
 -- Internal: what checking a text gives: the sheet's values in arrays, zero behind them and zero after a refusal.
 use Rattle.std.specs.Prelude.{List, [], length}
 use Rattle.ring.specs.Columns.{column}
-use Rattle.ring.specs.Routing.{wayNumber, Routed}
+use Rattle.ring.specs.Routing.{way_number, Routed}
 use Rattle.ring.specs.Limits.{desk}
 use Rattle.ring.specs.Sheet.{Link}
-use Rattle.sheet.specs.WriteSheet.{figuresOf}
+use Rattle.sheet.specs.WriteSheet.{figures_of}
 use Rattle.sheet.specs.Check.{Result, accepted, refused}
 use Rattle.sheet.specs.declared.Figures.{Figures}
 use Rattle.checker.specs.declared.check.Checked.{Checked}
@@ -12,8 +12,8 @@ use Rattle.checker.specs.declared.check.Answer.{Answer}
 use Rattle.checker.specs.declared.check.Answer.TheVariants.{Is, Refused}
 
 -- no figure
-abbrev pub noFigures : Figures
-noFigures = record { n = 0; fibres = 0; g = 0; h = 0; across = 0; peak = 0; size = 0 }
+abbrev pub no_figures : Figures
+no_figures = record { n = 0; fibres = 0; g = 0; h = 0; across = 0; peak = 0; size = 0 }
 
 -- an answer beside the columns of rows and links
 abbrev pub beside : Answer → Figures → List Routed → List Link → Checked
@@ -26,13 +26,13 @@ beside answer figures rs ls =
       amount = column (λ (r : Routed). r.sent.row.d) desk.rows rs;
       front = column (λ (r : Routed). r.sent.front) desk.rows rs;
       back = column (λ (r : Routed). r.sent.back) desk.rows rs;
-      way = column (λ (r : Routed). wayNumber r.way) desk.rows rs;
+      way = column (λ (r : Routed). way_number r.way) desk.rows rs;
       split = column (λ (l : Link). l.split) desk.nodes ls;
       unsplit = column (λ (l : Link). l.unsplit) desk.nodes ls;
     }
 
 -- what checking a text gives; a refusal returns only reason, line and byte
-unfoldable pub checkedIn : Result → Checked
+unfoldable pub checked_in : Result → Checked
 unfolding column
-checkedIn (accepted x) = beside (Is (length x.rows)) (figuresOf x) x.rows x.links
-checkedIn (refused reason line byte) = beside (Refused reason line byte) noFigures [] []
+checked_in (accepted x) = beside (Is (length x.rows)) (figures_of x) x.rows x.links
+checked_in (refused reason line byte) = beside (Refused reason line byte) no_figures [] []

@@ -1,29 +1,29 @@
 -- Internal: the parts of the checker's code: each reads some lines and says from where, and in which state, checking goes on.
 use Rattle.std.specs.Prelude.{ℕ, ◌+◌, ◌≤◌, true, List, [], ◌∷◌, ◌≡◌, length, drop}
-use Rattle.sonet.specs.Size.{sonetSizes}
-use Rattle.ring.specs.Ring.{Ring, ringOf}
-use Rattle.ring.specs.LineSize.{lineSize}
-use Rattle.ring.specs.Columns.{column, routedIn}
-use Rattle.ring.specs.Routing.{wayNumber, Routed, splitLoad, unsplitLoad, peak}
+use Rattle.sonet.specs.Size.{sonet_sizes}
+use Rattle.ring.specs.Ring.{Ring, ring_of}
+use Rattle.ring.specs.LineSize.{line_size}
+use Rattle.ring.specs.Columns.{column, routed_in}
+use Rattle.ring.specs.Routing.{way_number, Routed, split_load, unsplit_load, peak}
 use Rattle.ring.specs.Cut.{Cut}
 use Rattle.ring.specs.Limits.{Limits, desk}
-use Rattle.ring.specs.RuleD.{largestSplit}
-use Rattle.ring.specs.Sheet.{Link, Sheet, sents, numbersFrom}
+use Rattle.ring.specs.RuleD.{largest_split}
+use Rattle.ring.specs.Sheet.{Link, Sheet, sents, numbers_from}
 use Rattle.router.specs.Rows.{Table}
 use Rattle.router.specs.Arrays.{Halves}
-use Rattle.text.specs.Answers.{threeIn}
-use Rattle.text.specs.ReadLine.{readLine}
-use Rattle.text.specs.Shapes.{cutShape}
+use Rattle.text.specs.Answers.{three_in}
+use Rattle.text.specs.ReadLine.{read_line}
+use Rattle.text.specs.Shapes.{cut_shape}
 use Rattle.table.specs.Lines.{lines}
-use Rattle.table.specs.LineEnds.{lineLength}
-use Rattle.sheet.specs.Arrays.{linksIn}
-use Rattle.sheet.specs.Judge.{judgeHalves, judgeWhole}
+use Rattle.table.specs.LineEnds.{line_length}
+use Rattle.sheet.specs.Arrays.{links_in}
+use Rattle.sheet.specs.Judge.{judge_halves, judge_whole}
 use Rattle.sheet.specs.Verdicts.{or_else}
-use Rattle.table.specs.Judge.{judgeRow}
+use Rattle.table.specs.Judge.{judge_row}
 use Rattle.table.specs.declared.reason.Reason.{Reason}
 use Rattle.table.specs.declared.judge.Verdict.{Verdict}
-use Rattle.sheet.specs.WriteSheet.{figuresOf}
-use Rattle.sheet.specs.Check.{Result, accepted, refused, cut_of, cutTurn, after, wholeResult, checkFrom}
+use Rattle.sheet.specs.WriteSheet.{figures_of}
+use Rattle.sheet.specs.Check.{Result, accepted, refused, cut_of, cut_turn, after, whole_result, check_from}
 use Rattle.sheet.specs.Says.{rows, links}
 use Rattle.checker.specs.declared.check.Checked.{Checked}
 use Rattle.checker.specs.declared.check.Answer.TheVariants.{Is}
@@ -38,7 +38,7 @@ use Rattle.checker.specs.declared.ending.Step.TheVariants.{On, Refused as StepRe
 
 -- it ends before this place
 pub record NextEnds (s : List ℕ) (at end : ℕ) : Type 0 where
-  pub is : end ≡ at + lineLength (drop at s)
+  pub is : end ≡ at + line_length (drop at s)
   pub within : end ≤ length s
 
 -- the first of some lines, empty where there is none; and the lines behind it
@@ -46,21 +46,21 @@ unfoldable pub first_of : List (List ℕ) → List ℕ
 first_of [] = []
 first_of (l ∷ ls) = l
 
-unfoldable pub behindFirst : List (List ℕ) → List (List ℕ)
-behindFirst [] = []
-behindFirst (l ∷ ls) = ls
+unfoldable pub behind_first : List (List ℕ) → List (List ℕ)
+behind_first [] = []
+behind_first (l ∷ ls) = ls
 
 -- ---- the D lines
 
 -- 4 to 9 and 16 of a D line, behind k rows of which the last is a, b
-unfoldable pub sentVerdict : Limits → ℕ → ℕ → ℕ → ℕ → Routed → Verdict
+unfoldable pub sent_verdict : Limits → ℕ → ℕ → ℕ → ℕ → Routed → Verdict
 unfolding or_else
-sentVerdict limits n k a b r = or_else (judgeRow limits n k a b r.sent.row.i r.sent.row.j r.sent.row.d) (judgeHalves r)
+sent_verdict limits n k a b r = or_else (judge_row limits n k a b r.sent.row.i r.sent.row.j r.sent.row.d) (judge_halves r)
 
 -- from the C line on, which is no D line, whose first faulty byte is at the place q
-unfoldable pub cutFrom : Ring → List Routed → ℕ → ℕ → List (List ℕ) → Result
-unfolding after cutTurn checkFrom first_of behindFirst
-cutFrom ring rs line q ls = after (cutTurn true ring rs q (threeIn (readLine cutShape (first_of ls)))) line λ next. checkFrom desk true next (line + 1) (behindFirst ls)
+unfoldable pub cut_from : Ring → List Routed → ℕ → ℕ → List (List ℕ) → Result
+unfolding after cut_turn check_from first_of behind_first
+cut_from ring rs line q ls = after (cut_turn true ring rs q (three_in (read_line cut_shape (first_of ls)))) line λ next. check_from desk true next (line + 1) (behind_first ls)
 
 -- the rows rs stand in columns, from place 0 on, and zeros behind them
 pub record Columns (rs : List Routed) (count : ℕ) (first second amount front back way : List ℕ) : Type 0 where
@@ -70,29 +70,29 @@ pub record Columns (rs : List Routed) (count : ℕ) (first second amount front b
   pub amounts : amount ≡ column (λ (r : Routed). r.sent.row.d) desk.rows rs
   pub fronts : front ≡ column (λ (r : Routed). r.sent.front) desk.rows rs
   pub backs : back ≡ column (λ (r : Routed). r.sent.back) desk.rows rs
-  pub ways : way ≡ column (λ (r : Routed). wayNumber r.way) desk.rows rs
-  pub is : routedIn count first second amount front back way ≡ rs
+  pub ways : way ≡ column (λ (r : Routed). way_number r.way) desk.rows rs
+  pub is : routed_in count first second amount front back way ≡ rs
 
 -- what the rows that were read lead to, and what is known of their columns
 pub data RowsMean (s : List ℕ) (ring : Ring) (result : Result) (first second amount front back way : List ℕ) : RowsEnd → Type 0 where
-  rows_at : {count at line q : ℕ} (rs : List Routed) → Columns rs count first second amount front back way → result ≡ cutFrom ring rs line q (lines (drop at s))
+  rows_at : {count at line q : ℕ} (rs : List Routed) → Columns rs count first second amount front back way → result ≡ cut_from ring rs line q (lines (drop at s))
       → at ≤ length s → q ≤ length s → line ≡ count + 2 → Table ring.n count first second amount → Halves count front back → RowsMean s ring result first second amount front back way (At count at line q)
   rows-refused : {reason : Reason} {line byte : ℕ} → result ≡ refused reason line byte → RowsMean s ring result first second amount front back way (RowsRefused reason line byte)
 
 -- whatever the fibres: rows are judged by the number of nodes alone
 pub record RowsRead (s : List ℕ) (from n : ℕ) (r : Rows) : Type 0 where
   pub means : (fibres : ℕ) →
-      RowsMean s (ringOf n fibres) (checkFrom desk true (rows (ringOf n fibres) []) 2 (lines (drop from s))) r.first r.second r.amount r.front r.back r.way r.end
+      RowsMean s (ring_of n fibres) (check_from desk true (rows (ring_of n fibres) []) 2 (lines (drop from s))) r.first r.second r.amount r.front r.back r.way r.end
 
 -- ---- the lines behind them
 
 -- the figures that are true of rows
 pub record Weighed (n : ℕ) (rs : List Routed) (split unsplit : List ℕ) (split-peak top largest : ℕ) : Type 0 where
-  pub splits : split ≡ column (λ k. splitLoad (sents rs) k) desk.nodes (numbersFrom 1 n)
-  pub unsplits : unsplit ≡ column (λ k. unsplitLoad rs k) desk.nodes (numbersFrom 1 n)
-  pub split-peaks : split-peak ≡ peak (splitLoad (sents rs)) n
-  pub tops : top ≡ peak (unsplitLoad rs) n
-  pub largests : largest ≡ largestSplit (sents rs)
+  pub splits : split ≡ column (λ k. split_load (sents rs) k) desk.nodes (numbers_from 1 n)
+  pub unsplits : unsplit ≡ column (λ k. unsplit_load rs k) desk.nodes (numbers_from 1 n)
+  pub split-peaks : split-peak ≡ peak (split_load (sents rs)) n
+  pub tops : top ≡ peak (unsplit_load rs) n
+  pub largests : largest ≡ largest_split (sents rs)
 
 -- a step leads on from a place of the text, or is refused
 pub data StepMeans (s : List ℕ) (result : Result) (goes_on : ℕ → Result) : Step → Type 0 where
@@ -104,55 +104,55 @@ pub record Within (s : List ℕ) (r : Step) : Type 0 where
   pub place : (at : ℕ) → r ≡ On at → at ≤ length s
 
 -- the sheet of rows, of a cut and of true figures
-abbrev pub sheetWith : Ring → List Routed → Cut → List ℕ → List ℕ → ℕ → ℕ → Sheet
-sheetWith ring rs c split unsplit top size = record { ring = ring; rows = rs; cut = c; links = linksIn ring.n split unsplit; peak = top; size = size }
+abbrev pub sheet_with : Ring → List Routed → Cut → List ℕ → List ℕ → ℕ → ℕ → Sheet
+sheet_with ring rs c split unsplit top size = record { ring = ring; rows = rs; cut = c; links = links_in ring.n split unsplit; peak = top; size = size }
 
 -- the L lines: behind the cut and no link, to behind the last link
 pub record LinksRead (s : List ℕ) (from n line : ℕ) (split unsplit : List ℕ) (r : Step) : Type 0 where
   pub within : Within s r
   pub means : (fibres : ℕ) (rs : List Routed) (c : Cut) (split-peak top largest : ℕ) → Weighed n rs split unsplit split-peak top largest →
-      StepMeans s (checkFrom desk true (links (ringOf n fibres) rs c []) line (lines (drop from s)))
-      (λ at. checkFrom desk true (links (ringOf n fibres) rs c (linksIn n split unsplit)) (line + n) (lines (drop at s))) r
+      StepMeans s (check_from desk true (links (ring_of n fibres) rs c []) line (lines (drop from s)))
+      (λ at. check_from desk true (links (ring_of n fibres) rs c (links_in n split unsplit)) (line + n) (lines (drop at s))) r
 
 -- the Z line, and nothing behind it
 pub record LastRead (s : List ℕ) (at line top size : ℕ) (r : Step) : Type 0 where
   pub within : Within s r
-  pub means : (ring : Ring) (rs : List Routed) (c : Cut) (ks : List Link) → ring.n ≤ length ks → top ≡ peak (unsplitLoad rs) ring.n → size ≡ lineSize sonetSizes ring.fibres top →
+  pub means : (ring : Ring) (rs : List Routed) (c : Cut) (ks : List Link) → ring.n ≤ length ks → top ≡ peak (unsplit_load rs) ring.n → size ≡ line_size sonet_sizes ring.fibres top →
       let x : Sheet = record { ring = ring; rows = rs; cut = c; links = ks; peak = top; size = size } in
-      StepMeans s (checkFrom desk true (links ring rs c ks) line (lines (drop at s))) (λ p. wholeResult x (judgeWhole x)) r
+      StepMeans s (check_from desk true (links ring rs c ks) line (lines (drop at s))) (λ p. whole_result x (judge_whole x)) r
 
 -- the Z line, and then the whole sheet
 pub record WholeRead (s : List ℕ) (at line number split-peak top size largest : ℕ) (r : Step) : Type 0 where
-  pub means : (ring : Ring) (rs : List Routed) (g h : ℕ) (ks : List Link) → ring.n ≤ length ks → split-peak ≡ peak (splitLoad (sents rs)) ring.n → top ≡ peak (unsplitLoad rs) ring.n →
-      largest ≡ largestSplit (sents rs) → size ≡ lineSize sonetSizes ring.fibres top →
+  pub means : (ring : Ring) (rs : List Routed) (g h : ℕ) (ks : List Link) → ring.n ≤ length ks → split-peak ≡ peak (split_load (sents rs)) ring.n → top ≡ peak (unsplit_load rs) ring.n →
+      largest ≡ largest_split (sents rs) → size ≡ line_size sonet_sizes ring.fibres top →
       let x : Sheet = record { ring = ring; rows = rs; cut = cut_of g h number; links = ks; peak = top; size = size } in
-      StepMeans s (checkFrom desk true (links ring rs (cut_of g h number) ks) line (lines (drop at s))) (λ p. accepted x) r
+      StepMeans s (check_from desk true (links ring rs (cut_of g h number) ks) line (lines (drop at s))) (λ p. accepted x) r
 
 -- all of them
 pub record TailRead (s : List ℕ) (at line n number : ℕ) (split unsplit : List ℕ) (split-peak top size largest : ℕ) (r : Step) : Type 0 where
-  pub means : (fibres : ℕ) (rs : List Routed) (g h : ℕ) → Weighed n rs split unsplit split-peak top largest → size ≡ lineSize sonetSizes fibres top →
-      StepMeans s (checkFrom desk true (links (ringOf n fibres) rs (cut_of g h number) []) line (lines (drop at s)))
-      (λ p. accepted (sheetWith (ringOf n fibres) rs (cut_of g h number) split unsplit top size)) r
+  pub means : (fibres : ℕ) (rs : List Routed) (g h : ℕ) → Weighed n rs split unsplit split-peak top largest → size ≡ line_size sonet_sizes fibres top →
+      StepMeans s (check_from desk true (links (ring_of n fibres) rs (cut_of g h number) []) line (lines (drop at s)))
+      (λ p. accepted (sheet_with (ring_of n fibres) rs (cut_of g h number) split unsplit top size)) r
 
 -- what a refusal returns beside its step does not count; else the figures and the loads are those of the sheet
 pub data EndMeans (ring : Ring) (rs : List Routed) (result : Result) (r : Ending) : Step → Type 0 where
-  ends_with : {at : ℕ} (c : Cut) (top size : ℕ) → result ≡ accepted (sheetWith ring rs c r.split r.unsplit top size)
-      → r.figures ≡ figuresOf (sheetWith ring rs c r.split r.unsplit top size)
-      → r.split ≡ column (λ (l : Link). l.split) desk.nodes (linksIn ring.n r.split r.unsplit)
-      → r.unsplit ≡ column (λ (l : Link). l.unsplit) desk.nodes (linksIn ring.n r.split r.unsplit) → EndMeans ring rs result r (On at)
+  ends_with : {at : ℕ} (c : Cut) (top size : ℕ) → result ≡ accepted (sheet_with ring rs c r.split r.unsplit top size)
+      → r.figures ≡ figures_of (sheet_with ring rs c r.split r.unsplit top size)
+      → r.split ≡ column (λ (l : Link). l.split) desk.nodes (links_in ring.n r.split r.unsplit)
+      → r.unsplit ≡ column (λ (l : Link). l.unsplit) desk.nodes (links_in ring.n r.split r.unsplit) → EndMeans ring rs result r (On at)
   end_refused : {reason : Reason} {line byte : ℕ} → result ≡ refused reason line byte → EndMeans ring rs result r (StepRefused reason line byte)
 
 -- from the C line on
 abbrev pub EndRead : List ℕ → ℕ → ℕ → ℕ → Ring → List Routed → Ending → Type 0
-EndRead s at line q ring rs r = EndMeans ring rs (cutFrom ring rs line q (lines (drop at s))) r r.step
+EndRead s at line q ring rs r = EndMeans ring rs (cut_from ring rs line q (lines (drop at s))) r r.step
 
 -- behind the cut g, h
 abbrev pub WeighedRead : List ℕ → ℕ → ℕ → Ring → List Routed → ℕ → ℕ → ℕ → Ending → Type 0
-WeighedRead s at line ring rs g h number r = EndMeans ring rs (checkFrom desk true (links ring rs (cut_of g h number) []) line (lines (drop at s))) r r.step
+WeighedRead s at line ring rs g h number r = EndMeans ring rs (check_from desk true (links ring rs (cut_of g h number) []) line (lines (drop at s))) r r.step
 
 -- the columns of rows and the figures behind them, side by side
-abbrev pub checkedWith : ℕ → Rows → Ending → Checked
-checkedWith count t e =
+abbrev pub checked_with : ℕ → Rows → Ending → Checked
+checked_with count t e =
     record {
       answer = Is count;
       figures = e.figures;

@@ -1,12 +1,12 @@
 // A sheet's text to its values in arrays, judged line by line.
 ghost use Rattle.std.specs.Prelude.{true, ◌≡◌, [], ◌≤◌, length, drop};
 ghost use Rattle.ring.specs.Limits.{desk};
-ghost use Rattle.ring.specs.Ring.{ringOf};
+ghost use Rattle.ring.specs.Ring.{ring_of};
 ghost use Rattle.table.specs.Lines.{lines};
-ghost use Rattle.sheet.specs.Check.{refused, checkFrom, check};
+ghost use Rattle.sheet.specs.Check.{refused, check_from, check};
 ghost use Rattle.sheet.specs.Says.{rows};
-ghost use Rattle.checker.specs.Arrays.{checkedIn};
-ghost use Rattle.checker.specs.Parts.{checkedWith};
+ghost use Rattle.checker.specs.Arrays.{checked_in};
+ghost use Rattle.checker.specs.Parts.{checked_with};
 
 use crate::ending::{Ending, Step, finish};
 use crate::next::next_end;
@@ -39,7 +39,7 @@ pub struct Checked {
 }
 
 fn refusal(reason: Reason, line: u32, byte: u32) -> Checked
-    ensures { result ≡ checkedIn (refused reason line byte) }
+    ensures { result ≡ checked_in (refused reason line byte) }
 {
     Checked {
         answer: Answer::Refused(reason, line, byte),
@@ -65,7 +65,7 @@ fn refusal(reason: Reason, line: u32, byte: u32) -> Checked
 
 // The sheet of rows and of what follows them.
 fn sheet_of(count: usize, t: Rows, e: Ending) -> Checked
-    ensures { result ≡ checkedWith count t e }
+    ensures { result ≡ checked_with count t e }
 {
     let first = t.first;
     let second = t.second;
@@ -93,7 +93,7 @@ fn sheet_of(count: usize, t: Rows, e: Ending) -> Checked
 // A sheet of a ring of n nodes and so many fibres, from the place `from` behind its R line on.
 fn check_rows(s: &[u8], from: usize, n: u32, fibres: u32) -> Checked
     requires { (from ≤ length s.now) × (length s.now ≤ desk.bytes) × ((desk.fewest ≤ n) × (n ≤ desk.nodes)) }
-    ensures { result ≡ checkedIn (checkFrom desk true (rows (ringOf n fibres) []) 2 (lines (drop from s.now))) }
+    ensures { result ≡ checked_in (check_from desk true (rows (ring_of n fibres) []) 2 (lines (drop from s.now))) }
 {
     let t = read_rows(s, from, n);
     let end = t.end;
@@ -114,7 +114,7 @@ fn check_rows(s: &[u8], from: usize, n: u32, fibres: u32) -> Checked
 }
 
 pub fn check_sheet(s: &[u8]) -> Checked
-    ensures { result ≡ checkedIn (check desk s.now) }
+    ensures { result ≡ checked_in (check desk s.now) }
 {
     if BYTES < s.len() {
         return refusal(Reason::TooLong, 0, 0);

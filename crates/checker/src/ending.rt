@@ -1,8 +1,8 @@
 // The C line, the L lines and the Z line of a sheet, judged by its rows, and the whole sheet after them.
 ghost use Rattle.std.specs.Prelude.{◌≡◌, ◌+◌, ◌≤◌, ◌<◌, max, length};
-ghost use Rattle.ring.specs.Columns.{routedIn};
+ghost use Rattle.ring.specs.Columns.{routed_in};
 ghost use Rattle.ring.specs.Limits.{desk};
-ghost use Rattle.ring.specs.Ring.{ringOf};
+ghost use Rattle.ring.specs.Ring.{ring_of};
 ghost use Rattle.router.specs.Rows.{Table};
 ghost use Rattle.router.specs.Arrays.{Halves};
 ghost use Rattle.checker.specs.Parts.{LinksRead, LastRead, WholeRead, TailRead, EndRead, WeighedRead};
@@ -192,7 +192,7 @@ fn weighed<'a>(
     requires at_in_bounds { (at ≤ length s.now) × (length s.now ≤ desk.bytes) × (line + n ≤ desk.bytes) }
     requires table { Table n count first.now second.now amount.now }
     requires halves { Halves count front.now back.now }
-    ensures { WeighedRead s.now at line (ringOf n fibres) (routedIn count first.now second.now amount.now front.now back.now way.now) g h number result }
+    ensures { WeighedRead s.now at line (ring_of n fibres) (routed_in count first.now second.now amount.now front.now back.now way.now) g h number result }
 {
     let w = router::weigh(n, count, first, second, amount, front, back, way);
     let split = w.split;
@@ -258,7 +258,7 @@ pub(crate) fn finish<'a>(
     requires at_in_bounds { (at ≤ length s.now) × (length s.now ≤ desk.bytes) × (no_row ≤ desk.bytes) × (line + n < desk.bytes) }
     requires table { Table n count first.now second.now amount.now }
     requires halves { Halves count front.now back.now }
-    ensures { EndRead s.now at line no_row (ringOf n fibres) (routedIn count first.now second.now amount.now front.now back.now way.now) result }
+    ensures { EndRead s.now at line no_row (ring_of n fibres) (routed_in count first.now second.now amount.now front.now back.now way.now) result }
 {
     let end = next_end(s, at);
     let cut = text::read_cut(&s[at..end]);

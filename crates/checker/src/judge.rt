@@ -1,28 +1,28 @@
 // What is found against a sheet's rows, cut, links and figures. Sums are taken as usize, in which none is too large.
 ghost use Rattle.std.specs.Prelude.{◌≡◌};
-ghost use Rattle.ring.specs.Columns.{rowsIn};
+ghost use Rattle.ring.specs.Columns.{rows_in};
 ghost use Rattle.ring.specs.Cut.{part, across};
 ghost use Rattle.ring.specs.Limits.{desk};
-ghost use Rattle.ring.specs.Row.{row, inFront};
+ghost use Rattle.ring.specs.Row.{row, in_front};
 ghost use Rattle.router.specs.Rows.{Table};
-ghost use Rattle.sheet.specs.Judge.{wrongSum, wrongWay, judgeHalves};
-ghost use Rattle.sheet.specs.Check.{routedOf};
-ghost use Rattle.checker.specs.Parts.{sentVerdict};
-ghost use Rattle.sheet.specs.Verdicts.{noCut, cutVerdict, linkVerdict, lastVerdict, wholeVerdict};
+ghost use Rattle.sheet.specs.Judge.{wrong_sum, wrong_way, judge_halves};
+ghost use Rattle.sheet.specs.Check.{routed_of};
+ghost use Rattle.checker.specs.Parts.{sent_verdict};
+ghost use Rattle.sheet.specs.Verdicts.{no_cut, cut_verdict, link_verdict, last_verdict, whole_verdict};
 
 use ring::{FRONT, ROWS, is_split, wide};
 use table::{Reason, Verdict};
 
 // 8: front + back is not 2 x amount.
 fn wrong_sum(d: u32, front: u32, back: u32) -> bool
-    ensures { result ≡ wrongSum (routedOf 0 0 d front back 0).sent }
+    ensures { result ≡ wrong_sum (routed_of 0 0 d front back 0).sent }
 {
     wide(front) + wide(back) != 2 * wide(d)
 }
 
 // 9: direction of an unsplit row differs from rule D.
 fn wrong_way(front: u32, back: u32, way: u32) -> bool
-    ensures { result ≡ wrongWay (routedOf 0 0 0 front back way) }
+    ensures { result ≡ wrong_way (routed_of 0 0 0 front back way) }
 {
     let split = is_split(front, back);
     if split {
@@ -36,7 +36,7 @@ fn wrong_way(front: u32, back: u32, way: u32) -> bool
 
 // 8 and 9.
 fn judge_halves(d: u32, front: u32, back: u32, way: u32) -> Verdict
-    ensures { result ≡ judgeHalves (routedOf 0 0 d front back way) }
+    ensures { result ≡ judge_halves (routed_of 0 0 d front back way) }
 {
     let unequal = wrong_sum(d, front, back);
     if unequal {
@@ -62,7 +62,7 @@ pub(crate) fn judge_sent(
     back: u32,
     way: u32,
 ) -> Verdict
-    ensures { result ≡ sentVerdict desk n k a b (routedOf i j d front back way) }
+    ensures { result ≡ sent_verdict desk n k a b (routed_of i j d front back way) }
 {
     let verdict = table::judge_row(n, k, a, b, i, j, d);
     match verdict {
@@ -73,7 +73,7 @@ pub(crate) fn judge_sent(
 
 // Whether the front of the row i, j holds link k.
 fn in_front(i: u32, j: u32, k: u32) -> bool
-    ensures { result ≡ inFront (row i j 0) k }
+    ensures { result ≡ in_front (row i j 0) k }
 {
     i <= k && k < j
 }
@@ -107,7 +107,7 @@ fn across_of(
     h: u32,
 ) -> usize
     requires { Table n count first.now second.now amount.now }
-    ensures { result ≡ across (rowsIn count first.now second.now amount.now) g h }
+    ensures { result ≡ across (rows_in count first.now second.now amount.now) g h }
 {
     let mut sum: usize = 0;
     let mut t: usize = count;
@@ -121,7 +121,7 @@ fn across_of(
 
 // Whether g, h is no cut of a ring of n nodes.
 fn no_cut(n: u32, g: u32, h: u32) -> bool
-    ensures { result ≡ noCut n g h }
+    ensures { result ≡ no_cut n g h }
 {
     if g < 1 {
         return true;
@@ -144,7 +144,7 @@ pub(crate) fn judge_cut(
     number: u32,
 ) -> Verdict
     requires { Table n count first.now second.now amount.now }
-    ensures { result ≡ cutVerdict n (across (rowsIn count first.now second.now amount.now) g h) g h number }
+    ensures { result ≡ cut_verdict n (across (rows_in count first.now second.now amount.now) g h) g h number }
 {
     let none = no_cut(n, g, h);
     if none {
@@ -159,7 +159,7 @@ pub(crate) fn judge_cut(
 
 // 11: link out of order, or either load false. Link k is due, and its loads are `split` and `unsplit`.
 pub(crate) fn judge_link(k: u32, split: u32, unsplit: u32, link: u32, s: u32, u: u32) -> Verdict
-    ensures { result ≡ linkVerdict k split unsplit link s u }
+    ensures { result ≡ link_verdict k split unsplit link s u }
 {
     if link != k {
         return Verdict::Fault(Reason::WrongLink);
@@ -175,7 +175,7 @@ pub(crate) fn judge_link(k: u32, split: u32, unsplit: u32, link: u32, s: u32, u:
 
 // 12: unsplit peak or size false.
 pub(crate) fn judge_last(peak: u32, size: u32, p: u32, z: u32) -> Verdict
-    ensures { result ≡ lastVerdict peak size p z }
+    ensures { result ≡ last_verdict peak size p z }
 {
     if p != peak {
         return Verdict::Fault(Reason::WrongLast);
@@ -188,7 +188,7 @@ pub(crate) fn judge_last(peak: u32, size: u32, p: u32, z: u32) -> Verdict
 
 // 13: split peak (halves) is not the across number; 14: the bound of rule D broken.
 pub(crate) fn judge_whole(split_peak: u32, number: u32, largest: u32, peak: u32) -> Verdict
-    ensures { result ≡ wholeVerdict split_peak number largest peak }
+    ensures { result ≡ whole_verdict split_peak number largest peak }
 {
     if split_peak != number {
         return Verdict::Fault(Reason::NotTight);

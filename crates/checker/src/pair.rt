@@ -3,10 +3,10 @@ ghost use Rattle.std.specs.Prelude.{List, ◌≡◌, ℕ, ◌≤◌};
 ghost use Rattle.ring.specs.Limits.{desk};
 ghost use Rattle.ring.specs.Row.{row};
 ghost use Rattle.ring.specs.Routing.{sent};
-ghost use Rattle.ring.specs.Crossing.{distinct as distinctOf, between as betweenOf, parallel as parallelOf};
+ghost use Rattle.ring.specs.Crossing.{distinct as distinct_of, between as between_of, parallel as parallel_of};
 ghost use Rattle.ring.specs.RuleC.{clash};
-ghost use Rattle.ring.specs.Columns.{sentsIn};
-ghost use Rattle.checker.specs.FindPair.{firstPair};
+ghost use Rattle.ring.specs.Columns.{sents_in};
+ghost use Rattle.checker.specs.FindPair.{first_pair};
 
 use ring::{ROWS, is_split};
 
@@ -21,7 +21,7 @@ pub enum Pair {
 
 // Whether the nodes i, j and k, l of two rows are four.
 fn distinct(i: u32, j: u32, k: u32, l: u32) -> bool
-    ensures { result ≡ distinctOf (row i j 0) (row k l 0) }
+    ensures { result ≡ distinct_of (row i j 0) (row k l 0) }
 {
     if i == k {
         return false;
@@ -37,14 +37,14 @@ fn distinct(i: u32, j: u32, k: u32, l: u32) -> bool
 
 // Whether node x lies strictly between the nodes i and j.
 fn between(i: u32, j: u32, x: u32) -> bool
-    ensures { result ≡ betweenOf (row i j 0) x }
+    ensures { result ≡ between_of (row i j 0) x }
 {
     i < x && x < j
 }
 
 // Whether the rows i-j and k-l are parallel: they do not cross. The test is by nodes; one by fronts would need i < j and k < l.
 fn parallel(i: u32, j: u32, k: u32, l: u32) -> bool
-    ensures { result ≡ parallelOf (row i j 0) (row k l 0) }
+    ensures { result ≡ parallel_of (row i j 0) (row k l 0) }
 {
     let four = distinct(i, j, k, l);
     let begins = between(i, j, k);
@@ -75,7 +75,7 @@ pub fn first_pair<'a>(
     back: &'a [u32; ROWS],
 ) -> Pair
     requires { count ≤ desk.rows }
-    ensures { (amount : List ℕ) → result ≡ firstPair (sentsIn count first.now second.now amount front.now back.now) }
+    ensures { (amount : List ℕ) → result ≡ first_pair (sents_in count first.now second.now amount front.now back.now) }
 {
     let mut found = Pair::None;
     'search: for a in 0..count {

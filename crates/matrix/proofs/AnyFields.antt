@@ -13,15 +13,15 @@ use Rattle.ring.specs.Lists.{Each, none, more}
 use Rattle.text.specs.Bytes.{tab, lf, number}
 use Rattle.text.specs.Number.{limit, digits}
 use Rattle.text.specs.Field.{top, spell}
-use Rattle.text.specs.WriteLine.{end_of, writeLine, FitsShape}
+use Rattle.text.specs.WriteLine.{end_of, write_line, FitsShape}
 use Rattle.text.specs.Shapes.{numbers}
 use Rattle.text.proofs.LineLaws.{fewer}
 use Rattle.text.specs.FirstFault.{Agrees, FirstFault}
 use Rattle.text.proofs.Apart.{clash}
-use Rattle.table.specs.Lines.{withByte, lines}
+use Rattle.table.specs.Lines.{with_byte, lines}
 use Rattle.table.specs.Says.{LineIs, at_first, behind}
 use Rattle.table.proofs.LinesOf.{NoLf}
-use Rattle.matrix.specs.Read.{fieldsIn}
+use Rattle.matrix.specs.Read.{fields_in}
 use Rattle.matrix.specs.Says.{NumbersFault}
 use Rattle.matrix.proofs.MatrixText.{fields-behind, fields-line}
 
@@ -41,13 +41,13 @@ byte-ended : (c : ℕ) (l : List ℕ) → NoLf c → Ended l → Ended (c ∷ l)
 byte-ended c l h f [] b e = absurd (h (cc))
 byte-ended c l h f (x ∷ a) b e = f a b (cc)
 
-front-ended : (c : ℕ) → NoLf c → (ls : List (List ℕ)) → Each Ended ls → Each Ended (withByte false c ls)
-unfolding withByte
+front-ended : (c : ℕ) → NoLf c → (ls : List (List ℕ)) → Each Ended ls → Each Ended (with_byte false c ls)
+unfolding with_byte
 front-ended c h [] none = more (byte-ended c [] h none-ended) none
 front-ended c h (l ∷ ls) (more f fs) = more (byte-ended c l h f) fs
 
 pub lines-ended : (t : List ℕ) → Each Ended (lines t)
-unfolding lines withByte
+unfolding lines with_byte
 lines-ended [] = none
 lines-ended (c ∷ t) =
     elim (ℕ_discrete c lf) [
@@ -88,8 +88,8 @@ begin-alike a w u x j k i e =
 
 -- ---- a line of numbers that begins like l
 
-pub fields-some : (l : List ℕ) → 1 ≤ fieldsIn l
-unfolding fieldsIn
+pub fields-some : (l : List ℕ) → 1 ≤ fields_in l
+unfolding fields_in
 fields-some [] = omega arith
 fields-some (b ∷ l) = omega (arith, fields-some l)
 
@@ -107,70 +107,70 @@ unfolding end_of
 lf-behind = refl
 
 -- no more than the digits of the first number
-within_first : (v : ℕ) (w l : List ℕ) (k : ℕ) → v < limit → k ≤ length (digits v) → take k (digits v ++ w) ≡ take k l → Agrees (numbers (fieldsIn l)) l k
-unfolding writeLine FitsShape spell top
+within_first : (v : ℕ) (w l : List ℕ) (k : ℕ) → v < limit → k ≤ length (digits v) → take k (digits v ++ w) ≡ take k l → Agrees (numbers (fields_in l)) l k
+unfolding write_line FitsShape spell top
 within_first v w l k small h e =
-    let d : suc (fieldsIn l - 1) ≡ fieldsIn l = omega (arith, fields-some l) in
-    let zs : List ℕ = replicate {A = ℕ} (fieldsIn l - 1) 0 in
+    let d : suc (fields_in l - 1) ≡ fields_in l = omega (arith, fields-some l) in
+    let zs : List ℕ = replicate {A = ℕ} (fields_in l - 1) 0 in
     subst (λ n. Agrees (numbers n) l k) d
     (record {
       vs = v ∷ zs;
-      range = (small, zeros-fit (fieldsIn l - 1));
-      text = take-append-le k (digits v) (end_of (length (numbers (fieldsIn l - 1))) ∷ writeLine (numbers (fieldsIn l - 1)) zs) h ∙ sym (take-append-le k (digits v) w h) ∙ e;
+      range = (small, zeros-fit (fields_in l - 1));
+      text = take-append-le k (digits v) (end_of (length (numbers (fields_in l - 1))) ∷ write_line (numbers (fields_in l - 1)) zs) h ∙ sym (take-append-le k (digits v) w h) ∙ e;
     })
 
 -- one number and LF
-only-first : (v : ℕ) (l : List ℕ) (k : ℕ) → v < limit → l ≡ digits v ++ lf ∷ [] → Agrees (numbers (fieldsIn l)) l k
-unfolding writeLine FitsShape spell top end_of
+only-first : (v : ℕ) (l : List ℕ) (k : ℕ) → v < limit → l ≡ digits v ++ lf ∷ [] → Agrees (numbers (fields_in l)) l k
+unfolding write_line FitsShape spell top end_of
 only-first v l k small is =
-    let d : fieldsIn l ≡ 1 = ap fieldsIn is ∙ fields-line v [] (more small none) in
+    let d : fields_in l ≡ 1 = ap fields_in is ∙ fields-line v [] (more small none) in
     subst (λ n. Agrees (numbers n) l k) (sym d) (record { vs = v ∷ []; range = (small, tt); text = ap (take k) (sym is) })
 
 -- a number and a tab, and what is behind them
-first-and : (v : ℕ) (l rest : List ℕ) (j k : ℕ) → v < limit → l ≡ digits v ++ tab ∷ rest → k ≡ length (digits v) + suc j → Agrees (numbers (fieldsIn rest)) rest j → Agrees (numbers (fieldsIn l)) l k
-unfolding writeLine FitsShape spell top fieldsIn
+first-and : (v : ℕ) (l rest : List ℕ) (j k : ℕ) → v < limit → l ≡ digits v ++ tab ∷ rest → k ≡ length (digits v) + suc j → Agrees (numbers (fields_in rest)) rest j → Agrees (numbers (fields_in l)) l k
+unfolding write_line FitsShape spell top fields_in
 first-and v l rest j k small is i a =
-    let d : fieldsIn l ≡ suc (fieldsIn rest) = ap fieldsIn is ∙ fields-behind v small (tab ∷ rest) ∙ omega arith in
+    let d : fields_in l ≡ suc (fields_in rest) = ap fields_in is ∙ fields-behind v small (tab ∷ rest) ∙ omega arith in
     subst (λ n. Agrees (numbers n) l k) (sym d)
     (record {
       vs = v ∷ a.vs;
       range = (small, a.range);
       text =
-          rw (tab-behind (fieldsIn rest) (fields-some rest), is)
-          (begin-alike (digits v) (writeLine (numbers (fieldsIn rest)) a.vs) rest tab j k i a.text);
+          rw (tab-behind (fields_in rest) (fields-some rest), is)
+          (begin-alike (digits v) (write_line (numbers (fields_in rest)) a.vs) rest tab j k i a.text);
     })
 
 tail-ended : (a : List ℕ) (x : ℕ) (l rest : List ℕ) → l ≡ a ++ x ∷ rest → Ended l → Ended rest
 tail-ended a x l rest is f p b e = f (a ++ x ∷ p) b (is ∙ rw e (sym (append_assoc a (x ∷ p) (lf ∷ b))))
 
-agree : (m : ℕ) (vs l : List ℕ) (k : ℕ) → FitsShape (numbers (suc m)) vs → Ended l → take k (writeLine (numbers (suc m)) vs) ≡ take k l → Agrees (numbers (fieldsIn l)) l k
-unfolding writeLine FitsShape spell top
+agree : (m : ℕ) (vs l : List ℕ) (k : ℕ) → FitsShape (numbers (suc m)) vs → Ended l → take k (write_line (numbers (suc m)) vs) ≡ take k l → Agrees (numbers (fields_in l)) l k
+unfolding write_line FitsShape spell top
 agree m [] l k r f e = absurd r
 agree zero (v ∷ vs) l k r f e =
     elim (dec_lt (length (digits v)) k) [
       | no h ↦ within_first v _ l k r.0 (omega arith) e
       | yes h ↦
-          let s = go-behind (digits v) lf (writeLine (numbers zero) vs) l k h (rw lf-behind at e) in
+          let s = go-behind (digits v) lf (write_line (numbers zero) vs) l k h (rw lf-behind at e) in
           only-first v l k r.0 (s.is ∙ ap (λ (b : List ℕ). digits v ++ lf ∷ b) (f (digits v) s.rest s.is))
     ]
 agree (suc m) (v ∷ vs) l k r f e =
     elim (dec_lt (length (digits v)) k) [
       | no h ↦ within_first v _ l k r.0 (omega arith) e
       | yes h ↦
-          let s = go-behind (digits v) tab (writeLine (numbers (suc m)) vs) l k h (rw (tab-behind (suc m) (omega arith)) at e) in
+          let s = go-behind (digits v) tab (write_line (numbers (suc m)) vs) l k h (rw (tab-behind (suc m) (omega arith)) at e) in
           let j : ℕ = k - length (digits v) - 1 in
           let i : k ≡ length (digits v) + suc j = omega arith in
           first-and v l s.rest j k r.0 s.is i (agree m vs s.rest j r.1 (tail-ended (digits v) tab l s.rest s.is f) (s.same j i))
     ]
 
-pub agree-any : (m : ℕ) (l : List ℕ) (k : ℕ) → 1 ≤ m → Ended l → Agrees (numbers m) l k → Agrees (numbers (fieldsIn l)) l k
+pub agree-any : (m : ℕ) (l : List ℕ) (k : ℕ) → 1 ≤ m → Ended l → Agrees (numbers m) l k → Agrees (numbers (fields_in l)) l k
 agree-any zero l k h f a = absurd (omega arith)
 agree-any (suc m) l k h f a = agree m a.vs l k a.range f a.text
 
 -- ---- the law
 
-pub any-fault : (l : List ℕ) (p : ℕ) → Ended l → FirstFault (numbers (fieldsIn l)) l p → NumbersFault l p
-any-fault l p f x = record { m = fieldsIn l; some = fields-some l; before = x.before; here = λ m h a. x.here (agree-any m l (p + 1) h f a) }
+pub any-fault : (l : List ℕ) (p : ℕ) → Ended l → FirstFault (numbers (fields_in l)) l p → NumbersFault l p
+any-fault l p f x = record { m = fields_in l; some = fields-some l; before = x.before; here = λ m h a. x.here (agree-any m l (p + 1) h f a) }
 
 -- there is one such place
 not-before : (l : List ℕ) (p q : ℕ) → NumbersFault l p → NumbersFault l q → p < q → ⊥

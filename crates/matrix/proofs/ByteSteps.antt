@@ -11,13 +11,13 @@ use mir.Val.{Fits}
 use Rattle.ring.specs.Limits.{desk}
 use Rattle.ring.proofs.Listed.{listed-length}
 use Rattle.text.specs.Bytes.{number}
-use Rattle.text.specs.Shapes.{numbers, numbersLine}
+use Rattle.text.specs.Shapes.{numbers, numbers_line}
 use Rattle.text.proofs.Apart.{clash}
 use Rattle.text.proofs.Lengths.{line-short}
 use Rattle.table.specs.declared.reason.Reason.{Reason}
-use Rattle.matrix.specs.Matrix.{entryByte}
-use Rattle.matrix.specs.Read.{judgeAmounts, judgeAcross, line_of}
-use Rattle.matrix.specs.Arrays.{valuesIn}
+use Rattle.matrix.specs.Matrix.{entry_byte}
+use Rattle.matrix.specs.Read.{judge_amounts, judge_across, line_of}
+use Rattle.matrix.specs.Arrays.{values_in}
 use Rattle.matrix.specs.declared.byte.Found.{Found}
 use Rattle.matrix.specs.declared.byte.Found.TheVariants.{At}
 use Rattle.matrix.proofs.LineSteps.{take-values}
@@ -26,7 +26,7 @@ use Rattle.matrix.proofs.Entries.{AcrossJudged, across-wrong, across-right, acro
 
 -- ---- the byte of an entry
 
-module _ (k : ℕ) (values : List ℕ) (few : k ≤ desk.nodes) (before : ℕ) (is : before ≡ length (numbersLine (take k values))) where
+module _ (k : ℕ) (values : List ℕ) (few : k ≤ desk.nodes) (before : ℕ) (is : before ≡ length (numbers_line (take k values))) where
   before-short : before ≤ 1000
   before-short =
       omega (arith, line-short (numbers (length (take k values))) (take k values), length-replicate (length (take k values)) number, length-take k values)
@@ -38,20 +38,20 @@ module _ (k : ℕ) (values : List ℕ) (few : k ≤ desk.nodes) (before : ℕ) (
   byte_fits behind l = omega (arith, before-short)
 
 -- values that are the first of a column
-pub part-byte : (n k : ℕ) (values vs : List ℕ) → take n values ≡ vs → k ≤ n → entryByte values k ≡ entryByte vs k
-part-byte n k values vs e l = ap (λ us. length (numbersLine us) + 1) (sym (take-take k n values l) ∙ ap (take k) e)
+pub part-byte : (n k : ℕ) (values vs : List ℕ) → take n values ≡ vs → k ≤ n → entry_byte values k ≡ entry_byte vs k
+part-byte n k values vs e l = ap (λ us. length (numbers_line us) + 1) (sym (take-take k n values l) ∙ ap (take k) e)
 
 -- ---- which entry
 
 module _ (n k : ℕ) where
-  pub amount-few : (values : List ℕ) (v : Found) (reason : Reason) → v ≡ judgeAmounts desk 0 (take n values) → v ≡ At reason k → k ≤ n
+  pub amount-few : (values : List ℕ) (v : Found) (reason : Reason) → v ≡ judge_amounts desk 0 (take n values) → v ≡ At reason k → k ≤ n
   amount-few values v reason e f = go (amounts-judged desk 0 (take n values)) (sym e ∙ f)
     where
       go : {w : Found} → AmountsJudged desk 0 (take n values) w → w ≡ At reason k → k ≤ n
       go (amount-over {at} x p f) q = let r : at ≡ k = cc in omega (arith, f.within, length-take n values)
       go (amounts-within h) q = clash (cc)
 
-  pub across-few : (a : ℕ → ℕ → ℕ) (i : ℕ) (v : Found) (reason : Reason) → v ≡ judgeAcross a i 1 n → v ≡ At reason k → k ≤ n
+  pub across-few : (a : ℕ → ℕ → ℕ) (i : ℕ) (v : Found) (reason : Reason) → v ≡ judge_across a i 1 n → v ≡ At reason k → k ≤ n
   across-few a i v reason e f = go (across-judged a i 1 n) (sym e ∙ f)
     where
       go : {w : Found} → AcrossJudged a i 1 n w → w ≡ At reason k → k ≤ n
@@ -60,7 +60,7 @@ module _ (n k : ℕ) where
 
 -- ---- a line of the square
 
-pub square-byte : (a : ℕ → ℕ → ℕ) (k i n nodes byte : ℕ) (values : List ℕ) → n ≤ desk.nodes → nodes ≡ n → values ≡ valuesIn (line_of a nodes i) → k ≤ n → byte ≡ entryByte values k
-    → byte ≡ entryByte (line_of a n i) k
+pub square-byte : (a : ℕ → ℕ → ℕ) (k i n nodes byte : ℕ) (values : List ℕ) → n ≤ desk.nodes → nodes ≡ n → values ≡ values_in (line_of a nodes i) → k ≤ n → byte ≡ entry_byte values k
+    → byte ≡ entry_byte (line_of a n i) k
 square-byte a k i n nodes byte values few e held l b =
     b ∙ part-byte n k values (line_of a n i) (rw (held, e) (take-values (line_of a n i) n (sym (listed-length (a i) 1 n)) few)) l

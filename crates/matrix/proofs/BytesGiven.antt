@@ -7,8 +7,8 @@ use mathlib.Core.Path.{◌≡◌, refl, ap, ◌∙◌, sym, subst}
 use native.Mathlib.Omega.{arith}
 use lib.ListN.{length, get_or}
 use Rattle.ring.specs.Limits.{Limits}
-use Rattle.text.specs.ReadLine.{good, readLine}
-use Rattle.text.specs.Shapes.{numbers, numbersLine}
+use Rattle.text.specs.ReadLine.{good, read_line}
+use Rattle.text.specs.Shapes.{numbers, numbers_line}
 use Rattle.text.specs.FirstFault.{FirstFault}
 use Rattle.text.proofs.LineLaws.{one-fault}
 use Rattle.table.specs.declared.reason.Reason.{Reason}
@@ -16,8 +16,8 @@ use Rattle.table.specs.declared.reason.Reason.TheVariants.{TooLong, Misshapen, R
 use Rattle.table.specs.Says.{DueByte}
 use Rattle.table.proofs.BytesGiven.{one-due}
 use Rattle.table.proofs.LineNumbers.{line-one}
-use Rattle.matrix.specs.Matrix.{entryByte}
-use Rattle.matrix.specs.Read.{fieldsIn}
+use Rattle.matrix.specs.Matrix.{entry_byte}
+use Rattle.matrix.specs.Read.{fields_in}
 use Rattle.matrix.specs.Says.{NumbersAre, EntryIs, LineByte, first-due, later-due, none-due, EntryStarts, AmountByte, FirstFaulty, FaultyByte, ByteIs}
 use Rattle.matrix.proofs.LinesText.{numbers-line-read, FirstOver}
 use Rattle.matrix.proofs.MatrixText.{fields-are}
@@ -26,14 +26,14 @@ use Rattle.matrix.proofs.AnyFields.{one-any-fault}
 -- a line has one reading
 pub numbers-one : {t : List ℕ} {line other : ℕ} {vs us : List ℕ} → NumbersAre t line vs → NumbersAre t other us → line ≡ other → vs ≡ us
 numbers-one {vs = vs} {us = us} p q e =
-    let same : numbersLine vs ≡ numbersLine us = line-one p.text q.text e in
-    let k : length vs ≡ length us = sym (fields-are vs p.some p.spelled) ∙ ap fieldsIn same ∙ fields-are us q.some q.spelled in
-    let r : good vs ≡ good us = sym (numbers-line-read (length us) vs k p.spelled) ∙ ap (readLine (numbers (length us))) same ∙ numbers-line-read (length us) us refl q.spelled in
+    let same : numbers_line vs ≡ numbers_line us = line-one p.text q.text e in
+    let k : length vs ≡ length us = sym (fields-are vs p.some p.spelled) ∙ ap fields_in same ∙ fields-are us q.some q.spelled in
+    let r : good vs ≡ good us = sym (numbers-line-read (length us) vs k p.spelled) ∙ ap (read_line (numbers (length us))) same ∙ numbers-line-read (length us) us refl q.spelled in
     cc
 
 -- ---- 7: the first entry over the limit
 
-pub amount-byte : {limits : Limits} {t : List ℕ} {line : ℕ} {vs : List ℕ} (x : ℕ) → NumbersAre t line vs → FirstOver limits vs x → AmountByte limits t line (entryByte vs x)
+pub amount-byte : {limits : Limits} {t : List ℕ} {line : ℕ} {vs : List ℕ} (x : ℕ) → NumbersAre t line vs → FirstOver limits vs x → AmountByte limits t line (entry_byte vs x)
 amount-byte {limits} {t} {line} {vs} x here f =
     record {
       j = x + 1;
@@ -41,7 +41,7 @@ amount-byte {limits} {t} {line} {vs} x here f =
       is = record { vs = vs; line = here; low = omega arith; high = omega (arith, f.within); is = ap (λ k. get_or vs k 0) e };
       wrong = f.over;
       first = before;
-      starts = record { vs = vs; is = here; at = ap (entryByte vs) e };
+      starts = record { vs = vs; is = here; at = ap (entry_byte vs) e };
     }
   where
     e : x ≡ x + 1 - 1
@@ -68,7 +68,7 @@ one-line-byte (none-due is l x) (later-due k it m y) = absurd (omega (arith, ap 
 one-line-byte (none-due is l x) (none-due it k y) = x ∙ sym y
 
 one-start : {t : List ℕ} {line j i b c : ℕ} → j ≡ i → EntryStarts t line j b → EntryStarts t line i c → b ≡ c
-one-start {j = j} {i = i} e x y = x.at ∙ ap (λ vs. entryByte vs (j - 1)) (numbers-one x.is y.is refl) ∙ ap (λ k. entryByte y.vs (k - 1)) e ∙ sym y.at
+one-start {j = j} {i = i} e x y = x.at ∙ ap (λ vs. entry_byte vs (j - 1)) (numbers-one x.is y.is refl) ∙ ap (λ k. entry_byte y.vs (k - 1)) e ∙ sym y.at
 
 amount-not-before : {limits : Limits} {t : List ℕ} {line b c : ℕ} (x : AmountByte limits t line b) (y : AmountByte limits t line c) → x.j < y.j → ⊥
 amount-not-before x y l = omega (arith, x.wrong, y.first x.j x.v l x.is)

@@ -11,8 +11,8 @@ use Rattle.table.specs.declared.reason.Reason.{Reason}
 use Rattle.table.specs.declared.reason.Reason.TheVariants.{NotZero, NotSymmetric}
 use Rattle.table.specs.declared.judge.Verdict.{Verdict}
 use Rattle.table.specs.declared.judge.Verdict.TheVariants.{Fine, Fault}
-use Rattle.matrix.specs.Matrix.{entryByte, Node}
-use Rattle.matrix.specs.Read.{judgeEntry, or_else, onLine, judgeAcross, line_of, judgeDown}
+use Rattle.matrix.specs.Matrix.{entry_byte, Node}
+use Rattle.matrix.specs.Read.{judge_entry, or_else, on_line, judge_across, line_of, judge_down}
 use Rattle.matrix.specs.declared.byte.Found.{Found}
 use Rattle.matrix.specs.declared.byte.Found.TheVariants.{Nothing, At}
 use Rattle.matrix.specs.declared.square.Lines.{Lines}
@@ -28,8 +28,8 @@ pub data EntryJudged (a : ℕ → ℕ → ℕ) (i j : ℕ) : Verdict → Type 0 
   entry-right : ((r : Reason) → WrongEntry a i j r → ⊥) → EntryJudged a i j Fine
 
 module _ (a : ℕ → ℕ → ℕ) where
-  pub entry-judged : (i j : ℕ) → EntryJudged a i j (judgeEntry i j (a i j) (a j i))
-  unfolding judgeEntry
+  pub entry-judged : (i j : ℕ) → EntryJudged a i j (judge_entry i j (a i j) (a j i))
+  unfolding judge_entry
   entry-judged i j =
       elim (ℕ_discrete i j) [
         | yes e ↦ elim (ℕ_discrete (a i j) 0) [
@@ -56,8 +56,8 @@ module _ (a : ℕ → ℕ → ℕ) where
         → AcrossJudged i j k (At r (at - 1))
     across-right : ((x : ℕ) (s : Reason) → j ≤ x → x < j + k → WrongEntry a i x s → ⊥) → AcrossJudged i j k Nothing
 
-  pub across-judged : (i j k : ℕ) → AcrossJudged i j k (judgeAcross a i j k)
-  unfolding judgeAcross or_else
+  pub across-judged : (i j k : ℕ) → AcrossJudged i j k (judge_across a i j k)
+  unfolding judge_across or_else
   across-judged i j zero = across-right (λ x s l h w. omega arith)
   across-judged i j (suc k) = go (entry-judged i j) (across-judged i (j + 1) k)
     where
@@ -83,11 +83,11 @@ module _ (a : ℕ → ℕ → ℕ) where
   pub data DownJudged (n i k : ℕ) : Lines → Type 0 where
     down-wrong : {r : Reason} {line : ℕ} (at : ℕ) → i ≤ line → line < i + k → Node n at → WrongEntry a line at r
         → ((x y : ℕ) (s : Reason) → i ≤ x → Node n y → PairBefore x y line at → WrongEntry a x y s → ⊥)
-        → DownJudged n i k (Refused r line (entryByte (line_of a n line) (at - 1)))
+        → DownJudged n i k (Refused r line (entry_byte (line_of a n line) (at - 1)))
     down-right : ((x y : ℕ) (s : Reason) → i ≤ x → x < i + k → Node n y → WrongEntry a x y s → ⊥) → DownJudged n i k Read
 
-  pub down-judged : (n i k : ℕ) → DownJudged n i k (judgeDown a n i k)
-  unfolding judgeDown onLine
+  pub down-judged : (n i k : ℕ) → DownJudged n i k (judge_down a n i k)
+  unfolding judge_down on_line
   down-judged n i zero = down-right (λ x y s l h m w. omega arith)
   down-judged n i (suc k) = go (across-judged i 1 n) (down-judged n (i + 1) k)
     where
@@ -100,7 +100,7 @@ module _ (a : ℕ → ℕ → ℕ) where
           let e : x ≡ i = omega arith in
           all y s m.0 (omega (arith, m.1)) (rw e at w)
 
-      go : {v : Found} {w : Lines} → AcrossJudged i 1 n v → DownJudged n (i + 1) k w → DownJudged n i (suc k) (onLine v i (entryByte (line_of a n i)) w)
+      go : {v : Found} {w : Lines} → AcrossJudged i 1 n v → DownJudged n (i + 1) k w → DownJudged n i (suc k) (on_line v i (entry_byte (line_of a n i)) w)
       go (across-wrong at l m h first) rest =
           down-wrong {line = i} at (omega arith) (omega arith) (l, omega arith) h
           (λ x y s p q b w. let o = on-first p b in first y s q.0 o.1 (let e = o.0 in rw e at w))
@@ -121,8 +121,8 @@ module _ (a : ℕ → ℕ → ℕ) where
 -- ---- entries that agree are judged alike
 
 module _ (a b : ℕ → ℕ → ℕ) (n : ℕ) (same : (i j : ℕ) → Node n i → Node n j → a i j ≡ b i j) where
-  across-same : (i j k : ℕ) → Node n i → 1 ≤ j → j + k ≤ n + 1 → judgeAcross a i j k ≡ judgeAcross b i j k
-  unfolding judgeAcross
+  across-same : (i j k : ℕ) → Node n i → 1 ≤ j → j + k ≤ n + 1 → judge_across a i j k ≡ judge_across b i j k
+  unfolding judge_across
   across-same i j zero h l m = refl
   across-same i j (suc k) h l m =
       let q : Node n j = (l, omega arith) in
@@ -131,8 +131,8 @@ module _ (a b : ℕ → ℕ → ℕ) (n : ℕ) (same : (i j : ℕ) → Node n i 
   pub line_same : (i : ℕ) → Node n i → line_of a n i ≡ line_of b n i
   line_same i h = listed_same (a i) (b i) 1 n (λ j p q. same i j h (p, omega arith))
 
-  pub down-same : (i k : ℕ) → 1 ≤ i → i + k ≤ n + 1 → judgeDown a n i k ≡ judgeDown b n i k
-  unfolding judgeDown
+  pub down-same : (i k : ℕ) → 1 ≤ i → i + k ≤ n + 1 → judge_down a n i k ≡ judge_down b n i k
+  unfolding judge_down
   down-same i zero l m = refl
   down-same i (suc k) l m =
       rw (across-same i 1 n (l, omega arith) (omega arith) (omega arith), line_same i (l, omega arith), down-same (i + 1) k (omega arith) (omega arith))

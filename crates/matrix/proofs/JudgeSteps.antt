@@ -5,8 +5,8 @@ use native.Mathlib.Omega.{arith}
 use Rattle.table.specs.declared.reason.Reason.{Reason}
 use Rattle.table.specs.declared.judge.Verdict.{Verdict}
 use Rattle.table.specs.declared.judge.Verdict.TheVariants.{Fine, Fault}
-use Rattle.matrix.specs.Matrix.{entryByte}
-use Rattle.matrix.specs.Read.{judgeEntry, or_else, onLine, judgeAcross, line_of, judgeDown}
+use Rattle.matrix.specs.Matrix.{entry_byte}
+use Rattle.matrix.specs.Read.{judge_entry, or_else, on_line, judge_across, line_of, judge_down}
 use Rattle.matrix.specs.declared.byte.Found.{Found}
 use Rattle.matrix.specs.declared.byte.Found.TheVariants.{Nothing, At}
 use Rattle.matrix.specs.declared.square.Lines.TheVariants.{Read, Refused}
@@ -15,7 +15,7 @@ module _ (a : ℕ → ℕ → ℕ) (n : ℕ) where
   -- ---- a line
 
   pub record Across (i j : ℕ) : Type 0 where
-    pub rest : judgeAcross a i 1 n ≡ judgeAcross a i j (n + 1 - j)
+    pub rest : judge_across a i 1 n ≡ judge_across a i j (n + 1 - j)
     pub low : 1 ≤ j
     pub high : j ≤ n + 1
 
@@ -23,12 +23,12 @@ module _ (a : ℕ → ℕ → ℕ) (n : ℕ) where
   across-starts i = let e : n + 1 - 1 ≡ n = omega arith in record { rest = rw e; low = omega arith; high = omega arith }
 
   module _ (i j : ℕ) (across : Across i j) where
-    module _ (l : j ≤ n) (x y : ℕ) (ex : x ≡ a i j) (ey : y ≡ a j i) (v : Verdict) (ev : v ≡ judgeEntry i j x y) where
-      across-next : judgeAcross a i 1 n ≡ or_else v (j - 1) (judgeAcross a i (j + 1) (n + 1 - (j + 1)))
-      unfolding judgeAcross
+    module _ (l : j ≤ n) (x y : ℕ) (ex : x ≡ a i j) (ey : y ≡ a j i) (v : Verdict) (ev : v ≡ judge_entry i j x y) where
+      across-next : judge_across a i 1 n ≡ or_else v (j - 1) (judge_across a i (j + 1) (n + 1 - (j + 1)))
+      unfolding judge_across
       across-next = let e : n + 1 - j ≡ suc (n + 1 - (j + 1)) = omega arith in across.rest ∙ rw (e, ← ex, ← ey, ← ev)
 
-      pub entry-fault : (reason : Reason) (wide-j : ℕ) → v ≡ Fault reason → wide-j ≡ j → At reason (wide-j - 1) ≡ judgeAcross a i 1 n
+      pub entry-fault : (reason : Reason) (wide-j : ℕ) → v ≡ Fault reason → wide-j ≡ j → At reason (wide-j - 1) ≡ judge_across a i 1 n
       unfolding or_else
       entry-fault reason wide-j f e = sym (across-next ∙ rw (f, e))
 
@@ -36,14 +36,14 @@ module _ (a : ℕ → ℕ → ℕ) (n : ℕ) where
       unfolding or_else
       entry-fine f = record { rest = across-next ∙ rw f; low = omega arith; high = omega arith }
 
-    pub across-done : n < j → Nothing ≡ judgeAcross a i 1 n
-    unfolding judgeAcross
+    pub across-done : n < j → Nothing ≡ judge_across a i 1 n
+    unfolding judge_across
     across-done l = let e : n + 1 - j ≡ 0 = omega arith in sym (across.rest ∙ rw e)
 
   -- ---- all lines
 
   pub record Down (i : ℕ) : Type 0 where
-    pub rest : judgeDown a n 1 n ≡ judgeDown a n i (n + 1 - i)
+    pub rest : judge_down a n 1 n ≡ judge_down a n i (n + 1 - i)
     pub low : 1 ≤ i
     pub high : i ≤ n + 1
 
@@ -51,19 +51,19 @@ module _ (a : ℕ → ℕ → ℕ) (n : ℕ) where
   down-starts = let e : n + 1 - 1 ≡ n = omega arith in record { rest = rw e; low = omega arith; high = omega arith }
 
   module _ (i : ℕ) (down : Down i) where
-    module _ (l : i ≤ n) (v : Found) (ev : v ≡ judgeAcross a i 1 n) where
-      down-next : judgeDown a n 1 n ≡ onLine v i (entryByte (line_of a n i)) (judgeDown a n (i + 1) (n + 1 - (i + 1)))
-      unfolding judgeDown
+    module _ (l : i ≤ n) (v : Found) (ev : v ≡ judge_across a i 1 n) where
+      down-next : judge_down a n 1 n ≡ on_line v i (entry_byte (line_of a n i)) (judge_down a n (i + 1) (n + 1 - (i + 1)))
+      unfolding judge_down
       down-next = let e : n + 1 - i ≡ suc (n + 1 - (i + 1)) = omega arith in down.rest ∙ rw (e, ← ev)
 
-      pub line-fault : (reason : Reason) (k byte : ℕ) → v ≡ At reason k → byte ≡ entryByte (line_of a n i) k → Refused reason i byte ≡ judgeDown a n 1 n
-      unfolding onLine
+      pub line-fault : (reason : Reason) (k byte : ℕ) → v ≡ At reason k → byte ≡ entry_byte (line_of a n i) k → Refused reason i byte ≡ judge_down a n 1 n
+      unfolding on_line
       line-fault reason k byte f b = sym (down-next ∙ rw (f, b))
 
       pub line-fine : v ≡ Nothing → Down (i + 1)
-      unfolding onLine
+      unfolding on_line
       line-fine f = record { rest = down-next ∙ rw f; low = omega arith; high = omega arith }
 
-    pub down-done : n < i → Read ≡ judgeDown a n 1 n
-    unfolding judgeDown
+    pub down-done : n < i → Read ≡ judge_down a n 1 n
+    unfolding judge_down
     down-done l = let e : n + 1 - i ≡ 0 = omega arith in sym (down.rest ∙ rw e)

@@ -11,7 +11,7 @@ use borrow.Author.Tests.{eq-eqb, ne_eqb, lt-ltb, le-ltb}
 use Rattle.ring.specs.Limits.{desk}
 use Rattle.ring.specs.Columns.{column}
 use Rattle.text.specs.Bytes.{tab, number}
-use Rattle.text.specs.ReadLine.{field_at, Reading, good, bad, fieldThen, fieldsFrom, readLine}
+use Rattle.text.specs.ReadLine.{field_at, Reading, good, bad, field_then, fields_from, read_line}
 use Rattle.text.specs.WriteLine.{end_of, FitsShape}
 use Rattle.text.proofs.Apart.{clash}
 use Rattle.text.proofs.LineLaws.{line-good}
@@ -21,8 +21,8 @@ use Rattle.text.specs.declared.field.Field.TheVariants.{Is, Bad}
 use Rattle.text.proofs.Lists.{here}
 use Rattle.table.specs.declared.reason.Reason.TheVariants.{TooMuch}
 use Rattle.table.proofs.Columns.{column-length, column-more}
-use Rattle.matrix.specs.Read.{fieldsIn, judgeAmounts}
-use Rattle.matrix.specs.Arrays.{valuesIn, numbersIn}
+use Rattle.matrix.specs.Read.{fields_in, judge_amounts}
+use Rattle.matrix.specs.Arrays.{values_in, numbers_in}
 use Rattle.matrix.specs.declared.byte.Found.TheVariants.{Nothing, At}
 use Rattle.matrix.specs.declared.line.Numbers.{Numbers}
 use Rattle.matrix.specs.declared.line.Spelling.TheVariants.{Good, Bad as BadSpelling}
@@ -30,12 +30,12 @@ use Rattle.matrix.specs.declared.line.Spelling.TheVariants.{Good, Bad as BadSpel
 -- ---- fields: those from p on are counted
 
 pub record Counted (s : List ℕ) (p count : ℕ) : Type 0 where
-  pub is : count ≡ fieldsIn (drop p s)
+  pub is : count ≡ fields_in (drop p s)
   pub within : p ≤ length s
   pub small : count + p ≤ length s + 1
 
 pub counted-starts : (s : List ℕ) → Counted s (length s) 1
-unfolding fieldsIn
+unfolding fields_in
 counted-starts s = record { is = rw (drop-length s); within = omega arith; small = omega arith }
 
 module _ (s : List ℕ) (p count : ℕ) (counted : Counted s p count) where
@@ -46,14 +46,14 @@ module _ (s : List ℕ) (p count : ℕ) (counted : Counted s p count) where
   count_fits f l = omega (arith, counted.small)
 
   pub counts-tab : 0 < p → get_or s (p - 1) 0 ≡ tab → Counted s (p - 1) (count + 1)
-  unfolding fieldsIn
+  unfolding fields_in
   counts-tab l e = record { is = rw (behind l, eq-eqb _ _ e) (omega (arith, counted.is)); within = omega (arith, counted.within); small = omega (arith, counted.small) }
 
   pub counts-none : 0 < p → (get_or s (p - 1) 0 ≡ tab → ⊥) → Counted s (p - 1) count
-  unfolding fieldsIn
+  unfolding fields_in
   counts-none l e = record { is = rw (behind l, ne_eqb _ _ e) (omega (arith, counted.is)); within = omega (arith, counted.within); small = omega (arith, counted.small) }
 
-  pub counted-all : p ≤ 0 → count ≡ fieldsIn s
+  pub counted-all : p ≤ 0 → count ≡ fields_in s
   counted-all l = let e : p ≡ 0 = omega arith in rw e at counted.is
 
 -- ---- values: those of the fields before t are read, and the next begins at p
@@ -63,13 +63,13 @@ put-none values t v e l = sym (set_out values t v (omega arith))
 
 pub record Reading-on (s : List ℕ) (n : ℕ) (values : List ℕ) (p t : ℕ) : Type 0 where
   pub vs : List ℕ
-  pub rest : readLine (numbers n) s ≡ fieldsFrom (numbers (n - t)) s p vs
+  pub rest : read_line (numbers n) s ≡ fields_from (numbers (n - t)) s p vs
   pub many : t ≡ length vs
-  pub held : values ≡ valuesIn vs
+  pub held : values ≡ values_in vs
   pub within : t ≤ n
 
 pub reading-starts : (s : List ℕ) (n : ℕ) → Reading-on s n (replicate {A = ℕ} desk.nodes 0) 0 0
-unfolding readLine column
+unfolding read_line column
 reading-starts s n =
     let e : n - 0 ≡ n = omega arith in
     record { vs = []; rest = rw e; many = refl; held = refl; within = omega arith }
@@ -79,18 +79,18 @@ module _ (s : List ℕ) (n : ℕ) (values : List ℕ) (p t : ℕ) (on : Reading-
   values-long = ap length on.held ∙ column-length (λ (w : ℕ). w) desk.nodes on.vs
 
   module _ (l : t < n) (x : Field) (ex : x ≡ field_at number s p (end_of (n - t - 1))) where
-    next-is : readLine (numbers n) s ≡ fieldThen x (λ v q. fieldsFrom (numbers (n - t - 1)) s q (on.vs ++ v ∷ []))
-    unfolding fieldsFrom
+    next-is : read_line (numbers n) s ≡ field_then x (λ v q. fields_from (numbers (n - t - 1)) s q (on.vs ++ v ∷ []))
+    unfolding fields_from
     next-is =
         let e : n - t ≡ suc (n - t - 1) = omega arith in
-        on.rest ∙ ap (λ k. fieldsFrom (numbers k) s p on.vs) e ∙ rw (length-replicate (n - t - 1) number, ← ex)
+        on.rest ∙ ap (λ k. fields_from (numbers k) s p on.vs) e ∙ rw (length-replicate (n - t - 1) number, ← ex)
 
-    pub reading-stops : (q : ℕ) (r : Numbers) → x ≡ Bad q → r ≡ numbersIn (bad q) → r ≡ numbersIn (readLine (numbers n) s)
-    unfolding fieldThen
-    reading-stops q r f e = e ∙ ap numbersIn (sym (next-is ∙ rw f))
+    pub reading-stops : (q : ℕ) (r : Numbers) → x ≡ Bad q → r ≡ numbers_in (bad q) → r ≡ numbers_in (read_line (numbers n) s)
+    unfolding field_then
+    reading-stops q r f e = e ∙ ap numbers_in (sym (next-is ∙ rw f))
 
     pub reads-number : (v q : ℕ) (new : List ℕ) → x ≡ Is v q → new ≡ set values t v → Reading-on s n new q (t + 1)
-    unfolding fieldThen
+    unfolding field_then
     reads-number v q new f e =
         let k : n - t - 1 ≡ n - (t + 1) = omega arith in
         record {
@@ -102,21 +102,21 @@ module _ (s : List ℕ) (n : ℕ) (values : List ℕ) (p t : ℕ) (on : Reading-
         }
 
   module _ (l : n ≤ t) where
-    all_read : readLine (numbers n) s ≡ fieldsFrom [] s p on.vs
+    all_read : read_line (numbers n) s ≡ fields_from [] s p on.vs
     all_read = let e : n - t ≡ 0 = omega arith in rw e at on.rest
 
-    pub reading-done : p ≡ length s → record { spelling = Good; values = values } ≡ numbersIn (readLine (numbers n) s)
-    unfolding fieldsFrom numbersIn
+    pub reading-done : p ≡ length s → record { spelling = Good; values = values } ≡ numbers_in (read_line (numbers n) s)
+    unfolding fields_from numbers_in
     reading-done e = rw (all_read, eq-eqb _ _ e, on.held)
 
-    pub reading-over : (r : Numbers) → (p ≡ length s → ⊥) → r ≡ numbersIn (bad p) → r ≡ numbersIn (readLine (numbers n) s)
-    unfolding fieldsFrom
-    reading-over r e f = f ∙ ap numbersIn (sym (all_read ∙ rw (ne_eqb _ _ e)))
+    pub reading-over : (r : Numbers) → (p ≡ length s → ⊥) → r ≡ numbers_in (bad p) → r ≡ numbers_in (read_line (numbers n) s)
+    unfolding fields_from
+    reading-over r e f = f ∙ ap numbers_in (sym (all_read ∙ rw (ne_eqb _ _ e)))
 
 -- ---- amounts: those before t are fine
 
 pub record Judging (n : ℕ) (values : List ℕ) (t : ℕ) : Type 0 where
-  pub rest : judgeAmounts desk 0 (take n values) ≡ judgeAmounts desk t (drop t (take n values))
+  pub rest : judge_amounts desk 0 (take n values) ≡ judge_amounts desk t (drop t (take n values))
   pub within : t ≤ n
   pub room : n ≤ length values
 
@@ -128,16 +128,16 @@ module _ (n : ℕ) (values : List ℕ) (t : ℕ) (judging : Judging n values t) 
     next-amount : drop t (take n values) ≡ get_or values t 0 ∷ drop (t + 1) (take n values)
     next-amount = here (take n values) t (omega (arith, length-take-le n values judging.room)) ∙ ap (λ v. v ∷ drop (t + 1) (take n values)) (get_or-take n values t 0 l)
 
-    pub amount-fault : desk.amount < get_or values t 0 → At TooMuch t ≡ judgeAmounts desk 0 (take n values)
-    unfolding judgeAmounts
+    pub amount-fault : desk.amount < get_or values t 0 → At TooMuch t ≡ judge_amounts desk 0 (take n values)
+    unfolding judge_amounts
     amount-fault h = sym (judging.rest ∙ rw (next-amount, lt-ltb _ _ h))
 
     pub amount-fine : get_or values t 0 ≤ desk.amount → Judging n values (t + 1)
-    unfolding judgeAmounts
+    unfolding judge_amounts
     amount-fine h = record { rest = judging.rest ∙ rw (next-amount, le-ltb _ _ h); within = omega arith; room = judging.room }
 
-  pub amounts-judged : n ≤ t → Nothing ≡ judgeAmounts desk 0 (take n values)
-  unfolding judgeAmounts
+  pub amounts-judged : n ≤ t → Nothing ≡ judge_amounts desk 0 (take n values)
+  unfolding judge_amounts
   amounts-judged l =
       let h : length (take n values) ≤ t = omega (arith, length-take n values) in
       sym (judging.rest ∙ rw (drop_of_length-le (take n values) h))
@@ -149,7 +149,7 @@ map_same [] = refl
 map_same (v ∷ vs) = ap (λ (l : List ℕ). v ∷ l) (map_same vs)
 
 -- values that have room are the first of the column
-pub take-values : (vs : List ℕ) (n : ℕ) → n ≡ length vs → n ≤ desk.nodes → take n (valuesIn vs) ≡ vs
+pub take-values : (vs : List ℕ) (n : ℕ) → n ≡ length vs → n ≤ desk.nodes → take n (values_in vs) ≡ vs
 unfolding column
 take-values vs n e l =
     let z = length-replicate {A = ℕ} desk.nodes 0 in
@@ -168,30 +168,30 @@ pub record ToldGood (y : Reading) (n : ℕ) (values : List ℕ) : Type 0 where
   pub is : y ≡ good vs
   pub held : n ≤ desk.nodes → take n values ≡ vs
 
-reading-long : (y : Reading) → length (numbersIn y).values ≡ desk.nodes
-unfolding numbersIn
+reading-long : (y : Reading) → length (numbers_in y).values ≡ desk.nodes
+unfolding numbers_in
 reading-long (good vs) = column-length (λ (w : ℕ). w) desk.nodes vs
 reading-long (bad p) = column-length (λ (w : ℕ). w) desk.nodes []
 
 module _ (l : List ℕ) (n : ℕ) (x : Numbers) where
-  bad-case : (y : Reading) (p : ℕ) → x ≡ numbersIn y → x.spelling ≡ BadSpelling p → y ≡ bad p
-  unfolding numbersIn
+  bad-case : (y : Reading) (p : ℕ) → x ≡ numbers_in y → x.spelling ≡ BadSpelling p → y ≡ bad p
+  unfolding numbers_in
   bad-case (good vs) p e f = clash (let g : BadSpelling p ≡ Good = sym f ∙ ap (λ (z : Numbers). z.spelling) e in cc)
   bad-case (bad q) p e f = let g : BadSpelling p ≡ BadSpelling q = sym f ∙ ap (λ (z : Numbers). z.spelling) e in cc
 
-  good-case : (y : Reading) → readLine (numbers n) l ≡ y → x ≡ numbersIn y → x.spelling ≡ Good → ToldGood y n x.values
-  unfolding numbersIn
+  good-case : (y : Reading) → read_line (numbers n) l ≡ y → x ≡ numbers_in y → x.spelling ≡ Good → ToldGood y n x.values
+  unfolding numbers_in
   good-case (good vs) r e f =
       let k : length vs ≡ n = in-range-long n vs ((line-good (numbers n) l vs).0 r).1 in
       record { vs = vs; is = refl; held = λ few. ap (λ (z : Numbers). take n z.values) e ∙ take-values vs n (sym k) few }
   good-case (bad q) r e f = clash (let g : Good ≡ BadSpelling q = sym f ∙ ap (λ (z : Numbers). z.spelling) e in cc)
 
-  module _ (e : x ≡ numbersIn (readLine (numbers n) l)) where
-    pub told-bad : (p : ℕ) → x.spelling ≡ BadSpelling p → readLine (numbers n) l ≡ bad p
-    told-bad p = bad-case (readLine (numbers n) l) p e
+  module _ (e : x ≡ numbers_in (read_line (numbers n) l)) where
+    pub told-bad : (p : ℕ) → x.spelling ≡ BadSpelling p → read_line (numbers n) l ≡ bad p
+    told-bad p = bad-case (read_line (numbers n) l) p e
 
-    pub told-good : x.spelling ≡ Good → ToldGood (readLine (numbers n) l) n x.values
-    told-good = good-case (readLine (numbers n) l) refl e
+    pub told-good : x.spelling ≡ Good → ToldGood (read_line (numbers n) l) n x.values
+    told-good = good-case (read_line (numbers n) l) refl e
 
-  pub numbers-long : x ≡ numbersIn (readLine (numbers n) l) → length x.values ≡ desk.nodes
-  numbers-long e = ap (λ (z : Numbers). length z.values) e ∙ reading-long (readLine (numbers n) l)
+  pub numbers-long : x ≡ numbers_in (read_line (numbers n) l) → length x.values ≡ desk.nodes
+  numbers-long e = ap (λ (z : Numbers). length z.values) e ∙ reading-long (read_line (numbers n) l)

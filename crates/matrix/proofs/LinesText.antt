@@ -11,18 +11,18 @@ use Rattle.ring.specs.Lists.{Each, none, more, Some, here, there}
 use Rattle.text.specs.Bytes.{number, lf}
 use Rattle.text.specs.Number.{limit}
 use Rattle.text.specs.Field.{top}
-use Rattle.text.specs.WriteLine.{writeLine, FitsShape}
-use Rattle.text.specs.ReadLine.{Reading, good, bad, readLine}
+use Rattle.text.specs.WriteLine.{write_line, FitsShape}
+use Rattle.text.specs.ReadLine.{Reading, good, bad, read_line}
 use Rattle.text.specs.FirstFault.{FirstFault}
-use Rattle.text.specs.Shapes.{numbers, numbersLine}
+use Rattle.text.specs.Shapes.{numbers, numbers_line}
 use Rattle.text.proofs.Apart.{clash}
 use Rattle.text.proofs.LineLaws.{line-good, line-bad}
 use Rattle.table.specs.Lines.{lines}
 use Rattle.table.specs.declared.reason.Reason.{Reason}
 use Rattle.table.specs.declared.reason.Reason.TheVariants.{TooMuch}
 use Rattle.table.proofs.LinesOf.{NoLf, FirstLine, written-first}
-use Rattle.matrix.specs.Matrix.{writeMatrix, entryByte}
-use Rattle.matrix.specs.Read.{Matrix, matrix, no-matrix, numbersOr, unlessAt, judgeAmounts, lines_of}
+use Rattle.matrix.specs.Matrix.{write_matrix, entry_byte}
+use Rattle.matrix.specs.Read.{Matrix, matrix, no-matrix, numbers_or, unless_at, judge_amounts, lines_of}
 use Rattle.matrix.specs.declared.byte.Found.{Found}
 use Rattle.matrix.specs.declared.byte.Found.TheVariants.{Nothing, At}
 use Rattle.matrix.proofs.LineSteps.{in-range-long}
@@ -47,20 +47,20 @@ spelled-in (suc n) (v ∷ vs) r = more r.0 (spelled-in n vs r.1)
 
 -- what a line is read to
 pub data NumbersRead (n : ℕ) (l : List ℕ) : Reading → Type 0 where
-  are-numbers : {vs : List ℕ} → l ≡ numbersLine vs → length vs ≡ n → Spelled vs → NumbersRead n l (good vs)
-  no-numbers : {p : ℕ} → ((vs : List ℕ) → l ≡ numbersLine vs → length vs ≡ n → Spelled vs → ⊥) → FirstFault (numbers n) l p → NumbersRead n l (bad p)
+  are-numbers : {vs : List ℕ} → l ≡ numbers_line vs → length vs ≡ n → Spelled vs → NumbersRead n l (good vs)
+  no-numbers : {p : ℕ} → ((vs : List ℕ) → l ≡ numbers_line vs → length vs ≡ n → Spelled vs → ⊥) → FirstFault (numbers n) l p → NumbersRead n l (bad p)
 
-pub numbers-line-read : (n : ℕ) (vs : List ℕ) → length vs ≡ n → Spelled vs → readLine (numbers n) (numbersLine vs) ≡ good vs
-numbers-line-read n vs e h = rw (← e) ((line-good (numbers (length vs)) (numbersLine vs) vs).1 (refl, in-range vs h))
+pub numbers-line-read : (n : ℕ) (vs : List ℕ) → length vs ≡ n → Spelled vs → read_line (numbers n) (numbers_line vs) ≡ good vs
+numbers-line-read n vs e h = rw (← e) ((line-good (numbers (length vs)) (numbers_line vs) vs).1 (refl, in-range vs h))
 
-pub numbers-read : (n : ℕ) (l : List ℕ) → NumbersRead n l (readLine (numbers n) l)
-numbers-read n l = go (readLine (numbers n) l) refl
+pub numbers-read : (n : ℕ) (l : List ℕ) → NumbersRead n l (read_line (numbers n) l)
+numbers-read n l = go (read_line (numbers n) l) refl
   where
-    go : (x : Reading) → readLine (numbers n) l ≡ x → NumbersRead n l x
+    go : (x : Reading) → read_line (numbers n) l ≡ x → NumbersRead n l x
     go (good vs) e =
         let w = (line-good (numbers n) l vs).0 e in
         let k : length vs ≡ n = in-range-long n vs w.1 in
-        are-numbers {vs = vs} (w.0 ∙ ap (λ x. writeLine (numbers x) vs) (sym k)) k (spelled-in n vs w.1)
+        are-numbers {vs = vs} (w.0 ∙ ap (λ x. write_line (numbers x) vs) (sym k)) k (spelled-in n vs w.1)
     go (bad p) e = no-numbers (λ vs w k h. clash (cc (numbers-line-read n vs k h))) ((line-bad (numbers n) l p).0 e)
 
 -- a line of numbers in front of a text is its first line
@@ -68,7 +68,7 @@ no-lf : (n : ℕ) → Each NoLf (numbers n)
 no-lf zero = none
 no-lf (suc n) = more (λ (e : number ≡ lf). omega arith) (no-lf n)
 
-pub numbers-first : (vs : List ℕ) → 1 ≤ length vs → Spelled vs → FirstLine (numbersLine vs)
+pub numbers-first : (vs : List ℕ) → 1 ≤ length vs → Spelled vs → FirstLine (numbers_line vs)
 numbers-first [] h s = absurd (omega arith)
 numbers-first (v ∷ vs) h s = written-first number (numbers (length vs)) (v ∷ vs) (no-lf (suc (length vs))) (in-range (v ∷ vs) s)
 
@@ -92,8 +92,8 @@ over-next {limits} {vs} {x} v k f = record { some = there f.some; within = omega
     go zero l = k
     go (suc y) l = f.first y (omega arith)
 
-pub amounts-judged : (limits : Limits) (k : ℕ) (vs : List ℕ) → AmountsJudged limits k vs (judgeAmounts limits k vs)
-unfolding judgeAmounts
+pub amounts-judged : (limits : Limits) (k : ℕ) (vs : List ℕ) → AmountsJudged limits k vs (judge_amounts limits k vs)
+unfolding judge_amounts
 amounts-judged limits k [] = amounts-within none
 amounts-judged limits k (v ∷ vs) =
     elim (dec_lt limits.amount v) [
@@ -105,8 +105,8 @@ amounts-judged limits k (v ∷ vs) =
     go h (amount-over {at} x e f) = amount-over {at = at} (suc x) (omega arith) (over-next v h f)
     go h (amounts-within e) = amounts-within (more h e)
 
-pub fine-amounts : (limits : Limits) (k : ℕ) (vs : List ℕ) → Each (λ v. v ≤ limits.amount) vs → judgeAmounts limits k vs ≡ Nothing
-unfolding judgeAmounts
+pub fine-amounts : (limits : Limits) (k : ℕ) (vs : List ℕ) → Each (λ v. v ≤ limits.amount) vs → judge_amounts limits k vs ≡ Nothing
+unfolding judge_amounts
 fine-amounts limits k [] none = refl
 fine-amounts limits k (v ∷ vs) (more h hs) = rw (le-ltb limits.amount v h) (fine-amounts limits (k + 1) vs hs)
 
@@ -119,21 +119,21 @@ pub record FineLine (limits : Limits) (n : ℕ) (vs : List ℕ) : Type 0 where
 
 -- the lines ls, of which `left` are due behind the lines m, are read to this
 pub data LinesRead (limits : Limits) (n left : ℕ) (m ls : List (List ℕ)) : Matrix → Type 0 where
-  lines_are : {all : List (List ℕ)} (rest : List (List ℕ)) → all ≡ m ++ rest → flatten ls ≡ writeMatrix rest → length rest ≡ left
+  lines_are : {all : List (List ℕ)} (rest : List (List ℕ)) → all ≡ m ++ rest → flatten ls ≡ write_matrix rest → length rest ≡ left
       → Each (FineLine limits n) rest → LinesRead limits n left m ls (matrix n all)
   lines-refused : {r : Reason} {line byte : ℕ} → LinesRead limits n left m ls (no-matrix r line byte)
 
 module _ {limits : Limits} {n : ℕ} where
-  line-more : (line : ℕ) (byte : ℕ → ℕ) {left : ℕ} {m ls : List (List ℕ)} {l vs : List ℕ} {v : Found} {x : Matrix} → l ≡ numbersLine vs → length vs ≡ n
-      → AmountsJudged limits 0 vs v → LinesRead limits n left (m ++ vs ∷ []) ls x → LinesRead limits n (suc left) m (l ∷ ls) (unlessAt v line byte x)
-  unfolding unlessAt writeMatrix flatten
+  line-more : (line : ℕ) (byte : ℕ → ℕ) {left : ℕ} {m ls : List (List ℕ)} {l vs : List ℕ} {v : Found} {x : Matrix} → l ≡ numbers_line vs → length vs ≡ n
+      → AmountsJudged limits 0 vs v → LinesRead limits n left (m ++ vs ∷ []) ls x → LinesRead limits n (suc left) m (l ∷ ls) (unless_at v line byte x)
+  unfolding unless_at write_matrix flatten
   line-more line byte e k (amount-over x at f) rest = lines-refused
   line-more line byte {m = m} {vs = vs} e k (amounts-within a) (lines_are rest whole text many fine) =
       lines_are (vs ∷ rest) (whole ∙ append_assoc m (vs ∷ []) rest) (rw (e, text)) (ap suc many) (more (record { wide = k; amounts = a }) fine)
   line-more line byte e k (amounts-within a) lines-refused = lines-refused
 
   pub lines-read : (ls : List (List ℕ)) (line left : ℕ) (m : List (List ℕ)) → LinesRead limits n left m ls (lines_of limits n line left m ls)
-  unfolding lines_of numbersOr writeMatrix flatten
+  unfolding lines_of numbers_or write_matrix flatten
   lines-read [] line zero m = lines_are [] (sym (append-nil m)) refl refl none
   lines-read (l ∷ ls) line zero m = lines-refused
   lines-read [] line (suc left) m = lines-refused
@@ -143,18 +143,18 @@ module _ {limits : Limits} {n : ℕ} where
       next vs = lines_of limits n (line + 1) left (m ++ vs ∷ []) ls
 
       go : {x : Reading} → NumbersRead n l x → ((vs : List ℕ) → LinesRead limits n left (m ++ vs ∷ []) ls (next vs))
-          → LinesRead limits n (suc left) m (l ∷ ls) (numbersOr x line λ vs. unlessAt (judgeAmounts limits 0 vs) line (entryByte vs) (next vs))
-      go (are-numbers {vs} e k s) rest = line-more line (entryByte vs) e k (amounts-judged limits 0 vs) (rest vs)
+          → LinesRead limits n (suc left) m (l ∷ ls) (numbers_or x line λ vs. unless_at (judge_amounts limits 0 vs) line (entry_byte vs) (next vs))
+      go (are-numbers {vs} e k s) rest = line-more line (entry_byte vs) e k (amounts-judged limits 0 vs) (rest vs)
       go (no-numbers h fault) rest = lines-refused
 
   -- and back
   pub written-lines-read : limits.amount < limit → 1 ≤ n → (line : ℕ) (m rest : List (List ℕ)) → Each (FineLine limits n) rest
-      → lines_of limits n line (length rest) m (lines (writeMatrix rest)) ≡ matrix n (m ++ rest)
-  unfolding lines_of numbersOr unlessAt writeMatrix lines
+      → lines_of limits n line (length rest) m (lines (write_matrix rest)) ≡ matrix n (m ++ rest)
+  unfolding lines_of numbers_or unless_at write_matrix lines
   written-lines-read small some line m [] none = ap (matrix n) (sym (append-nil m))
   written-lines-read small some line m (vs ∷ rest) (more h hs) =
       let s : Spelled vs = within small h.amounts in
-      rw (numbers-first vs (omega (arith, h.wide)) s (writeMatrix rest), numbers-line-read n vs h.wide s, fine-amounts limits 0 vs h.amounts)
+      rw (numbers-first vs (omega (arith, h.wide)) s (write_matrix rest), numbers-line-read n vs h.wide s, fine-amounts limits 0 vs h.amounts)
       (written-lines-read small some (line + 1) (m ++ vs ∷ []) rest hs ∙ ap (matrix n) (append_assoc m (vs ∷ []) rest))
     where
       within : {vs : List ℕ} → limits.amount < limit → Each (λ v. v ≤ limits.amount) vs → Spelled vs

@@ -14,17 +14,17 @@ use Rattle.ring.proofs.Side.{cond-elim}
 use Rattle.text.specs.Bytes.{tab, digit0}
 use Rattle.text.specs.Number.{limit, digits}
 use Rattle.text.specs.Field.{spell}
-use Rattle.text.specs.WriteLine.{end_of, writeLine}
+use Rattle.text.specs.WriteLine.{end_of, write_line}
 use Rattle.text.specs.ReadLine.{Reading}
-use Rattle.text.specs.Shapes.{numbers, numbersLine}
+use Rattle.text.specs.Shapes.{numbers, numbers_line}
 use Rattle.text.proofs.Digits.{by_digits, digits-one, digits_more}
 use Rattle.table.specs.Lines.{lines}
 use Rattle.table.specs.declared.reason.Reason.{Reason}
 use Rattle.table.specs.declared.judge.Verdict.{Verdict}
 use Rattle.table.proofs.Judged.{SizeJudged, not-so-many, right-size, size-judged, fine-size}
 use Rattle.table.proofs.LinesOf.{join-lines}
-use Rattle.matrix.specs.Matrix.{entry, writeMatrix, Node, InRange}
-use Rattle.matrix.specs.Read.{Matrix, matrix, no-matrix, fieldsIn, numbersOr, unless, lines_of, judgeDown, afterSquare, squareJudged, matrixLines, matrixOf}
+use Rattle.matrix.specs.Matrix.{entry, write_matrix, Node, InRange}
+use Rattle.matrix.specs.Read.{Matrix, matrix, no-matrix, fields_in, numbers_or, unless, lines_of, judge_down, after_square, square_judged, matrix_lines, matrix_of}
 use Rattle.matrix.specs.declared.square.Lines.{Lines}
 use Rattle.matrix.specs.declared.square.Lines.TheVariants.{Read}
 use Rattle.matrix.proofs.LinesText.{Spelled, NumbersRead, are-numbers, no-numbers, numbers-read, numbers-line-read, numbers-first, FineLine, LinesRead, lines_are, lines-refused, lines-read, written-lines-read}
@@ -32,20 +32,20 @@ use Rattle.matrix.proofs.Entries.{WrongEntry, not-zero, not-mirror, DownJudged, 
 
 -- ---- the fields of a line of numbers are its values
 
-pub fields-behind : (n : ℕ) → n < limit → (l : List ℕ) → fieldsIn (digits n ++ l) ≡ fieldsIn l
-unfolding fieldsIn
+pub fields-behind : (n : ℕ) → n < limit → (l : List ℕ) → fields_in (digits n ++ l) ≡ fields_in l
+unfolding fields_in
 fields-behind =
-    by_digits (λ n. (l : List ℕ) → fieldsIn (digits n ++ l) ≡ fieldsIn l)
+    by_digits (λ n. (l : List ℕ) → fields_in (digits n ++ l) ≡ fields_in l)
     (λ n h l. rw (digits-one n h, ne_eqb (digit0 + n) tab (λ e. omega arith)) (omega arith))
     (λ v d hv hf hd ih l. rw (digits_more v d hv (omega arith) hd, append_assoc) (ih ((digit0 + d) ∷ l) ∙ rw (ne_eqb (digit0 + d) tab (λ e. omega arith)) (omega arith)))
 
-pub fields-line : (v : ℕ) (vs : List ℕ) → Spelled (v ∷ vs) → fieldsIn (numbersLine (v ∷ vs)) ≡ suc (length vs)
-unfolding writeLine spell end_of fieldsIn
+pub fields-line : (v : ℕ) (vs : List ℕ) → Spelled (v ∷ vs) → fields_in (numbers_line (v ∷ vs)) ≡ suc (length vs)
+unfolding write_line spell end_of fields_in
 fields-line v [] (more h hs) = fields-behind v h _
 fields-line v (w ∷ vs) (more h hs) =
     rw (ne_eqb (suc (length (numbers (length vs)))) 0 (λ e. omega arith)) (fields-behind v h _ ∙ omega (arith, fields-line w vs hs))
 
-pub fields-are : (vs : List ℕ) → 1 ≤ length vs → Spelled vs → fieldsIn (numbersLine vs) ≡ length vs
+pub fields-are : (vs : List ℕ) → 1 ≤ length vs → Spelled vs → fields_in (numbers_line vs) ≡ length vs
 fields-are [] l s = absurd (omega arith)
 fields-are (v ∷ vs) l s = fields-line v vs s
 
@@ -69,20 +69,20 @@ fine-amounts none = none
 fine-amounts (more h hs) = more h.amounts (fine-amounts hs)
 
 data MatrixRead (limits : Limits) (t : List ℕ) : Matrix → Type 0 where
-  matrix-is : {n : ℕ} {m : List (List ℕ)} → t ≡ writeMatrix m → InRange limits n m → MatrixRead limits t (matrix n m)
+  matrix-is : {n : ℕ} {m : List (List ℕ)} → t ≡ write_matrix m → InRange limits n m → MatrixRead limits t (matrix n m)
   matrix-refused : {r : Reason} {line byte : ℕ} → MatrixRead limits t (no-matrix r line byte)
 
 module _ {limits : Limits} {t : List ℕ} (short : length t ≤ limits.bytes) where
   square-read : {n : ℕ} {ls : List (List ℕ)} {x : Matrix} → limits.fewest ≤ n → n ≤ limits.nodes → t ≡ flatten ls → LinesRead limits n n [] ls x
-      → MatrixRead limits t (squareJudged x)
-  unfolding squareJudged afterSquare
+      → MatrixRead limits t (square_judged x)
+  unfolding square_judged after_square
   square-read few many whole lines-refused = matrix-refused
   square-read {n} few many whole (lines_are {all = m} rest is text tall fine) = go (down-judged (entry m) n 1 n)
     where
-      go : {z : Lines} → DownJudged (entry m) n 1 n z → MatrixRead limits t (afterSquare z (matrix n m))
+      go : {z : Lines} → DownJudged (entry m) n 1 n z → MatrixRead limits t (after_square z (matrix n m))
       go (down-wrong at a b c d e) = matrix-refused
       go (down-right right) =
-          let written : t ≡ writeMatrix m = whole ∙ text ∙ ap writeMatrix (sym is) in
+          let written : t ≡ write_matrix m = whole ∙ text ∙ ap write_matrix (sym is) in
           matrix-is written (record {
             few = few;
             many = many;
@@ -97,24 +97,24 @@ module _ {limits : Limits} {t : List ℕ} (short : length t ≤ limits.bytes) wh
             short = omega (arith, ap length written);
           })
 
-  lines-matrix : (ls : List (List ℕ)) → t ≡ flatten ls → MatrixRead limits t (matrixLines limits ls)
-  unfolding matrixLines numbersOr unless
+  lines-matrix : (ls : List (List ℕ)) → t ≡ flatten ls → MatrixRead limits t (matrix_lines limits ls)
+  unfolding matrix_lines numbers_or unless
   lines-matrix [] whole = matrix-refused
-  lines-matrix (l ∷ ls) whole = go (numbers-read (fieldsIn l) l) (size-judged limits (fieldsIn l))
+  lines-matrix (l ∷ ls) whole = go (numbers-read (fields_in l) l) (size-judged limits (fields_in l))
     where
       next : Matrix
-      next = squareJudged (lines_of limits (fieldsIn l) 1 (fieldsIn l) [] (l ∷ ls))
+      next = square_judged (lines_of limits (fields_in l) 1 (fields_in l) [] (l ∷ ls))
 
-      ring : {v : Verdict} → SizeJudged limits (fieldsIn l) v → MatrixRead limits t (unless v 1 next)
+      ring : {v : Verdict} → SizeJudged limits (fields_in l) v → MatrixRead limits t (unless v 1 next)
       ring (not-so-many w) = matrix-refused
-      ring (right-size few many) = square-read few many whole (lines-read (l ∷ ls) 1 (fieldsIn l) [])
+      ring (right-size few many) = square-read few many whole (lines-read (l ∷ ls) 1 (fields_in l) [])
 
-      go : {x : Reading} {v : Verdict} → NumbersRead (fieldsIn l) l x → SizeJudged limits (fieldsIn l) v → MatrixRead limits t (numbersOr x 1 λ vs. unless v 1 next)
+      go : {x : Reading} {v : Verdict} → NumbersRead (fields_in l) l x → SizeJudged limits (fields_in l) v → MatrixRead limits t (numbers_or x 1 λ vs. unless v 1 next)
       go (are-numbers e k s) judged = ring judged
       go (no-numbers h fault) judged = matrix-refused
 
-matrix-read : (limits : Limits) (t : List ℕ) → MatrixRead limits t (matrixOf limits t)
-unfolding matrixOf
+matrix-read : (limits : Limits) (t : List ℕ) → MatrixRead limits t (matrix_of limits t)
+unfolding matrix_of
 matrix-read limits t =
     cond-elim (MatrixRead limits t) _ _ _ (λ e. matrix-refused) (λ e. lines-matrix (ltb-false limits.bytes (length t) e) (lines t) (sym (join-lines t)))
 
@@ -129,7 +129,7 @@ spelled-line limits small none = none
 spelled-line limits small (more {a = a} h hs) = let q : a < limit = omega arith in more q (spelled-line limits small hs)
 
 -- a square in range is fine
-right-square : (limits : Limits) (n : ℕ) (m : List (List ℕ)) → InRange limits n m → judgeDown (entry m) n 1 n ≡ Read
+right-square : (limits : Limits) (n : ℕ) (m : List (List ℕ)) → InRange limits n m → judge_down (entry m) n 1 n ≡ Read
 right-square limits n m range = go (down-judged (entry m) n 1 n)
   where
     right : {i j : ℕ} {r : Reason} → Node n i → Node n j → WrongEntry (entry m) i j r → ⊥
@@ -141,33 +141,33 @@ right-square limits n m range = go (down-judged (entry m) n 1 n)
     go (down-right all) = refl
 
 module _ (limits : Limits) (possible : Possible limits) where
-  first-written : (n : ℕ) (m : List (List ℕ)) → InRange limits n m → (l : List (List ℕ)) → lines (writeMatrix m) ≡ l → matrixLines limits l ≡ matrix n m
-  unfolding matrixLines numbersOr unless squareJudged afterSquare writeMatrix
+  first-written : (n : ℕ) (m : List (List ℕ)) → InRange limits n m → (l : List (List ℕ)) → lines (write_matrix m) ≡ l → matrix_lines limits l ≡ matrix n m
+  unfolding matrix_lines numbers_or unless square_judged after_square write_matrix
   first-written n [] range l e = absurd (omega (arith, range.square.tall, range.few, possible.some))
   first-written n (vs ∷ m) range l e = go range.square.wide range.amounts
     where
-      lines-back : (ls : List (List ℕ)) → lines (writeMatrix (vs ∷ m)) ≡ ls → lines_of limits n 1 n [] ls ≡ matrix n (vs ∷ m)
+      lines-back : (ls : List (List ℕ)) → lines (write_matrix (vs ∷ m)) ≡ ls → lines_of limits n 1 n [] ls ≡ matrix n (vs ∷ m)
       lines-back ls e =
           rw (← e)
-          (subst (λ k. lines_of limits n 1 k [] (lines (writeMatrix (vs ∷ m))) ≡ matrix n (vs ∷ m)) range.square.tall
+          (subst (λ k. lines_of limits n 1 k [] (lines (write_matrix (vs ∷ m))) ≡ matrix n (vs ∷ m)) range.square.tall
           (written-lines-read {limits = limits} possible.amount (omega (arith, range.few, possible.some)) 1 [] (vs ∷ m) (fine-lines range.square.wide range.amounts)))
 
-      go : Each (λ us. length us ≡ n) (vs ∷ m) → Each (Each (λ v. v ≤ limits.amount)) (vs ∷ m) → matrixLines limits l ≡ matrix n (vs ∷ m)
+      go : Each (λ us. length us ≡ n) (vs ∷ m) → Each (Each (λ v. v ≤ limits.amount)) (vs ∷ m) → matrix_lines limits l ≡ matrix n (vs ∷ m)
       go (more w ws) (more a bs) =
           let s : Spelled vs = spelled-line limits possible.amount a in
           let some : 1 ≤ length vs = omega (arith, range.few, possible.some) in
-          let f : fieldsIn (numbersLine vs) ≡ n = fields-are vs some s ∙ w in
-          let head : lines (writeMatrix (vs ∷ m)) ≡ numbersLine vs ∷ lines (writeMatrix m) = numbers-first vs some s (writeMatrix m) in
+          let f : fields_in (numbers_line vs) ≡ n = fields-are vs some s ∙ w in
+          let head : lines (write_matrix (vs ∷ m)) ≡ numbers_line vs ∷ lines (write_matrix m) = numbers-first vs some s (write_matrix m) in
           rw (← e, head, f, numbers-line-read n vs w s, fine-size limits n range.few range.many, lines-back _ head, right-square limits n (vs ∷ m) range)
 
-  written_read : (n : ℕ) (m : List (List ℕ)) → InRange limits n m → matrixOf limits (writeMatrix m) ≡ matrix n m
-  unfolding matrixOf
-  written_read n m range = rw (le-ltb limits.bytes (length (writeMatrix m)) range.short) (first-written n m range _ refl)
+  written_read : (n : ℕ) (m : List (List ℕ)) → InRange limits n m → matrix_of limits (write_matrix m) ≡ matrix n m
+  unfolding matrix_of
+  written_read n m range = rw (le-ltb limits.bytes (length (write_matrix m)) range.short) (first-written n m range _ refl)
 
   -- ---- both
 
-  pub matrix-text : (t : List ℕ) (n : ℕ) (m : List (List ℕ)) → (matrixOf limits t ≡ matrix n m) ↔ ((t ≡ writeMatrix m) × InRange limits n m)
+  pub matrix-text : (t : List ℕ) (n : ℕ) (m : List (List ℕ)) → (matrix_of limits t ≡ matrix n m) ↔ ((t ≡ write_matrix m) × InRange limits n m)
   matrix-text t n m = (λ e. go (subst (MatrixRead limits t) e (matrix-read limits t)), λ h. rw h.0 (written_read n m h.1))
     where
-      go : MatrixRead limits t (matrix n m) → (t ≡ writeMatrix m) × InRange limits n m
+      go : MatrixRead limits t (matrix n m) → (t ≡ write_matrix m) × InRange limits n m
       go (matrix-is text range) = (text, range)

@@ -11,7 +11,7 @@ use Rattle.ring.specs.Lists.{Each, none, more}
 use Rattle.ring.specs.Row.{Row, row, OnRing}
 use Rattle.table.specs.Table.{InRange as TableInRange}
 use Rattle.matrix.specs.Demands.{sum_of, OneEach, Passes}
-use Rattle.matrix.specs.Judged.{judgeSums}
+use Rattle.matrix.specs.Judged.{judge_sums}
 use Rattle.matrix.specs.declared.sums.Sums.TheVariants.{Fit}
 use Rattle.matrix.proofs.SumSteps.{part_of}
 use Rattle.matrix.proofs.SumLaws.{part-own, part-other, Rising, no_row, next_row, sum-none}
@@ -46,7 +46,7 @@ each_at none d k h = absurd (omega arith)
 each_at (more p ps) d zero h = p
 each_at (more p ps) d (suc k) h = each_at ps d k (omega arith)
 
-pub one-each-fit : (ring : Ring) (rs : List Row) → TableInRange desk ring rs → OneEach rs → judgeSums desk rs ≡ Fit
+pub one-each-fit : (ring : Ring) (rs : List Row) → TableInRange desk ring rs → OneEach rs → judge_sums desk rs ≡ Fit
 one-each-fit ring rs table each = (sums-fit desk rs).1 never
   where
     never : (k : ℕ) → Passes desk rs k → ⊥

@@ -10,21 +10,21 @@ use mir.Syntax.{w32}
 use mir.Val.{Fits}
 use borrow.Author.Tests.{lt-ltb, le-ltb}
 use Rattle.ring.specs.Limits.{desk}
-use Rattle.ring.specs.Ring.{ringOf}
+use Rattle.ring.specs.Ring.{ring_of}
 use Rattle.ring.specs.Lists.{Each, none, more}
 use Rattle.ring.specs.Row.{row}
 use Rattle.ring.proofs.Side.{cond-elim}
 use Rattle.ring.proofs.Listed.{listed_same}
 use Rattle.text.specs.Bytes.{tab}
-use Rattle.text.specs.ReadLine.{readLine}
+use Rattle.text.specs.ReadLine.{read_line}
 use Rattle.text.specs.Shapes.{numbers}
 use Rattle.text.proofs.Apart.{clash}
 use Rattle.text.proofs.LineLaws.{bad-within}
 use Rattle.table.specs.Lines.{lines}
 use Rattle.table.specs.LineEnds.{LineEnds}
-use Rattle.table.specs.Judge.{judgeSize}
+use Rattle.table.specs.Judge.{judge_size}
 use Rattle.table.specs.ReadTable.{accepted, refused}
-use Rattle.table.specs.Arrays.{Table, tableIn}
+use Rattle.table.specs.Arrays.{Table, table_in}
 use Rattle.table.specs.declared.reason.Reason.{Reason}
 use Rattle.table.specs.declared.reason.Reason.TheVariants.{TooLong, Misshapen}
 use Rattle.table.specs.declared.judge.Verdict.{Verdict}
@@ -32,9 +32,9 @@ use Rattle.table.specs.declared.judge.Verdict.TheVariants.{Fine, Fault}
 use Rattle.table.proofs.Judged.{SizeJudged, right-size, size-judged}
 use Rattle.table.proofs.LineSteps.{line_at}
 use Rattle.matrix.specs.Matrix.{entry, Node}
-use Rattle.matrix.specs.Demands.{pairsFrom, rows_by}
-use Rattle.matrix.specs.Read.{Matrix, matrix, no-matrix, fieldsIn, lines_of, judgeDown, squareJudged, matrixOf, tableFrom}
-use Rattle.matrix.specs.Arrays.{numbersIn, at, layFrom, empty, laid, Square, squareIn}
+use Rattle.matrix.specs.Demands.{pairs_from, rows_by}
+use Rattle.matrix.specs.Read.{Matrix, matrix, no-matrix, fields_in, lines_of, judge_down, square_judged, matrix_of, table_from}
+use Rattle.matrix.specs.Arrays.{numbers_in, at, lay_from, empty, laid, Square, square_in}
 use Rattle.matrix.specs.declared.line.Numbers.{Numbers}
 use Rattle.matrix.specs.declared.line.Spelling.TheVariants.{Good, Bad as BadSpelling}
 use Rattle.matrix.specs.declared.square.Lines.{Lines}
@@ -60,16 +60,16 @@ sets-at l i vs x room h =
 
 module _ (n : ℕ) (few : n ≤ desk.nodes) where
   lay-before : (m : List (List ℕ)) (square : List ℕ) (k x : ℕ) → Each (λ vs. length vs ≡ n) m → desk.nodes * (k + length m) ≤ length square → x < desk.nodes * k
-      → get_or (layFrom square k m) x 0 ≡ get_or square x 0
-  unfolding layFrom
+      → get_or (lay_from square k m) x 0 ≡ get_or square x 0
+  unfolding lay_from
   lay-before [] square k x none room h = refl
   lay-before (vs ∷ m) square k x (more w ws) room h =
       lay-before m (sets square (desk.nodes * k) vs) (k + 1) x ws (omega (arith, length-sets square (desk.nodes * k) vs)) (omega arith)
       ∙ sets-before square (desk.nodes * k) vs x (omega arith) h
 
   lay_at : (m : List (List ℕ)) (square : List ℕ) (k i j : ℕ) → Each (λ vs. length vs ≡ n) m → desk.nodes * (k + length m) ≤ length square → i < length m → j < n
-      → get_or (layFrom square k m) (desk.nodes * (k + i) + j) 0 ≡ get_or (get_or m i []) j 0
-  unfolding layFrom
+      → get_or (lay_from square k m) (desk.nodes * (k + i) + j) 0 ≡ get_or (get_or m i []) j 0
+  unfolding lay_from
   lay_at [] square k i j none room h l = absurd (omega arith)
   lay_at (vs ∷ m) square k zero j (more w ws) room h l =
       let e : k + 0 ≡ k = omega arith in
@@ -88,8 +88,8 @@ module _ (n : ℕ) (few : n ≤ desk.nodes) where
 
 -- rows of entries that agree
 module _ (a b : ℕ → ℕ → ℕ) (n : ℕ) (same : (i j : ℕ) → Node n i → Node n j → a i j ≡ b i j) where
-  pairs-same : (i k : ℕ) → 1 ≤ i → i + k ≤ n + 1 → pairsFrom a n i k ≡ pairsFrom b n i k
-  unfolding pairsFrom
+  pairs-same : (i k : ℕ) → 1 ≤ i → i + k ≤ n + 1 → pairs_from a n i k ≡ pairs_from b n i k
+  unfolding pairs_from
   pairs-same i zero l h = refl
   pairs-same i (suc k) l h =
       rw (
@@ -118,11 +118,11 @@ module _ (s : List ℕ) (n fibres : ℕ) (few : n ≤ desk.nodes) where
   whole = lines_of desk n 1 n [] (lines s)
 
   abbrev result : Table
-  result = tableIn (tableFrom fibres (squareJudged whole))
+  result = table_in (table_from fibres (square_judged whole))
 
   module _ (x : Square) where
-    refused-case : (y : Matrix) → x ≡ squareIn y → (reason : Reason) (line byte : ℕ) → x.lines ≡ Refused reason line byte → y ≡ no-matrix reason line byte
-    unfolding squareIn
+    refused-case : (y : Matrix) → x ≡ square_in y → (reason : Reason) (line byte : ℕ) → x.lines ≡ Refused reason line byte → y ≡ no-matrix reason line byte
+    unfolding square_in
     refused-case (matrix k m) e reason line byte f = clash (let g : Refused reason line byte ≡ Read = sym f ∙ ap (λ (z : Square). z.lines) e in cc)
     refused-case (no-matrix why at on) e reason line byte f =
         let g : Refused reason line byte ≡ Refused why at on = sym f ∙ ap (λ (z : Square). z.lines) e in
@@ -131,8 +131,8 @@ module _ (s : List ℕ) (n fibres : ℕ) (few : n ≤ desk.nodes) where
         let b : on ≡ byte = cc in
         rw (p, q, b)
 
-    holds-case : (y : Matrix) → whole ≡ y → x ≡ squareIn y → x.lines ≡ Read → Holds s n x.entries
-    unfolding squareIn
+    holds-case : (y : Matrix) → whole ≡ y → x ≡ square_in y → x.lines ≡ Read → Holds s n x.entries
+    unfolding square_in
     holds-case (no-matrix why at on) w e f = clash (let g : Read ≡ Refused why at on = sym f ∙ ap (λ (z : Square). z.lines) e in cc)
     holds-case (matrix k m) w e f = go k w (subst (LinesRead desk n n [] (lines s)) w (lines-read (lines s) 1 n []))
       where
@@ -145,67 +145,67 @@ module _ (s : List ℕ) (n fibres : ℕ) (few : n ≤ desk.nodes) where
                   ap (λ (z : Square). at z.entries i j) e ∙ laid-at n few m (subst (Each (λ vs. length vs ≡ n)) (sym all) (fine-wide fine)) (ap length all ∙ many) i j p q;
             }
 
-    module _ (nodes : ℕ) (en : nodes ≡ n) (given : x ≡ squareIn (lines_of desk nodes 1 nodes [] (lines s))) where
-      ex : x ≡ squareIn whole
+    module _ (nodes : ℕ) (en : nodes ≡ n) (given : x ≡ square_in (lines_of desk nodes 1 nodes [] (lines s))) where
+      ex : x ≡ square_in whole
       ex = rw en at given
 
-      pub lines-refused : (reason : Reason) (line byte : ℕ) (t : Table) → x.lines ≡ Refused reason line byte → t ≡ tableIn (refused reason line byte) → t ≡ result
-      unfolding squareJudged tableFrom
-      lines-refused reason line byte t f e = e ∙ ap tableIn (sym (rw (refused-case whole ex reason line byte f)))
+      pub lines-refused : (reason : Reason) (line byte : ℕ) (t : Table) → x.lines ≡ Refused reason line byte → t ≡ table_in (refused reason line byte) → t ≡ result
+      unfolding square_judged table_from
+      lines-refused reason line byte t f e = e ∙ ap table_in (sym (rw (refused-case whole ex reason line byte f)))
 
-      module _ (f : x.lines ≡ Read) (found : Lines) (ef : found ≡ judgeDown (at x.entries) n 1 n) where
+      module _ (f : x.lines ≡ Read) (found : Lines) (ef : found ≡ judge_down (at x.entries) n 1 n) where
         abbrev holds : Holds s n x.entries
         holds = holds-case whole refl ex f
 
-        judged : judgeDown (entry holds.m) n 1 n ≡ found
+        judged : judge_down (entry holds.m) n 1 n ≡ found
         judged = sym (ef ∙ down-same (at x.entries) (entry holds.m) n holds.same 1 n (omega arith) (omega arith))
 
-        pub square-refused : (reason : Reason) (line byte : ℕ) (t : Table) → found ≡ Refused reason line byte → t ≡ tableIn (refused reason line byte) → t ≡ result
-        unfolding squareJudged tableFrom
-        square-refused reason line byte t g e = e ∙ ap tableIn (sym (rw (holds.is, judged, g)))
+        pub square-refused : (reason : Reason) (line byte : ℕ) (t : Table) → found ≡ Refused reason line byte → t ≡ table_in (refused reason line byte) → t ≡ result
+        unfolding square_judged table_from
+        square-refused reason line byte t g e = e ∙ ap table_in (sym (rw (holds.is, judged, g)))
 
-        pub rows_made : (t : Table) → found ≡ Read → t ≡ tableIn (accepted (ringOf n fibres) (rows_by n (at x.entries))) → t ≡ result
-        unfolding squareJudged tableFrom
-        rows_made t g e = e ∙ ap tableIn (sym (rw (holds.is, judged, g) (ap (accepted (ringOf n fibres)) (sym (rows_same (at x.entries) (entry holds.m) n holds.same)))))
+        pub rows_made : (t : Table) → found ≡ Read → t ≡ table_in (accepted (ring_of n fibres) (rows_by n (at x.entries))) → t ≡ result
+        unfolding square_judged table_from
+        rows_made t g e = e ∙ ap table_in (sym (rw (holds.is, judged, g) (ap (accepted (ring_of n fibres)) (sym (rows_same (at x.entries) (entry holds.m) n holds.same)))))
 
 -- ---- the whole matrix
 
-fields-small : (l : List ℕ) → fieldsIn l ≤ length l + 1
-unfolding fieldsIn
+fields-small : (l : List ℕ) → fields_in l ≤ length l + 1
+unfolding fields_in
 fields-small [] = omega arith
 fields-small (b ∷ l) = omega (arith, fields-small l, cond-elim (λ x. x ≤ 1) (eqb b tab) 1 0 (λ e. omega arith) (λ e. omega arith))
 
-pub fields_fit : (s : List ℕ) (end count : ℕ) → length s ≤ desk.bytes → end ≤ length s → count ≡ fieldsIn (take (end - 0) (drop 0 s)) → Fits w32 count
+pub fields_fit : (s : List ℕ) (end count : ℕ) → length s ≤ desk.bytes → end ≤ length s → count ≡ fields_in (take (end - 0) (drop 0 s)) → Fits w32 count
 fields_fit s end count short h e = omega (arith, fields-small (take (end - 0) (drop 0 s)), length-take (end - 0) (drop 0 s))
 
-nothing : (s : List ℕ) (fibres : ℕ) → length s ≤ 0 → refused Misshapen 1 1 ≡ tableFrom fibres (matrixOf desk s)
-unfolding matrixOf lines tableFrom
+nothing : (s : List ℕ) (fibres : ℕ) → length s ≤ 0 → refused Misshapen 1 1 ≡ table_from fibres (matrix_of desk s)
+unfolding matrix_of lines table_from
 nothing [] fibres h = refl
 nothing (b ∷ s) fibres h = absurd (omega arith)
 
-pub ring-few : (n : ℕ) (v : Verdict) → v ≡ judgeSize desk n → v ≡ Fine → n ≤ desk.nodes
+pub ring-few : (n : ℕ) (v : Verdict) → v ≡ judge_size desk n → v ≡ Fine → n ≤ desk.nodes
 ring-few n v e f = let q = sym e ∙ f in go (rw q at (size-judged desk n))
   where
     go : SizeJudged desk n Fine → n ≤ desk.nodes
     go (right-size few many) = many
 
 -- the first line's faulty byte is within the text
-pub first-place : (s : List ℕ) (end : ℕ) → length s ≤ desk.bytes → LineEnds s 0 end → (count : ℕ) (x : Numbers) → x ≡ numbersIn (readLine (numbers count) (take (end - 0) (drop 0 s)))
+pub first-place : (s : List ℕ) (end : ℕ) → length s ≤ desk.bytes → LineEnds s 0 end → (count : ℕ) (x : Numbers) → x ≡ numbers_in (read_line (numbers count) (take (end - 0) (drop 0 s)))
     → (p : ℕ) → x.spelling ≡ BadSpelling p → p ≤ desk.bytes
 first-place s end short ends count x ex p f =
     let first : List ℕ = take (end - 0) (drop 0 s) in
     omega (arith, bad-within (numbers count) first p (told-bad first count x ex p f), length-take (end - 0) (drop 0 s), ends.within)
 
 module _ (s : List ℕ) (fibres : ℕ) (t : Table) where
-  abbrev matrixResult : Table
-  matrixResult = tableIn (tableFrom fibres (matrixOf desk s))
+  abbrev matrix_result : Table
+  matrix_result = table_in (table_from fibres (matrix_of desk s))
 
-  pub too_long : desk.bytes < length s → t ≡ tableIn (refused TooLong 0 0) → t ≡ matrixResult
-  unfolding matrixOf tableFrom
-  too_long h e = e ∙ ap tableIn (rw (lt-ltb _ _ h))
+  pub too_long : desk.bytes < length s → t ≡ table_in (refused TooLong 0 0) → t ≡ matrix_result
+  unfolding matrix_of table_from
+  too_long h e = e ∙ ap table_in (rw (lt-ltb _ _ h))
 
-  pub no_line : length s ≤ 0 → t ≡ tableIn (refused Misshapen 1 1) → t ≡ matrixResult
-  no_line h e = e ∙ ap tableIn (nothing s fibres h)
+  pub no_line : length s ≤ 0 → t ≡ table_in (refused Misshapen 1 1) → t ≡ matrix_result
+  no_line h e = e ∙ ap table_in (nothing s fibres h)
 
   module _ (short : length s ≤ desk.bytes) (there : 0 < length s) (end : ℕ) (ends : LineEnds s 0 end) where
     abbrev first : List ℕ
@@ -214,19 +214,19 @@ module _ (s : List ℕ) (fibres : ℕ) (t : Table) where
     first-line : lines s ≡ first ∷ lines (drop end s)
     first-line = line_at s 0 end there ends
 
-    module _ (count : ℕ) (ec : count ≡ fieldsIn first) (x : Numbers) (ex : x ≡ numbersIn (readLine (numbers count) first)) where
-      pub first-misshapen : (p byte : ℕ) → x.spelling ≡ BadSpelling p → byte ≡ p + 1 → t ≡ tableIn (refused Misshapen 1 byte) → t ≡ matrixResult
-      unfolding matrixOf tableFrom
-      first-misshapen p byte f b e = e ∙ ap tableIn (sym (rw (le-ltb desk.bytes (length s) short, first-line, ← ec, told-bad first count x ex p f, b)))
+    module _ (count : ℕ) (ec : count ≡ fields_in first) (x : Numbers) (ex : x ≡ numbers_in (read_line (numbers count) first)) where
+      pub first-misshapen : (p byte : ℕ) → x.spelling ≡ BadSpelling p → byte ≡ p + 1 → t ≡ table_in (refused Misshapen 1 byte) → t ≡ matrix_result
+      unfolding matrix_of table_from
+      first-misshapen p byte f b e = e ∙ ap table_in (sym (rw (le-ltb desk.bytes (length s) short, first-line, ← ec, told-bad first count x ex p f, b)))
 
-      module _ (f : x.spelling ≡ Good) (n : ℕ) (en : n ≡ count) (v : Verdict) (ev : v ≡ judgeSize desk n) where
-        abbrev told : ToldGood (readLine (numbers count) first) count x.values
+      module _ (f : x.spelling ≡ Good) (n : ℕ) (en : n ≡ count) (v : Verdict) (ev : v ≡ judge_size desk n) where
+        abbrev told : ToldGood (read_line (numbers count) first) count x.values
         told = told-good first count x ex f
 
-        pub ring-fault : (reason : Reason) → v ≡ Fault reason → t ≡ tableIn (refused reason 1 1) → t ≡ matrixResult
-        unfolding matrixOf tableFrom
-        ring-fault reason g e = e ∙ ap tableIn (sym (rw (le-ltb desk.bytes (length s) short, first-line, ← ec, told.is, ← en, ← ev, g)))
+        pub ring-fault : (reason : Reason) → v ≡ Fault reason → t ≡ table_in (refused reason 1 1) → t ≡ matrix_result
+        unfolding matrix_of table_from
+        ring-fault reason g e = e ∙ ap table_in (sym (rw (le-ltb desk.bytes (length s) short, first-line, ← ec, told.is, ← en, ← ev, g)))
 
-        pub then-square : v ≡ Fine → t ≡ tableIn (tableFrom fibres (squareJudged (lines_of desk n 1 n [] (lines s)))) → t ≡ matrixResult
-        unfolding matrixOf
-        then-square g e = e ∙ ap tableIn (ap (tableFrom fibres) (rw (le-ltb desk.bytes (length s) short, first-line, ← ec, told.is, ← en, ← ev, g)))
+        pub then-square : v ≡ Fine → t ≡ table_in (table_from fibres (square_judged (lines_of desk n 1 n [] (lines s)))) → t ≡ matrix_result
+        unfolding matrix_of
+        then-square g e = e ∙ ap table_in (ap (table_from fibres) (rw (le-ltb desk.bytes (length s) short, first-line, ← ec, told.is, ← en, ← ev, g)))

@@ -14,7 +14,7 @@ use Rattle.ring.specs.Lists.{Each, none, more, Some, here, there}
 use Rattle.ring.specs.Row.{PairBefore}
 use Rattle.ring.proofs.Side.{cond-elim}
 use Rattle.text.specs.ReadLine.{Reading}
-use Rattle.text.specs.Shapes.{numbers, numbersLine}
+use Rattle.text.specs.Shapes.{numbers, numbers_line}
 use Rattle.text.specs.FirstFault.{FirstFault}
 use Rattle.table.specs.Lines.{lines}
 use Rattle.table.specs.Reasons.{rank_of}
@@ -25,8 +25,8 @@ use Rattle.table.specs.declared.judge.Verdict.{Verdict}
 use Rattle.table.proofs.Judged.{SizeJudged, not-so-many, right-size, size-judged}
 use Rattle.table.proofs.LineNumbers.{line-one, LinesFrom, from_first, from_next, line-here, no-line-left}
 use Rattle.table.proofs.ReasonNumbers.{same_rank, no-rank-0}
-use Rattle.matrix.specs.Matrix.{entry, entryByte, Node}
-use Rattle.matrix.specs.Read.{Matrix, matrix, no-matrix, fieldsIn, numbersOr, unless, unlessAt, lines_of, line_of, afterSquare, squareJudged, matrixLines, matrixOf, judgeAmounts}
+use Rattle.matrix.specs.Matrix.{entry, entry_byte, Node}
+use Rattle.matrix.specs.Read.{Matrix, matrix, no-matrix, fields_in, numbers_or, unless, unless_at, lines_of, line_of, after_square, square_judged, matrix_lines, matrix_of, judge_amounts}
 use Rattle.matrix.specs.Says.{NumbersAre, EntryIs, NoFirstLine, NoLaterLine, LeftOver, WrongSize, WrongAmount, WrongEntry, not-zero, not-mirror, FirstFaulty, Says, LineByte, first-due, later-due, none-due, EntryStarts, FaultyByte, ByteIs, stage, Earlier, Given, Accepted}
 use Rattle.matrix.specs.Back.{Reads}
 use Rattle.matrix.specs.declared.byte.Found.{Found}
@@ -280,15 +280,15 @@ module _ (limits : Limits) (t : List ℕ) (us : List ℕ) (first : NumbersAre t 
       faulty-byte (zero-wrong e w) h = h
       faulty-byte (mirror-wrong e w) h = h
 
-      starts-at : (i j : ℕ) → Node n i → EntryStarts t i j (entryByte (line_of (entry m) n i) (j - 1))
+      starts-at : (i j : ℕ) → Node n i → EntryStarts t i j (entry_byte (line_of (entry m) n i) (j - 1))
       starts-at i j p =
           let high : i ≤ length m = omega (arith, p.1) in
           let e : length (get_or m (i - 1) []) ≡ n = held.wide i p.0 high in
           let k : line_of (entry m) n i ≡ get_or m (i - 1) [] = rw e at (from_one 0 (get_or m (i - 1) [])) in
-          record { vs = get_or m (i - 1) []; is = held.at i p.0 high; at = ap (λ vs. entryByte vs (j - 1)) k }
+          record { vs = get_or m (i - 1) []; is = held.at i p.0 high; at = ap (λ vs. entry_byte vs (j - 1)) k }
 
-      square-right : {z : Lines} → DownJudged (entry m) n 1 n z → Right limits t (afterSquare z (matrix n m))
-      unfolding afterSquare
+      square-right : {z : Lines} → DownJudged (entry m) n 1 n z → Right limits t (after_square z (matrix n m))
+      unfolding after_square
       square-right (down-right all) = none-holds (λ r other h. go (told r h))
         where
           go : {r : Reason} {other : ℕ} → Told limits t other r → ⊥
@@ -355,14 +355,14 @@ module _ (limits : Limits) (t : List ℕ) (us : List ℕ) (first : NumbersAre t 
     left-over-here {l = l} is over = inr (inr (record { us = us; first = first; l = l; is = is; wrong = over }))
 
     amount-given : {line : ℕ} {vs : List ℕ} (x : ℕ) → 1 ≤ line → line ≤ n → Clean limits t line → NumbersAre t line vs → length vs ≡ n → FirstOver limits vs x
-        → Given limits t TooMuch line (entryByte vs x)
+        → Given limits t TooMuch line (entry_byte vs x)
     unfolding Says ByteIs
     amount-given {line} {vs} x low due clean is wide f =
         given-here TooMuch refl clean (record { vs = vs; is = is; wrong = f.some }) (amount-first line low due vs is wide) (amount-byte x is f)
 
     lines-right : (ls : List (List ℕ)) (line left : ℕ) (m : List (List ℕ)) → 1 ≤ line → line + left ≡ n + 1 → LinesFrom (lines t) line ls → Prev line → Clean limits t line
-        → Held m line → Right limits t (squareJudged (lines_of limits n line left m ls))
-    unfolding lines_of numbersOr unlessAt squareJudged
+        → Held m line → Right limits t (square_judged (lines_of limits n line left m ls))
+    unfolding lines_of numbers_or unless_at square_judged
     lines-right [] line zero m low due from prev clean held =
         square-right m line held (omega (arith, held.count)) clean from (down-judged (entry m) n 1 n)
     lines-right (l ∷ ls) line zero m low due from prev clean held =
@@ -376,17 +376,17 @@ module _ (limits : Limits) (t : List ℕ) (us : List ℕ) (first : NumbersAre t 
         next vs = lines_of limits n (line + 1) left (m ++ vs ∷ []) ls
 
         amounts : {vs : List ℕ} {v : Found} → NumbersAre t line vs → length vs ≡ n → AmountsJudged limits 0 vs v
-            → ((vs : List ℕ) → Clean limits t (line + 1) → Held (m ++ vs ∷ []) (line + 1) → Right limits t (squareJudged (next vs)))
-            → Right limits t (squareJudged (unlessAt v line (entryByte vs) (next vs)))
+            → ((vs : List ℕ) → Clean limits t (line + 1) → Held (m ++ vs ∷ []) (line + 1) → Right limits t (square_judged (next vs)))
+            → Right limits t (square_judged (unless_at v line (entry_byte vs) (next vs)))
         amounts {vs} is wide (amount-over {at} x e f) rest =
             let k : x ≡ at = omega arith in
-            first_holds (subst (λ y. Given limits t TooMuch line (entryByte vs y)) k (amount-given x low (omega arith) clean is wide f))
+            first_holds (subst (λ y. Given limits t TooMuch line (entry_byte vs y)) k (amount-given x low (omega arith) clean is wide f))
         amounts {vs} is wide (amounts-within within) rest =
             rest vs (clean-next clean (line-fine line low (omega arith) vs is wide within)) (held_next m line vs held is wide)
 
         go : {x : Reading} → NumbersRead n l x
-            → ((vs : List ℕ) → Clean limits t (line + 1) → Held (m ++ vs ∷ []) (line + 1) → Right limits t (squareJudged (next vs)))
-            → Right limits t (squareJudged (numbersOr x line λ vs. unlessAt (judgeAmounts limits 0 vs) line (entryByte vs) (next vs)))
+            → ((vs : List ℕ) → Clean limits t (line + 1) → Held (m ++ vs ∷ []) (line + 1) → Right limits t (square_judged (next vs)))
+            → Right limits t (square_judged (numbers_or x line λ vs. unless_at (judge_amounts limits 0 vs) line (entry_byte vs) (next vs)))
         go (are-numbers {vs} e wide spelled) rest =
             let is : NumbersAre t line vs = record { text = subst (LineIs (lines t) line) e (line-here from); some = omega (arith, first.some); spelled = spelled } in
             amounts is wide (amounts-judged limits 0 vs) rest
@@ -405,31 +405,31 @@ module _ (limits : Limits) (t : List ℕ) where
   size-given {us} short first w =
       given-here RingSize refl (clean-start short) (record { at = refl; us = us; first = first; wrong = w }) (λ s l h. size-first limits t us first l h) refl
 
-  all_right : length t ≤ limits.bytes → (ls : List (List ℕ)) → LinesFrom (lines t) 1 ls → Right limits t (matrixLines limits ls)
-  unfolding matrixLines numbersOr unless squareJudged
+  all_right : length t ≤ limits.bytes → (ls : List (List ℕ)) → LinesFrom (lines t) 1 ls → Right limits t (matrix_lines limits ls)
+  unfolding matrix_lines numbers_or unless square_judged
   all_right short [] from =
       first_holds (misshapen-here (omega arith) (clean-start short) (first_says (λ vs is. omega (arith, no-line-left from is.text)))
       (first-due refl (line-missing (λ l is. omega (arith, no-line-left from is)))))
-  all_right short (l ∷ ls) from = go (numbers-read (fieldsIn l) l) (size-judged limits (fieldsIn l))
+  all_right short (l ∷ ls) from = go (numbers-read (fields_in l) l) (size-judged limits (fields_in l))
     where
       next : Matrix
-      next = squareJudged (lines_of limits (fieldsIn l) 1 (fieldsIn l) [] (l ∷ ls))
+      next = square_judged (lines_of limits (fields_in l) 1 (fields_in l) [] (l ∷ ls))
 
-      ring : (us : List ℕ) {v : Verdict} → NumbersAre t 1 us → length us ≡ fieldsIn l → SizeJudged limits (fieldsIn l) v → Right limits t (unless v 1 next)
+      ring : (us : List ℕ) {v : Verdict} → NumbersAre t 1 us → length us ≡ fields_in l → SizeJudged limits (fields_in l) v → Right limits t (unless v 1 next)
       ring us first k (not-so-many w) =
           first_holds (size-given short first (subst (λ x. (x < limits.fewest) ⊎ (limits.nodes < x)) (sym k) w))
       ring us first k (right-size few many) =
-          subst (λ x. Right limits t (squareJudged (lines_of limits x 1 x [] (l ∷ ls)))) k
+          subst (λ x. Right limits t (square_judged (lines_of limits x 1 x [] (l ∷ ls)))) k
           (lines-right limits t us first (omega arith) (omega arith) (l ∷ ls) 1 (length us) [] (omega arith) (omega arith) from (is-first refl) (clean-start short)
           (record { count = refl; at = λ i p q. absurd (omega arith); wide = λ i p q. absurd (omega arith) }))
 
-      go : {x : Reading} {v : Verdict} → NumbersRead (fieldsIn l) l x → SizeJudged limits (fieldsIn l) v → Right limits t (numbersOr x 1 λ vs. unless v 1 next)
+      go : {x : Reading} {v : Verdict} → NumbersRead (fields_in l) l x → SizeJudged limits (fields_in l) v → Right limits t (numbers_or x 1 λ vs. unless v 1 next)
       go (are-numbers {vs = us} e k s) judged =
           ring us (record { text = subst (LineIs (lines t) 1) e (line-here from); some = omega (arith, fields-some l); spelled = s }) k judged
       go (no-numbers {p} out fault) judged =
           first_holds (misshapen-here (omega arith) (clean-start short) (first_says (λ vs is.
-          let e : l ≡ numbersLine vs = line-one (line-here from) is.text refl in
-          out vs e (sym (ap fieldsIn e ∙ fields-are vs is.some is.spelled)) is.spelled))
+          let e : l ≡ numbers_line vs = line-one (line-here from) is.text refl in
+          out vs e (sym (ap fields_in e ∙ fields-are vs is.some is.spelled)) is.spelled))
           (first-due refl (line-faulty (line-here from) (any-fault l p (line-ended (lines-ended t) (line-here from)) fault))))
 
   too-long-given : limits.bytes < length t → Given limits t TooLong 0 0
@@ -440,8 +440,8 @@ module _ (limits : Limits) (t : List ℕ) where
       go s other (inl l) = omega arith
       go s other (inr e) = ⊎_elim (λ l. omega arith) (λ l. omega (arith, l.1, no-rank-0 s)) e.1
 
-right : (limits : Limits) (t : List ℕ) → Right limits t (matrixOf limits t)
-unfolding matrixOf
+right : (limits : Limits) (t : List ℕ) → Right limits t (matrix_of limits t)
+unfolding matrix_of
 right limits t =
     cond-elim (Right limits t) _ _ _
     (λ e. first_holds (too-long-given limits t (ltb-true limits.bytes (length t) e)))
@@ -463,7 +463,7 @@ one-given {limits} {t} {r} {s} {line} {other} {byte} {on} f g =
     let k : r ≡ s = same_rank r s (omega arith) in
     (k, e, one_byte limits t other byte on s (rw (k, e) at f.byte-is) g.byte-is)
 
-pub given : (limits : Limits) (t : List ℕ) (r : Reason) (line byte : ℕ) → (matrixOf limits t ≡ no-matrix r line byte) ↔ Given limits t r line byte
+pub given : (limits : Limits) (t : List ℕ) (r : Reason) (line byte : ℕ) → (matrix_of limits t ≡ no-matrix r line byte) ↔ Given limits t r line byte
 given limits t r line byte = (λ e. there (subst (Right limits t) e (right limits t)), λ g. back g (right limits t))
   where
     there : Right limits t (no-matrix r line byte) → Given limits t r line byte
@@ -474,11 +474,11 @@ given limits t r line byte = (λ e. there (subst (Right limits t) e (right limit
     back g (first_holds f) = let o = one-given f g in rw (o.0, o.1, o.2)
 
 pub accepted-is : (limits : Limits) (t : List ℕ) → Reads limits t ↔ Accepted limits t
-accepted-is limits t = (λ h. there (subst (Right limits t) h.is (right limits t)), λ out. back out (matrixOf limits t) refl)
+accepted-is limits t = (λ h. there (subst (Right limits t) h.is (right limits t)), λ out. back out (matrix_of limits t) refl)
   where
     there : {n : ℕ} {m : List (List ℕ)} → Right limits t (matrix n m) → Accepted limits t
     there (none-holds out) = out
 
-    back : Accepted limits t → (x : Matrix) → matrixOf limits t ≡ x → Reads limits t
+    back : Accepted limits t → (x : Matrix) → matrix_of limits t ≡ x → Reads limits t
     back out (matrix n m) e = record { n = n; m = m; is = e }
     back out (no-matrix r line byte) e = absurd (out r line ((given limits t r line byte).0 e).holds)

@@ -13,14 +13,14 @@ use Rattle.ring.specs.Columns.{listed}
 use Rattle.ring.proofs.Listed.{listed-length, each-listed}
 use Rattle.text.specs.Number.{base, digits}
 use Rattle.text.specs.Field.{spell}
-use Rattle.text.specs.WriteLine.{end_of, writeLine}
-use Rattle.text.specs.Shapes.{numbers, numbersLine}
+use Rattle.text.specs.WriteLine.{end_of, write_line}
+use Rattle.text.specs.Shapes.{numbers, numbers_line}
 use Rattle.text.proofs.Lengths.{one-long, more-long}
 use Rattle.table.specs.Table.{InRange as TableInRange}
-use Rattle.matrix.specs.Matrix.{writeMatrix, IsSquare, InRange}
-use Rattle.matrix.specs.Demands.{sum_of, matrixOfRows}
-use Rattle.matrix.specs.Judged.{judgeSums}
-use Rattle.matrix.specs.Room.{matrixRoom}
+use Rattle.matrix.specs.Matrix.{write_matrix, IsSquare, InRange}
+use Rattle.matrix.specs.Demands.{sum_of, matrix_of_rows}
+use Rattle.matrix.specs.Judged.{judge_sums}
+use Rattle.matrix.specs.Room.{matrix_room}
 use Rattle.matrix.specs.declared.sums.Sums.TheVariants.{Fit}
 use Rattle.matrix.proofs.SumLaws.{sum-either, sum-diagonal}
 use Rattle.matrix.proofs.SumsGiven.{fit_small}
@@ -39,35 +39,35 @@ four-digits n h = elim (dec_lt n base) [ yes l ↦ omega (arith, one-long n l) |
 
 -- ---- a line, and all lines
 
-line-bytes : (vs : List ℕ) → Each (λ v. v ≤ desk.amount) vs → length (numbersLine vs) ≤ 5 * length vs
-unfolding writeLine spell
+line-bytes : (vs : List ℕ) → Each (λ v. v ≤ desk.amount) vs → length (numbers_line vs) ≤ 5 * length vs
+unfolding write_line spell
 line-bytes [] none = omega arith
-line-bytes (v ∷ vs) (more h hs) = omega (arith, length-append (digits v) (end_of (length (numbers (length vs))) ∷ numbersLine vs), four-digits v h, line-bytes vs hs)
+line-bytes (v ∷ vs) (more h hs) = omega (arith, length-append (digits v) (end_of (length (numbers (length vs))) ∷ numbers_line vs), four-digits v h, line-bytes vs hs)
 
 matrix-bytes : (n : ℕ) (m : List (List ℕ)) → n ≤ desk.nodes → Each (λ vs. length vs ≡ n) m → Each (Each (λ v. v ≤ desk.amount)) m
-    → length (writeMatrix m) ≤ 5 * desk.nodes * length m
-unfolding writeMatrix
+    → length (write_matrix m) ≤ 5 * desk.nodes * length m
+unfolding write_matrix
 matrix-bytes n [] few none none = omega arith
-matrix-bytes n (vs ∷ m) few (more w ws) (more h hs) = omega (arith, length-append (numbersLine vs) (writeMatrix m), line-bytes vs h, matrix-bytes n m few ws hs)
+matrix-bytes n (vs ∷ m) few (more w ws) (more h hs) = omega (arith, length-append (numbers_line vs) (write_matrix m), line-bytes vs h, matrix-bytes n m few ws hs)
 
 -- room for every matrix
-pub matrix-room : (n : ℕ) (m : List (List ℕ)) → n ≤ desk.nodes → IsSquare n m → Each (Each (λ v. v ≤ desk.amount)) m → length (writeMatrix m) ≤ matrixRoom desk
+pub matrix-room : (n : ℕ) (m : List (List ℕ)) → n ≤ desk.nodes → IsSquare n m → Each (Each (λ v. v ≤ desk.amount)) m → length (write_matrix m) ≤ matrix_room desk
 matrix-room n m few square amounts = omega (arith, matrix-bytes n m few square.wide amounts, square.tall)
 
 -- ---- the matrix of a table
 
-module _ (ring : Ring) (rs : List Row) (table : TableInRange desk ring rs) (fit : judgeSums desk rs ≡ Fit) where
-  square-of-rows : IsSquare ring.n (matrixOfRows ring.n rs)
+module _ (ring : Ring) (rs : List Row) (table : TableInRange desk ring rs) (fit : judge_sums desk rs ≡ Fit) where
+  square-of-rows : IsSquare ring.n (matrix_of_rows ring.n rs)
   square-of-rows = record {
     tall = listed-length (λ i. listed (sum_of rs i) 1 ring.n) 1 ring.n;
     wide = each-listed (λ i. listed (sum_of rs i) 1 ring.n) 1 ring.n (λ i p q. listed-length (sum_of rs i) 1 ring.n);
   }
 
-  amounts-of-rows : Each (Each (λ v. v ≤ desk.amount)) (matrixOfRows ring.n rs)
+  amounts-of-rows : Each (Each (λ v. v ≤ desk.amount)) (matrix_of_rows ring.n rs)
   amounts-of-rows = each-listed (λ i. listed (sum_of rs i) 1 ring.n) 1 ring.n (λ i p q. each-listed (sum_of rs i) 1 ring.n (λ j u v. fit_small desk rs fit i j))
 
   -- it is accepted
-  pub matrix-in-range : InRange desk ring.n (matrixOfRows ring.n rs)
+  pub matrix-in-range : InRange desk ring.n (matrix_of_rows ring.n rs)
   matrix-in-range =
       record {
         few = table.few;
@@ -76,9 +76,9 @@ module _ (ring : Ring) (rs : List Row) (table : TableInRange desk ring rs) (fit 
         amounts = amounts-of-rows;
         zeros = λ i p. entry-sum ring.n rs i i p p ∙ sum-diagonal table.rows.nodes i;
         symmetric = λ i j p q. entry-sum ring.n rs i j p q ∙ sum-either rs i j ∙ sym (entry-sum ring.n rs j i q p);
-        short = omega (arith, matrix-room ring.n (matrixOfRows ring.n rs) table.many square-of-rows amounts-of-rows);
+        short = omega (arith, matrix-room ring.n (matrix_of_rows ring.n rs) table.many square-of-rows amounts-of-rows);
       }
 
   -- and has room
-  pub room-for-matrix : length (writeMatrix (matrixOfRows ring.n rs)) ≤ matrixRoom desk
-  room-for-matrix = matrix-room ring.n (matrixOfRows ring.n rs) table.many square-of-rows amounts-of-rows
+  pub room-for-matrix : length (write_matrix (matrix_of_rows ring.n rs)) ≤ matrix_room desk
+  room-for-matrix = matrix-room ring.n (matrix_of_rows ring.n rs) table.many square-of-rows amounts-of-rows

@@ -8,18 +8,18 @@ use native.Mathlib.Omega.{arith}
 use native.Mathlib.Decide.{dec_lt, ℕ_discrete}
 use lib.ListN.{length, get_or}
 use Rattle.ring.specs.LineSize.{IsFibres}
-use Rattle.ring.specs.Ring.{ringOf}
+use Rattle.ring.specs.Ring.{ring_of}
 use Rattle.ring.specs.Limits.{Limits, desk}
 use Rattle.ring.specs.Lists.{Each, none, more, Steps, no_member, one-member, step, Pairs, no-pair, and-pairs}
 use Rattle.ring.specs.Row.{Row, OnRing, PairBefore, PairUpTo, InTableOrder, TableRows}
 use Rattle.ring.specs.Columns.{listed}
 use Rattle.ring.proofs.Listed.{listed_same, listed-shift}
-use Rattle.table.specs.Table.{writeTable, tableRoom, InRange as TableInRange}
+use Rattle.table.specs.Table.{write_table, table_room, InRange as TableInRange}
 use Rattle.table.proofs.Columns.{listed-members}
 use Rattle.table.proofs.TableText.{desk-spelled}
 use Rattle.table.proofs.Short.{table-short}
 use Rattle.matrix.specs.Matrix.{entry, IsSquare, Node, InRange}
-use Rattle.matrix.specs.Demands.{rowsOfMatrix, sum_of, matrixOfRows, OneEach}
+use Rattle.matrix.specs.Demands.{rows_of_matrix, sum_of, matrix_of_rows, OneEach}
 use Rattle.matrix.proofs.SumLaws.{part-other, sum-either, sum-diagonal, Rising, no_row, next_row, same-sums}
 use Rattle.matrix.proofs.RowLaws.{rows-rising, rows-each, rows_on, rows-some, rows_few, rows-sum}
 
@@ -43,7 +43,7 @@ from_one d l =
 
 -- ---- the entries of a matrix made from rows are their sums
 
-pub entry-sum : (n : ℕ) (rs : List Row) (i j : ℕ) → Node n i → Node n j → entry (matrixOfRows n rs) i j ≡ sum_of rs i j
+pub entry-sum : (n : ℕ) (rs : List Row) (i j : ℕ) → Node n i → Node n j → entry (matrix_of_rows n rs) i j ≡ sum_of rs i j
 entry-sum n rs i j p q =
     let e : 1 + (i - 1) ≡ i = omega (arith, p.0) in
     let f : 1 + (j - 1) ≡ j = omega (arith, q.0) in
@@ -51,7 +51,7 @@ entry-sum n rs i j p q =
     ∙ listed_at (sum_of rs (1 + (i - 1))) 0 1 n (j - 1) (omega (arith, q.0, q.1)) ∙ rw (e, f)
 
 -- lines of the sums, where each entry is one
-pub lines-of-sums : (n : ℕ) (m : List (List ℕ)) (rs : List Row) → IsSquare n m → ((i j : ℕ) → Node n i → Node n j → sum_of rs i j ≡ entry m i j) → matrixOfRows n rs ≡ m
+pub lines-of-sums : (n : ℕ) (m : List (List ℕ)) (rs : List Row) → IsSquare n m → ((i j : ℕ) → Node n i → Node n j → sum_of rs i j ≡ entry m i j) → matrix_of_rows n rs ≡ m
 lines-of-sums n m rs square same =
     listed_same (λ i. listed (sum_of rs i) 1 n) (λ i. get_or m (i - 1) []) 1 n one_line ∙ subst (λ k. listed (λ i. get_or m (i - 1) []) 1 k ≡ m) square.tall (from_one [] m)
   where
@@ -65,29 +65,29 @@ lines-of-sums n m rs square same =
 
 module _ (limits : Limits) (n : ℕ) (m : List (List ℕ)) (range : InRange limits n m) where
   -- sums of pairs are the entries
-  pub sums-are-entries : (i j : ℕ) → Node n i → Node n j → sum_of (rowsOfMatrix n m) i j ≡ entry m i j
+  pub sums-are-entries : (i j : ℕ) → Node n i → Node n j → sum_of (rows_of_matrix n m) i j ≡ entry m i j
   sums-are-entries i j p q =
       elim (dec_lt i j) [
         | yes l ↦ rows-sum (entry m) n i j p.0 l q.1
         | no l ↦ elim (dec_lt j i) [
-          | yes h ↦ sum-either (rowsOfMatrix n m) i j ∙ rows-sum (entry m) n j i q.0 h p.1 ∙ range.symmetric j i q p
+          | yes h ↦ sum-either (rows_of_matrix n m) i j ∙ rows-sum (entry m) n j i q.0 h p.1 ∙ range.symmetric j i q p
           | no h ↦ let e : i ≡ j = omega arith in diagonal e
         ]
       ]
     where
-      diagonal : i ≡ j → sum_of (rowsOfMatrix n m) i j ≡ entry m i j
+      diagonal : i ≡ j → sum_of (rows_of_matrix n m) i j ≡ entry m i j
       diagonal e = rw (← e) (sum-diagonal (rows_on (entry m) n) i ∙ sym (range.zeros i p))
 
   -- matrix to table to matrix
-  pub matrix-back : matrixOfRows n (rowsOfMatrix n m) ≡ m
-  matrix-back = lines-of-sums n m (rowsOfMatrix n m) range.square sums-are-entries
+  pub matrix-back : matrix_of_rows n (rows_of_matrix n m) ≡ m
+  matrix-back = lines-of-sums n m (rows_of_matrix n m) range.square sums-are-entries
 
   entry-small : (i j : ℕ) → Node n i → Node n j → entry m i j ≤ limits.amount
   entry-small i j p q =
       let k : length (get_or m (i - 1) []) ≡ n = each_at range.square.wide [] (i - 1) (omega (arith, range.square.tall, p.0, p.1)) in
       each_at (each_at range.amounts [] (i - 1) (omega (arith, range.square.tall, p.0, p.1))) 0 (j - 1) (omega (arith, q.0, q.1))
 
-  pub rows-small : Each (λ r. r.d ≤ limits.amount) (rowsOfMatrix n m)
+  pub rows-small : Each (λ r. r.d ≤ limits.amount) (rows_of_matrix n m)
   rows-small = rows-each (entry m) n (λ x y p q r. entry-small x y (p, omega arith) (omega arith, r))
 
 -- ---- rows that rise are a table's rows, one for a pair, and back
@@ -146,33 +146,33 @@ sum-off {n} (more {a = r} o os) i j l h = omega (arith, part-other r i j (λ e. 
     off (inr x) e f = omega (arith, o.high)
 
 -- table to matrix to table
-pub table-back : (n : ℕ) (rs : List Row) → TableRows n rs → OneEach rs → rowsOfMatrix n (matrixOfRows n rs) ≡ rs
+pub table-back : (n : ℕ) (rs : List Row) → TableRows n rs → OneEach rs → rows_of_matrix n (matrix_of_rows n rs) ≡ rs
 table-back n rs table each =
-    same-sums (rowsOfMatrix n (matrixOfRows n rs)) rs (rows_on (entry (matrixOfRows n rs)) n) table.nodes (rows-some (entry (matrixOfRows n rs)) n) each.some
-    (rows-rising (entry (matrixOfRows n rs)) n) (rising-rows table.nodes table.order each.one) same
+    same-sums (rows_of_matrix n (matrix_of_rows n rs)) rs (rows_on (entry (matrix_of_rows n rs)) n) table.nodes (rows-some (entry (matrix_of_rows n rs)) n) each.some
+    (rows-rising (entry (matrix_of_rows n rs)) n) (rising-rows table.nodes table.order each.one) same
   where
-    both-off : (i j : ℕ) → i < j → (i < 1) ⊎ (n < j) → sum_of (rowsOfMatrix n (matrixOfRows n rs)) i j ≡ sum_of rs i j
-    both-off i j l h = sum-off (rows_on (entry (matrixOfRows n rs)) n) i j l h ∙ sym (sum-off table.nodes i j l h)
+    both-off : (i j : ℕ) → i < j → (i < 1) ⊎ (n < j) → sum_of (rows_of_matrix n (matrix_of_rows n rs)) i j ≡ sum_of rs i j
+    both-off i j l h = sum-off (rows_on (entry (matrix_of_rows n rs)) n) i j l h ∙ sym (sum-off table.nodes i j l h)
 
-    same : (i j : ℕ) → i < j → sum_of (rowsOfMatrix n (matrixOfRows n rs)) i j ≡ sum_of rs i j
+    same : (i j : ℕ) → i < j → sum_of (rows_of_matrix n (matrix_of_rows n rs)) i j ≡ sum_of rs i j
     same i j l =
         elim (dec_lt i 1) [
           | yes h ↦ both-off i j l (inl h)
           | no h ↦ elim (dec_lt n j) [
             | yes k ↦ both-off i j l (inr k)
-            | no k ↦ rows-sum (entry (matrixOfRows n rs)) n i j (omega arith) l (omega arith) ∙ entry-sum n rs i j (omega arith, omega arith) (omega arith, omega arith)
+            | no k ↦ rows-sum (entry (matrix_of_rows n rs)) n i j (omega arith) l (omega arith) ∙ entry-sum n rs i j (omega arith, omega arith) (omega arith, omega arith)
           ]
         ]
 
 -- ---- the table is in range
 
 -- room for the table of every matrix
-pub table-room : (n fibres : ℕ) (m : List (List ℕ)) → IsFibres fibres → InRange desk n m → length (writeTable (ringOf n fibres) (rowsOfMatrix n m)) ≤ tableRoom desk
+pub table-room : (n fibres : ℕ) (m : List (List ℕ)) → IsFibres fibres → InRange desk n m → length (write_table (ring_of n fibres) (rows_of_matrix n m)) ≤ table_room desk
 table-room n fibres m two-or-four range =
-    table-short desk desk-spelled (ringOf n fibres) (rowsOfMatrix n m) range.many two-or-four (rows_on (entry m) n) (rows_few (entry m) n range.many) (rows-small desk n m range)
+    table-short desk desk-spelled (ring_of n fibres) (rows_of_matrix n m) range.many two-or-four (rows_on (entry m) n) (rows_few (entry m) n range.many) (rows-small desk n m range)
 
 -- so it is accepted: at most one row for a pair, none of amount 0
-pub rows-in-range : (n fibres : ℕ) (m : List (List ℕ)) → IsFibres fibres → InRange desk n m → TableInRange desk (ringOf n fibres) (rowsOfMatrix n m)
+pub rows-in-range : (n fibres : ℕ) (m : List (List ℕ)) → IsFibres fibres → InRange desk n m → TableInRange desk (ring_of n fibres) (rows_of_matrix n m)
 rows-in-range n fibres m two-or-four range =
     record {
       few = range.few;
@@ -184,5 +184,5 @@ rows-in-range n fibres m two-or-four range =
       short = omega (arith, table-room n fibres m two-or-four range);
     }
 
-pub rows-one-each : (n : ℕ) (m : List (List ℕ)) → OneEach (rowsOfMatrix n m)
+pub rows-one-each : (n : ℕ) (m : List (List ℕ)) → OneEach (rows_of_matrix n m)
 rows-one-each n m = record { one = rising-pairs (rows-rising (entry m) n); some = rows-some (entry m) n }

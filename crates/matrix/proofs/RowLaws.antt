@@ -14,56 +14,56 @@ use Rattle.ring.specs.Lists.{Each, none, more}
 use Rattle.ring.specs.Row.{Row, row, OnRing, PairBefore}
 use Rattle.ring.specs.Columns.{listed}
 use Rattle.ring.proofs.Listed.{each-listed, listed-length}
-use Rattle.matrix.specs.Demands.{pairsFrom, aboveZero, rows_by, sum_of}
-use Rattle.matrix.proofs.RowSteps.{pairCount, count_small}
+use Rattle.matrix.specs.Demands.{pairs_from, above_zero, rows_by, sum_of}
+use Rattle.matrix.proofs.RowSteps.{pair_count, count_small}
 use Rattle.matrix.proofs.SumSteps.{part_of, part_small, sum-append}
 use Rattle.matrix.proofs.SumLaws.{part-own, part-other, Rising, no_row, next_row, rising-from}
 
 -- ---- the rows above 0
 
 -- what holds of all rows holds of those above 0
-pub above-each : {P : Row → Type 0} {rs : List Row} → Each P rs → Each P (aboveZero rs)
-unfolding aboveZero
+pub above-each : {P : Row → Type 0} {rs : List Row} → Each P rs → Each P (above_zero rs)
+unfolding above_zero
 above-each none = none
 above-each {P} (more {a = r} {l = rs} h hs) = go (eqb r.d 0) (above-each hs)
   where
-    go : (z : Bool) → Each P (aboveZero rs) → Each P (cond z (aboveZero rs) (r ∷ aboveZero rs))
+    go : (z : Bool) → Each P (above_zero rs) → Each P (cond z (above_zero rs) (r ∷ above_zero rs))
     go true ih = ih
     go false ih = more h ih
 
-pub above-some : (rs : List Row) → Each (λ r. 1 ≤ r.d) (aboveZero rs)
-unfolding aboveZero
+pub above-some : (rs : List Row) → Each (λ r. 1 ≤ r.d) (above_zero rs)
+unfolding above_zero
 above-some [] = none
 above-some (r ∷ rs) = go (eqb r.d 0) refl (above-some rs)
   where
-    go : (z : Bool) → eqb r.d 0 ≡ z → Each (λ r. 1 ≤ r.d) (aboveZero rs) → Each (λ r. 1 ≤ r.d) (cond z (aboveZero rs) (r ∷ aboveZero rs))
+    go : (z : Bool) → eqb r.d 0 ≡ z → Each (λ r. 1 ≤ r.d) (above_zero rs) → Each (λ r. 1 ≤ r.d) (cond z (above_zero rs) (r ∷ above_zero rs))
     go true e ih = ih
     go false e ih = let n : r.d ≡ 0 → ⊥ = eqb-false r.d 0 e in let q : 1 ≤ r.d = omega arith in more q ih
 
-pub above-rising : {a b : ℕ} {rs : List Row} → Rising a b rs → Rising a b (aboveZero rs)
-unfolding aboveZero
+pub above-rising : {a b : ℕ} {rs : List Row} → Rising a b rs → Rising a b (above_zero rs)
+unfolding above_zero
 above-rising no_row = no_row
 above-rising {a} {b} (next_row {r = r} {rs = rs} p rest) = go (eqb r.d 0) (above-rising rest)
   where
-    go : (z : Bool) → Rising r.i r.j (aboveZero rs) → Rising a b (cond z (aboveZero rs) (r ∷ aboveZero rs))
+    go : (z : Bool) → Rising r.i r.j (above_zero rs) → Rising a b (cond z (above_zero rs) (r ∷ above_zero rs))
     go true ih = rising-from p ih
     go false ih = next_row p ih
 
-pub above-sum : (rs : List Row) (i j : ℕ) → sum_of (aboveZero rs) i j ≡ sum_of rs i j
-unfolding aboveZero sum_of
+pub above-sum : (rs : List Row) (i j : ℕ) → sum_of (above_zero rs) i j ≡ sum_of rs i j
+unfolding above_zero sum_of
 above-sum [] i j = refl
 above-sum (r ∷ rs) i j = go (eqb r.d 0) refl (above-sum rs i j)
   where
-    go : (z : Bool) → eqb r.d 0 ≡ z → sum_of (aboveZero rs) i j ≡ sum_of rs i j → sum_of (cond z (aboveZero rs) (r ∷ aboveZero rs)) i j ≡ part_of r i j + sum_of rs i j
+    go : (z : Bool) → eqb r.d 0 ≡ z → sum_of (above_zero rs) i j ≡ sum_of rs i j → sum_of (cond z (above_zero rs) (r ∷ above_zero rs)) i j ≡ part_of r i j + sum_of rs i j
     go true e ih = omega (arith, eqb-true r.d 0 e, part_small r i j)
     go false e ih = omega arith
 
-pub above-short : (rs : List Row) → length (aboveZero rs) ≤ length rs
-unfolding aboveZero
+pub above-short : (rs : List Row) → length (above_zero rs) ≤ length rs
+unfolding above_zero
 above-short [] = omega arith
 above-short (r ∷ rs) = go (eqb r.d 0) (above-short rs)
   where
-    go : (z : Bool) → length (aboveZero rs) ≤ length rs → length (cond z (aboveZero rs) (r ∷ aboveZero rs)) ≤ suc (length rs)
+    go : (z : Bool) → length (above_zero rs) ≤ length rs → length (cond z (above_zero rs) (r ∷ above_zero rs)) ≤ suc (length rs)
     go true ih = omega arith
     go false ih = omega arith
 
@@ -75,28 +75,28 @@ each_append (more h hs) q = more h (each_append hs q)
 
 module _ (a : ℕ → ℕ → ℕ) where
   -- the pairs of node i from j on, k of them
-  abbrev pairsOf : ℕ → ℕ → ℕ → List Row
-  pairsOf i j k = listed (λ x. row i x (a i x)) j k
+  abbrev pairs_of : ℕ → ℕ → ℕ → List Row
+  pairs_of i j k = listed (λ x. row i x (a i x)) j k
 
-  across-rising : (i j k : ℕ) {c d : ℕ} {rest : List Row} → PairBefore c d i j → ((b : ℕ) → Rising i b rest) → Rising c d (pairsOf i j k ++ rest)
+  across-rising : (i j k : ℕ) {c d : ℕ} {rest : List Row} → PairBefore c d i j → ((b : ℕ) → Rising i b rest) → Rising c d (pairs_of i j k ++ rest)
   unfolding listed
   across-rising i j zero p all = rising-from p (all j)
   across-rising i j (suc k) p all = next_row p (across-rising i (suc j) k (inr (refl, omega arith)) all)
 
   -- of another node's pairs, and of earlier ones, the sum is 0; of its own the entry
-  across-other : (i j k x y : ℕ) → i < j → x < y → (x ≡ i → ⊥) → sum_of (pairsOf i j k) x y ≡ 0
+  across-other : (i j k x y : ℕ) → i < j → x < y → (x ≡ i → ⊥) → sum_of (pairs_of i j k) x y ≡ 0
   unfolding listed sum_of
   across-other i j zero x y l h n = refl
   across-other i j (suc k) x y l h n =
       omega (arith, part-other (row i j (a i j)) x y (λ e. n (sym e.0)) (λ e. omega (arith, e.0, e.1)), across-other i (suc j) k x y (omega arith) h n)
 
-  across-later : (i j k y : ℕ) → i < j → y < j → sum_of (pairsOf i j k) i y ≡ 0
+  across-later : (i j k y : ℕ) → i < j → y < j → sum_of (pairs_of i j k) i y ≡ 0
   unfolding listed sum_of
   across-later i j zero y l h = refl
   across-later i j (suc k) y l h =
       omega (arith, part-other (row i j (a i j)) i y (λ e. omega (arith, e.1)) (λ e. omega (arith, e.1)), across-later i (suc j) k y (omega arith) (omega arith))
 
-  across-own : (i j k y : ℕ) → i < j → j ≤ y → y < j + k → sum_of (pairsOf i j k) i y ≡ a i y
+  across-own : (i j k y : ℕ) → i < j → j ≤ y → y < j + k → sum_of (pairs_of i j k) i y ≡ a i y
   unfolding listed sum_of
   across-own i j zero y l h m = absurd (omega arith)
   across-own i j (suc k) y l h m =
@@ -106,36 +106,36 @@ module _ (a : ℕ → ℕ → ℕ) where
       ]
 
   module _ (n : ℕ) where
-    pub pairs-rising : (k i c d : ℕ) → c < i → Rising c d (pairsFrom a n i k)
-    unfolding pairsFrom
+    pub pairs-rising : (k i c d : ℕ) → c < i → Rising c d (pairs_from a n i k)
+    unfolding pairs_from
     pairs-rising zero i c d l = no_row
     pairs-rising (suc k) i c d l = across-rising i (i + 1) (n - i) (inl l) (λ b. pairs-rising k (i + 1) i b (omega arith))
 
-    pub pairs-each : {P : Row → Type 0} → ((x y : ℕ) → 1 ≤ x → x < y → y ≤ n → P (row x y (a x y))) → (k i : ℕ) → 1 ≤ i → i + k ≤ n + 1 → Each P (pairsFrom a n i k)
-    unfolding pairsFrom
+    pub pairs-each : {P : Row → Type 0} → ((x y : ℕ) → 1 ≤ x → x < y → y ≤ n → P (row x y (a x y))) → (k i : ℕ) → 1 ≤ i → i + k ≤ n + 1 → Each P (pairs_from a n i k)
+    unfolding pairs_from
     pairs-each h zero i l m = none
     pairs-each h (suc k) i l m =
         each_append (each-listed (λ x. row i x (a i x)) (i + 1) (n - i) (λ x p q. h i x l (omega arith) (omega arith))) (pairs-each h k (i + 1) (omega arith) (omega arith))
 
-    pairs-count : (k i : ℕ) → i + k ≡ n + 1 → length (pairsFrom a n i k) ≡ pairCount k
-    unfolding pairsFrom pairCount
+    pairs-count : (k i : ℕ) → i + k ≡ n + 1 → length (pairs_from a n i k) ≡ pair_count k
+    unfolding pairs_from pair_count
     pairs-count zero i e = refl
     pairs-count (suc k) i e =
-        omega (arith, length-append (pairsOf i (i + 1) (n - i)) (pairsFrom a n (i + 1) k), listed-length (λ x. row i x (a i x)) (i + 1) (n - i), pairs-count k (i + 1) (omega arith))
+        omega (arith, length-append (pairs_of i (i + 1) (n - i)) (pairs_from a n (i + 1) k), listed-length (λ x. row i x (a i x)) (i + 1) (n - i), pairs-count k (i + 1) (omega arith))
 
-    pairs-later : (k j x y : ℕ) → x < j → x < y → sum_of (pairsFrom a n j k) x y ≡ 0
-    unfolding pairsFrom sum_of
+    pairs-later : (k j x y : ℕ) → x < j → x < y → sum_of (pairs_from a n j k) x y ≡ 0
+    unfolding pairs_from sum_of
     pairs-later zero j x y l h = refl
     pairs-later (suc k) j x y l h =
-        omega (arith, sum-append (pairsOf j (j + 1) (n - j)) (pairsFrom a n (j + 1) k) x y, across-other j (j + 1) (n - j) x y (omega arith) h (λ e. omega arith), pairs-later k (j + 1) x y (omega arith) h)
+        omega (arith, sum-append (pairs_of j (j + 1) (n - j)) (pairs_from a n (j + 1) k) x y, across-other j (j + 1) (n - j) x y (omega arith) h (λ e. omega arith), pairs-later k (j + 1) x y (omega arith) h)
 
-    pairs-sum : (k i x y : ℕ) → i ≤ x → x < i + k → x < y → y ≤ n → sum_of (pairsFrom a n i k) x y ≡ a x y
-    unfolding pairsFrom
+    pairs-sum : (k i x y : ℕ) → i ≤ x → x < i + k → x < y → y ≤ n → sum_of (pairs_from a n i k) x y ≡ a x y
+    unfolding pairs_from
     pairs-sum zero i x y l m h q = absurd (omega arith)
     pairs-sum (suc k) i x y l m h q =
         elim (ℕ_discrete x i) [
-          | yes e ↦ rw e (omega (arith, sum-append (pairsOf i (i + 1) (n - i)) (pairsFrom a n (i + 1) k) i y, across-own i (i + 1) (n - i) y (omega arith) (omega arith) (omega arith), pairs-later k (i + 1) i y (omega arith) (omega arith)))
-          | no e ↦ omega (arith, sum-append (pairsOf i (i + 1) (n - i)) (pairsFrom a n (i + 1) k) x y, across-other i (i + 1) (n - i) x y (omega arith) h e, pairs-sum k (i + 1) x y (omega arith) (omega arith) h q)
+          | yes e ↦ rw e (omega (arith, sum-append (pairs_of i (i + 1) (n - i)) (pairs_from a n (i + 1) k) i y, across-own i (i + 1) (n - i) y (omega arith) (omega arith) (omega arith), pairs-later k (i + 1) i y (omega arith) (omega arith)))
+          | no e ↦ omega (arith, sum-append (pairs_of i (i + 1) (n - i)) (pairs_from a n (i + 1) k) x y, across-other i (i + 1) (n - i) x y (omega arith) h e, pairs-sum k (i + 1) x y (omega arith) (omega arith) h q)
         ]
 
     -- ---- the rows
@@ -153,12 +153,12 @@ module _ (a : ℕ → ℕ → ℕ) where
 
     pub rows-some : Each (λ r. 1 ≤ r.d) (rows_by n a)
     unfolding rows_by
-    rows-some = above-some (pairsFrom a n 1 n)
+    rows-some = above-some (pairs_from a n 1 n)
 
     pub rows_few : n ≤ desk.nodes → length (rows_by n a) ≤ desk.rows
     unfolding rows_by
-    rows_few l = omega (arith, above-short (pairsFrom a n 1 n), pairs-count n 1 (omega arith), count_small n l)
+    rows_few l = omega (arith, above-short (pairs_from a n 1 n), pairs-count n 1 (omega arith), count_small n l)
 
     pub rows-sum : (x y : ℕ) → 1 ≤ x → x < y → y ≤ n → sum_of (rows_by n a) x y ≡ a x y
     unfolding rows_by
-    rows-sum x y l h q = above-sum (pairsFrom a n 1 n) x y ∙ pairs-sum n 1 x y l (omega arith) h q
+    rows-sum x y l h q = above-sum (pairs_from a n 1 n) x y ∙ pairs-sum n 1 x y l (omega arith) h q

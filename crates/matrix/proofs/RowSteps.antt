@@ -9,39 +9,39 @@ use native.Mathlib.Omega.{arith}
 use lib.ListN.{length, set, length-append}
 use borrow.Author.Tests.{eq-eqb, ne_eqb}
 use Rattle.ring.specs.Limits.{desk}
-use Rattle.ring.specs.Ring.{ringOf}
+use Rattle.ring.specs.Ring.{ring_of}
 use Rattle.ring.specs.Row.{Row, row}
 use Rattle.ring.specs.Columns.{listed, column}
 use Rattle.table.specs.ReadTable.{accepted}
-use Rattle.table.specs.Arrays.{NoRows, beside, tableIn}
+use Rattle.table.specs.Arrays.{NoRows, beside, table_in}
 use Rattle.table.specs.declared.read.Answer.TheVariants.{Is}
 use Rattle.table.proofs.Columns.{column-more}
-use Rattle.matrix.specs.Demands.{pairsFrom, aboveZero, rows_by}
+use Rattle.matrix.specs.Demands.{pairs_from, above_zero, rows_by}
 
 -- how many pairs k nodes have
-unfoldable pub pairCount : ℕ → ℕ
-pairCount zero = 0
-pairCount (suc k) = k + pairCount k
+unfoldable pub pair_count : ℕ → ℕ
+pair_count zero = 0
+pair_count (suc k) = k + pair_count k
 
-pub count-grows : (k m : ℕ) → pairCount k ≤ pairCount (k + m)
-unfolding pairCount
+pub count-grows : (k m : ℕ) → pair_count k ≤ pair_count (k + m)
+unfolding pair_count
 count-grows k zero = let e : k + 0 ≡ k = omega arith in rw e (omega arith)
 count-grows k (suc m) = let e : k + suc m ≡ suc (k + m) = omega arith in rw e (omega (arith, count-grows k m))
 
 -- the desk's arrays have room for every pair
-pub count_small : (n : ℕ) → n ≤ desk.nodes → pairCount n ≤ desk.rows
-unfolding pairCount
+pub count_small : (n : ℕ) → n ≤ desk.nodes → pair_count n ≤ desk.rows
+unfolding pair_count
 count_small n l =
     let e : n + (desk.nodes - n) ≡ desk.nodes = omega arith in
     rw e at (count-grows n (desk.nodes - n))
 
-pub above-append : (rs ss : List Row) → aboveZero (rs ++ ss) ≡ aboveZero rs ++ aboveZero ss
-unfolding aboveZero
+pub above-append : (rs ss : List Row) → above_zero (rs ++ ss) ≡ above_zero rs ++ above_zero ss
+unfolding above_zero
 above-append [] ss = refl
 above-append (r ∷ rs) ss = go (eqb r.d 0) (above-append rs ss)
   where
-    go : (z : Bool) → aboveZero (rs ++ ss) ≡ aboveZero rs ++ aboveZero ss
-        → cond z (aboveZero (rs ++ ss)) (r ∷ aboveZero (rs ++ ss)) ≡ cond z (aboveZero rs) (r ∷ aboveZero rs) ++ aboveZero ss
+    go : (z : Bool) → above_zero (rs ++ ss) ≡ above_zero rs ++ above_zero ss
+        → cond z (above_zero (rs ++ ss)) (r ∷ above_zero (rs ++ ss)) ≡ cond z (above_zero rs) (r ∷ above_zero rs) ++ above_zero ss
     go true ih = ih
     go false ih = ap (λ l. r ∷ l) ih
 
@@ -52,7 +52,7 @@ module _ (n : ℕ) (a : ℕ → ℕ → ℕ) where
 
   pub record Gathering (first second amount : List ℕ) (count i j : ℕ) : Type 0 where
     pub rows : List Row
-    pub rest : rows_by n a ≡ rows ++ (aboveZero (across i j) ++ aboveZero (pairsFrom a n (i + 1) (n - i)))
+    pub rest : rows_by n a ≡ rows ++ (above_zero (across i j) ++ above_zero (pairs_from a n (i + 1) (n - i)))
     pub many : count ≡ length rows
     pub firsts : first ≡ column (λ (r : Row). r.i) desk.rows rows
     pub seconds : second ≡ column (λ (r : Row). r.j) desk.rows rows
@@ -60,18 +60,18 @@ module _ (n : ℕ) (a : ℕ → ℕ → ℕ) where
     pub low : 1 ≤ i
     pub order : i < j
     pub end : i ≤ n + 1
-    pub room : count + (n + 1 - j) + pairCount (n - i) ≤ desk.rows
+    pub room : count + (n + 1 - j) + pair_count (n - i) ≤ desk.rows
 
-  starts : (k : ℕ) → n ≡ k → rows_by n a ≡ aboveZero (across 1 2) ++ aboveZero (pairsFrom a n 2 (n - 1))
-  unfolding rows_by pairsFrom listed aboveZero
+  starts : (k : ℕ) → n ≡ k → rows_by n a ≡ above_zero (across 1 2) ++ above_zero (pairs_from a n 2 (n - 1))
+  unfolding rows_by pairs_from listed above_zero
   starts zero e = rw e
   starts (suc k) e =
       let f : suc k + 1 - 2 ≡ k = omega arith in
       let g : suc k - 1 ≡ k = omega arith in
-      rw (e, f, g) (above-append (listed (λ x. row 1 x (a 1 x)) 2 k) (pairsFrom a (suc k) 2 k))
+      rw (e, f, g) (above-append (listed (λ x. row 1 x (a 1 x)) 2 k) (pairs_from a (suc k) 2 k))
 
-  start-room : (k : ℕ) → n ≡ k → n ≤ desk.nodes → 0 + (n + 1 - 2) + pairCount (n - 1) ≤ desk.rows
-  unfolding pairCount
+  start-room : (k : ℕ) → n ≡ k → n ≤ desk.nodes → 0 + (n + 1 - 2) + pair_count (n - 1) ≤ desk.rows
+  unfolding pair_count
   start-room zero e l = rw e (omega arith)
   start-room (suc k) e l =
       let f : n - 1 ≡ k = omega arith in
@@ -95,8 +95,8 @@ module _ (n : ℕ) (a : ℕ → ℕ → ℕ) where
 
   -- nothing is left of a line, and the next begins
   line-over : (k i j : ℕ) → n < j → n - i ≡ k
-      → aboveZero (across i j) ++ aboveZero (pairsFrom a n (i + 1) (n - i)) ≡ aboveZero (across (i + 1) (i + 1 + 1)) ++ aboveZero (pairsFrom a n (i + 1 + 1) (n - (i + 1)))
-  unfolding pairsFrom listed aboveZero
+      → above_zero (across i j) ++ above_zero (pairs_from a n (i + 1) (n - i)) ≡ above_zero (across (i + 1) (i + 1 + 1)) ++ above_zero (pairs_from a n (i + 1 + 1) (n - (i + 1)))
+  unfolding pairs_from listed above_zero
   line-over zero i j l e =
       let f : n + 1 - j ≡ 0 = omega arith in
       let g : n + 1 - (i + 1 + 1) ≡ 0 = omega arith in
@@ -106,10 +106,10 @@ module _ (n : ℕ) (a : ℕ → ℕ → ℕ) where
       let f : n + 1 - j ≡ 0 = omega arith in
       let g : n - (i + 1) ≡ k = omega arith in
       let h : n + 1 - (i + 1 + 1) ≡ k = omega arith in
-      rw (f, e, g, h) (above-append (listed (λ x. row (i + 1) x (a (i + 1) x)) (i + 1 + 1) k) (pairsFrom a n (i + 1 + 1) k))
+      rw (f, e, g, h) (above-append (listed (λ x. row (i + 1) x (a (i + 1) x)) (i + 1 + 1) k) (pairs_from a n (i + 1 + 1) k))
 
-  room-over : (k i : ℕ) → n - i ≡ k → n + 1 - (i + 1 + 1) + pairCount (n - (i + 1)) ≡ pairCount (n - i)
-  unfolding pairCount
+  room-over : (k i : ℕ) → n - i ≡ k → n + 1 - (i + 1 + 1) + pair_count (n - (i + 1)) ≡ pair_count (n - i)
+  unfolding pair_count
   room-over zero i e =
       let g : n + 1 - (i + 1 + 1) ≡ 0 = omega arith in
       let h : n - (i + 1) ≡ 0 = omega arith in
@@ -143,7 +143,7 @@ module _ (n : ℕ) (a : ℕ → ℕ → ℕ) where
     module _ (l : j ≤ n) (d : ℕ) (ed : d ≡ a i j) where
       -- an entry of 0
       pub no-demand : d ≡ 0 → Gathering first second amount count i (j + 1)
-      unfolding aboveZero
+      unfolding above_zero
       no-demand z =
           record {
             rows = g.rows;
@@ -163,7 +163,7 @@ module _ (n : ℕ) (a : ℕ → ℕ → ℕ) where
 
       -- an entry above 0
       pub adds-row : (d ≡ 0 → ⊥) → Gathering (set first count i) (set second count j) (set amount count d) (count + 1) i (j + 1)
-      unfolding aboveZero
+      unfolding above_zero
       adds-row z =
           record {
             rows = g.rows ++ row i j d ∷ [];
@@ -178,8 +178,8 @@ module _ (n : ℕ) (a : ℕ → ℕ → ℕ) where
             room = omega (arith, g.room);
           }
 
-    pub gathered : (fibres : ℕ) → n < i → beside (Is n fibres count) first second amount ≡ tableIn (accepted (ringOf n fibres) (rows_by n a))
-    unfolding tableIn pairsFrom listed aboveZero
+    pub gathered : (fibres : ℕ) → n < i → beside (Is n fibres count) first second amount ≡ table_in (accepted (ring_of n fibres) (rows_by n a))
+    unfolding table_in pairs_from listed above_zero
     gathered fibres l =
         let f : n + 1 - j ≡ 0 = omega (arith, g.order) in
         let h : n - i ≡ 0 = omega arith in

@@ -7,7 +7,7 @@ use native.Mathlib.Numerals.{add-one}
 use lib.ListN.{length, get_or, set, take, drop, drop_of_length-le, length-append, length-drop, length-take}
 use lib.Seq.{sets, take-suc, length-take-le}
 use Rattle.ring.specs.Limits.{desk}
-use Rattle.text.specs.ReadLine.{readLine}
+use Rattle.text.specs.ReadLine.{read_line}
 use Rattle.text.specs.Shapes.{numbers}
 use Rattle.text.proofs.LineLaws.{bad-within}
 use Rattle.table.specs.Lines.{lines}
@@ -15,9 +15,9 @@ use Rattle.table.specs.LineEnds.{LineEnds}
 use Rattle.table.specs.declared.reason.Reason.{Reason}
 use Rattle.table.specs.declared.reason.Reason.TheVariants.{Misshapen}
 use Rattle.table.proofs.LineSteps.{first-line, line_at}
-use Rattle.matrix.specs.Matrix.{entryByte}
-use Rattle.matrix.specs.Read.{Matrix, no-matrix, numbersOr, unlessAt, judgeAmounts, lines_of}
-use Rattle.matrix.specs.Arrays.{numbersIn, layFrom, empty, laid, Square, besideEntries, squareIn}
+use Rattle.matrix.specs.Matrix.{entry_byte}
+use Rattle.matrix.specs.Read.{Matrix, no-matrix, numbers_or, unless_at, judge_amounts, lines_of}
+use Rattle.matrix.specs.Arrays.{numbers_in, lay_from, empty, laid, Square, beside_entries, square_in}
 use Rattle.matrix.specs.declared.byte.Found.{Found}
 use Rattle.matrix.specs.declared.byte.Found.TheVariants.{Nothing, At}
 use Rattle.matrix.specs.declared.line.Numbers.{Numbers}
@@ -54,8 +54,8 @@ module _ (old : List ℕ) (start n : ℕ) (values square : List ℕ) (t : ℕ) (
 
 -- ---- lines one below the other
 
-pub lay-more : (square : List ℕ) (k : ℕ) (m : List (List ℕ)) (vs : List ℕ) → layFrom square k (m ++ vs ∷ []) ≡ sets (layFrom square k m) (desk.nodes * (k + length m)) vs
-unfolding layFrom
+pub lay-more : (square : List ℕ) (k : ℕ) (m : List (List ℕ)) (vs : List ℕ) → lay_from square k (m ++ vs ∷ []) ≡ sets (lay_from square k m) (desk.nodes * (k + length m)) vs
+unfolding lay_from
 lay-more square k [] vs = let e : k + 0 ≡ k = omega arith in rw e
 lay-more square k (us ∷ m) vs =
     let e : k + length (us ∷ m) ≡ (k + 1) + length m = omega arith in
@@ -82,63 +82,63 @@ module _ (s : List ℕ) (n : ℕ) (entries : List ℕ) (start count line at : �
   whole = lines_of desk n 1 n [] (lines s)
 
   -- a line behind the n-th
-  pub left_over : (r : Square) → at < length s → n ≤ count → r ≡ squareIn (no-matrix Misshapen line 1) → r ≡ squareIn whole
+  pub left_over : (r : Square) → at < length s → n ≤ count → r ≡ square_in (no-matrix Misshapen line 1) → r ≡ square_in whole
   unfolding lines_of
   left_over r there l e =
       let z : n - count ≡ 0 = omega arith in
-      e ∙ ap squareIn (sym (on.rest ∙ rw (z, first-line (drop at s) (omega (arith, length-drop at s)))))
+      e ∙ ap square_in (sym (on.rest ∙ rw (z, first-line (drop at s) (omega (arith, length-drop at s)))))
 
   -- no line is left, and one is missing
-  pub missing : (r : Square) → length s ≤ at → count < n → r ≡ squareIn (no-matrix Misshapen line 1) → r ≡ squareIn whole
+  pub missing : (r : Square) → length s ≤ at → count < n → r ≡ square_in (no-matrix Misshapen line 1) → r ≡ square_in whole
   unfolding lines_of lines
   missing r none l e =
       let z : n - count ≡ suc (n - count - 1) = omega arith in
-      e ∙ ap squareIn (sym (on.rest ∙ ap (λ k. lines_of desk n line k on.m (lines (drop at s))) z ∙ rw (drop_of_length-le s none)))
+      e ∙ ap square_in (sym (on.rest ∙ ap (λ k. lines_of desk n line k on.m (lines (drop at s))) z ∙ rw (drop_of_length-le s none)))
 
-  pub lines-read : length s ≤ at → n ≤ count → besideEntries Read entries ≡ squareIn whole
-  unfolding lines_of lines squareIn
+  pub lines-read : length s ≤ at → n ≤ count → beside_entries Read entries ≡ square_in whole
+  unfolding lines_of lines square_in
   lines-read none l =
       let z : n - count ≡ 0 = omega arith in
       rw (on.rest, z, drop_of_length-le s none, on.held)
 
-  module _ (there : at < length s) (l : count < n) (end : ℕ) (ends : LineEnds s at end) (x : Numbers) (ex : x ≡ numbersIn (readLine (numbers n) (take (end - at) (drop at s)))) where
+  module _ (there : at < length s) (l : count < n) (end : ℕ) (ends : LineEnds s at end) (x : Numbers) (ex : x ≡ numbers_in (read_line (numbers n) (take (end - at) (drop at s)))) where
     abbrev text : List ℕ
     text = take (end - at) (drop at s)
 
-    next-line : whole ≡ numbersOr (readLine (numbers n) text) line λ vs. unlessAt (judgeAmounts desk 0 vs) line (entryByte vs) (lines_of desk n (line + 1) (n - count - 1) (on.m ++ vs ∷ []) (lines (drop end s)))
+    next-line : whole ≡ numbers_or (read_line (numbers n) text) line λ vs. unless_at (judge_amounts desk 0 vs) line (entry_byte vs) (lines_of desk n (line + 1) (n - count - 1) (on.m ++ vs ∷ []) (lines (drop end s)))
     unfolding lines_of
     next-line =
         let z : n - count ≡ suc (n - count - 1) = omega arith in
         on.rest ∙ ap (λ k. lines_of desk n line k on.m (lines (drop at s))) z ∙ rw (line_at s at end there ends)
 
-    pub line-misshapen : (p byte : ℕ) (r : Square) → x.spelling ≡ BadSpelling p → byte ≡ p + 1 → r ≡ squareIn (no-matrix Misshapen line byte) → r ≡ squareIn whole
-    unfolding numbersOr
-    line-misshapen p byte r f b e = e ∙ ap squareIn (sym (next-line ∙ rw (told-bad text n x ex p f, b)))
+    pub line-misshapen : (p byte : ℕ) (r : Square) → x.spelling ≡ BadSpelling p → byte ≡ p + 1 → r ≡ square_in (no-matrix Misshapen line byte) → r ≡ square_in whole
+    unfolding numbers_or
+    line-misshapen p byte r f b e = e ∙ ap square_in (sym (next-line ∙ rw (told-bad text n x ex p f, b)))
 
     -- its faulty byte is within the text
     pub line-place : (p : ℕ) → x.spelling ≡ BadSpelling p → length s ≤ desk.bytes → p ≤ desk.bytes
     line-place p f short = omega (arith, bad-within (numbers n) text p (told-bad text n x ex p f), length-take (end - at) (drop at s), ends.within)
 
-    module _ (f : x.spelling ≡ Good) (few : n ≤ desk.nodes) (v : Found) (ev : v ≡ judgeAmounts desk 0 (take n x.values)) where
-      abbrev told : ToldGood (readLine (numbers n) text) n x.values
+    module _ (f : x.spelling ≡ Good) (few : n ≤ desk.nodes) (v : Found) (ev : v ≡ judge_amounts desk 0 (take n x.values)) where
+      abbrev told : ToldGood (read_line (numbers n) text) n x.values
       told = told-good text n x ex f
 
-      judged : whole ≡ unlessAt v line (entryByte told.vs) (lines_of desk n (line + 1) (n - count - 1) (on.m ++ told.vs ∷ []) (lines (drop end s)))
-      unfolding numbersOr
-      judged = let w : v ≡ judgeAmounts desk 0 told.vs = ev ∙ ap (judgeAmounts desk 0) (told.held few) in next-line ∙ rw (told.is, ← w)
+      judged : whole ≡ unless_at v line (entry_byte told.vs) (lines_of desk n (line + 1) (n - count - 1) (on.m ++ told.vs ∷ []) (lines (drop end s)))
+      unfolding numbers_or
+      judged = let w : v ≡ judge_amounts desk 0 told.vs = ev ∙ ap (judge_amounts desk 0) (told.held few) in next-line ∙ rw (told.is, ← w)
 
       -- the entry that is over stands in the line
       pub amount-place : (reason : Reason) (k : ℕ) → v ≡ At reason k → k ≤ desk.nodes
       amount-place reason k g = omega (arith, amount-few n k x.values v reason ev g)
 
-      pub line-too-much : (reason : Reason) (k byte : ℕ) (r : Square) → v ≡ At reason k → byte ≡ entryByte x.values k → r ≡ squareIn (no-matrix reason line byte) → r ≡ squareIn whole
-      unfolding unlessAt
+      pub line-too-much : (reason : Reason) (k byte : ℕ) (r : Square) → v ≡ At reason k → byte ≡ entry_byte x.values k → r ≡ square_in (no-matrix reason line byte) → r ≡ square_in whole
+      unfolding unless_at
       line-too-much reason k byte r g b e =
-          let q : byte ≡ entryByte told.vs k = b ∙ part-byte n k x.values told.vs (told.held few) (amount-few n k x.values v reason ev g) in
-          e ∙ ap squareIn (sym (judged ∙ rw (g, q)))
+          let q : byte ≡ entry_byte told.vs k = b ∙ part-byte n k x.values told.vs (told.held few) (amount-few n k x.values v reason ev g) in
+          e ∙ ap square_in (sym (judged ∙ rw (g, q)))
 
       pub reads-line : v ≡ Nothing → (new : List ℕ) → new ≡ sets entries start (take n x.values) → ReadingLines s n new (start + desk.nodes) (count + 1) (line + 1) end
-      unfolding unlessAt laid
+      unfolding unless_at laid
       reads-line g new e =
           let k : n - count - 1 ≡ n - (count + 1) = omega arith in
           let q : start ≡ desk.nodes * (0 + length on.m) = omega (arith, on.placed, on.many) in

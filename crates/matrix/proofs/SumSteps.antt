@@ -10,11 +10,11 @@ use mir.Val.{Fits}
 use borrow.Author.Tests.{lt-ltb, le-ltb}
 use Rattle.ring.specs.Limits.{desk}
 use Rattle.ring.specs.Row.{Row, row}
-use Rattle.ring.specs.Columns.{listed, row_at, rowsIn}
+use Rattle.ring.specs.Columns.{listed, row_at, rows_in}
 use Rattle.ring.proofs.Side.{cond-elim}
 use Rattle.ring.proofs.Listed.{listed-snoc, listed_cons, listed-none}
 use Rattle.matrix.specs.Demands.{same_pair, joins, sum_of}
-use Rattle.matrix.specs.Judged.{sumsFrom, judgeSums}
+use Rattle.matrix.specs.Judged.{sums_from, judge_sums}
 use Rattle.matrix.specs.Arrays.{Amounts}
 use Rattle.matrix.specs.declared.sums.Sums.TheVariants.{Fit, Pass}
 
@@ -47,12 +47,12 @@ module _ (a b d i j : ℕ) (x : Bool) (ex : x ≡ same_pair a b i j) where
     part_none t = rw (sym ex ∙ fx, sym ey ∙ t)
 
 module _ (first second amount : List ℕ) where
-  rows_more : (k : ℕ) → rowsIn (k + 1) first second amount ≡ rowsIn k first second amount ++ row_at first second amount k ∷ []
+  rows_more : (k : ℕ) → rows_in (k + 1) first second amount ≡ rows_in k first second amount ++ row_at first second amount k ∷ []
   rows_more k = let e : 0 + k ≡ k = omega arith in rw e at (listed-snoc (row_at first second amount) 0 k)
 
   -- the rows before k are added up
   pub record Summing (i j count sum k : ℕ) : Type 0 where
-    pub is : sum ≡ sum_of (rowsIn k first second amount) i j
+    pub is : sum ≡ sum_of (rows_in k first second amount) i j
     pub small : sum ≤ desk.amount * k
     pub within : k ≤ count
 
@@ -71,23 +71,23 @@ module _ (first second amount : List ℕ) where
       pub sums-row : Summing i j count (sum + x) (k + 1)
       sums-row =
           record {
-            is = omega (arith, summing.is, ap (λ rs. sum_of rs i j) (rows_more k), sum_more (rowsIn k first second amount) (row_at first second amount k) i j);
+            is = omega (arith, summing.is, ap (λ rs. sum_of rs i j) (rows_more k), sum_more (rows_in k first second amount) (row_at first second amount k) i j);
             small = omega (arith, small-part, summing.small);
             within = omega arith;
           }
 
-    pub summed : count ≤ k → sum ≡ sum_of (rowsIn count first second amount) i j
+    pub summed : count ≤ k → sum ≡ sum_of (rows_in count first second amount) i j
     summed l = let e : k ≡ count = omega (arith, summing.within) in rw e at summing.is
 
   -- ---- judged
 
   pub record JudgingSums (count k line : ℕ) : Type 0 where
-    pub rest : judgeSums desk (rowsIn count first second amount) ≡ sumsFrom desk line (rowsIn k first second amount) (listed (row_at first second amount) k (count - k))
+    pub rest : judge_sums desk (rows_in count first second amount) ≡ sums_from desk line (rows_in k first second amount) (listed (row_at first second amount) k (count - k))
     pub within : k ≤ count
     pub lined : line ≡ k + 2
 
   pub judging-sums-starts : (count : ℕ) → JudgingSums count 0 2
-  unfolding judgeSums listed
+  unfolding judge_sums listed
   judging-sums-starts count = let e : count - 0 ≡ count = omega arith in record { rest = rw e; within = omega arith; lined = refl }
 
   -- the rows before a row of a table have amounts too
@@ -95,13 +95,13 @@ module _ (first second amount : List ℕ) where
   amounts-before count k amounts l = record { room = omega (arith, amounts.room); small = λ m h. amounts.small m (omega arith) }
 
   module _ (count k line : ℕ) (judging : JudgingSums count k line) where
-    module _ (l : k < count) (sum : ℕ) (es : sum ≡ sum_of (rowsIn (k + 1) first second amount) (get_or first k 0) (get_or second k 0)) where
-      pub sum-passes : desk.amount < sum → Pass line ≡ judgeSums desk (rowsIn count first second amount)
-      unfolding sumsFrom
+    module _ (l : k < count) (sum : ℕ) (es : sum ≡ sum_of (rows_in (k + 1) first second amount) (get_or first k 0) (get_or second k 0)) where
+      pub sum-passes : desk.amount < sum → Pass line ≡ judge_sums desk (rows_in count first second amount)
+      unfolding sums_from
       sum-passes h = sym (judging.rest ∙ rw (listed_cons (row_at first second amount) k count l, ← rows_more k, ← es, lt-ltb _ _ h))
 
       pub sum-fine : sum ≤ desk.amount → JudgingSums count (k + 1) (line + 1)
-      unfolding sumsFrom
+      unfolding sums_from
       sum-fine h =
           record {
             rest = judging.rest ∙ rw (listed_cons (row_at first second amount) k count l, ← rows_more k, ← es, le-ltb _ _ h);
@@ -109,6 +109,6 @@ module _ (first second amount : List ℕ) where
             lined = omega (arith, judging.lined);
           }
 
-    pub sums-judged : count ≤ k → Fit ≡ judgeSums desk (rowsIn count first second amount)
-    unfolding sumsFrom
+    pub sums-judged : count ≤ k → Fit ≡ judge_sums desk (rows_in count first second amount)
+    unfolding sums_from
     sums-judged l = sym (judging.rest ∙ rw (listed-none (row_at first second amount) k count l))

@@ -11,7 +11,7 @@ use Rattle.ring.specs.Limits.{Limits}
 use Rattle.ring.specs.Row.{Row, row}
 use Rattle.text.proofs.Apart.{clash}
 use Rattle.matrix.specs.Demands.{sum_of, Passes, PassesAt}
-use Rattle.matrix.specs.Judged.{sumsFrom, judgeSums}
+use Rattle.matrix.specs.Judged.{sums_from, judge_sums}
 use Rattle.matrix.specs.declared.sums.Sums.{Sums}
 use Rattle.matrix.specs.declared.sums.Sums.TheVariants.{Fit, Pass}
 use Rattle.matrix.proofs.SumSteps.{sum_more}
@@ -62,8 +62,8 @@ module _ (limits : Limits) (before : List Row) (r : Row) (rs : List Row) where
   none_before fit k first (suc zero) l p = omega (arith, p.wrong)
   none_before fit k first (suc (suc other)) l p = first (suc other) (omega arith) (passes-back other p)
 
-sums-read : (limits : Limits) (rs before : List Row) (line : ℕ) → SumsRead limits line before rs (sumsFrom limits line before rs)
-unfolding sumsFrom
+sums-read : (limits : Limits) (rs before : List Row) (line : ℕ) → SumsRead limits line before rs (sums_from limits line before rs)
+unfolding sums_from
 sums-read limits [] before line = all_fit (λ k p. omega (arith, p.low, p.high))
 sums-read limits (r ∷ rs) before line =
     elim (dec_lt limits.amount (sum_of (before ++ r ∷ []) r.i r.j)) [
@@ -77,9 +77,9 @@ sums-read limits (r ∷ rs) before line =
 
 module _ (limits : Limits) (rs : List Row) where
   -- 19 is given exactly at the first row at which a pair's sum passes
-  pub sums-given : (line : ℕ) → (judgeSums limits rs ≡ Pass line) ↔ PassesAt limits rs line
-  unfolding judgeSums
-  sums-given line = (λ e. there (subst (SumsRead limits 2 [] rs) e (sums-read limits rs [] 2)), λ p. back p (judgeSums limits rs) (sums-read limits rs [] 2))
+  pub sums-given : (line : ℕ) → (judge_sums limits rs ≡ Pass line) ↔ PassesAt limits rs line
+  unfolding judge_sums
+  sums-given line = (λ e. there (subst (SumsRead limits 2 [] rs) e (sums-read limits rs [] 2)), λ p. back p (judge_sums limits rs) (sums-read limits rs [] 2))
     where
       there : SumsRead limits 2 [] rs (Pass line) → PassesAt limits rs line
       there (passes k e p first) =
@@ -99,9 +99,9 @@ module _ (limits : Limits) (rs : List Row) where
           ap Pass f
 
   -- and no row passes exactly where the sums fit
-  pub sums-fit : (judgeSums limits rs ≡ Fit) ↔ ((k : ℕ) → Passes limits rs k → ⊥)
-  unfolding judgeSums
-  sums-fit = (λ e. there (subst (SumsRead limits 2 [] rs) e (sums-read limits rs [] 2)), λ none. back none (judgeSums limits rs) (sums-read limits rs [] 2))
+  pub sums-fit : (judge_sums limits rs ≡ Fit) ↔ ((k : ℕ) → Passes limits rs k → ⊥)
+  unfolding judge_sums
+  sums-fit = (λ e. there (subst (SumsRead limits 2 [] rs) e (sums-read limits rs [] 2)), λ none. back none (judge_sums limits rs) (sums-read limits rs [] 2))
     where
       there : SumsRead limits 2 [] rs Fit → (k : ℕ) → Passes limits rs k → ⊥
       there (all_fit none) k p = none k (record { low = p.low; high = p.high; wrong = p.wrong })
@@ -129,9 +129,9 @@ own-sum rs r i j most own h =
           | no a ↦ omega (arith, sum_more rs r i j, part-other r i j n (λ e. a e.0))
         ]
 
-sums-small : (limits : Limits) (rs before : List Row) (line : ℕ) → ((i j : ℕ) → sum_of before i j ≤ limits.amount) → sumsFrom limits line before rs ≡ Fit
+sums-small : (limits : Limits) (rs before : List Row) (line : ℕ) → ((i j : ℕ) → sum_of before i j ≤ limits.amount) → sums_from limits line before rs ≡ Fit
     → (i j : ℕ) → sum_of (before ++ rs) i j ≤ limits.amount
-unfolding sumsFrom
+unfolding sums_from
 sums-small limits [] before line small e i j = rw (append-nil before) (small i j)
 sums-small limits (r ∷ rs) before line small e i j =
     elim (dec_lt limits.amount (sum_of (before ++ r ∷ []) r.i r.j)) [
@@ -143,6 +143,6 @@ sums-small limits (r ∷ rs) before line small e i j =
           (sums-small limits rs (before ++ r ∷ []) (line + 1) (λ x y. own-sum before r x y limits.amount f (small x y)) q i j)
     ]
 
-pub fit_small : (limits : Limits) (rs : List Row) → judgeSums limits rs ≡ Fit → (i j : ℕ) → sum_of rs i j ≤ limits.amount
-unfolding judgeSums sum_of
+pub fit_small : (limits : Limits) (rs : List Row) → judge_sums limits rs ≡ Fit → (i j : ℕ) → sum_of rs i j ≤ limits.amount
+unfolding judge_sums sum_of
 fit_small limits rs e = sums-small limits rs [] 2 (λ i j. omega arith) e

@@ -7,30 +7,30 @@ use lib.ListN.{length}
 use Rattle.ring.specs.Limits.{desk}
 use Rattle.ring.specs.Lists.{Each, none, more}
 use Rattle.ring.specs.Row.{Row}
-use Rattle.ring.specs.Columns.{listed, column, row_at, rowsIn}
+use Rattle.ring.specs.Columns.{listed, column, row_at, rows_in}
 use Rattle.text.proofs.Apart.{clash}
-use Rattle.table.specs.Arrays.{Table, tableIn}
+use Rattle.table.specs.Arrays.{Table, table_in}
 use Rattle.table.specs.declared.reason.Reason.{Reason}
 use Rattle.table.specs.declared.read.Answer.TheVariants.{Is, Refused}
 use Rattle.table.proofs.Columns.{rows_back}
-use Rattle.matrix.specs.Demands.{rowsOfMatrix}
+use Rattle.matrix.specs.Demands.{rows_of_matrix}
 use Rattle.matrix.specs.Matrix.{entry}
-use Rattle.matrix.specs.Read.{Matrix, matrix, no-matrix, matrixOf, tableFrom}
+use Rattle.matrix.specs.Read.{Matrix, matrix, no-matrix, matrix_of, table_from}
 use Rattle.matrix.specs.Arrays.{Amounts}
 use Rattle.matrix.proofs.MatrixText.{desk-possible, matrix-text}
 use Rattle.matrix.proofs.RowLaws.{rows_few}
 
 pub record Told (s : List ℕ) (n count : ℕ) (first second amount : List ℕ) : Type 0 where
   pub m : List (List ℕ)
-  pub is : matrixOf desk s ≡ matrix n m
-  pub rows : rowsIn count first second amount ≡ rowsOfMatrix n m
+  pub is : matrix_of desk s ≡ matrix n m
+  pub rows : rows_in count first second amount ≡ rows_of_matrix n m
   pub room : count ≤ desk.rows
 
 module _ (s : List ℕ) (fibres : ℕ) (t : Table) where
-  a-matrix : (r : Matrix) → matrixOf desk s ≡ r → t ≡ tableIn (tableFrom fibres r) → (n same count : ℕ) → t.answer ≡ Is n same count → Told s n count t.first t.second t.amount
-  unfolding tableIn tableFrom
+  a-matrix : (r : Matrix) → matrix_of desk s ≡ r → t ≡ table_in (table_from fibres r) → (n same count : ℕ) → t.answer ≡ Is n same count → Told s n count t.first t.second t.amount
+  unfolding table_in table_from
   a-matrix (matrix k m) q e n same count a =
-      let rs : List Row = rowsOfMatrix k m in
+      let rs : List Row = rows_of_matrix k m in
       let p : Is n same count ≡ Is k fibres (length rs) = sym a ∙ ap (λ (x : Table). x.answer) e in
       let kn : n ≡ k = cc in
       let kc : count ≡ length rs = cc in
@@ -41,10 +41,10 @@ module _ (s : List ℕ) (fibres : ℕ) (t : Table) where
       record { m = m; is = rw kn q; rows = rw (kn, kc, ef, es, ea) (rows_back desk.rows rs h); room = omega arith }
   a-matrix (no-matrix reason line byte) q e n same count a = clash (let p : Is n same count ≡ Refused reason line byte = sym a ∙ ap (λ (x : Table). x.answer) e in cc)
 
-  a-refusal : (r : Matrix) → matrixOf desk s ≡ r → t ≡ tableIn (tableFrom fibres r) → (reason : Reason) (line byte : ℕ) → t.answer ≡ Refused reason line byte
-      → matrixOf desk s ≡ no-matrix reason line byte
-  unfolding tableIn tableFrom
-  a-refusal (matrix k m) q e reason line byte a = clash (let p : Refused reason line byte ≡ Is k fibres (length (rowsOfMatrix k m)) = sym a ∙ ap (λ (x : Table). x.answer) e in cc)
+  a-refusal : (r : Matrix) → matrix_of desk s ≡ r → t ≡ table_in (table_from fibres r) → (reason : Reason) (line byte : ℕ) → t.answer ≡ Refused reason line byte
+      → matrix_of desk s ≡ no-matrix reason line byte
+  unfolding table_in table_from
+  a-refusal (matrix k m) q e reason line byte a = clash (let p : Refused reason line byte ≡ Is k fibres (length (rows_of_matrix k m)) = sym a ∙ ap (λ (x : Table). x.answer) e in cc)
   a-refusal (no-matrix why at on) q e reason line byte a =
       let p : Refused reason line byte ≡ Refused why at on = sym a ∙ ap (λ (x : Table). x.answer) e in
       let kw : why ≡ reason = cc in
@@ -52,12 +52,12 @@ module _ (s : List ℕ) (fibres : ℕ) (t : Table) where
       let kb : on ≡ byte = cc in
       q ∙ rw (kw, kl, kb)
 
-  module _ (e : t ≡ tableIn (tableFrom fibres (matrixOf desk s))) where
+  module _ (e : t ≡ table_in (table_from fibres (matrix_of desk s))) where
     pub told-matrix : (n same count : ℕ) → t.answer ≡ Is n same count → Told s n count t.first t.second t.amount
-    told-matrix = a-matrix (matrixOf desk s) refl e
+    told-matrix = a-matrix (matrix_of desk s) refl e
 
-    pub told-refusal : (reason : Reason) (line byte : ℕ) → t.answer ≡ Refused reason line byte → matrixOf desk s ≡ no-matrix reason line byte
-    told-refusal = a-refusal (matrixOf desk s) refl e
+    pub told-refusal : (reason : Reason) (line byte : ℕ) → t.answer ≡ Refused reason line byte → matrix_of desk s ≡ no-matrix reason line byte
+    told-refusal = a-refusal (matrix_of desk s) refl e
 
 -- rows whose amounts are within the limit, as their arrays have them
 listed-each : {P : Row → Type 0} (f : ℕ → Row) (k m : ℕ) → Each P (listed f k m) → (x : ℕ) → x < m → P (f (k + x))
@@ -66,6 +66,6 @@ listed-each f k zero none x l = absurd (omega arith)
 listed-each {P} f k (suc m) (more h hs) zero l = let e : k + 0 ≡ k = omega arith in rw e h
 listed-each {P} f k (suc m) (more h hs) (suc x) l = let e : k + suc x ≡ suc k + x = omega arith in rw e (listed-each f (suc k) m hs x (omega arith))
 
-pub amounts-in : (count : ℕ) (first second amount : List ℕ) → count ≤ desk.rows → Each (λ r. r.d ≤ desk.amount) (rowsIn count first second amount) → Amounts count amount
+pub amounts-in : (count : ℕ) (first second amount : List ℕ) → count ≤ desk.rows → Each (λ r. r.d ≤ desk.amount) (rows_in count first second amount) → Amounts count amount
 amounts-in count first second amount room each =
     record { room = room; small = λ k l. let e : 0 + k ≡ k = omega arith in rw e at (listed-each (row_at first second amount) 0 count each k l) }

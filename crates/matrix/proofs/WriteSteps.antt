@@ -10,15 +10,15 @@ use Rattle.ring.specs.Row.{Row}
 use Rattle.ring.specs.Columns.{listed, column}
 use Rattle.ring.proofs.Listed.{listed-snoc, listed-length}
 use Rattle.text.specs.Bytes.{number}
-use Rattle.text.specs.Shapes.{numbers, numbersLine}
-use Rattle.text.specs.WriteLine.{writeLine}
+use Rattle.text.specs.Shapes.{numbers, numbers_line}
+use Rattle.text.specs.WriteLine.{write_line}
 use Rattle.text.specs.Written.{Written}
 use Rattle.text.proofs.Lengths.{line-short}
 use Rattle.text.proofs.Pieces.{Pieces}
 use Rattle.table.proofs.Columns.{column-length, column-more}
-use Rattle.matrix.specs.Matrix.{writeMatrix}
+use Rattle.matrix.specs.Matrix.{write_matrix}
 use Rattle.matrix.specs.Demands.{sum_of}
-use Rattle.matrix.specs.Arrays.{valuesIn}
+use Rattle.matrix.specs.Arrays.{values_in}
 use Rattle.matrix.proofs.LineSteps.{take-values}
 
 -- ---- a line's shape and its values
@@ -33,43 +33,43 @@ pub part-is : (n : ℕ) (s : List ℕ) → take (n - 0) (drop 0 s) ≡ take n s
 part-is n s = let e : n - 0 ≡ n = omega arith in rw e
 
 module _ (n : ℕ) (shape values : List ℕ) where
-  abbrev partText : List ℕ
-  partText = writeLine (take (n - 0) (drop 0 shape)) (take (n - 0) (drop 0 values))
+  abbrev part_text : List ℕ
+  part_text = write_line (take (n - 0) (drop 0 shape)) (take (n - 0) (drop 0 values))
 
-  part-text : partText ≡ writeLine (take n shape) (take n values)
+  part-text : part_text ≡ write_line (take n shape) (take n values)
   part-text = rw (part-is n shape, part-is n values)
 
-  pub part-measured : (r : ℕ) → r ≡ length partText → r ≡ length (writeLine (take n shape) (take n values))
+  pub part-measured : (r : ℕ) → r ≡ length part_text → r ≡ length (write_line (take n shape) (take n values))
   part-measured r e = e ∙ ap length part-text
 
   pub part-fits : n ≤ length shape → n ≤ length values → length (take (n - 0) (drop 0 shape)) ≤ length (take (n - 0) (drop 0 values))
   part-fits l m = rw (part-is n shape, part-is n values) (omega (arith, length-take-le n shape l, length-take-le n values m))
 
-  pub part_room : (at room : ℕ) → at + length (writeLine (take n shape) (take n values)) ≤ room → at + length partText ≤ room
+  pub part_room : (at room : ℕ) → at + length (write_line (take n shape) (take n values)) ≤ room → at + length part_text ≤ room
   part_room at room l = omega (arith, ap length part-text)
 
-  pub part-written : (old new : List ℕ) (at r : ℕ) → Written old at partText new r → Written old at (writeLine (take n shape) (take n values)) new r
+  pub part-written : (old new : List ℕ) (at r : ℕ) → Written old at part_text new r → Written old at (write_line (take n shape) (take n values)) new r
   part-written old new at r w = rw part-text at w
 
 module _ (n : ℕ) (values : List ℕ) (l : n ≤ desk.nodes) (room : length values ≡ desk.nodes) where
-  line-is : writeLine (take n (numbers desk.nodes)) (take n values) ≡ numbersLine (take n values)
+  line-is : write_line (take n (numbers desk.nodes)) (take n values) ≡ numbers_line (take n values)
   line-is =
       let e : length (take n values) ≡ n = length-take-le n values (omega arith) in
       rw (take-numbers n desk.nodes l, e)
 
-  pub numbers-measured : (r : ℕ) → r ≡ length (writeLine (take n (numbers desk.nodes)) (take n values)) → r ≡ length (numbersLine (take n values))
+  pub numbers-measured : (r : ℕ) → r ≡ length (write_line (take n (numbers desk.nodes)) (take n values)) → r ≡ length (numbers_line (take n values))
   numbers-measured r e = e ∙ ap length line-is
 
-  pub numbers-room : (at size : ℕ) → at + length (numbersLine (take n values)) ≤ size → at + length (writeLine (take n (numbers desk.nodes)) (take n values)) ≤ size
+  pub numbers-room : (at size : ℕ) → at + length (numbers_line (take n values)) ≤ size → at + length (write_line (take n (numbers desk.nodes)) (take n values)) ≤ size
   numbers-room at size h = omega (arith, ap length line-is)
 
-  pub numbers-written : (old new : List ℕ) (at r : ℕ) → Written old at (writeLine (take n (numbers desk.nodes)) (take n values)) new r → Written old at (numbersLine (take n values)) new r
+  pub numbers-written : (old new : List ℕ) (at r : ℕ) → Written old at (write_line (take n (numbers desk.nodes)) (take n values)) new r → Written old at (numbers_line (take n values)) new r
   numbers-written old new at r w = rw line-is at w
 
 -- ---- a line's sums: those before node t + 1 stand in the column
 
 pub record Lining (f : ℕ → ℕ) (n : ℕ) (values : List ℕ) (t j : ℕ) : Type 0 where
-  pub held : values ≡ valuesIn (listed f 1 t)
+  pub held : values ≡ values_in (listed f 1 t)
   pub node : j ≡ t + 1
   pub within : t ≤ n
 
@@ -84,58 +84,58 @@ module _ (f : ℕ → ℕ) (n : ℕ) (values : List ℕ) (t j : ℕ) (lining : L
       record {
         held =
             rw (lining.held, e)
-            (column-more (λ (w : ℕ). w) desk.nodes (listed f 1 t) (f j) t (sym (listed-length f 1 t)) ∙ ap valuesIn (sym (rw k at (listed-snoc f 1 t))));
+            (column-more (λ (w : ℕ). w) desk.nodes (listed f 1 t) (f j) t (sym (listed-length f 1 t)) ∙ ap values_in (sym (rw k at (listed-snoc f 1 t))));
         node = omega (arith, lining.node);
         within = omega arith;
       }
 
-  pub lined : n ≤ t → values ≡ valuesIn (listed f 1 n)
+  pub lined : n ≤ t → values ≡ values_in (listed f 1 n)
   lined l = let e : t ≡ n = omega (arith, lining.within) in rw e at lining.held
 
 -- a line's values are the first of its column
-module _ (f : ℕ → ℕ) (n nodes : ℕ) (few : n ≤ desk.nodes) (e : nodes ≡ n) (values : List ℕ) (held : values ≡ valuesIn (listed f 1 nodes)) where
+module _ (f : ℕ → ℕ) (n nodes : ℕ) (few : n ≤ desk.nodes) (e : nodes ≡ n) (values : List ℕ) (held : values ≡ values_in (listed f 1 nodes)) where
   taken : take nodes values ≡ listed f 1 n
   taken = rw (held, e) (take-values (listed f 1 n) n (sym (listed-length f 1 n)) few)
 
   pub values-long : length values ≡ desk.nodes
   values-long = ap length held ∙ column-length (λ (w : ℕ). w) desk.nodes (listed f 1 nodes)
 
-  pub sums-measured : (r : ℕ) → r ≡ length (numbersLine (take nodes values)) → r ≡ length (numbersLine (listed f 1 n))
-  sums-measured r h = h ∙ ap (λ vs. length (numbersLine vs)) taken
+  pub sums-measured : (r : ℕ) → r ≡ length (numbers_line (take nodes values)) → r ≡ length (numbers_line (listed f 1 n))
+  sums-measured r h = h ∙ ap (λ vs. length (numbers_line vs)) taken
 
-  pub sums-room : (at size : ℕ) → at + length (numbersLine (listed f 1 n)) ≤ size → at + length (numbersLine (take nodes values)) ≤ size
-  sums-room at size h = omega (arith, ap (λ vs. length (numbersLine vs)) taken)
+  pub sums-room : (at size : ℕ) → at + length (numbers_line (listed f 1 n)) ≤ size → at + length (numbers_line (take nodes values)) ≤ size
+  sums-room at size h = omega (arith, ap (λ vs. length (numbers_line vs)) taken)
 
-  pub sums-written : (old new : List ℕ) (at r : ℕ) → Written old at (numbersLine (take nodes values)) new r → Written old at (numbersLine (listed f 1 n)) new r
+  pub sums-written : (old new : List ℕ) (at r : ℕ) → Written old at (numbers_line (take nodes values)) new r → Written old at (numbers_line (listed f 1 n)) new r
   sums-written old new at r w = rw taken at w
 
 -- ---- the lines
 
-matrix-more : (m : List (List ℕ)) (vs : List ℕ) → writeMatrix (m ++ vs ∷ []) ≡ writeMatrix m ++ numbersLine vs
-unfolding writeMatrix
+matrix-more : (m : List (List ℕ)) (vs : List ℕ) → write_matrix (m ++ vs ∷ []) ≡ write_matrix m ++ numbers_line vs
+unfolding write_matrix
 matrix-more [] vs = append-nil _
-matrix-more (us ∷ m) vs = ap (λ l. numbersLine us ++ l) (matrix-more m vs) ∙ sym (append_assoc (numbersLine us) (writeMatrix m) _)
+matrix-more (us ∷ m) vs = ap (λ l. numbers_line us ++ l) (matrix-more m vs) ∙ sym (append_assoc (numbers_line us) (write_matrix m) _)
 
 module _ (rs : List Row) (n : ℕ) where
-  abbrev pub sumsLine : ℕ → List ℕ
-  sumsLine i = listed (sum_of rs i) 1 n
+  abbrev pub sums_line : ℕ → List ℕ
+  sums_line i = listed (sum_of rs i) 1 n
 
   -- the text of line k + 1, and of the first k lines
-  abbrev pub lineText : ℕ → List ℕ
-  lineText k = numbersLine (sumsLine (k + 1))
+  abbrev pub line_text : ℕ → List ℕ
+  line_text k = numbers_line (sums_line (k + 1))
 
-  abbrev pub linesText : ℕ → List ℕ
-  linesText k = writeMatrix (listed sumsLine 1 k)
+  abbrev pub lines_text : ℕ → List ℕ
+  lines_text k = write_matrix (listed sums_line 1 k)
 
-  pub matrix-pieces : n ≤ desk.nodes → Pieces lineText linesText
-  unfolding listed writeMatrix
+  pub matrix-pieces : n ≤ desk.nodes → Pieces line_text lines_text
+  unfolding listed write_matrix
   matrix-pieces l = record { none = refl; more = more-lines; short = short-line }
     where
-      more-lines : (k : ℕ) → linesText (k + 1) ≡ linesText k ++ lineText k
+      more-lines : (k : ℕ) → lines_text (k + 1) ≡ lines_text k ++ line_text k
       more-lines k =
           let e : 1 + k ≡ k + 1 = omega arith in
-          ap writeMatrix (rw e at (listed-snoc sumsLine 1 k)) ∙ matrix-more (listed sumsLine 1 k) (sumsLine (k + 1))
+          ap write_matrix (rw e at (listed-snoc sums_line 1 k)) ∙ matrix-more (listed sums_line 1 k) (sums_line (k + 1))
 
-      short-line : (k : ℕ) → length (lineText k) ≤ 1000
+      short-line : (k : ℕ) → length (line_text k) ≤ 1000
       short-line k =
-          omega (arith, line-short (numbers (length (sumsLine (k + 1)))) (sumsLine (k + 1)), length-replicate (length (sumsLine (k + 1))) number, listed-length (sum_of rs (k + 1)) 1 n)
+          omega (arith, line-short (numbers (length (sums_line (k + 1)))) (sums_line (k + 1)), length-replicate (length (sums_line (k + 1))) number, listed-length (sum_of rs (k + 1)) 1 n)

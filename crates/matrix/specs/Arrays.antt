@@ -11,13 +11,13 @@ use Rattle.matrix.specs.declared.square.Lines.{Lines}
 use Rattle.matrix.specs.declared.square.Lines.TheVariants.{Read, Refused}
 
 -- numbers from place 0 on, zeros behind them
-abbrev pub valuesIn : List ℕ → List ℕ
-valuesIn vs = column (λ v. v) desk.nodes vs
+abbrev pub values_in : List ℕ → List ℕ
+values_in vs = column (λ v. v) desk.nodes vs
 
 -- what a line of numbers says
-unfoldable pub numbersIn : Reading → Numbers
-numbersIn (good vs) = record { spelling = Good; values = valuesIn vs }
-numbersIn (bad p) = record { spelling = Bad p; values = valuesIn [] }
+unfoldable pub numbers_in : Reading → Numbers
+numbers_in (good vs) = record { spelling = Good; values = values_in vs }
+numbers_in (bad p) = record { spelling = Bad p; values = values_in [] }
 
 -- the place of entry i, j
 abbrev pub place_of : ℕ → ℕ → ℕ
@@ -28,9 +28,9 @@ abbrev pub at : List ℕ → ℕ → ℕ → ℕ
 at square i j = get_or square (place_of i j) 0
 
 -- lines from the line behind k lines on
-unfoldable pub layFrom : List ℕ → ℕ → List (List ℕ) → List ℕ
-layFrom square k [] = square
-layFrom square k (vs ∷ m) = layFrom (sets square (desk.nodes * k) vs) (k + 1) m
+unfoldable pub lay_from : List ℕ → ℕ → List (List ℕ) → List ℕ
+lay_from square k [] = square
+lay_from square k (vs ∷ m) = lay_from (sets square (desk.nodes * k) vs) (k + 1) m
 
 -- an empty square
 abbrev pub empty : List ℕ
@@ -38,21 +38,21 @@ empty = replicate {A = ℕ} 1024 0
 
 -- the lines of a matrix
 unfoldable pub laid : List (List ℕ) → List ℕ
-unfolding layFrom
-laid m = layFrom empty 0 m
+unfolding lay_from
+laid m = lay_from empty 0 m
 
 -- what was found against lines, beside the square that was lent
 pub record Square : Type 0 where
   pub lines : Lines
   pub entries : List ℕ
 
-abbrev pub besideEntries : Lines → List ℕ → Square
-besideEntries lines entries = record { lines = lines; entries = entries }
+abbrev pub beside_entries : Lines → List ℕ → Square
+beside_entries lines entries = record { lines = lines; entries = entries }
 
-unfoldable pub squareIn : Matrix → Square
+unfoldable pub square_in : Matrix → Square
 unfolding laid
-squareIn (matrix n m) = besideEntries Read (laid m)
-squareIn (no-matrix reason line byte) = besideEntries (Refused reason line byte) empty
+square_in (matrix n m) = beside_entries Read (laid m)
+square_in (no-matrix reason line byte) = beside_entries (Refused reason line byte) empty
 
 -- rows in columns whose amounts are within 9,999, so that sums fit
 pub record Amounts (count : ℕ) (amount : List ℕ) : Type 0 where

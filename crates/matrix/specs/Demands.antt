@@ -9,24 +9,24 @@ use Rattle.matrix.specs.Matrix.{entry}
 -- ---- from a matrix
 
 -- the pairs i-j with i < j, in table order, from node i on for k nodes, each with its entry
-unfoldable pub pairsFrom : (ℕ → ℕ → ℕ) → ℕ → ℕ → ℕ → List Row
+unfoldable pub pairs_from : (ℕ → ℕ → ℕ) → ℕ → ℕ → ℕ → List Row
 unfolding listed
-pairsFrom a n i zero = []
-pairsFrom a n i (suc k) = listed (λ j. row i j (a i j)) (i + 1) (n - i) ++ pairsFrom a n (i + 1) k
+pairs_from a n i zero = []
+pairs_from a n i (suc k) = listed (λ j. row i j (a i j)) (i + 1) (n - i) ++ pairs_from a n (i + 1) k
 
 -- the rows whose amount is above 0
-unfoldable pub aboveZero : List Row → List Row
-aboveZero [] = []
-aboveZero (r ∷ rs) = cond (eqb r.d 0) (aboveZero rs) (r ∷ aboveZero rs)
+unfoldable pub above_zero : List Row → List Row
+above_zero [] = []
+above_zero (r ∷ rs) = cond (eqb r.d 0) (above_zero rs) (r ∷ above_zero rs)
 
 -- the rows of the entries a of a ring of n nodes
 unfoldable pub rows_by : ℕ → (ℕ → ℕ → ℕ) → List Row
-unfolding pairsFrom aboveZero
-rows_by n a = aboveZero (pairsFrom a n 1 n)
+unfolding pairs_from above_zero
+rows_by n a = above_zero (pairs_from a n 1 n)
 
 -- the rows of a matrix
-abbrev pub rowsOfMatrix : ℕ → List (List ℕ) → List Row
-rowsOfMatrix n m = rows_by n (entry m)
+abbrev pub rows_of_matrix : ℕ → List (List ℕ) → List Row
+rows_of_matrix n m = rows_by n (entry m)
 
 -- ---- to a matrix
 
@@ -43,8 +43,8 @@ sum_of [] i j = 0
 sum_of (r ∷ rs) i j = cond (joins r i j) r.d 0 + sum_of rs i j
 
 -- the matrix of a table's rows
-abbrev pub matrixOfRows : ℕ → List Row → List (List ℕ)
-matrixOfRows n rs = listed (λ i. listed (sum_of rs i) 1 n) 1 n
+abbrev pub matrix_of_rows : ℕ → List Row → List (List ℕ)
+matrix_of_rows n rs = listed (λ i. listed (sum_of rs i) 1 n) 1 n
 
 -- 19: at the row with this number, counted from 1, the sum of its pair's rows up to there passes 9,999
 pub record Passes (limits : Limits) (rs : List Row) (k : ℕ) : Type 0 where

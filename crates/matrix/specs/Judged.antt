@@ -7,13 +7,13 @@ use Rattle.matrix.specs.declared.sums.Sums.{Sums}
 use Rattle.matrix.specs.declared.sums.Sums.TheVariants.{Fit, Pass}
 
 -- the rows rs, of which the first stands on the line `line`, behind the rows `before`
-unfoldable pub sumsFrom : Limits → ℕ → List Row → List Row → Sums
+unfoldable pub sums_from : Limits → ℕ → List Row → List Row → Sums
 unfolding sum_of
-sumsFrom limits line before [] = Fit
-sumsFrom limits line before (r ∷ rs) =
-    cond (ltb limits.amount (sum_of (before ++ r ∷ []) r.i r.j)) (Pass line) (sumsFrom limits (line + 1) (before ++ r ∷ []) rs)
+sums_from limits line before [] = Fit
+sums_from limits line before (r ∷ rs) =
+    cond (ltb limits.amount (sum_of (before ++ r ∷ []) r.i r.j)) (Pass line) (sums_from limits (line + 1) (before ++ r ∷ []) rs)
 
 -- all rows; the first stands on line 2
-unfoldable pub judgeSums : Limits → List Row → Sums
-unfolding sumsFrom
-judgeSums limits rs = sumsFrom limits 2 [] rs
+unfoldable pub judge_sums : Limits → List Row → Sums
+unfolding sums_from
+judge_sums limits rs = sums_from limits 2 [] rs

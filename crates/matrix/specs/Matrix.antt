@@ -2,20 +2,20 @@
 use Rattle.std.specs.Prelude.{ℕ, ◌+◌, ◌-◌, ◌≤◌, List, [], ◌∷◌, ◌++◌, ◌≡◌, length, get_or, take}
 use Rattle.ring.specs.Limits.{Limits}
 use Rattle.ring.specs.Lists.{Each}
-use Rattle.text.specs.Shapes.{numbersLine}
+use Rattle.text.specs.Shapes.{numbers_line}
 
 -- entry i, j of the lines m, both counted from 1
 abbrev pub entry : List (List ℕ) → ℕ → ℕ → ℕ
 entry m i j = get_or (get_or m (i - 1) []) (j - 1) 0
 
 -- the lines, one behind the other
-unfoldable pub writeMatrix : List (List ℕ) → List ℕ
-writeMatrix [] = []
-writeMatrix (vs ∷ m) = numbersLine vs ++ writeMatrix m
+unfoldable pub write_matrix : List (List ℕ) → List ℕ
+write_matrix [] = []
+write_matrix (vs ∷ m) = numbers_line vs ++ write_matrix m
 
 -- where the entry behind k others starts in the line of the numbers vs, counted from 1: one more than the length of what is written before it (02, K5)
-abbrev pub entryByte : List ℕ → ℕ → ℕ
-entryByte vs k = length (numbersLine (take k vs)) + 1
+abbrev pub entry_byte : List ℕ → ℕ → ℕ
+entry_byte vs k = length (numbers_line (take k vs)) + 1
 
 -- n lines of n numbers
 pub record IsSquare (n : ℕ) (m : List (List ℕ)) : Type 0 where
@@ -34,4 +34,4 @@ pub record InRange (limits : Limits) (n : ℕ) (m : List (List ℕ)) : Type 0 wh
   pub amounts : Each (Each (λ v. v ≤ limits.amount)) m
   pub zeros : (i : ℕ) → Node n i → entry m i i ≡ 0
   pub symmetric : (i j : ℕ) → Node n i → Node n j → entry m i j ≡ entry m j i
-  pub short : length (writeMatrix m) ≤ limits.bytes
+  pub short : length (write_matrix m) ≤ limits.bytes

@@ -1,20 +1,20 @@
 -- Internal: reading a matrix line by line, then entry by entry, each step as the code takes it; `Matrix` and `Says` and the theorems of `proofs/` pin it down.
 use Rattle.std.specs.Prelude.{ℕ, zero, suc, ◌+◌, ◌-◌, cond, List, [], ◌∷◌, ◌++◌, ltb, eqb, length}
 use Rattle.ring.specs.Limits.{Limits}
-use Rattle.ring.specs.Ring.{ringOf}
+use Rattle.ring.specs.Ring.{ring_of}
 use Rattle.ring.specs.Columns.{listed}
 use Rattle.text.specs.Bytes.{tab}
-use Rattle.text.specs.ReadLine.{Reading, good, bad, readLine}
+use Rattle.text.specs.ReadLine.{Reading, good, bad, read_line}
 use Rattle.text.specs.Shapes.{numbers}
 use Rattle.table.specs.Lines.{lines}
-use Rattle.table.specs.Judge.{judgeSize}
+use Rattle.table.specs.Judge.{judge_size}
 use Rattle.table.specs.ReadTable.{Result, accepted, refused}
 use Rattle.table.specs.declared.reason.Reason.{Reason}
 use Rattle.table.specs.declared.reason.Reason.TheVariants.{TooLong, Misshapen, TooMuch, NotZero, NotSymmetric}
 use Rattle.table.specs.declared.judge.Verdict.{Verdict}
 use Rattle.table.specs.declared.judge.Verdict.TheVariants.{Fine, Fault}
-use Rattle.matrix.specs.Matrix.{entry, entryByte}
-use Rattle.matrix.specs.Demands.{rowsOfMatrix}
+use Rattle.matrix.specs.Matrix.{entry, entry_byte}
+use Rattle.matrix.specs.Demands.{rows_of_matrix}
 use Rattle.matrix.specs.declared.byte.Found.{Found}
 use Rattle.matrix.specs.declared.byte.Found.TheVariants.{Nothing, At}
 use Rattle.matrix.specs.declared.square.Lines.{Lines}
@@ -28,13 +28,13 @@ pub data Matrix : Type 0 where
 -- ---- one line
 
 -- fields are what tabs part
-unfoldable pub fieldsIn : List ℕ → ℕ
-fieldsIn [] = 1
-fieldsIn (b ∷ t) = cond (eqb b tab) 1 0 + fieldsIn t
+unfoldable pub fields_in : List ℕ → ℕ
+fields_in [] = 1
+fields_in (b ∷ t) = cond (eqb b tab) 1 0 + fields_in t
 
-unfoldable pub numbersOr : Reading → ℕ → (List ℕ → Matrix) → Matrix
-numbersOr (good vs) line next = next vs
-numbersOr (bad p) line next = no-matrix Misshapen line (p + 1)
+unfoldable pub numbers_or : Reading → ℕ → (List ℕ → Matrix) → Matrix
+numbers_or (good vs) line next = next vs
+numbers_or (bad p) line next = no-matrix Misshapen line (p + 1)
 
 -- what is found against a line as a whole
 unfoldable pub unless : Verdict → ℕ → Matrix → Matrix
@@ -42,84 +42,84 @@ unless Fine line next = next
 unless (Fault reason) line next = no-matrix reason line 1
 
 -- what is found against one of its entries, each of which starts at its byte
-unfoldable pub unlessAt : Found → ℕ → (ℕ → ℕ) → Matrix → Matrix
-unlessAt Nothing line byte next = next
-unlessAt (At reason k) line byte next = no-matrix reason line (byte k)
+unfoldable pub unless_at : Found → ℕ → (ℕ → ℕ) → Matrix → Matrix
+unless_at Nothing line byte next = next
+unless_at (At reason k) line byte next = no-matrix reason line (byte k)
 
 -- 7: the first entry over 9,999 of the entries vs, behind k others
-unfoldable pub judgeAmounts : Limits → ℕ → List ℕ → Found
-judgeAmounts limits k [] = Nothing
-judgeAmounts limits k (v ∷ vs) = cond (ltb limits.amount v) (At TooMuch k) (judgeAmounts limits (k + 1) vs)
+unfoldable pub judge_amounts : Limits → ℕ → List ℕ → Found
+judge_amounts limits k [] = Nothing
+judge_amounts limits k (v ∷ vs) = cond (ltb limits.amount v) (At TooMuch k) (judge_amounts limits (k + 1) vs)
 
 -- ---- the lines in order
 
 -- `left` lines of n numbers are due in ls, of which the first has the number `line`, behind the lines m
 unfoldable pub lines_of : Limits → ℕ → ℕ → ℕ → List (List ℕ) → List (List ℕ) → Matrix
-unfolding numbersOr unlessAt judgeAmounts
+unfolding numbers_or unless_at judge_amounts
 lines_of limits n line zero m [] = matrix n m
 lines_of limits n line zero m (l ∷ ls) = no-matrix Misshapen line 1
 lines_of limits n line (suc left) m [] = no-matrix Misshapen line 1
 lines_of limits n line (suc left) m (l ∷ ls) =
-    numbersOr (readLine (numbers n) l) line λ vs.
-    unlessAt (judgeAmounts limits 0 vs) line (entryByte vs)
+    numbers_or (read_line (numbers n) l) line λ vs.
+    unless_at (judge_amounts limits 0 vs) line (entry_byte vs)
     (lines_of limits n (line + 1) left (m ++ vs ∷ []) ls)
 
 -- ---- the entries in order
 
 -- 17 and 18, of the entry x at i, j whose mirror entry is y
-unfoldable pub judgeEntry : ℕ → ℕ → ℕ → ℕ → Verdict
-judgeEntry i j x y = cond (eqb i j) (cond (eqb x 0) Fine (Fault NotZero)) (cond (eqb x y) Fine (Fault NotSymmetric))
+unfoldable pub judge_entry : ℕ → ℕ → ℕ → ℕ → Verdict
+judge_entry i j x y = cond (eqb i j) (cond (eqb x 0) Fine (Fault NotZero)) (cond (eqb x y) Fine (Fault NotSymmetric))
 
 -- of the entry behind k others
 unfoldable pub or_else : Verdict → ℕ → Found → Found
 or_else Fine k next = next
 or_else (Fault reason) k next = At reason k
 
-unfoldable pub onLine : Found → ℕ → (ℕ → ℕ) → Lines → Lines
-onLine Nothing line byte next = next
-onLine (At reason k) line byte next = Refused reason line (byte k)
+unfoldable pub on_line : Found → ℕ → (ℕ → ℕ) → Lines → Lines
+on_line Nothing line byte next = next
+on_line (At reason k) line byte next = Refused reason line (byte k)
 
 -- the entries i, j and on, k of them
-unfoldable pub judgeAcross : (ℕ → ℕ → ℕ) → ℕ → ℕ → ℕ → Found
-unfolding judgeEntry or_else
-judgeAcross a i j zero = Nothing
-judgeAcross a i j (suc k) = or_else (judgeEntry i j (a i j) (a j i)) (j - 1) (judgeAcross a i (j + 1) k)
+unfoldable pub judge_across : (ℕ → ℕ → ℕ) → ℕ → ℕ → ℕ → Found
+unfolding judge_entry or_else
+judge_across a i j zero = Nothing
+judge_across a i j (suc k) = or_else (judge_entry i j (a i j) (a j i)) (j - 1) (judge_across a i (j + 1) k)
 
 -- the n entries of line i
 abbrev pub line_of : (ℕ → ℕ → ℕ) → ℕ → ℕ → List ℕ
 line_of a n i = listed (a i) 1 n
 
 -- the lines i and on, k of them
-unfoldable pub judgeDown : (ℕ → ℕ → ℕ) → ℕ → ℕ → ℕ → Lines
-unfolding judgeAcross onLine
-judgeDown a n i zero = Read
-judgeDown a n i (suc k) = onLine (judgeAcross a i 1 n) i (entryByte (line_of a n i)) (judgeDown a n (i + 1) k)
+unfoldable pub judge_down : (ℕ → ℕ → ℕ) → ℕ → ℕ → ℕ → Lines
+unfolding judge_across on_line
+judge_down a n i zero = Read
+judge_down a n i (suc k) = on_line (judge_across a i 1 n) i (entry_byte (line_of a n i)) (judge_down a n (i + 1) k)
 
-unfoldable pub afterSquare : Lines → Matrix → Matrix
-afterSquare Read x = x
-afterSquare (Refused reason line byte) x = no-matrix reason line byte
+unfoldable pub after_square : Lines → Matrix → Matrix
+after_square Read x = x
+after_square (Refused reason line byte) x = no-matrix reason line byte
 
-unfoldable pub squareJudged : Matrix → Matrix
-unfolding judgeDown afterSquare
-squareJudged (matrix n m) = afterSquare (judgeDown (entry m) n 1 n) (matrix n m)
-squareJudged (no-matrix reason line byte) = no-matrix reason line byte
+unfoldable pub square_judged : Matrix → Matrix
+unfolding judge_down after_square
+square_judged (matrix n m) = after_square (judge_down (entry m) n 1 n) (matrix n m)
+square_judged (no-matrix reason line byte) = no-matrix reason line byte
 
 -- ---- the whole
 
 -- n is the number of fields of the first line
-unfoldable pub matrixLines : Limits → List (List ℕ) → Matrix
-unfolding numbersOr unless lines_of squareJudged fieldsIn
-matrixLines limits [] = no-matrix Misshapen 1 1
-matrixLines limits (l ∷ ls) =
-    numbersOr (readLine (numbers (fieldsIn l)) l) 1 λ vs.
-    unless (judgeSize limits (fieldsIn l)) 1
-    (squareJudged (lines_of limits (fieldsIn l) 1 (fieldsIn l) [] (l ∷ ls)))
+unfoldable pub matrix_lines : Limits → List (List ℕ) → Matrix
+unfolding numbers_or unless lines_of square_judged fields_in
+matrix_lines limits [] = no-matrix Misshapen 1 1
+matrix_lines limits (l ∷ ls) =
+    numbers_or (read_line (numbers (fields_in l)) l) 1 λ vs.
+    unless (judge_size limits (fields_in l)) 1
+    (square_judged (lines_of limits (fields_in l) 1 (fields_in l) [] (l ∷ ls)))
 
-unfoldable pub matrixOf : Limits → List ℕ → Matrix
-unfolding matrixLines
-matrixOf limits t = cond (ltb limits.bytes (length t)) (no-matrix TooLong 0 0) (matrixLines limits (lines t))
+unfoldable pub matrix_of : Limits → List ℕ → Matrix
+unfolding matrix_lines
+matrix_of limits t = cond (ltb limits.bytes (length t)) (no-matrix TooLong 0 0) (matrix_lines limits (lines t))
 
 -- as a table, on so many fibres
-unfoldable pub tableFrom : ℕ → Matrix → Result
-tableFrom fibres (matrix n m) = accepted (ringOf n fibres) (rowsOfMatrix n m)
-tableFrom fibres (no-matrix reason line byte) = refused reason line byte
+unfoldable pub table_from : ℕ → Matrix → Result
+table_from fibres (matrix n m) = accepted (ring_of n fibres) (rows_of_matrix n m)
+table_from fibres (no-matrix reason line byte) = refused reason line byte

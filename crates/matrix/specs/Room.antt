@@ -3,5 +3,5 @@ use Rattle.std.specs.Prelude.{ℕ, ◌*◌}
 use Rattle.ring.specs.Limits.{Limits}
 
 -- n lines of n entries, each of at most 4 digits and the byte behind them
-abbrev pub matrixRoom : Limits → ℕ
-matrixRoom limits = 5 * limits.nodes * limits.nodes
+abbrev pub matrix_room : Limits → ℕ
+matrix_room limits = 5 * limits.nodes * limits.nodes

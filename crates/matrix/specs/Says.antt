@@ -5,19 +5,19 @@ use Rattle.ring.specs.Lists.{Each, Some}
 use Rattle.ring.specs.Row.{PairBefore}
 use Rattle.text.specs.Number.{limit}
 use Rattle.text.specs.FirstFault.{Agrees, FirstFault}
-use Rattle.text.specs.Shapes.{numbers, numbersLine}
+use Rattle.text.specs.Shapes.{numbers, numbers_line}
 use Rattle.table.specs.Lines.{lines}
 use Rattle.table.specs.Reasons.{rank_of}
 use Rattle.table.specs.Says.{LineIs, DueByte}
 use Rattle.table.specs.declared.reason.Reason.{Reason}
 use Rattle.table.specs.declared.reason.Reason.TheVariants.{TooLong, Misshapen, RingSize, Fibres, NoRow, NoSuchNode, NotBelow, OutOfOrder, TooMany, TooMuch, Full, WrongSum, WrongWay, WrongCut, WrongLink, WrongLast, NotTight, OverBound, NotZero, NotSymmetric, SumTooMuch, NoRoom}
-use Rattle.matrix.specs.Matrix.{entryByte}
+use Rattle.matrix.specs.Matrix.{entry_byte}
 
 -- ---- lines and entries
 
 -- a line is the numbers vs, of which there is at least one
 pub record NumbersAre (t : List ℕ) (line : ℕ) (vs : List ℕ) : Type 0 where
-  pub text : LineIs (lines t) line (numbersLine vs)
+  pub text : LineIs (lines t) line (numbers_line vs)
   pub some : 1 ≤ length vs
   pub spelled : Each (λ v. v < limit) vs
 
@@ -125,7 +125,7 @@ pub data LineByte (t : List ℕ) (line byte : ℕ) : Type 0 where
 pub record EntryStarts (t : List ℕ) (line j byte : ℕ) : Type 0 where
   pub vs : List ℕ
   pub is : NumbersAre t line vs
-  pub at : byte ≡ entryByte vs (j - 1)
+  pub at : byte ≡ entry_byte vs (j - 1)
 
 -- 7: where the first entry over 9,999 starts
 pub record AmountByte (limits : Limits) (t : List ℕ) (line byte : ℕ) : Type 0 where

@@ -1,9 +1,9 @@
 // The byte of a line where an entry starts, counted from 1. It is asked only where a matrix is refused, so that an accepted one costs nothing more.
 ghost use Rattle.std.specs.Prelude.{◌≡◌, ◌≤◌, length};
 ghost use Rattle.ring.specs.Limits.{desk};
-ghost use Rattle.matrix.specs.Matrix.{entryByte};
+ghost use Rattle.matrix.specs.Matrix.{entry_byte};
 ghost use Rattle.matrix.specs.Read.{line_of};
-ghost use Rattle.matrix.specs.Arrays.{at, valuesIn};
+ghost use Rattle.matrix.specs.Arrays.{at, values_in};
 
 use crate::square::{SQUARE, get};
 use crate::write::numbers_length;
@@ -20,7 +20,7 @@ pub(crate) enum Found {
 // Of the entry behind k others in a line of these values.
 pub(crate) fn entry_byte(k: usize, values: &[u32; LINKS]) -> u32
     requires { (k ≤ desk.nodes) × (length values.now ≡ desk.nodes) }
-    ensures { result ≡ entryByte values.now k }
+    ensures { result ≡ entry_byte values.now k }
 {
     let before = numbers_length(k, values);
     before as u32 + 1
@@ -29,7 +29,7 @@ pub(crate) fn entry_byte(k: usize, values: &[u32; LINKS]) -> u32
 // Line i of a square of n nodes.
 fn line_at(i: u32, n: usize, square: &[u32; SQUARE]) -> [u32; LINKS]
     requires { (1 ≤ i) × (i ≤ desk.nodes) × (n ≤ desk.nodes) }
-    ensures { result ≡ valuesIn (line_of (at square.now) n i) }
+    ensures { result ≡ values_in (line_of (at square.now) n i) }
 {
     let mut values = [0u32; LINKS];
     let mut t: usize = 0;
@@ -45,7 +45,7 @@ fn line_at(i: u32, n: usize, square: &[u32; SQUARE]) -> [u32; LINKS]
 // Of the entry behind k others in that line.
 pub(crate) fn square_byte(k: usize, i: u32, n: u32, square: &[u32; SQUARE]) -> u32
     requires { (k ≤ n) × (1 ≤ i) × (i ≤ desk.nodes) × (n ≤ desk.nodes) }
-    ensures { result ≡ entryByte (line_of (at square.now) n i) k }
+    ensures { result ≡ entry_byte (line_of (at square.now) n i) k }
 {
     let nodes = wide(n);
     let values = line_at(i, nodes, square);

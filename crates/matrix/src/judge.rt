@@ -1,7 +1,7 @@
 // What is found against the entries, in reading order.
 ghost use Rattle.std.specs.Prelude.{◌≡◌, ◌≤◌};
 ghost use Rattle.ring.specs.Limits.{desk};
-ghost use Rattle.matrix.specs.Read.{judgeEntry, judgeAcross, judgeDown};
+ghost use Rattle.matrix.specs.Read.{judge_entry, judge_across, judge_down};
 ghost use Rattle.matrix.specs.Arrays.{at};
 
 use crate::byte::{Found, square_byte};
@@ -11,7 +11,7 @@ use table::{Reason, Verdict};
 
 // The entry x at i, j, whose mirror entry is y.
 fn judge_entry(i: u32, j: u32, x: u32, y: u32) -> Verdict
-    ensures { result ≡ judgeEntry i j x y }
+    ensures { result ≡ judge_entry i j x y }
 {
     if i == j {
         if x == 0 {
@@ -28,7 +28,7 @@ fn judge_entry(i: u32, j: u32, x: u32, y: u32) -> Verdict
 // The entries of line i.
 fn judge_across(n: u32, i: u32, square: &[u32; SQUARE]) -> Found
     requires { (1 ≤ i) × (i ≤ n) × (n ≤ desk.nodes) }
-    ensures { result ≡ judgeAcross (at square.now) i 1 n }
+    ensures { result ≡ judge_across (at square.now) i 1 n }
 {
     let mut j: u32 = 1;
     while j <= n {
@@ -51,7 +51,7 @@ fn judge_across(n: u32, i: u32, square: &[u32; SQUARE]) -> Found
 // All lines.
 pub(crate) fn judge_square(n: u32, square: &[u32; SQUARE]) -> Lines
     requires { n ≤ desk.nodes }
-    ensures { result ≡ judgeDown (at square.now) n 1 n }
+    ensures { result ≡ judge_down (at square.now) n 1 n }
 {
     let mut i: u32 = 1;
     while i <= n {

@@ -1,10 +1,10 @@
 // A line of numbers: how many fields it has, its values, and what is found against them.
 ghost use Rattle.std.specs.Prelude.{◌≡◌, ◌≤◌, length, set, take};
 ghost use Rattle.ring.specs.Limits.{desk};
-ghost use Rattle.text.specs.ReadLine.{bad, readLine};
+ghost use Rattle.text.specs.ReadLine.{bad, read_line};
 ghost use Rattle.text.specs.Shapes.{numbers};
-ghost use Rattle.matrix.specs.Read.{fieldsIn, judgeAmounts};
-ghost use Rattle.matrix.specs.Arrays.{numbersIn};
+ghost use Rattle.matrix.specs.Read.{fields_in, judge_amounts};
+ghost use Rattle.matrix.specs.Arrays.{numbers_in};
 
 use crate::byte::Found;
 use ring::{AMOUNT, LINKS};
@@ -28,7 +28,7 @@ pub(crate) struct Numbers {
 // How many fields a line has: its tabs, and one.
 pub(crate) fn fields(line: &[u8]) -> usize
     requires { length line.now ≤ desk.bytes }
-    ensures { result ≡ fieldsIn line.now }
+    ensures { result ≡ fields_in line.now }
 {
     let mut count: usize = 1;
     let mut p = line.len();
@@ -42,7 +42,7 @@ pub(crate) fn fields(line: &[u8]) -> usize
 }
 
 fn faulty(p: usize) -> Numbers
-    ensures { result ≡ numbersIn (bad p) }
+    ensures { result ≡ numbers_in (bad p) }
 {
     Numbers {
         spelling: Spelling::Bad(p),
@@ -62,7 +62,7 @@ fn put(values: &mut [u32; LINKS], t: usize, v: u32)
 
 // Reads a line of n numbers.
 pub(crate) fn read_numbers(line: &[u8], n: usize) -> Numbers
-    ensures { result ≡ numbersIn (readLine (numbers n) line.now) }
+    ensures { result ≡ numbers_in (read_line (numbers n) line.now) }
 {
     let mut values = [0u32; LINKS];
     let mut p: usize = 0;
@@ -92,7 +92,7 @@ pub(crate) fn read_numbers(line: &[u8], n: usize) -> Numbers
 // The first n values: the first that is over the limit.
 pub(crate) fn judge_amounts(n: usize, values: &[u32; LINKS]) -> Found
     requires { (n ≤ desk.nodes) × (length values.now ≡ desk.nodes) }
-    ensures { result ≡ judgeAmounts desk 0 (take n values.now) }
+    ensures { result ≡ judge_amounts desk 0 (take n values.now) }
 {
     let mut t: usize = 0;
     while t < n {

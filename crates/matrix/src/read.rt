@@ -2,8 +2,8 @@
 ghost use Rattle.std.specs.Prelude.{◌≡◌, [], ◌≤◌, length};
 ghost use Rattle.ring.specs.Limits.{desk};
 ghost use Rattle.table.specs.Lines.{lines};
-ghost use Rattle.table.specs.Arrays.{beside, tableIn};
-ghost use Rattle.matrix.specs.Read.{lines_of, squareJudged, matrixOf, tableFrom};
+ghost use Rattle.table.specs.Arrays.{beside, table_in};
+ghost use Rattle.matrix.specs.Read.{lines_of, square_judged, matrix_of, table_from};
 
 use crate::judge::judge_square;
 use crate::line::{Spelling, fields, read_numbers};
@@ -22,7 +22,7 @@ fn read_square(
     amount: &mut [u32; ROWS],
 ) -> Answer
     requires { (n ≤ desk.nodes) × (length s.now ≤ desk.bytes) }
-    ensures { beside result first.new second.new amount.new ≡ tableIn (tableFrom fibres (squareJudged (lines_of desk n 1 n [] (lines s.now)))) }
+    ensures { beside result first.new second.new amount.new ≡ table_in (table_from fibres (square_judged (lines_of desk n 1 n [] (lines s.now)))) }
 {
     let mut entries = [0u32; SQUARE];
     let read = read_lines(s, ring::wide(n), &mut entries);
@@ -46,7 +46,7 @@ pub fn read_matrix(
     second: &mut [u32; ROWS],
     amount: &mut [u32; ROWS],
 ) -> Answer
-    ensures { beside result first.new second.new amount.new ≡ tableIn (tableFrom fibres (matrixOf desk s.now)) }
+    ensures { beside result first.new second.new amount.new ≡ table_in (table_from fibres (matrix_of desk s.now)) }
 {
     if BYTES < s.len() {
         return refusal(first, second, amount, Reason::TooLong, 0, 0);

@@ -1,9 +1,9 @@
 // The rows of a square: one for each pair whose entry is above 0, in table order.
 ghost use Rattle.std.specs.Prelude.{◌≡◌, ◌≤◌};
 ghost use Rattle.ring.specs.Limits.{desk};
-ghost use Rattle.ring.specs.Ring.{ringOf};
+ghost use Rattle.ring.specs.Ring.{ring_of};
 ghost use Rattle.table.specs.ReadTable.{accepted};
-ghost use Rattle.table.specs.Arrays.{NoRows, beside, tableIn};
+ghost use Rattle.table.specs.Arrays.{NoRows, beside, table_in};
 ghost use Rattle.matrix.specs.Demands.{rows_by};
 ghost use Rattle.matrix.specs.Arrays.{at};
 
@@ -22,7 +22,7 @@ pub(crate) fn rows_of(
 ) -> Answer
     requires n_le_nodes { n ≤ desk.nodes }
     requires no_rows { NoRows first.old second.old amount.old }
-    ensures { beside result first.new second.new amount.new ≡ tableIn (accepted (ringOf n fibres) (rows_by n (at square.now))) }
+    ensures { beside result first.new second.new amount.new ≡ table_in (accepted (ring_of n fibres) (rows_by n (at square.now))) }
 {
     let mut count: usize = 0;
     let mut i: u32 = 1;

@@ -2,9 +2,9 @@
 ghost use Rattle.std.specs.Prelude.{◌≡◌, [], ◌+◌, ◌≤◌, length, take};
 ghost use Rattle.std.proofs.lemmas.List.Edits.{sets};
 ghost use Rattle.ring.specs.Limits.{desk};
-ghost use Rattle.table.specs.Lines.{lines as linesIn};
+ghost use Rattle.table.specs.Lines.{lines as lines_in};
 ghost use Rattle.matrix.specs.Read.{no-matrix, lines_of};
-ghost use Rattle.matrix.specs.Arrays.{at as entry_at, empty, besideEntries, squareIn};
+ghost use Rattle.matrix.specs.Arrays.{at as entry_at, empty, beside_entries, square_in};
 
 use crate::byte::{Found, entry_byte};
 use crate::line::{Spelling, judge_amounts, read_numbers};
@@ -46,7 +46,7 @@ fn keep(square: &mut [u32; SQUARE], start: usize, n: usize, values: &[u32; LINKS
 
 // A refusal leaves an empty square.
 fn refused(entries: &mut [u32; SQUARE], reason: Reason, line: u32, byte: u32) -> Lines
-    ensures { besideEntries result entries.new ≡ squareIn (no-matrix reason line byte) }
+    ensures { beside_entries result entries.new ≡ square_in (no-matrix reason line byte) }
 {
     *entries = [0u32; SQUARE];
     Lines::Refused(reason, line, byte)
@@ -55,7 +55,7 @@ fn refused(entries: &mut [u32; SQUARE], reason: Reason, line: u32, byte: u32) ->
 // The lines of a matrix of n nodes. A line behind the n-th is left over, and a missing one is the one after the last.
 pub(crate) fn read_lines(s: &[u8], n: usize, entries: &mut [u32; SQUARE]) -> Lines
     requires { (n ≤ desk.nodes) × (length s.now ≤ desk.bytes) × (entries.old ≡ empty) }
-    ensures { besideEntries result entries.new ≡ squareIn (lines_of desk n 1 n [] (linesIn s.now)) }
+    ensures { beside_entries result entries.new ≡ square_in (lines_of desk n 1 n [] (lines_in s.now)) }
 {
     let mut start: usize = 0;
     let mut count: usize = 0;

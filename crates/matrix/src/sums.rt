@@ -2,9 +2,9 @@
 ghost use Rattle.std.specs.Prelude.{◌≡◌, cond};
 ghost use Rattle.ring.specs.Limits.{desk};
 ghost use Rattle.ring.specs.Row.{row};
-ghost use Rattle.ring.specs.Columns.{rowsIn};
+ghost use Rattle.ring.specs.Columns.{rows_in};
 ghost use Rattle.matrix.specs.Demands.{same_pair, joins, sum_of};
-ghost use Rattle.matrix.specs.Judged.{judgeSums};
+ghost use Rattle.matrix.specs.Judged.{judge_sums};
 ghost use Rattle.matrix.specs.Arrays.{Amounts};
 
 use ring::{AMOUNT, ROWS};
@@ -48,7 +48,7 @@ pub(crate) fn sum_of(
     amount: &[u32; ROWS],
 ) -> u32
     requires { Amounts count amount.now }
-    ensures { result ≡ sum_of (rowsIn count first.now second.now amount.now) i j }
+    ensures { result ≡ sum_of (rows_in count first.now second.now amount.now) i j }
 {
     let mut sum: u32 = 0;
     let mut k: usize = 0;
@@ -67,7 +67,7 @@ pub fn judge_sums<'a>(
     amount: &'a [u32; ROWS],
 ) -> Sums
     requires { Amounts count amount.now }
-    ensures { result ≡ judgeSums desk (rowsIn count first.now second.now amount.now) }
+    ensures { result ≡ judge_sums desk (rows_in count first.now second.now amount.now) }
 {
     let mut k: usize = 0;
     let mut line: u32 = 2;

@@ -1,13 +1,13 @@
 // Rows in arrays to a matrix. A line is summed afresh from the rows, so that no square is kept.
 ghost use Rattle.std.specs.Prelude.{◌≡◌, ◌+◌, ◌≤◌, length, take};
 ghost use Rattle.ring.specs.Limits.{desk};
-ghost use Rattle.ring.specs.Columns.{listed, rowsIn};
-ghost use Rattle.text.specs.Shapes.{numbersLine};
-ghost use Rattle.text.specs.WriteLine.{writeLine};
+ghost use Rattle.ring.specs.Columns.{listed, rows_in};
+ghost use Rattle.text.specs.Shapes.{numbers_line};
+ghost use Rattle.text.specs.WriteLine.{write_line};
 ghost use Rattle.text.specs.Written.{Written};
-ghost use Rattle.matrix.specs.Matrix.{writeMatrix};
-ghost use Rattle.matrix.specs.Demands.{sum_of, matrixOfRows};
-ghost use Rattle.matrix.specs.Arrays.{Amounts, valuesIn};
+ghost use Rattle.matrix.specs.Matrix.{write_matrix};
+ghost use Rattle.matrix.specs.Demands.{sum_of, matrix_of_rows};
+ghost use Rattle.matrix.specs.Arrays.{Amounts, values_in};
 
 use crate::sums::sum_of;
 use ring::{LINKS, ROWS, wide};
@@ -23,7 +23,7 @@ fn line_of(
     amount: &[u32; ROWS],
 ) -> [u32; LINKS]
     requires { (n ≤ desk.nodes) × Amounts count amount.now }
-    ensures { result ≡ valuesIn (listed (sum_of (rowsIn count first.now second.now amount.now) i) 1 n) }
+    ensures { result ≡ values_in (listed (sum_of (rows_in count first.now second.now amount.now) i) 1 n) }
 {
     let mut values = [0u32; LINKS];
     let mut t: usize = 0;
@@ -39,15 +39,15 @@ fn line_of(
 // How many bytes a line has, of the first n fields of a shape and the first n values.
 fn part_length(n: usize, shape: &[u8], values: &[u32]) -> usize
     requires { (n ≤ desk.nodes) × (n ≤ length shape.now) × (n ≤ length values.now) }
-    ensures { result ≡ length (writeLine (take n shape.now) (take n values.now)) }
+    ensures { result ≡ length (write_line (take n shape.now) (take n values.now)) }
 {
     text::line_length(&shape[0..n], &values[0..n])
 }
 
 // Writes it from `at` on, and answers the place behind it.
 fn write_part(buf: &mut [u8], at: usize, n: usize, shape: &[u8], values: &[u32]) -> usize
-    requires { (n ≤ length shape.now) × (n ≤ length values.now) × (at + length (writeLine (take n shape.now) (take n values.now)) ≤ length buf.old) }
-    ensures { Written buf.old at (writeLine (take n shape.now) (take n values.now)) buf.new result }
+    requires { (n ≤ length shape.now) × (n ≤ length values.now) × (at + length (write_line (take n shape.now) (take n values.now)) ≤ length buf.old) }
+    ensures { Written buf.old at (write_line (take n shape.now) (take n values.now)) buf.new result }
 {
     text::write_line(buf, at, &shape[0..n], &values[0..n])
 }
@@ -55,7 +55,7 @@ fn write_part(buf: &mut [u8], at: usize, n: usize, shape: &[u8], values: &[u32])
 // How many bytes the line of the first n values has.
 pub(crate) fn numbers_length(n: usize, values: &[u32; LINKS]) -> usize
     requires { (n ≤ desk.nodes) × (length values.now ≡ desk.nodes) }
-    ensures { result ≡ length (numbersLine (take n values.now)) }
+    ensures { result ≡ length (numbers_line (take n values.now)) }
 {
     let shape = [NUMBER; LINKS];
     part_length(n, &shape, values)
@@ -63,8 +63,8 @@ pub(crate) fn numbers_length(n: usize, values: &[u32; LINKS]) -> usize
 
 // Writes it from `at` on, and answers the place behind it.
 fn write_numbers(buf: &mut [u8], at: usize, n: usize, values: &[u32; LINKS]) -> usize
-    requires { (n ≤ desk.nodes) × (length values.now ≡ desk.nodes) × (at + length (numbersLine (take n values.now)) ≤ length buf.old) }
-    ensures { Written buf.old at (numbersLine (take n values.now)) buf.new result }
+    requires { (n ≤ desk.nodes) × (length values.now ≡ desk.nodes) × (at + length (numbers_line (take n values.now)) ≤ length buf.old) }
+    ensures { Written buf.old at (numbers_line (take n values.now)) buf.new result }
 {
     let shape = [NUMBER; LINKS];
     write_part(buf, at, n, &shape, values)
@@ -80,7 +80,7 @@ fn sums_length(
     amount: &[u32; ROWS],
 ) -> usize
     requires { (n ≤ desk.nodes) × Amounts count amount.now }
-    ensures { result ≡ length (numbersLine (listed (sum_of (rowsIn count first.now second.now amount.now) i) 1 n)) }
+    ensures { result ≡ length (numbers_line (listed (sum_of (rows_in count first.now second.now amount.now) i) 1 n)) }
 {
     let nodes = wide(n);
     let values = line_of(i, nodes, count, first, second, amount);
@@ -98,8 +98,8 @@ fn write_sums(
     second: &[u32; ROWS],
     amount: &[u32; ROWS],
 ) -> usize
-    requires { (n ≤ desk.nodes) × Amounts count amount.now × (at + length (numbersLine (listed (sum_of (rowsIn count first.now second.now amount.now) i) 1 n)) ≤ length buf.old) }
-    ensures { Written buf.old at (numbersLine (listed (sum_of (rowsIn count first.now second.now amount.now) i) 1 n)) buf.new result }
+    requires { (n ≤ desk.nodes) × Amounts count amount.now × (at + length (numbers_line (listed (sum_of (rows_in count first.now second.now amount.now) i) 1 n)) ≤ length buf.old) }
+    ensures { Written buf.old at (numbers_line (listed (sum_of (rows_in count first.now second.now amount.now) i) 1 n)) buf.new result }
 {
     let nodes = wide(n);
     let values = line_of(i, nodes, count, first, second, amount);
@@ -115,7 +115,7 @@ pub fn matrix_length<'a>(
     amount: &'a [u32; ROWS],
 ) -> usize
     requires { (n ≤ desk.nodes) × Amounts count amount.now }
-    ensures { result ≡ length (writeMatrix (matrixOfRows n (rowsIn count first.now second.now amount.now))) }
+    ensures { result ≡ length (write_matrix (matrix_of_rows n (rows_in count first.now second.now amount.now))) }
 {
     let mut size: usize = 0;
     let mut k: u32 = 0;
@@ -135,8 +135,8 @@ pub fn write_matrix<'a>(
     second: &'a [u32; ROWS],
     amount: &'a [u32; ROWS],
 ) -> usize
-    requires { (n ≤ desk.nodes) × Amounts count amount.now × (length (writeMatrix (matrixOfRows n (rowsIn count first.now second.now amount.now))) ≤ length buf.old) }
-    ensures { Written buf.old 0 (writeMatrix (matrixOfRows n (rowsIn count first.now second.now amount.now))) buf.new result }
+    requires { (n ≤ desk.nodes) × Amounts count amount.now × (length (write_matrix (matrix_of_rows n (rows_in count first.now second.now amount.now))) ≤ length buf.old) }
+    ensures { Written buf.old 0 (write_matrix (matrix_of_rows n (rows_in count first.now second.now amount.now))) buf.new result }
 {
     let mut p: usize = 0;
     let mut k: u32 = 0;

@@ -6,5 +6,5 @@ pub record Ring : Type 0 where
   pub fibres : ℕ
 
 -- the ring of n nodes and so many fibres
-abbrev pub ringOf : ℕ → ℕ → Ring
-ringOf n fibres = record { n = n; fibres = fibres }
+abbrev pub ring_of : ℕ → ℕ → Ring
+ring_of n fibres = record { n = n; fibres = fibres }

@@ -12,7 +12,7 @@ use Rattle.table.specs.Reasons.{number_of}
 use Rattle.table.specs.declared.reason.Reason.{Reason}
 use Rattle.table.specs.declared.reason.Reason.TheVariants.{NoRoom}
 use Rattle.table.proofs.ReasonNumbers.{same-reason, no-reason-0}
-use Rattle.ringkit.specs.Outcome.{Outcome, write, refuse, within, replyOf, bufferAfter, Fills}
+use Rattle.ringkit.specs.Outcome.{Outcome, write, refuse, within, reply_of, buffer_after, Fills}
 use Rattle.ringkit.specs.Says.{Success, Refusal, CallSays, with-room, without-room, none-due, TooLarge, CallPromise}
 use Rattle.ringkit.specs.declared.Reply.{Reply}
 
@@ -30,8 +30,8 @@ pub record One (Due : List ℕ → Type 0) (Given : Reason → ℕ → ℕ → T
 
 -- ---- every call is one of the three cases
 
-as-refusal : {reason : Reason} {line byte : ℕ} {old new : List ℕ} {r : Reply} → r ≡ replyOf (refuse reason line byte) → new ≡ old → Refusal reason line byte old new r
-unfolding replyOf
+as-refusal : {reason : Reason} {line byte : ℕ} {old new : List ℕ} {r : Reply} → r ≡ reply_of (refuse reason line byte) → new ≡ old → Refusal reason line byte old new r
+unfolding reply_of
 as-refusal e kept =
     record {
       number = ap (λ (x : Reply). x.reason) e;
@@ -41,8 +41,8 @@ as-refusal e kept =
       buffer = kept;
     }
 
-as-success : {t old new : List ℕ} {r : Reply} → r ≡ replyOf (write t) → new ≡ t ++ drop (length t) old → Success t old new r
-unfolding replyOf
+as-success : {t old new : List ℕ} {r : Reply} → r ≡ reply_of (write t) → new ≡ t ++ drop (length t) old → Success t old new r
+unfolding reply_of
 as-success e filled =
     record {
       reason = ap (λ (x : Reply). x.reason) e;
@@ -54,7 +54,7 @@ as-success e filled =
 
 module _ {Due : List ℕ → Type 0} {Given : Reason → ℕ → ℕ → Type 0} {old new : List ℕ} {r : Reply} where
   every_call : {outcome : Outcome} → Decided Due Given outcome → Fills outcome old new r → CallSays Due Given old new r
-  unfolding within bufferAfter
+  unfolding within buffer_after
   every_call (is-due {text = t} due) f =
       elim (dec_lt (length old) (length t)) [
         | yes l ↦ let e = lt-ltb (length old) (length t) l in without-room due l (as-refusal (rw e at f.reply) (rw e at f.buffer))

@@ -10,25 +10,25 @@ use Rattle.text.specs.Written.{Written}
 use Rattle.table.specs.Reasons.{number_of}
 use Rattle.table.specs.declared.reason.Reason.{Reason}
 use Rattle.table.specs.declared.reason.Reason.TheVariants.{NoRoom}
-use Rattle.ringkit.specs.Outcome.{Outcome, write, refuse, within, replyOf, bufferAfter, Fills}
+use Rattle.ringkit.specs.Outcome.{Outcome, write, refuse, within, reply_of, buffer_after, Fills}
 use Rattle.ringkit.specs.declared.Reply.{Reply}
 
-pub refusal_is : (reason : Reason) (line byte number : ℕ) → number ≡ number_of reason → record { reason = number; line = line; byte = byte; length = 0 } ≡ replyOf (refuse reason line byte)
-unfolding replyOf
+pub refusal_is : (reason : Reason) (line byte number : ℕ) → number ≡ number_of reason → record { reason = number; line = line; byte = byte; length = 0 } ≡ reply_of (refuse reason line byte)
+unfolding reply_of
 refusal_is reason line byte number e = rw e
 
 module _ (outcome : Outcome) (old : List ℕ) where
-  pub refuses : (reason : Reason) (line byte : ℕ) (r : Reply) → outcome ≡ refuse reason line byte → r ≡ replyOf (refuse reason line byte) → Fills outcome old old r
-  unfolding within bufferAfter
+  pub refuses : (reason : Reason) (line byte : ℕ) (r : Reply) → outcome ≡ refuse reason line byte → r ≡ reply_of (refuse reason line byte) → Fills outcome old old r
+  unfolding within buffer_after
   refuses reason line byte r o e = record { reply = rw o e; buffer = rw o }
 
   module _ (t : List ℕ) (o : outcome ≡ write t) (size : ℕ) (is : size ≡ length t) where
-    pub too_short : (r : Reply) → length old < size → r ≡ replyOf (refuse NoRoom 0 0) → Fills outcome old old r
-    unfolding within bufferAfter
+    pub too_short : (r : Reply) → length old < size → r ≡ reply_of (refuse NoRoom 0 0) → Fills outcome old old r
+    unfolding within buffer_after
     too_short r l e = let k : length old < length t = omega arith in record { reply = rw (o, lt-ltb (length old) (length t) k) e; buffer = rw (o, lt-ltb (length old) (length t) k) }
 
     pub fills : (new : List ℕ) (n : ℕ) → size ≤ length old → Written old 0 t new n → Fills outcome old new (record { reason = 0; line = 0; byte = 0; length = n })
-    unfolding within replyOf bufferAfter
+    unfolding within reply_of buffer_after
     fills new n l w =
         let k : length t ≤ length old = omega arith in
         let z : n ≡ length t = omega (arith, w.place) in
@@ -40,7 +40,7 @@ module _ (outcome : Outcome) (old : List ℕ) where
 
 -- a text of `size` bytes, where the call goes by the size
 module _ (old t : List ℕ) (size : ℕ) (is : size ≡ length t) where
-  pub text-too-short : (r : Reply) → length old < size → r ≡ replyOf (refuse NoRoom 0 0) → Fills (write t) old old r
+  pub text-too-short : (r : Reply) → length old < size → r ≡ reply_of (refuse NoRoom 0 0) → Fills (write t) old old r
   text-too-short = too_short (write t) old t refl size is
 
   pub text-has-room : size ≤ length old → length t ≤ length old

@@ -8,10 +8,10 @@ use native.Mathlib.Omega.{arith}
 use lib.ListN.{length}
 use Rattle.ring.specs.Limits.{desk}
 use Rattle.ring.specs.LineSize.{IsFibres}
-use Rattle.ring.specs.Ring.{Ring, ringOf}
+use Rattle.ring.specs.Ring.{Ring, ring_of}
 use Rattle.ring.specs.Row.{Row}
 use Rattle.table.specs.Reasons.{number_of}
-use Rattle.table.specs.Table.{writeTable, tableRoom}
+use Rattle.table.specs.Table.{write_table, table_room}
 use Rattle.table.specs.ReadTable.{Result, accepted, refused, table_of}
 use Rattle.table.specs.Says as table
 use Rattle.table.specs.declared.reason.Reason.{Reason}
@@ -22,11 +22,11 @@ use Rattle.table.proofs.ReasonsGiven as table-given
 use Rattle.table.proofs.Accepted.{same-table}
 use Rattle.table.proofs.Said.{not-15 as table-not-15}
 use Rattle.table.proofs.TableText.{desk-spelled}
-use Rattle.matrix.specs.Matrix.{writeMatrix}
-use Rattle.matrix.specs.Demands.{rowsOfMatrix, matrixOfRows, Passes, OneEach}
-use Rattle.matrix.specs.Read.{Matrix, matrix, no-matrix, matrixOf, tableFrom}
-use Rattle.matrix.specs.Judged.{judgeSums}
-use Rattle.matrix.specs.Room.{matrixRoom}
+use Rattle.matrix.specs.Matrix.{write_matrix}
+use Rattle.matrix.specs.Demands.{rows_of_matrix, matrix_of_rows, Passes, OneEach}
+use Rattle.matrix.specs.Read.{Matrix, matrix, no-matrix, matrix_of, table_from}
+use Rattle.matrix.specs.Judged.{judge_sums}
+use Rattle.matrix.specs.Room.{matrix_room}
 use Rattle.matrix.specs.Says.{Says, Accepted}
 use Rattle.matrix.specs.declared.sums.Sums.{Sums}
 use Rattle.matrix.specs.declared.sums.Sums.TheVariants.{Fit, Pass}
@@ -37,8 +37,8 @@ use Rattle.matrix.proofs.Rooms.{room-for-matrix, matrix-in-range}
 use Rattle.matrix.proofs.SumsGiven.{sums-given, sums-fit}
 use Rattle.matrix.proofs.OneEach.{one-each-fit}
 use Rattle.ringkit.specs.Outcome.{write, Fills}
-use Rattle.ringkit.specs.TableCalls.{ofTable}
-use Rattle.ringkit.specs.MatrixCalls.{matrixRead, unlessPass, ofRows, matrixWritten}
+use Rattle.ringkit.specs.TableCalls.{of_table}
+use Rattle.ringkit.specs.MatrixCalls.{matrix_read, unless_pass, of_rows, matrix_written}
 use Rattle.ringkit.specs.Says.{Success, CallPromise}
 use Rattle.ringkit.specs.Texts.{TableOf, MatrixOf, SomeMatrix, MatrixDue, MatrixGiven, of-fibres, of-matrix, SumsDue, SumsGiven, of-table, of-sums}
 use Rattle.ringkit.specs.declared.Reply.{Reply}
@@ -49,7 +49,7 @@ use Rattle.ringkit.proofs.TableCalls.{read_is, due-accepted}
 
 module _ (t : List ℕ) where
   -- a matrix is read to the lines that it is the matrix of
-  matrix-is : (n : ℕ) (m : List (List ℕ)) → (matrixOf desk t ≡ matrix n m) ↔ MatrixOf t n m
+  matrix-is : (n : ℕ) (m : List (List ℕ)) → (matrix_of desk t ≡ matrix n m) ↔ MatrixOf t n m
   matrix-is n m = (
     λ e. let w = (matrix-text desk desk-possible t n m).0 e in record { text = w.0; range = w.1 },
     λ h. (matrix-text desk desk-possible t n m).1 (h.text, h.range),
@@ -64,18 +64,18 @@ module _ (t : List ℕ) where
 
 -- the rows of a matrix on 2 or 4 fibres
 module _ (fibres : ℕ) (t : List ℕ) where
-  decided : IsFibres fibres → (x : Matrix) → matrixOf desk t ≡ x → Decided (MatrixDue fibres t) (MatrixGiven fibres t) (ofTable writeTable (tableFrom fibres x))
-  unfolding ofTable tableFrom
+  decided : IsFibres fibres → (x : Matrix) → matrix_of desk t ≡ x → Decided (MatrixDue fibres t) (MatrixGiven fibres t) (of_table write_table (table_from fibres x))
+  unfolding of_table table_from
   decided f (matrix n m) e = is-due (record { two-or-four = f; n = n; m = m; of = (matrix-is t n m).0 e; is = refl })
   decided f (no-matrix reason line byte) e = is-given (of-matrix f ((given desk t reason line byte).0 e))
 
-  all-decided : Decided (MatrixDue fibres t) (MatrixGiven fibres t) (matrixRead fibres t)
-  unfolding matrixRead
+  all-decided : Decided (MatrixDue fibres t) (MatrixGiven fibres t) (matrix_read fibres t)
+  unfolding matrix_read
   all-decided = go (fibred fibres)
     where
-      go : Fibred fibres → Decided (MatrixDue fibres t) (MatrixGiven fibres t) (matrixRead fibres t)
+      go : Fibred fibres → Decided (MatrixDue fibres t) (MatrixGiven fibres t) (matrix_read fibres t)
       go (not-fibres f e) = rw e (is-given (of-fibres f))
-      go (are-fibres f e) = rw e (decided f (matrixOf desk t) refl)
+      go (are-fibres f e) = rw e (decided f (matrix_of desk t) refl)
 
   due-accepted-matrix : (text : List ℕ) → MatrixDue fibres t text → Accepted desk t
   due-accepted-matrix text d = (accepted-is desk t).0 (record { n = d.n; m = d.m; is = (matrix-is t d.n d.m).1 d.of })
@@ -105,7 +105,7 @@ module _ (fibres : ℕ) (t : List ℕ) where
             let e : matrix a.n a.m ≡ matrix b.n b.m = sym ((matrix-is t a.n a.m).1 a.of) ∙ (matrix-is t b.n b.m).1 b.of in
             let en : a.n ≡ b.n = cc in
             let em : a.m ≡ b.m = cc in
-            let d : writeTable (ringOf a.n fibres) (rowsOfMatrix a.n a.m) ≡ writeTable (ringOf b.n fibres) (rowsOfMatrix b.n b.m) = rw (en, em) in
+            let d : write_table (ring_of a.n fibres) (rows_of_matrix a.n a.m) ≡ write_table (ring_of b.n fibres) (rows_of_matrix b.n b.m) = rw (en, em) in
             a.is ∙ d ∙ sym b.is;
         refusal = λ f g. one-given-matrix f g;
         apart = λ d g. due-not-given d g;
@@ -113,26 +113,26 @@ module _ (fibres : ℕ) (t : List ℕ) where
       }
 
 -- the table of a matrix is written, with room for it; else 20, the matrix's first reason or 15
-pub read-matrix-promise : (fibres : ℕ) (t old new : List ℕ) (r : Reply) → Fills (matrixRead fibres t) old new r → CallPromise (MatrixDue fibres t) (MatrixGiven fibres t) old new r
+pub read-matrix-promise : (fibres : ℕ) (t old new : List ℕ) (r : Reply) → Fills (matrix_read fibres t) old new r → CallPromise (MatrixDue fibres t) (MatrixGiven fibres t) old new r
 read-matrix-promise fibres t old new r f = call-promise (one-due fibres t) (all-decided fibres t) f
 
 module _ (fibres : ℕ) (t text : List ℕ) (d : MatrixDue fibres t text) where
   -- the table that is due is a table in range, so that it is accepted and can be routed
-  due-table : TableOf text (ringOf d.n fibres) (rowsOfMatrix d.n d.m)
+  due-table : TableOf text (ring_of d.n fibres) (rows_of_matrix d.n d.m)
   due-table = record { text = d.is; range = rows-in-range d.n fibres d.m d.two-or-four d.of.range }
 
   pub matrix-table-accepted : table.Accepted desk text
-  matrix-table-accepted = (due-accepted text writeTable).1 (record { text = text; is = record { ring = ringOf d.n fibres; rs = rowsOfMatrix d.n d.m; of = due-table; is = d.is } })
+  matrix-table-accepted = (due-accepted text write_table).1 (record { text = text; is = record { ring = ring_of d.n fibres; rs = rows_of_matrix d.n d.m; of = due-table; is = d.is } })
 
-  -- and no longer than `tableRoom`
-  pub matrix-table-short : length text ≤ tableRoom desk
+  -- and no longer than `table_room`
+  pub matrix-table-short : length text ≤ table_room desk
   matrix-table-short = omega (arith, ap length d.is, table-room d.n fibres d.m d.two-or-four d.of.range)
 
 -- so with that room every accepted matrix is read
-pub always-read : (fibres : ℕ) (t old new : List ℕ) (r : Reply) → Fills (matrixRead fibres t) old new r → IsFibres fibres → Accepted desk t → tableRoom desk ≤ length old → r.reason ≡ 0
+pub always-read : (fibres : ℕ) (t old new : List ℕ) (r : Reply) → Fills (matrix_read fibres t) old new r → IsFibres fibres → Accepted desk t → table_room desk ≤ length old → r.reason ≡ 0
 always-read fibres t old new r call f a room =
     let h = (matrix-accepted t).0 a in
-    let text = writeTable (ringOf h.n fibres) (rowsOfMatrix h.n h.m) in
+    let text = write_table (ring_of h.n fibres) (rows_of_matrix h.n h.m) in
     let d : MatrixDue fibres t text = record { two-or-four = f; n = h.n; m = h.m; of = h.of; is = refl } in
     (((read-matrix-promise fibres t old new r call).succeeds text).1 (d, omega (arith, matrix-table-short fibres t text d))).reason
 
@@ -144,14 +144,14 @@ same-values {ring} {other} {rs} {qs} a b = same-table desk desk-spelled ring oth
 
 -- no reason is given to a text that is a table
 no-reason : {t : List ℕ} {ring : Ring} {rs : List Row} → TableOf t ring rs → {reason : Reason} {line byte : ℕ} → table.Given desk t reason line byte → ⊥
-no-reason {t} {ring} {rs} of {reason} {line} {byte} g = (due-accepted t writeTable).1 (record { text = t; is = record { ring = ring; rs = rs; of = of; is = of.text } }) reason line g.holds
+no-reason {t} {ring} {rs} of {reason} {line} {byte} g = (due-accepted t write_table).1 (record { text = t; is = record { ring = ring; rs = rs; of = of; is = of.text } }) reason line g.holds
 
 module _ (t : List ℕ) where
-  sums-decided : (x : Result) → table_of desk t ≡ x → Decided (SumsDue t) (SumsGiven t) (ofRows x)
-  unfolding ofRows unlessPass
-  sums-decided (accepted ring rs) e = go (judgeSums desk rs) refl
+  sums-decided : (x : Result) → table_of desk t ≡ x → Decided (SumsDue t) (SumsGiven t) (of_rows x)
+  unfolding of_rows unless_pass
+  sums-decided (accepted ring rs) e = go (judge_sums desk rs) refl
     where
-      go : (x : Sums) → judgeSums desk rs ≡ x → Decided (SumsDue t) (SumsGiven t) (unlessPass x (write (writeMatrix (matrixOfRows ring.n rs))))
+      go : (x : Sums) → judge_sums desk rs ≡ x → Decided (SumsDue t) (SumsGiven t) (unless_pass x (write (write_matrix (matrix_of_rows ring.n rs))))
       go Fit f = is-due (record { ring = ring; rs = rs; of = (read_is t ring rs).0 e; fit = (sums-fit desk rs).0 f; is = refl })
       go (Pass line) f = is-given (of-sums ((read_is t ring rs).0 e) ((sums-given desk rs line).0 f))
   sums-decided (refused reason line byte) e = is-given (of-table ((table-given.given desk t reason line byte).0 e))
@@ -180,7 +180,7 @@ module _ (t : List ℕ) where
             let e = same-values a.of b.of in
             let en = e.0 in
             let er = e.1 in
-            let d : writeMatrix (matrixOfRows a.ring.n a.rs) ≡ writeMatrix (matrixOfRows b.ring.n b.rs) = rw (en, er) in
+            let d : write_matrix (matrix_of_rows a.ring.n a.rs) ≡ write_matrix (matrix_of_rows b.ring.n b.rs) = rw (en, er) in
             a.is ∙ d ∙ sym b.is;
         refusal = λ f g. one-refusal f g;
         apart = λ d g. due-or-given d g;
@@ -188,31 +188,31 @@ module _ (t : List ℕ) where
       }
 
 -- the matrix of a table is written, with room for it; else the table's first reason, 19 or 15
-pub write-matrix-promise : (t old new : List ℕ) (r : Reply) → Fills (matrixWritten t) old new r → CallPromise (SumsDue t) (SumsGiven t) old new r
-unfolding matrixWritten
+pub write-matrix-promise : (t old new : List ℕ) (r : Reply) → Fills (matrix_written t) old new r → CallPromise (SumsDue t) (SumsGiven t) old new r
+unfolding matrix_written
 write-matrix-promise t old new r f = call-promise (one-sums t) (sums-decided t (table_of desk t) refl) f
 
 module _ (t text : List ℕ) (d : SumsDue t text) where
-  fits : judgeSums desk d.rs ≡ Fit
+  fits : judge_sums desk d.rs ≡ Fit
   fits = (sums-fit desk d.rs).1 d.fit
 
   -- the matrix that is due is a matrix in range, so that it is accepted
-  due-matrix : MatrixOf text d.ring.n (matrixOfRows d.ring.n d.rs)
+  due-matrix : MatrixOf text d.ring.n (matrix_of_rows d.ring.n d.rs)
   due-matrix = record { text = d.is; range = matrix-in-range d.ring d.rs d.of.range fits }
 
   pub written-matrix-accepted : Accepted desk text
   written-matrix-accepted =
-      (accepted-is desk text).0 (record { n = d.ring.n; m = matrixOfRows d.ring.n d.rs; is = (matrix-is text d.ring.n (matrixOfRows d.ring.n d.rs)).1 due-matrix })
+      (accepted-is desk text).0 (record { n = d.ring.n; m = matrix_of_rows d.ring.n d.rs; is = (matrix-is text d.ring.n (matrix_of_rows d.ring.n d.rs)).1 due-matrix })
 
-  -- and no longer than `matrixRoom`
-  pub written-matrix-short : length text ≤ matrixRoom desk
+  -- and no longer than `matrix_room`
+  pub written-matrix-short : length text ≤ matrix_room desk
   written-matrix-short = omega (arith, ap length d.is, room-for-matrix d.ring d.rs d.of.range fits)
 
 -- so with that room every accepted table of which no sum passes is written
-pub always-written : (t : List ℕ) (ring : Ring) (rs : List Row) → TableOf t ring rs → ((k : ℕ) → Passes desk rs k → ⊥) → (old new : List ℕ) (r : Reply) → Fills (matrixWritten t) old new r
-    → matrixRoom desk ≤ length old → r.reason ≡ 0
+pub always-written : (t : List ℕ) (ring : Ring) (rs : List Row) → TableOf t ring rs → ((k : ℕ) → Passes desk rs k → ⊥) → (old new : List ℕ) (r : Reply) → Fills (matrix_written t) old new r
+    → matrix_room desk ≤ length old → r.reason ≡ 0
 always-written t ring rs of fit old new r call room =
-    let text = writeMatrix (matrixOfRows ring.n rs) in
+    let text = write_matrix (matrix_of_rows ring.n rs) in
     let d : SumsDue t text = record { ring = ring; rs = rs; of = of; fit = fit; is = refl } in
     (((write-matrix-promise t old new r call).succeeds text).1 (d, omega (arith, written-matrix-short t text d))).reason
 
@@ -223,25 +223,25 @@ one-each-written t ring rs of each = (sums-fit desk rs).0 (one-each-fit ring rs 
 -- ---- there and back
 
 -- matrix to table to matrix: the same bytes, for every accepted matrix, whatever the fibres
-pub matrix-there-and-back : (fibres : ℕ) (t text old new : List ℕ) (r : Reply) → Fills (matrixRead fibres t) old new r → Success text old new r
-    → (other after : List ℕ) (q : Reply) → Fills (matrixWritten text) other after q → length t ≤ length other → Success t other after q
+pub matrix-there-and-back : (fibres : ℕ) (t text old new : List ℕ) (r : Reply) → Fills (matrix_read fibres t) old new r → Success text old new r
+    → (other after : List ℕ) (q : Reply) → Fills (matrix_written text) other after q → length t ≤ length other → Success t other after q
 matrix-there-and-back fibres t text old new r read done other after q written room =
     let d = (((read-matrix-promise fibres t old new r read).succeeds text).0 done).0 in
     let table = due-table fibres t text d in
-    let one = one-each-fit (ringOf d.n fibres) (rowsOfMatrix d.n d.m) table.range (rows-one-each d.n d.m) in
+    let one = one-each-fit (ring_of d.n fibres) (rows_of_matrix d.n d.m) table.range (rows-one-each d.n d.m) in
     let due : SumsDue text t =
     record {
-      ring = ringOf d.n fibres;
-      rs = rowsOfMatrix d.n d.m;
+      ring = ring_of d.n fibres;
+      rs = rows_of_matrix d.n d.m;
       of = table;
-      fit = (sums-fit desk (rowsOfMatrix d.n d.m)).0 one;
-      is = d.of.text ∙ sym (ap writeMatrix (matrix-back desk d.n d.m d.of.range));
+      fit = (sums-fit desk (rows_of_matrix d.n d.m)).0 one;
+      is = d.of.text ∙ sym (ap write_matrix (matrix-back desk d.n d.m d.of.range));
     } in
     ((write-matrix-promise text other after q written).succeeds t).1 (due, room)
 
 -- table to matrix to table, read with the table's own fibres: the same bytes, for every accepted table with at most one row for a pair and none of amount 0
-pub table-there-and-back : (t : List ℕ) (ring : Ring) (rs : List Row) → TableOf t ring rs → OneEach rs → (text old new : List ℕ) (r : Reply) → Fills (matrixWritten t) old new r → Success text old new r
-    → (other after : List ℕ) (q : Reply) → Fills (matrixRead ring.fibres text) other after q → length t ≤ length other → Success t other after q
+pub table-there-and-back : (t : List ℕ) (ring : Ring) (rs : List Row) → TableOf t ring rs → OneEach rs → (text old new : List ℕ) (r : Reply) → Fills (matrix_written t) old new r → Success text old new r
+    → (other after : List ℕ) (q : Reply) → Fills (matrix_read ring.fibres text) other after q → length t ≤ length other → Success t other after q
 table-there-and-back t ring rs of each text old new r written done other after q read room =
     let d = (((write-matrix-promise t old new r written).succeeds text).0 done).0 in
     let same = same-values of d.of in
@@ -253,8 +253,8 @@ table-there-and-back t ring rs of each text old new r written done other after q
     record {
       two-or-four = d.of.range.fibres;
       n = d.ring.n;
-      m = matrixOfRows d.ring.n d.rs;
+      m = matrix_of_rows d.ring.n d.rs;
       of = due-matrix t text d;
-      is = d.of.text ∙ sym (ap (writeTable d.ring) back);
+      is = d.of.text ∙ sym (ap (write_table d.ring) back);
     } in
     ((read-matrix-promise ring.fibres text other after q read).succeeds t).1 (subst (λ f. MatrixDue f text t) fibres due, room)

@@ -3,44 +3,44 @@ use Prim.Native.Nat.{ℕ, ◌≤◌}
 use mathlib.Core.List.{List}
 use mathlib.Core.Path.{◌≡◌, ◌∙◌, sym}
 use Rattle.ring.specs.Limits.{desk}
-use Rattle.ring.specs.Ring.{ringOf}
+use Rattle.ring.specs.Ring.{ring_of}
 use Rattle.ring.specs.Row.{Row}
-use Rattle.ring.specs.Columns.{rowsIn}
+use Rattle.ring.specs.Columns.{rows_in}
 use Rattle.table.specs.Table.{InRange}
 use Rattle.table.specs.ReadTable.{table_of}
-use Rattle.table.specs.Arrays.{beside, tableIn}
+use Rattle.table.specs.Arrays.{beside, table_in}
 use Rattle.table.specs.declared.reason.Reason.{Reason}
 use Rattle.table.specs.declared.reason.Reason.TheVariants.{SumTooMuch}
 use Rattle.table.specs.declared.read.Answer.{Answer}
 use Rattle.table.specs.declared.read.Answer.TheVariants.{Is, Refused}
 use Rattle.table.proofs.TableText.{desk-spelled, table-text}
 use Rattle.table.proofs.Told.{Told, told-table, told-refusal}
-use Rattle.matrix.specs.Matrix.{writeMatrix}
-use Rattle.matrix.specs.Demands.{matrixOfRows}
-use Rattle.matrix.specs.Judged.{judgeSums}
+use Rattle.matrix.specs.Matrix.{write_matrix}
+use Rattle.matrix.specs.Demands.{matrix_of_rows}
+use Rattle.matrix.specs.Judged.{judge_sums}
 use Rattle.matrix.specs.Arrays.{Amounts}
 use Rattle.matrix.specs.declared.sums.Sums.{Sums}
 use Rattle.matrix.specs.declared.sums.Sums.TheVariants.{Fit, Pass}
 use Rattle.matrix.proofs.Told.{amounts-in}
-use Rattle.ringkit.specs.Outcome.{write, refuse, replyOf, Fills}
-use Rattle.ringkit.specs.MatrixCalls.{unlessPass, ofRows, matrixWritten}
+use Rattle.ringkit.specs.Outcome.{write, refuse, reply_of, Fills}
+use Rattle.ringkit.specs.MatrixCalls.{unless_pass, of_rows, matrix_written}
 use Rattle.ringkit.specs.declared.Reply.{Reply}
 use Rattle.ringkit.proofs.FillSteps.{refuses, same-fills}
 
-module _ (s old : List ℕ) (answer : Answer) (first second amount : List ℕ) (e : beside answer first second amount ≡ tableIn (table_of desk s)) where
-  pub written-refused : (reason : Reason) (line byte : ℕ) (r : Reply) → answer ≡ Refused reason line byte → r ≡ replyOf (refuse reason line byte) → Fills (matrixWritten s) old old r
-  unfolding matrixWritten ofRows
-  written-refused reason line byte r a = refuses (matrixWritten s) old reason line byte r (rw (told-refusal s _ e reason line byte a))
+module _ (s old : List ℕ) (answer : Answer) (first second amount : List ℕ) (e : beside answer first second amount ≡ table_in (table_of desk s)) where
+  pub written-refused : (reason : Reason) (line byte : ℕ) (r : Reply) → answer ≡ Refused reason line byte → r ≡ reply_of (refuse reason line byte) → Fills (matrix_written s) old old r
+  unfolding matrix_written of_rows
+  written-refused reason line byte r a = refuses (matrix_written s) old reason line byte r (rw (told-refusal s _ e reason line byte a))
 
   module _ (n fibres count : ℕ) (a : answer ≡ Is n fibres count) where
     abbrev rows : List Row
-    rows = rowsIn count first second amount
+    rows = rows_in count first second amount
 
     told : Told s n fibres count first second amount
     told = told-table s _ e n fibres count a
 
-    range : InRange desk (ringOf n fibres) rows
-    range = ((table-text desk desk-spelled s (ringOf n fibres) rows).0 told.is).1
+    range : InRange desk (ring_of n fibres) rows
+    range = ((table-text desk desk-spelled s (ring_of n fibres) rows).0 told.is).1
 
     pub sums-take : Amounts count amount
     sums-take = amounts-in count first second amount told.room range.amounts
@@ -48,10 +48,10 @@ module _ (s old : List ℕ) (answer : Answer) (first second amount : List ℕ) (
     pub nodes-have-room : n ≤ desk.nodes
     nodes-have-room = range.many
 
-    pub sums-refused : (x : Sums) (line : ℕ) (r : Reply) → x ≡ judgeSums desk rows → x ≡ Pass line → r ≡ replyOf (refuse SumTooMuch line 1) → Fills (matrixWritten s) old old r
-    unfolding matrixWritten ofRows unlessPass
-    sums-refused x line r es ex = refuses (matrixWritten s) old SumTooMuch line 1 r (let f : judgeSums desk rows ≡ Pass line = sym es ∙ ex in rw (told.is, f))
+    pub sums-refused : (x : Sums) (line : ℕ) (r : Reply) → x ≡ judge_sums desk rows → x ≡ Pass line → r ≡ reply_of (refuse SumTooMuch line 1) → Fills (matrix_written s) old old r
+    unfolding matrix_written of_rows unless_pass
+    sums-refused x line r es ex = refuses (matrix_written s) old SumTooMuch line 1 r (let f : judge_sums desk rows ≡ Pass line = sym es ∙ ex in rw (told.is, f))
 
-    pub written-fills : (x : Sums) (new : List ℕ) (r : Reply) → x ≡ judgeSums desk rows → x ≡ Fit → Fills (write (writeMatrix (matrixOfRows n rows))) old new r → Fills (matrixWritten s) old new r
-    unfolding matrixWritten ofRows unlessPass
-    written-fills x new r es ex = same-fills old new r (let f : judgeSums desk rows ≡ Fit = sym es ∙ ex in rw (told.is, f))
+    pub written-fills : (x : Sums) (new : List ℕ) (r : Reply) → x ≡ judge_sums desk rows → x ≡ Fit → Fills (write (write_matrix (matrix_of_rows n rows))) old new r → Fills (matrix_written s) old new r
+    unfolding matrix_written of_rows unless_pass
+    written-fills x new r es ex = same-fills old new r (let f : judge_sums desk rows ≡ Fit = sym es ∙ ex in rw (told.is, f))

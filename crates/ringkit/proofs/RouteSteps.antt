@@ -6,30 +6,30 @@ use native.Mathlib.Decide.{ℕ_discrete}
 use native.Mathlib.Omega.{arith}
 use lib.ListN.{length}
 use Rattle.ring.specs.Limits.{desk}
-use Rattle.ring.specs.Ring.{ringOf}
+use Rattle.ring.specs.Ring.{ring_of}
 use Rattle.ring.specs.Lists.{Each, more}
 use Rattle.ring.specs.Row.{Row, OnRing, TableRows}
 use Rattle.ring.specs.Sheet.{Sheet, plan, sents, demands}
-use Rattle.ring.specs.Columns.{listed, row_at, rowsIn}
+use Rattle.ring.specs.Columns.{listed, row_at, rows_in}
 use Rattle.ring.proofs.Listed.{listed-length}
 use Rattle.ring.proofs.Figures.{demands-length}
 use Rattle.ring.proofs.OurPlan.{plan-true, plan-demands}
 use Rattle.table.specs.Table.{InRange}
 use Rattle.table.specs.ReadTable.{table_of}
-use Rattle.table.specs.Arrays.{beside, tableIn}
+use Rattle.table.specs.Arrays.{beside, table_in}
 use Rattle.table.specs.declared.reason.Reason.{Reason}
 use Rattle.table.specs.declared.read.Answer.{Answer}
 use Rattle.table.specs.declared.read.Answer.TheVariants.{Is, Refused}
 use Rattle.table.proofs.TableText.{desk-spelled, table-text}
 use Rattle.table.proofs.Told.{Told, told-table, told-refusal}
 use Rattle.router.specs.Rows as router
-use Rattle.router.specs.Planned.{planIn, Routes}
+use Rattle.router.specs.Planned.{plan_in, Routes}
 use Rattle.router.specs.declared.Plan.{Plan}
-use Rattle.sheet.specs.WriteSheet.{writeSheet}
-use Rattle.sheet.specs.Arrays.{sheetIn}
+use Rattle.sheet.specs.WriteSheet.{write_sheet}
+use Rattle.sheet.specs.Arrays.{sheet_in}
 use Rattle.sheet.proofs.Back.{sheet-back}
-use Rattle.ringkit.specs.Outcome.{write, refuse, replyOf, Fills}
-use Rattle.ringkit.specs.TableCalls.{ofTable, tableRouted}
+use Rattle.ringkit.specs.Outcome.{write, refuse, reply_of, Fills}
+use Rattle.ringkit.specs.TableCalls.{of_table, table_routed}
 use Rattle.ringkit.specs.declared.Reply.{Reply}
 use Rattle.ringkit.proofs.FillSteps.{refuses, same-fills}
 
@@ -41,16 +41,16 @@ each_at P f m (suc n) (more p es) k a b = elim (ℕ_discrete k m) [ yes q ↦ rw
 
 -- ---- what the router's columns hold is the plan's sheet
 
-module _ (n fibres count : ℕ) (first second amount : List ℕ) (table : router.Table n count first second amount) (rising : TableRows n (rowsIn count first second amount)) where
+module _ (n fibres count : ℕ) (first second amount : List ℕ) (table : router.Table n count first second amount) (rising : TableRows n (rows_in count first second amount)) where
   abbrev rows : List Row
-  rows = rowsIn count first second amount
+  rows = rows_in count first second amount
 
   abbrev whole : Sheet
-  whole = plan (ringOf n fibres) rows
+  whole = plan (ring_of n fibres) rows
 
   -- the plan is of the table's rows, and its links run from 1 to n
   same : demands (sents whole.rows) ≡ rows
-  same = plan-demands (ringOf n fibres) rows table.two rising
+  same = plan-demands (ring_of n fibres) rows table.two rising
 
   many : length whole.rows ≡ count
   many = sym (demands-length whole.rows) ∙ ap length same ∙ listed-length (row_at first second amount) 0 count
@@ -63,30 +63,30 @@ module _ (n fibres count : ℕ) (first second amount : List ℕ) (table : router
 
   module _ (p : Plan) (front back way : List ℕ) (routes : Routes whole front back way p) where
     abbrev pub sheet : Sheet
-    sheet = sheetIn (record { n = n; fibres = fibres; g = p.g; h = p.h; across = p.across; peak = p.peak; size = p.size }) count first second amount front back way p.split p.unsplit
+    sheet = sheet_in (record { n = n; fibres = fibres; g = p.g; h = p.h; across = p.across; peak = p.peak; size = p.size }) count first second amount front back way p.split p.unsplit
 
     is-plan : sheet ≡ whole
-    unfolding planIn plan
+    unfolding plan_in plan
     is-plan =
         rw (routes.plan, routes.fronts, routes.backs, routes.ways)
-        (sheet-back whole count first second amount many table.few table.links same (plan-true (ringOf n fibres) rows table.two rising).links)
+        (sheet-back whole count first second amount many table.few table.links same (plan-true (ring_of n fibres) rows table.two rising).links)
 
-    pub plan-fills : (old new : List ℕ) (r : Reply) → Fills (write (writeSheet sheet)) old new r → Fills (write (writeSheet whole)) old new r
-    plan-fills old new r = same-fills old new r (ap (λ x. write (writeSheet x)) (sym is-plan))
+    pub plan-fills : (old new : List ℕ) (r : Reply) → Fills (write (write_sheet sheet)) old new r → Fills (write (write_sheet whole)) old new r
+    plan-fills old new r = same-fills old new r (ap (λ x. write (write_sheet x)) (sym is-plan))
 
 -- ---- a table that was read
 
-module _ (s old : List ℕ) (answer : Answer) (first second amount : List ℕ) (e : beside answer first second amount ≡ tableIn (table_of desk s)) where
-  pub route-refused : (reason : Reason) (line byte : ℕ) (r : Reply) → answer ≡ Refused reason line byte → r ≡ replyOf (refuse reason line byte) → Fills (tableRouted s) old old r
-  unfolding tableRouted ofTable
-  route-refused reason line byte r a = refuses (tableRouted s) old reason line byte r (rw (told-refusal s _ e reason line byte a))
+module _ (s old : List ℕ) (answer : Answer) (first second amount : List ℕ) (e : beside answer first second amount ≡ table_in (table_of desk s)) where
+  pub route-refused : (reason : Reason) (line byte : ℕ) (r : Reply) → answer ≡ Refused reason line byte → r ≡ reply_of (refuse reason line byte) → Fills (table_routed s) old old r
+  unfolding table_routed of_table
+  route-refused reason line byte r a = refuses (table_routed s) old reason line byte r (rw (told-refusal s _ e reason line byte a))
 
   module _ (n fibres count : ℕ) (a : answer ≡ Is n fibres count) where
     told : Told s n fibres count first second amount
     told = told-table s _ e n fibres count a
 
-    range : InRange desk (ringOf n fibres) (rowsIn count first second amount)
-    range = ((table-text desk desk-spelled s (ringOf n fibres) (rowsIn count first second amount)).0 told.is).1
+    range : InRange desk (ring_of n fibres) (rows_in count first second amount)
+    range = ((table-text desk desk-spelled s (ring_of n fibres) (rows_in count first second amount)).0 told.is).1
 
     pub router-takes : router.Table n count first second amount
     router-takes =
@@ -98,9 +98,9 @@ module _ (s old : List ℕ) (answer : Answer) (first second amount : List ℕ) (
           small = λ k l. each_at (λ r. r.d ≤ desk.amount) (row_at first second amount) 0 count range.amounts k (omega arith) (omega arith);
         }
 
-    pub rows-rise : TableRows n (rowsIn count first second amount)
+    pub rows-rise : TableRows n (rows_in count first second amount)
     rows-rise = range.rows
 
-    pub route-fills : (new : List ℕ) (r : Reply) → Fills (write (writeSheet (plan (ringOf n fibres) (rowsIn count first second amount)))) old new r → Fills (tableRouted s) old new r
-    unfolding tableRouted ofTable
+    pub route-fills : (new : List ℕ) (r : Reply) → Fills (write (write_sheet (plan (ring_of n fibres) (rows_in count first second amount)))) old new r → Fills (table_routed s) old new r
+    unfolding table_routed of_table
     route-fills new r = same-fills old new r (rw told.is)

@@ -21,16 +21,16 @@ use Rattle.sheet.specs.Says.{Says, Given, Accepted, WellFormed}
 use Rattle.sheet.proofs.Demands.{form-text, check-text, accepted-true, accepted-formed}
 use Rattle.sheet.proofs.SheetReasons.{one-given, given, accepted-is, well-formed-is}
 use Rattle.sheet.proofs.Short.{plan-in-range}
-use Rattle.checker.specs.FindPair.{firstPair}
+use Rattle.checker.specs.FindPair.{first_pair}
 use Rattle.checker.specs.declared.pair.Pair.{Pair}
 use Rattle.checker.specs.declared.pair.Pair.TheVariants.{Are, None}
 use Rattle.checker.proofs.OurPair.{plan-no-pair}
 use Rattle.checker.proofs.PairLaws.{low, first-pair-is, no-pair-is}
 use Rattle.ringkit.specs.Outcome.{Fills}
-use Rattle.ringkit.specs.TableCalls.{tableRouted}
-use Rattle.ringkit.specs.SheetCalls.{verdictReply, sheetChecked, pairReply, questionReply, sheetParallel, ofSheet, sheetAfresh}
+use Rattle.ringkit.specs.TableCalls.{table_routed}
+use Rattle.ringkit.specs.SheetCalls.{verdict_reply, sheet_checked, pair_reply, question_reply, sheet_parallel, of_sheet, sheet_afresh}
 use Rattle.ringkit.specs.Says.{CallPromise}
-use Rattle.ringkit.specs.Texts.{SheetOf, SomeSheet, SomeForm, TableDue, sheetDue, Itself}
+use Rattle.ringkit.specs.Texts.{SheetOf, SomeSheet, SomeForm, TableDue, sheet_due, Itself}
 use Rattle.ringkit.specs.Answers.{yes, no, CheckSays, says-yes, says-no, CheckPromise, paired, not-asked, PairOf, NoPairOf, PairSays, a_pair, no-pair, refused as pair-refused, PairPromise}
 use Rattle.ringkit.specs.Demands.{FormedSheet, BestSheet, RoutedWell}
 use Rattle.ringkit.specs.declared.Reply.{Reply}
@@ -58,8 +58,8 @@ module _ (t : List ℕ) where
 
 -- ---- rewriting
 
-afresh : (t : List ℕ) (x : Result) → check desk t ≡ x → Decided (Itself (Accepted desk t) t) (Given desk t) (ofSheet x)
-unfolding ofSheet
+afresh : (t : List ℕ) (x : Result) → check desk t ≡ x → Decided (Itself (Accepted desk t) t) (Given desk t) (of_sheet x)
+unfolding of_sheet
 afresh t (accepted x) e = is-due (record { accepted = accepted-as t x e; same = sym ((checked-is t x).0 e).text })
 afresh t (refused reason line byte) e = is-given ((given desk t reason line byte).0 e)
 
@@ -73,17 +73,17 @@ one-itself t =
     }
 
 -- an accepted sheet is written as the same bytes, with room for them; else 15 or the sheet's first reason
-pub rewrite-sheet-promise : (t old new : List ℕ) (r : Reply) → Fills (sheetAfresh t) old new r → CallPromise (Itself (Accepted desk t) t) (Given desk t) old new r
-unfolding sheetAfresh
+pub rewrite-sheet-promise : (t old new : List ℕ) (r : Reply) → Fills (sheet_afresh t) old new r → CallPromise (Itself (Accepted desk t) t) (Given desk t) old new r
+unfolding sheet_afresh
 rewrite-sheet-promise t old new r f = call-promise (one-itself t) (afresh t (check desk t) refl) f
 
 -- ---- checking
 
-checked : (t : List ℕ) → CheckSays t (sheetChecked t)
-unfolding sheetChecked verdictReply
+checked : (t : List ℕ) → CheckSays t (sheet_checked t)
+unfolding sheet_checked verdict_reply
 checked t = go (check desk t) refl
   where
-    go : (x : Result) → check desk t ≡ x → CheckSays t (verdictReply x)
+    go : (x : Result) → check desk t ≡ x → CheckSays t (verdict_reply x)
     go (accepted x) e = says-yes (accepted-as t x e)
     go (refused reason line byte) e = says-no ((given desk t reason line byte).0 e)
 
@@ -119,7 +119,7 @@ module _ {t : List ℕ} where
       }
 
 -- yes exactly where no reason holds of the sheet, and a refusal exactly where it is the first that holds
-pub check-promise : (t : List ℕ) (r : Reply) → r ≡ sheetChecked t → CheckPromise t r
+pub check-promise : (t : List ℕ) (r : Reply) → r ≡ sheet_checked t → CheckPromise t r
 check-promise t r e = subst (CheckPromise t) (sym e) (check-laws (checked t))
 
 -- ---- demand 3 of a well-formed sheet, and of one that is accepted
@@ -131,13 +131,13 @@ well-formed-sheet t = (
   λ h. (well-formed-is desk t).0 (record { x = h.x; is = (form-text desk desk-spelled t h.x).1 (h.text, h.range) }),
 )
 
-pub formed-checked : (t : List ℕ) (r : Reply) → r ≡ sheetChecked t → WellFormed desk t → FormedSheet t r
-unfolding sheetChecked verdictReply
+pub formed-checked : (t : List ℕ) (r : Reply) → r ≡ sheet_checked t → WellFormed desk t → FormedSheet t r
+unfolding sheet_checked verdict_reply
 formed-checked t r e w =
     let f = (well-formed-is desk t).1 w in
     let s = (form-text desk desk-spelled t f.x).0 f.is in
     let law = accepted-true desk desk-spelled t f.x f.is in
-    record { x = f.x; text = s.0; range = s.1; says-yes = (λ y. law.0 (same-x f.x f.is y), λ true-sheet. e ∙ ap verdictReply (law.1 true-sheet)) }
+    record { x = f.x; text = s.0; range = s.1; says-yes = (λ y. law.0 (same-x f.x f.is y), λ true-sheet. e ∙ ap verdict_reply (law.1 true-sheet)) }
   where
     same-x : (x : Sheet) → form desk t ≡ accepted x → r ≡ yes → check desk t ≡ accepted x
     same-x x f y =
@@ -150,35 +150,35 @@ formed-checked t r e w =
 best_of : (t : List ℕ) (x : Sheet) → SheetOf t x → BestSheet t
 best_of t x of = record { x = x; of = of; figures = paper-figures x of.true-sheet; no_lower = no_lower x of.true-sheet }
 
-pub yes-best : (t : List ℕ) (r : Reply) → r ≡ sheetChecked t → r ≡ yes → BestSheet t
+pub yes-best : (t : List ℕ) (r : Reply) → r ≡ sheet_checked t → r ≡ yes → BestSheet t
 yes-best t r e y = let a = (accepted-is desk t).1 ((check-promise t r e).accepts.0 y) in best_of t a.x ((checked-is t a.x).0 a.is)
 
 -- ---- the question
 
-asked : (t : List ℕ) → PairSays t (sheetParallel t)
-unfolding sheetParallel questionReply pairReply
+asked : (t : List ℕ) → PairSays t (sheet_parallel t)
+unfolding sheet_parallel question_reply pair_reply
 asked t = go (check desk t) refl
   where
-    pair_of : (x : Sheet) → SheetOf t x → (f : Pair) → firstPair (sents x.rows) ≡ f → PairSays t (pairReply f)
+    pair_of : (x : Sheet) → SheetOf t x → (f : Pair) → first_pair (sents x.rows) ≡ f → PairSays t (pair_reply f)
     pair_of x of (Are p r) e = let are = (first-pair-is (sents x.rows) p r).0 e in a_pair (record { x = x; of = of; pair = are }) (low are.are.first)
     pair_of x of None e = no-pair (record { x = x; of = of; none = (no-pair-is (sents x.rows)).0 e })
 
-    go : (y : Result) → check desk t ≡ y → PairSays t (questionReply y)
-    go (accepted x) q = pair_of x ((checked-is t x).0 q) (firstPair (sents x.rows)) refl
+    go : (y : Result) → check desk t ≡ y → PairSays t (question_reply y)
+    go (accepted x) q = pair_of x ((checked-is t x).0 q) (first_pair (sents x.rows)) refl
     go (refused reason line byte) q = pair-refused ((given desk t reason line byte).0 q)
 
 module _ (t : List ℕ) where
-  said-pair : (p q : ℕ) → PairOf t p q → sheetParallel t ≡ paired p q
-  unfolding sheetParallel questionReply pairReply
-  said-pair p q h = ap questionReply ((checked-is t h.x).1 h.of) ∙ ap pairReply ((first-pair-is (sents h.x.rows) p q).1 h.pair)
+  said-pair : (p q : ℕ) → PairOf t p q → sheet_parallel t ≡ paired p q
+  unfolding sheet_parallel question_reply pair_reply
+  said-pair p q h = ap question_reply ((checked-is t h.x).1 h.of) ∙ ap pair_reply ((first-pair-is (sents h.x.rows) p q).1 h.pair)
 
-  said-none : NoPairOf t → sheetParallel t ≡ paired 0 0
-  unfolding sheetParallel questionReply pairReply
-  said-none h = ap questionReply ((checked-is t h.x).1 h.of) ∙ ap pairReply ((no-pair-is (sents h.x.rows)).1 h.none)
+  said-none : NoPairOf t → sheet_parallel t ≡ paired 0 0
+  unfolding sheet_parallel question_reply pair_reply
+  said-none h = ap question_reply ((checked-is t h.x).1 h.of) ∙ ap pair_reply ((no-pair-is (sents h.x.rows)).1 h.none)
 
-  said-refusal : (reason : Reason) (line byte : ℕ) → Given desk t reason line byte → sheetParallel t ≡ not-asked reason line byte
-  unfolding sheetParallel questionReply
-  said-refusal reason line byte g = ap questionReply ((given desk t reason line byte).1 g)
+  said-refusal : (reason : Reason) (line byte : ℕ) → Given desk t reason line byte → sheet_parallel t ≡ not-asked reason line byte
+  unfolding sheet_parallel question_reply
+  said-refusal reason line byte g = ap question_reply ((given desk t reason line byte).1 g)
 
   -- two places from 1 on
   is-pair : (p q : ℕ) {r : PairReply} → PairSays t r → r ≡ paired p q → 1 ≤ p → PairOf t p q
@@ -205,7 +205,7 @@ module _ (t : List ℕ) where
       rw (← ew, ← ea, ← eb) g
 
 -- two places exactly where they are the first pair of an accepted sheet, 0 and 0 exactly where it has none, and any other text gets the checker's refusal
-pub parallel-promise : (t : List ℕ) (r : PairReply) → r ≡ sheetParallel t → PairPromise t r
+pub parallel-promise : (t : List ℕ) (r : PairReply) → r ≡ sheet_parallel t → PairPromise t r
 parallel-promise t r e =
     let says = subst (PairSays t) (sym e) (asked t) in
     record {
@@ -217,7 +217,7 @@ parallel-promise t r e =
 
 -- ---- what routing writes
 
-module _ (t text : List ℕ) (due : TableDue sheetDue t text) where
+module _ (t text : List ℕ) (due : TableDue sheet_due t text) where
   routed-of : SheetOf text (plan due.ring due.rs)
   routed-of =
       record {
@@ -242,10 +242,10 @@ module _ (t text : List ℕ) (due : TableDue sheetDue t text) where
       }
 
 -- demands 2 and 3 of each accepted table
-pub demand-3 : (t old new : List ℕ) (r : Reply) → Fills (tableRouted t) old new r → table.Accepted desk t → RoutedWell t old new r
+pub demand-3 : (t old new : List ℕ) (r : Reply) → Fills (table_routed t) old new r → table.Accepted desk t → RoutedWell t old new r
 unfolding best_of
 demand-3 t old new r call a =
-    let s = (due-accepted t sheetDue).0 a in
+    let s = (due-accepted t sheet_due).0 a in
     let d = s.is in
     record {
       sheet = s.text;

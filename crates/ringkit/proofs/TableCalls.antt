@@ -9,7 +9,7 @@ use lib.ListN.{length}
 use Rattle.ring.specs.Limits.{desk}
 use Rattle.ring.specs.Ring.{Ring}
 use Rattle.ring.specs.Row.{Row}
-use Rattle.table.specs.Table.{writeTable}
+use Rattle.table.specs.Table.{write_table}
 use Rattle.table.specs.ReadTable.{Result, accepted, refused, table_of}
 use Rattle.table.specs.Says.{Given, Accepted}
 use Rattle.table.proofs.Said.{not-15}
@@ -19,9 +19,9 @@ use Rattle.table.proofs.Accepted.{same-table}
 use Rattle.sheet.specs.Range.{longest}
 use Rattle.sheet.proofs.Short.{plan-short}
 use Rattle.ringkit.specs.Outcome.{Fills}
-use Rattle.ringkit.specs.TableCalls.{ofTable, tableAfresh, tableRouted}
+use Rattle.ringkit.specs.TableCalls.{of_table, table_afresh, table_routed}
 use Rattle.ringkit.specs.Says.{CallPromise}
-use Rattle.ringkit.specs.Texts.{TableOf, TableDue, SomeDue, sheetDue, Itself}
+use Rattle.ringkit.specs.Texts.{TableOf, TableDue, SomeDue, sheet_due, Itself}
 use Rattle.ringkit.specs.declared.Reply.{Reply}
 use Rattle.ringkit.proofs.Calls.{Decided, is-due, is-given, One, call-promise}
 
@@ -41,8 +41,8 @@ module _ (t : List ℕ) where
       λ s. let d = s.is in (accepted-is desk t).0 (record { ring = d.ring; rs = d.rs; is = (read_is d.ring d.rs).1 d.of }),
     )
 
-    pub decided : (x : Result) → table_of desk t ≡ x → Decided (TableDue due t) (Given desk t) (ofTable due x)
-    unfolding ofTable
+    pub decided : (x : Result) → table_of desk t ≡ x → Decided (TableDue due t) (Given desk t) (of_table due x)
+    unfolding of_table
     decided (accepted ring rs) e = is-due (record { ring = ring; rs = rs; of = (read_is ring rs).0 e; is = refl })
     decided (refused reason line byte) e = is-given ((given desk t reason line byte).0 e)
 
@@ -60,8 +60,8 @@ module _ (t : List ℕ) where
 
 -- ---- rewriting
 
-afresh : (t : List ℕ) (x : Result) → table_of desk t ≡ x → Decided (Itself (Accepted desk t) t) (Given desk t) (ofTable writeTable x)
-unfolding ofTable
+afresh : (t : List ℕ) (x : Result) → table_of desk t ≡ x → Decided (Itself (Accepted desk t) t) (Given desk t) (of_table write_table x)
+unfolding of_table
 afresh t (accepted ring rs) e =
     is-due (record { accepted = (accepted-is desk t).0 (record { ring = ring; rs = rs; is = e }); same = sym ((read_is t ring rs).0 e).text })
 afresh t (refused reason line byte) e = is-given ((given desk t reason line byte).0 e)
@@ -76,23 +76,23 @@ one-itself t =
     }
 
 -- an accepted table is written as the same bytes, with room for them; else 15 or the table's first reason
-pub rewrite-promise : (t old new : List ℕ) (r : Reply) → Fills (tableAfresh t) old new r → CallPromise (Itself (Accepted desk t) t) (Given desk t) old new r
-unfolding tableAfresh
+pub rewrite-promise : (t old new : List ℕ) (r : Reply) → Fills (table_afresh t) old new r → CallPromise (Itself (Accepted desk t) t) (Given desk t) old new r
+unfolding table_afresh
 rewrite-promise t old new r f = call-promise (one-itself t) (afresh t (table_of desk t) refl) f
 
 -- ---- routing
 
 -- the sheet of the rules is written, with room for it; else 15 or the table's first reason
-pub route-promise : (t old new : List ℕ) (r : Reply) → Fills (tableRouted t) old new r → CallPromise (TableDue sheetDue t) (Given desk t) old new r
-unfolding tableRouted
-route-promise t old new r f = call-promise (one-due t sheetDue) (decided t sheetDue (table_of desk t) refl) f
+pub route-promise : (t old new : List ℕ) (r : Reply) → Fills (table_routed t) old new r → CallPromise (TableDue sheet_due t) (Given desk t) old new r
+unfolding table_routed
+route-promise t old new r f = call-promise (one-due t sheet_due) (decided t sheet_due (table_of desk t) refl) f
 
 -- no sheet that is due is longer than `longest`
-pub due-short : (t text : List ℕ) → TableDue sheetDue t text → length text ≤ longest desk
+pub due-short : (t text : List ℕ) → TableDue sheet_due t text → length text ≤ longest desk
 due-short t text d = omega (arith, ap length d.is, plan-short d.ring d.rs d.of.range)
 
 -- so with `longest` bytes of room every accepted table is routed
-pub always-routed : (t old new : List ℕ) (r : Reply) → Fills (tableRouted t) old new r → Accepted desk t → longest desk ≤ length old → r.reason ≡ 0
+pub always-routed : (t old new : List ℕ) (r : Reply) → Fills (table_routed t) old new r → Accepted desk t → longest desk ≤ length old → r.reason ≡ 0
 always-routed t old new r call a room =
-    let s = (due-accepted t sheetDue).0 a in
+    let s = (due-accepted t sheet_due).0 a in
     (((route-promise t old new r call).succeeds s.text).1 (s.is, omega (arith, due-short t s.text s.is))).reason

@@ -3,21 +3,21 @@ use Rattle.std.specs.Prelude.{ℕ, ◌*◌, ◌≤◌, List, ◌↔◌, ◌≡�
 use Rattle.ring.specs.Division.{Divides}
 use Rattle.ring.specs.Limits.{desk}
 use Rattle.ring.specs.Paper.{PaperFigures}
-use Rattle.ring.specs.Routing.{Sent, splitLoad, peak}
+use Rattle.ring.specs.Routing.{Sent, split_load, peak}
 use Rattle.ring.specs.Sheet.{Sheet, sents, demands}
 use Rattle.ring.specs.True.{TrueSheet}
 use Rattle.sheet.specs.Range as sheet-range
 use Rattle.sheet.specs.Says.{Accepted}
-use Rattle.sheet.specs.WriteSheet.{writeSheet}
+use Rattle.sheet.specs.WriteSheet.{write_sheet}
 use Rattle.ringkit.specs.Answers.{yes, NoPairOf}
 use Rattle.ringkit.specs.Says.{Success}
-use Rattle.ringkit.specs.Texts.{SheetOf, TableDue, sheetDue}
+use Rattle.ringkit.specs.Texts.{SheetOf, TableDue, sheet_due}
 use Rattle.ringkit.specs.declared.Reply.{Reply}
 
 -- the sheet that a well-formed text is; the checker says yes exactly when it is a true one
 pub record FormedSheet (t : List ℕ) (r : Reply) : Type 0 where
   pub x : Sheet
-  pub text : t ≡ writeSheet x
+  pub text : t ≡ write_sheet x
   pub range : sheet-range.InRange desk x
   pub says-yes : (r ≡ yes) ↔ TrueSheet x
 
@@ -26,13 +26,13 @@ pub record BestSheet (t : List ℕ) : Type 0 where
   pub x : Sheet
   pub of : SheetOf t x
   pub figures : PaperFigures x
-  pub no_lower : (q : ℕ) (ss : List Sent) → Divides q (demands (sents x.rows)) ss → q * x.cut.number ≤ 2 * peak (splitLoad ss) x.ring.n
+  pub no_lower : (q : ℕ) (ss : List Sent) → Divides q (demands (sents x.rows)) ss → q * x.cut.number ≤ 2 * peak (split_load ss) x.ring.n
 
 -- a table has a sheet; with room for it, it is written; its demands are the table's rows; the checker accepts it, its figures are the paper's, and it has no
 -- parallel split pair
 pub record RoutedWell (t old new : List ℕ) (r : Reply) : Type 0 where
   pub sheet : List ℕ
-  pub due : TableDue sheetDue t sheet
+  pub due : TableDue sheet_due t sheet
   pub written : length sheet ≤ length old → Success sheet old new r
   pub best : BestSheet sheet
   pub demands : demands (sents best.x.rows) ≡ due.rs

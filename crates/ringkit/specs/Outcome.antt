@@ -16,16 +16,16 @@ within room (write t) = cond (ltb room (length t)) (refuse NoRoom 0 0) (write t)
 within room (refuse reason line byte) = refuse reason line byte
 
 -- success returns the text's length; a refusal returns only reason, line and byte
-unfoldable pub replyOf : Outcome → Reply
-replyOf (write t) = record { reason = 0; line = 0; byte = 0; length = length t }
-replyOf (refuse reason line byte) = record { reason = number_of reason; line = line; byte = byte; length = 0 }
+unfoldable pub reply_of : Outcome → Reply
+reply_of (write t) = record { reason = 0; line = 0; byte = 0; length = length t }
+reply_of (refuse reason line byte) = record { reason = number_of reason; line = line; byte = byte; length = 0 }
 
 -- success writes its text at the buffer's start and keeps the bytes after it; a refusal changes no byte
-unfoldable pub bufferAfter : Outcome → List ℕ → List ℕ
-bufferAfter (write t) old = t ++ drop (length t) old
-bufferAfter (refuse reason line byte) old = old
+unfoldable pub buffer_after : Outcome → List ℕ → List ℕ
+buffer_after (write t) old = t ++ drop (length t) old
+buffer_after (refuse reason line byte) old = old
 
 -- the contract of such a call: what it replies, and what the buffer holds after it
 pub record Fills (outcome : Outcome) (old new : List ℕ) (r : Reply) : Type 0 where
-  pub reply : r ≡ replyOf (within (length old) outcome)
-  pub buffer : new ≡ bufferAfter (within (length old) outcome) old
+  pub reply : r ≡ reply_of (within (length old) outcome)
+  pub buffer : new ≡ buffer_after (within (length old) outcome) old

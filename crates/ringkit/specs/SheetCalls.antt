@@ -4,47 +4,47 @@ use Rattle.ring.specs.Limits.{desk}
 use Rattle.ring.specs.Sheet.{sents}
 use Rattle.table.specs.Reasons.{number_of}
 use Rattle.sheet.specs.Check.{Result, accepted, refused, check}
-use Rattle.checker.specs.FindPair.{firstPair}
-use Rattle.sheet.specs.WriteSheet.{writeSheet}
+use Rattle.checker.specs.FindPair.{first_pair}
+use Rattle.sheet.specs.WriteSheet.{write_sheet}
 use Rattle.checker.specs.declared.pair.Pair.{Pair}
 use Rattle.checker.specs.declared.pair.Pair.TheVariants.{Are, None}
-use Rattle.ringkit.specs.Outcome.{Outcome, write, refuse, replyOf}
+use Rattle.ringkit.specs.Outcome.{Outcome, write, refuse, reply_of}
 use Rattle.ringkit.specs.declared.Reply.{Reply}
 use Rattle.ringkit.specs.declared.PairReply.{PairReply}
 
 -- ---- checking: 0, or the refusal
 
-unfoldable pub verdictReply : Result → Reply
-unfolding replyOf
-verdictReply (accepted x) = record { reason = 0; line = 0; byte = 0; length = 0 }
-verdictReply (refused reason line byte) = replyOf (refuse reason line byte)
+unfoldable pub verdict_reply : Result → Reply
+unfolding reply_of
+verdict_reply (accepted x) = record { reason = 0; line = 0; byte = 0; length = 0 }
+verdict_reply (refused reason line byte) = reply_of (refuse reason line byte)
 
-unfoldable pub sheetChecked : List ℕ → Reply
-unfolding verdictReply
-sheetChecked t = verdictReply (check desk t)
+unfoldable pub sheet_checked : List ℕ → Reply
+unfolding verdict_reply
+sheet_checked t = verdict_reply (check desk t)
 
 -- ---- the question: the first pair of split rows that are parallel
 
 -- 01's numbers for each of the answer's cases: two places, counted from 1; or none
-unfoldable pub pairReply : Pair → PairReply
-pairReply (Are p q) = record { reason = 0; line = 0; byte = 0; first = p; second = q }
-pairReply None = record { reason = 0; line = 0; byte = 0; first = 0; second = 0 }
+unfoldable pub pair_reply : Pair → PairReply
+pair_reply (Are p q) = record { reason = 0; line = 0; byte = 0; first = p; second = q }
+pair_reply None = record { reason = 0; line = 0; byte = 0; first = 0; second = 0 }
 
-unfoldable pub questionReply : Result → PairReply
-unfolding pairReply
-questionReply (accepted x) = pairReply (firstPair (sents x.rows))
-questionReply (refused reason line byte) = record { reason = number_of reason; line = line; byte = byte; first = 0; second = 0 }
+unfoldable pub question_reply : Result → PairReply
+unfolding pair_reply
+question_reply (accepted x) = pair_reply (first_pair (sents x.rows))
+question_reply (refused reason line byte) = record { reason = number_of reason; line = line; byte = byte; first = 0; second = 0 }
 
-unfoldable pub sheetParallel : List ℕ → PairReply
-unfolding questionReply
-sheetParallel t = questionReply (check desk t)
+unfoldable pub sheet_parallel : List ℕ → PairReply
+unfolding question_reply
+sheet_parallel t = question_reply (check desk t)
 
 -- ---- reading a sheet and writing its values afresh: the checker's refusals (then 15)
 
-unfoldable pub ofSheet : Result → Outcome
-ofSheet (accepted x) = write (writeSheet x)
-ofSheet (refused reason line byte) = refuse reason line byte
+unfoldable pub of_sheet : Result → Outcome
+of_sheet (accepted x) = write (write_sheet x)
+of_sheet (refused reason line byte) = refuse reason line byte
 
-unfoldable pub sheetAfresh : List ℕ → Outcome
-unfolding ofSheet
-sheetAfresh t = ofSheet (check desk t)
+unfoldable pub sheet_afresh : List ℕ → Outcome
+unfolding of_sheet
+sheet_afresh t = of_sheet (check desk t)

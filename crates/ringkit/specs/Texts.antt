@@ -2,29 +2,29 @@
 use Rattle.std.specs.Prelude.{ℕ, List, ◌≡◌}
 use Rattle.ring.specs.Limits.{desk}
 use Rattle.ring.specs.LineSize.{IsFibres}
-use Rattle.ring.specs.Ring.{Ring, ringOf}
+use Rattle.ring.specs.Ring.{Ring, ring_of}
 use Rattle.ring.specs.Row.{Row}
 use Rattle.ring.specs.Sheet.{Sheet, plan}
 use Rattle.ring.specs.True.{TrueSheet}
 use Rattle.sheet.specs.Range as sheet-range
-use Rattle.sheet.specs.WriteSheet.{writeSheet}
+use Rattle.sheet.specs.WriteSheet.{write_sheet}
 use Rattle.table.specs.Says.{Given}
-use Rattle.table.specs.Table.{writeTable, InRange}
+use Rattle.table.specs.Table.{write_table, InRange}
 use Rattle.table.specs.declared.reason.Reason.{Reason}
 use Rattle.table.specs.declared.reason.Reason.TheVariants.{Fibres, SumTooMuch}
 use Rattle.matrix.specs.Matrix as matrix
 use Rattle.matrix.specs.Says as matrix-says
-use Rattle.matrix.specs.Matrix.{writeMatrix}
-use Rattle.matrix.specs.Demands.{rowsOfMatrix, matrixOfRows, Passes, PassesAt}
+use Rattle.matrix.specs.Matrix.{write_matrix}
+use Rattle.matrix.specs.Demands.{rows_of_matrix, matrix_of_rows, Passes, PassesAt}
 
 -- t is the table of these values, and they are in the desk's range
 pub record TableOf (t : List ℕ) (ring : Ring) (rs : List Row) : Type 0 where
-  pub text : t ≡ writeTable ring rs
+  pub text : t ≡ write_table ring rs
   pub range : InRange desk ring rs
 
 -- t is the sheet of these values, they are in the desk's range, and the sheet is true
 pub record SheetOf (t : List ℕ) (x : Sheet) : Type 0 where
-  pub text : t ≡ writeSheet x
+  pub text : t ≡ write_sheet x
   pub range : sheet-range.InRange desk x
   pub true-sheet : TrueSheet x
 
@@ -36,12 +36,12 @@ pub record SomeSheet (t : List ℕ) : Type 0 where
 -- t is the sheet of some values in the desk's range, true or not
 pub record SomeForm (t : List ℕ) : Type 0 where
   pub x : Sheet
-  pub text : t ≡ writeSheet x
+  pub text : t ≡ write_sheet x
   pub range : sheet-range.InRange desk x
 
 -- t is the matrix of these lines, and they are in the desk's range: n lines of n numbers, symmetric, with 0 on the diagonal
 pub record MatrixOf (t : List ℕ) (n : ℕ) (m : List (List ℕ)) : Type 0 where
-  pub text : t ≡ writeMatrix m
+  pub text : t ≡ write_matrix m
   pub range : matrix.InRange desk n m
 
 -- it is one of some lines
@@ -65,8 +65,8 @@ pub record SomeDue (due : Ring → List Row → List ℕ) (t : List ℕ) : Type 
   pub is : TableDue due t text
 
 -- the sheet that the four rules give
-abbrev pub sheetDue : Ring → List Row → List ℕ
-sheetDue ring rs = writeSheet (plan ring rs)
+abbrev pub sheet_due : Ring → List Row → List ℕ
+sheet_due ring rs = write_sheet (plan ring rs)
 
 -- the text that is due where an accepted text is read and written again: the same bytes
 pub record Itself (Accepted : Type 0) (t text : List ℕ) : Type 0 where
@@ -79,7 +79,7 @@ pub record MatrixDue (fibres : ℕ) (t text : List ℕ) : Type 0 where
   pub n : ℕ
   pub m : List (List ℕ)
   pub of : MatrixOf t n m
-  pub is : text ≡ writeTable (ringOf n fibres) (rowsOfMatrix n m)
+  pub is : text ≡ write_table (ring_of n fibres) (rows_of_matrix n m)
 
 -- what is given to a matrix that is read: 20 first of all, with line 0 and byte 0; then the matrix's own reasons
 pub data MatrixGiven (fibres : ℕ) (t : List ℕ) : Reason → ℕ → ℕ → Type 0 where
@@ -92,7 +92,7 @@ pub record SumsDue (t text : List ℕ) : Type 0 where
   pub rs : List Row
   pub of : TableOf t ring rs
   pub fit : (k : ℕ) → Passes desk rs k → ⊥
-  pub is : text ≡ writeMatrix (matrixOfRows ring.n rs)
+  pub is : text ≡ write_matrix (matrix_of_rows ring.n rs)
 
 -- what is given to a table of which a matrix is written: the table's own reasons; then 19, on the line of the first row at which a pair's sum passes 9,999, with byte 1
 pub data SumsGiven (t : List ℕ) : Reason → ℕ → ℕ → Type 0 where

@@ -2,12 +2,12 @@
 use Rattle.std.specs.Prelude.{ℕ, List, ◌≡◌}
 use Rattle.ring.specs.Row.{Row}
 use Rattle.ring.specs.Sheet.{Sheet}
-use Rattle.table.specs.Table.{writeTable}
+use Rattle.table.specs.Table.{write_table}
 use Rattle.table.specs.declared.reason.Reason.{Reason}
-use Rattle.sheet.specs.WriteSheet.{writeSheet}
+use Rattle.sheet.specs.WriteSheet.{write_sheet}
 use Rattle.work.specs.Calls.{Call}
-use Rattle.work.specs.Made.{ringIn, plain_of}
-use Rattle.work.specs.Played.{lastNamed}
+use Rattle.work.specs.Made.{ring_in, plain_of}
+use Rattle.work.specs.Played.{last_named}
 use Rattle.work.specs.Sorted.{Sorted}
 use Rattle.work.specs.declared.Work.{Work}
 use Rattle.ringkit.specs.Says.{Success}
@@ -17,7 +17,7 @@ use Rattle.ringkit.specs.declared.Reply.{Reply}
 pub record WorkDue (w : Work) (text : List ℕ) : Type 0 where
   pub rs : List Row
   pub sorted : Sorted (plain_of w).places rs
-  pub is : text ≡ writeTable (ringIn w) rs
+  pub is : text ≡ write_table (ring_in w) rs
 
 -- but for 15, writing it has no refusal
 abbrev pub NoRefusal : Reason → ℕ → ℕ → Type 0
@@ -25,5 +25,5 @@ NoRefusal reason line byte = ⊥
 
 pub record RoutedCut (cs : List Call) (old new : List ℕ) (r : Reply) : Type 0 where
   pub x : Sheet
-  pub success : Success (writeSheet x) old new r
-  pub cut : x.cut ≡ lastNamed cs
+  pub success : Success (write_sheet x) old new r
+  pub cut : x.cut ≡ last_named cs

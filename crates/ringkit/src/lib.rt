@@ -4,23 +4,23 @@ mod working; // the calls of the working table
 
 ghost use Rattle.std.specs.Prelude.{◌≡◌, ◌≤◌};
 ghost use Rattle.ring.specs.Limits.{desk};
-ghost use Rattle.ring.specs.Ring.{ringOf};
-ghost use Rattle.ring.specs.Columns.{rowsIn};
+ghost use Rattle.ring.specs.Ring.{ring_of};
+ghost use Rattle.ring.specs.Columns.{rows_in};
 ghost use Rattle.ring.specs.Row.{TableRows};
 ghost use Rattle.ring.specs.Sheet.{plan};
 ghost use Rattle.router.specs.Rows.{Table};
-ghost use Rattle.table.specs.Table.{writeTable, tableRoom};
-ghost use Rattle.matrix.specs.Matrix.{writeMatrix};
-ghost use Rattle.matrix.specs.Demands.{matrixOfRows};
+ghost use Rattle.table.specs.Table.{write_table, table_room};
+ghost use Rattle.matrix.specs.Matrix.{write_matrix};
+ghost use Rattle.matrix.specs.Demands.{matrix_of_rows};
 ghost use Rattle.matrix.specs.Arrays.{Amounts};
-ghost use Rattle.matrix.specs.Room.{matrixRoom};
-ghost use Rattle.sheet.specs.WriteSheet.{writeSheet};
-ghost use Rattle.sheet.specs.Arrays.{sheetIn};
+ghost use Rattle.matrix.specs.Room.{matrix_room};
+ghost use Rattle.sheet.specs.WriteSheet.{write_sheet};
+ghost use Rattle.sheet.specs.Arrays.{sheet_in};
 ghost use Rattle.sheet.specs.Range.{longest};
-ghost use Rattle.ringkit.specs.Outcome.{replyOf, refuse, write, Fills};
-ghost use Rattle.ringkit.specs.TableCalls.{tableAfresh, tableRouted};
-ghost use Rattle.ringkit.specs.MatrixCalls.{matrixRead, matrixWritten};
-ghost use Rattle.ringkit.specs.SheetCalls.{sheetChecked, sheetParallel, sheetAfresh};
+ghost use Rattle.ringkit.specs.Outcome.{reply_of, refuse, write, Fills};
+ghost use Rattle.ringkit.specs.TableCalls.{table_afresh, table_routed};
+ghost use Rattle.ringkit.specs.MatrixCalls.{matrix_read, matrix_written};
+ghost use Rattle.ringkit.specs.SheetCalls.{sheet_checked, sheet_parallel, sheet_afresh};
 
 use checker::{Answer as Judged, Pair};
 use matrix::Sums;
@@ -49,13 +49,13 @@ pub const TABLE_BYTES: usize = 8 * (3 + 4 * ROWS);
 pub const MATRIX_BYTES: usize = 5 * LINKS * LINKS;
 
 pub fn table_bytes() -> usize
-    ensures { result ≡ tableRoom desk }
+    ensures { result ≡ table_room desk }
 {
     TABLE_BYTES
 }
 
 pub fn matrix_bytes() -> usize
-    ensures { result ≡ matrixRoom desk }
+    ensures { result ≡ matrix_room desk }
 {
     MATRIX_BYTES
 }
@@ -71,7 +71,7 @@ pub struct Reply {
 }
 
 fn refusal(reason: Reason, line: u32, byte: u32) -> Reply
-    ensures { result ≡ replyOf (refuse reason line byte) }
+    ensures { result ≡ reply_of (refuse reason line byte) }
 {
     Reply {
         reason: reason.number(),
@@ -92,7 +92,7 @@ fn put_table<'a>(
     amount: &'a [u32; ROWS],
 ) -> Reply
     requires { count ≤ desk.rows }
-    ensures { Fills (write (writeTable (ringOf n fibres) (rowsIn count first.now second.now amount.now))) buf.old buf.new result }
+    ensures { Fills (write (write_table (ring_of n fibres) (rows_in count first.now second.now amount.now))) buf.old buf.new result }
 {
     let size = table::table_length(n, fibres, count, first, second, amount);
     if buf.len() < size {
@@ -109,7 +109,7 @@ fn put_table<'a>(
 
 // Reads a table and writes its values afresh.
 pub fn ringkit_rewrite_table(table: &[u8], buffer: &mut [u8]) -> Reply
-    ensures { Fills (tableAfresh table.now) buffer.old buffer.new result }
+    ensures { Fills (table_afresh table.now) buffer.old buffer.new result }
 {
     let mut first = [0u32; ROWS];
     let mut second = [0u32; ROWS];
@@ -125,7 +125,7 @@ pub fn ringkit_rewrite_table(table: &[u8], buffer: &mut [u8]) -> Reply
 
 // Reads a matrix and writes its table, on a ring of so many fibres, which a matrix does not say.
 pub fn ringkit_read_matrix(matrix: &[u8], fibres: u32, buffer: &mut [u8]) -> Reply
-    ensures { Fills (matrixRead fibres matrix.now) buffer.old buffer.new result }
+    ensures { Fills (matrix_read fibres matrix.now) buffer.old buffer.new result }
 {
     let other = table::other_fibres(fibres);
     if other {
@@ -151,7 +151,7 @@ fn put_matrix<'a>(
     amount: &'a [u32; ROWS],
 ) -> Reply
     requires { (n ≤ desk.nodes) × Amounts count amount.now }
-    ensures { Fills (write (writeMatrix (matrixOfRows n (rowsIn count first.now second.now amount.now)))) buf.old buf.new result }
+    ensures { Fills (write (write_matrix (matrix_of_rows n (rows_in count first.now second.now amount.now)))) buf.old buf.new result }
 {
     let bytes = matrix::matrix_length(n, count, first, second, amount);
     if buf.len() < bytes {
@@ -168,7 +168,7 @@ fn put_matrix<'a>(
 
 // Reads a table and writes its matrix.
 pub fn ringkit_write_matrix(table: &[u8], buffer: &mut [u8]) -> Reply
-    ensures { Fills (matrixWritten table.now) buffer.old buffer.new result }
+    ensures { Fills (matrix_written table.now) buffer.old buffer.new result }
 {
     let mut first = [0u32; ROWS];
     let mut second = [0u32; ROWS];
@@ -201,7 +201,7 @@ fn put_sheet<'a>(
     unsplit: &'a [u32; LINKS],
 ) -> Reply
     requires { (count ≤ desk.rows) × (x.n ≤ desk.nodes) }
-    ensures { Fills (write (writeSheet (sheetIn x count first.now second.now amount.now front.now back.now way.now split.now unsplit.now))) buf.old buf.new result }
+    ensures { Fills (write (write_sheet (sheet_in x count first.now second.now amount.now front.now back.now way.now split.now unsplit.now))) buf.old buf.new result }
 {
     let need = sheet::sheet_length(
         x, count, first, second, amount, front, back, way, split, unsplit,
@@ -231,8 +231,8 @@ fn put_route<'a>(
     amount: &'a [u32; ROWS],
 ) -> Reply
     requires table { Table n count first.now second.now amount.now }
-    requires table_rows { TableRows n (rowsIn count first.now second.now amount.now) }
-    ensures { Fills (write (writeSheet (plan (ringOf n fibres) (rowsIn count first.now second.now amount.now)))) buf.old buf.new result }
+    requires table_rows { TableRows n (rows_in count first.now second.now amount.now) }
+    ensures { Fills (write (write_sheet (plan (ring_of n fibres) (rows_in count first.now second.now amount.now)))) buf.old buf.new result }
 {
     let mut front = [0u32; ROWS];
     let mut back = [0u32; ROWS];
@@ -256,7 +256,7 @@ fn put_route<'a>(
 
 // Routes a table by rules A to D and writes its sheet.
 pub fn ringkit_route(table: &[u8], buffer: &mut [u8]) -> Reply
-    ensures { Fills (tableRouted table.now) buffer.old buffer.new result }
+    ensures { Fills (table_routed table.now) buffer.old buffer.new result }
 {
     let mut first = [0u32; ROWS];
     let mut second = [0u32; ROWS];
@@ -272,7 +272,7 @@ pub fn ringkit_route(table: &[u8], buffer: &mut [u8]) -> Reply
 
 // Checks a sheet, whatever tool it comes from.
 pub fn ringkit_check(sheet: &[u8]) -> Reply
-    ensures { result ≡ sheetChecked sheet.now }
+    ensures { result ≡ sheet_checked sheet.now }
 {
     let c = checker::check_sheet(sheet);
     let answer = c.answer;
@@ -300,7 +300,7 @@ pub struct PairReply {
 
 // The first pair of split rows of a sheet that are parallel.
 pub fn ringkit_parallel(sheet: &[u8]) -> PairReply
-    ensures { result ≡ sheetParallel sheet.now }
+    ensures { result ≡ sheet_parallel sheet.now }
 {
     let c = checker::check_sheet(sheet);
     let answer = c.answer;
@@ -336,7 +336,7 @@ pub fn ringkit_parallel(sheet: &[u8]) -> PairReply
 
 // Reads a sheet and writes its values afresh.
 pub fn ringkit_rewrite_sheet(sheet: &[u8], buffer: &mut [u8]) -> Reply
-    ensures { Fills (sheetAfresh sheet.now) buffer.old buffer.new result }
+    ensures { Fills (sheet_afresh sheet.now) buffer.old buffer.new result }
 {
     let c = checker::check_sheet(sheet);
     let answer = c.answer;

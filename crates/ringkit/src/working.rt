@@ -1,15 +1,15 @@
 // The calls of the working table: it is lent by `&mut`, and altered by functions by value. Each body has exactly the shape that a law of `walk` is about.
 ghost use Rattle.std.specs.Prelude.{◌≡◌};
-ghost use Rattle.work.specs.Changes.{startedIn, addedIn, changedIn, removedIn, row_in};
+ghost use Rattle.work.specs.Changes.{started_in, added_in, changed_in, removed_in, row_in};
 ghost use Rattle.ringkit.specs.Outcome.{Fills};
-ghost use Rattle.ringkit.specs.TableCalls.{workWritten};
+ghost use Rattle.ringkit.specs.TableCalls.{work_written};
 
 use crate::{Reply, put_table};
 use ring::ROWS;
 use work::{RowReply, Work, WorkReply};
 
 pub fn ringkit_work_start(work: &mut Work, n: u32, fibres: u32) -> WorkReply
-    ensures { (result ≡ (startedIn work.old n fibres).reply) × (work.new ≡ (startedIn work.old n fibres).work) }
+    ensures { (result ≡ (started_in work.old n fibres).reply) × (work.new ≡ (started_in work.old n fibres).work) }
 {
     let done = work::started(*work, n, fibres);
     *work = done.work;
@@ -17,7 +17,7 @@ pub fn ringkit_work_start(work: &mut Work, n: u32, fibres: u32) -> WorkReply
 }
 
 pub fn ringkit_work_add(work: &mut Work, first: u32, second: u32, amount: u32) -> WorkReply
-    ensures { (result ≡ (addedIn work.old first second amount).reply) × (work.new ≡ (addedIn work.old first second amount).work) }
+    ensures { (result ≡ (added_in work.old first second amount).reply) × (work.new ≡ (added_in work.old first second amount).work) }
 {
     let done = work::added(*work, first, second, amount);
     *work = done.work;
@@ -31,7 +31,7 @@ pub fn ringkit_work_change(
     second: u32,
     amount: u32,
 ) -> WorkReply
-    ensures { (result ≡ (changedIn work.old place first second amount).reply) × (work.new ≡ (changedIn work.old place first second amount).work) }
+    ensures { (result ≡ (changed_in work.old place first second amount).reply) × (work.new ≡ (changed_in work.old place first second amount).work) }
 {
     let done = work::changed(*work, place, first, second, amount);
     *work = done.work;
@@ -39,7 +39,7 @@ pub fn ringkit_work_change(
 }
 
 pub fn ringkit_work_remove(work: &mut Work, place: u32) -> WorkReply
-    ensures { (result ≡ (removedIn work.old place).reply) × (work.new ≡ (removedIn work.old place).work) }
+    ensures { (result ≡ (removed_in work.old place).reply) × (work.new ≡ (removed_in work.old place).work) }
 {
     let done = work::removed(*work, place);
     *work = done.work;
@@ -54,7 +54,7 @@ pub fn ringkit_work_row(work: &Work, place: u32) -> RowReply
 
 // Writes the rows held, by nodes, then by place, at the start of a buffer that has room for them.
 fn written(work: Work, buffer: &mut [u8]) -> Reply
-    ensures { Fills (workWritten work) buffer.old buffer.new result }
+    ensures { Fills (work_written work) buffer.old buffer.new result }
 {
     let n = work.n;
     let fibres = work.fibres;
@@ -66,7 +66,7 @@ fn written(work: Work, buffer: &mut [u8]) -> Reply
 }
 
 pub fn ringkit_work_write(work: &Work, buffer: &mut [u8]) -> Reply
-    ensures { Fills (workWritten work.now) buffer.old buffer.new result }
+    ensures { Fills (work_written work.now) buffer.old buffer.new result }
 {
     written(*work, buffer)
 }

@@ -2,67 +2,67 @@
 // The public calls as C links them: each hands on to the call of the same name in `ringkit`, and promises the same. It is a crate of its own since no Rattle crate can
 // name a static library.
 ghost use Rattle.std.specs.Prelude.{◌≡◌};
-ghost use Rattle.work.specs.Changes.{startedIn, addedIn, changedIn, removedIn, row_in};
+ghost use Rattle.work.specs.Changes.{started_in, added_in, changed_in, removed_in, row_in};
 ghost use Rattle.ringkit.specs.Outcome.{Fills};
-ghost use Rattle.ringkit.specs.TableCalls.{tableAfresh, tableRouted, workWritten};
-ghost use Rattle.ringkit.specs.MatrixCalls.{matrixRead, matrixWritten};
-ghost use Rattle.ringkit.specs.SheetCalls.{sheetChecked, sheetParallel, sheetAfresh};
+ghost use Rattle.ringkit.specs.TableCalls.{table_afresh, table_routed, work_written};
+ghost use Rattle.ringkit.specs.MatrixCalls.{matrix_read, matrix_written};
+ghost use Rattle.ringkit.specs.SheetCalls.{sheet_checked, sheet_parallel, sheet_afresh};
 
 use ringkit::{PairReply, Reply};
 use work::{RowReply, Work, WorkReply};
 
 #[unsafe(no_mangle)]
 pub extern "C" fn ringkit_rewrite_table(table: &[u8], buffer: &mut [u8]) -> Reply
-    ensures { Fills (tableAfresh table.now) buffer.old buffer.new result }
+    ensures { Fills (table_afresh table.now) buffer.old buffer.new result }
 {
     ringkit::ringkit_rewrite_table(table, buffer)
 }
 
 #[unsafe(no_mangle)]
 pub extern "C" fn ringkit_read_matrix(matrix: &[u8], fibres: u32, buffer: &mut [u8]) -> Reply
-    ensures { Fills (matrixRead fibres matrix.now) buffer.old buffer.new result }
+    ensures { Fills (matrix_read fibres matrix.now) buffer.old buffer.new result }
 {
     ringkit::ringkit_read_matrix(matrix, fibres, buffer)
 }
 
 #[unsafe(no_mangle)]
 pub extern "C" fn ringkit_write_matrix(table: &[u8], buffer: &mut [u8]) -> Reply
-    ensures { Fills (matrixWritten table.now) buffer.old buffer.new result }
+    ensures { Fills (matrix_written table.now) buffer.old buffer.new result }
 {
     ringkit::ringkit_write_matrix(table, buffer)
 }
 
 #[unsafe(no_mangle)]
 pub extern "C" fn ringkit_route(table: &[u8], buffer: &mut [u8]) -> Reply
-    ensures { Fills (tableRouted table.now) buffer.old buffer.new result }
+    ensures { Fills (table_routed table.now) buffer.old buffer.new result }
 {
     ringkit::ringkit_route(table, buffer)
 }
 
 #[unsafe(no_mangle)]
 pub extern "C" fn ringkit_check(sheet: &[u8]) -> Reply
-    ensures { result ≡ sheetChecked sheet.now }
+    ensures { result ≡ sheet_checked sheet.now }
 {
     ringkit::ringkit_check(sheet)
 }
 
 #[unsafe(no_mangle)]
 pub extern "C" fn ringkit_parallel(sheet: &[u8]) -> PairReply
-    ensures { result ≡ sheetParallel sheet.now }
+    ensures { result ≡ sheet_parallel sheet.now }
 {
     ringkit::ringkit_parallel(sheet)
 }
 
 #[unsafe(no_mangle)]
 pub extern "C" fn ringkit_rewrite_sheet(sheet: &[u8], buffer: &mut [u8]) -> Reply
-    ensures { Fills (sheetAfresh sheet.now) buffer.old buffer.new result }
+    ensures { Fills (sheet_afresh sheet.now) buffer.old buffer.new result }
 {
     ringkit::ringkit_rewrite_sheet(sheet, buffer)
 }
 
 #[unsafe(no_mangle)]
 pub extern "C" fn ringkit_work_start(work: &mut Work, n: u32, fibres: u32) -> WorkReply
-    ensures { (result ≡ (startedIn work.old n fibres).reply) × (work.new ≡ (startedIn work.old n fibres).work) }
+    ensures { (result ≡ (started_in work.old n fibres).reply) × (work.new ≡ (started_in work.old n fibres).work) }
 {
     ringkit::ringkit_work_start(work, n, fibres)
 }
@@ -74,7 +74,7 @@ pub extern "C" fn ringkit_work_add(
     second: u32,
     amount: u32,
 ) -> WorkReply
-    ensures { (result ≡ (addedIn work.old first second amount).reply) × (work.new ≡ (addedIn work.old first second amount).work) }
+    ensures { (result ≡ (added_in work.old first second amount).reply) × (work.new ≡ (added_in work.old first second amount).work) }
 {
     ringkit::ringkit_work_add(work, first, second, amount)
 }
@@ -87,14 +87,14 @@ pub extern "C" fn ringkit_work_change(
     second: u32,
     amount: u32,
 ) -> WorkReply
-    ensures { (result ≡ (changedIn work.old place first second amount).reply) × (work.new ≡ (changedIn work.old place first second amount).work) }
+    ensures { (result ≡ (changed_in work.old place first second amount).reply) × (work.new ≡ (changed_in work.old place first second amount).work) }
 {
     ringkit::ringkit_work_change(work, place, first, second, amount)
 }
 
 #[unsafe(no_mangle)]
 pub extern "C" fn ringkit_work_remove(work: &mut Work, place: u32) -> WorkReply
-    ensures { (result ≡ (removedIn work.old place).reply) × (work.new ≡ (removedIn work.old place).work) }
+    ensures { (result ≡ (removed_in work.old place).reply) × (work.new ≡ (removed_in work.old place).work) }
 {
     ringkit::ringkit_work_remove(work, place)
 }
@@ -108,7 +108,7 @@ pub extern "C" fn ringkit_work_row(work: &Work, place: u32) -> RowReply
 
 #[unsafe(no_mangle)]
 pub extern "C" fn ringkit_work_write(work: &Work, buffer: &mut [u8]) -> Reply
-    ensures { Fills (workWritten work.now) buffer.old buffer.new result }
+    ensures { Fills (work_written work.now) buffer.old buffer.new result }
 {
     ringkit::ringkit_work_write(work, buffer)
 }

@@ -10,15 +10,15 @@ use borrow.Author.Tests.{eq-eqb, ne_eqb}
 use lib.ListN.{get_or}
 use Rattle.ring.specs.Row.{Row, row}
 use Rattle.ring.specs.Cut.{across}
-use Rattle.ring.specs.Columns.{listed, row_at, rowsIn}
+use Rattle.ring.specs.Columns.{listed, row_at, rows_in}
 use Rattle.ring.proofs.Across.{one_link}
 use Rattle.ring.proofs.Listed.{listed-none, listed_back, listed-all}
 use Rattle.ring.proofs.Totals.{across-total, total-small, part_small}
-use Rattle.across.specs.Triangle.{mostLinks, at}
-use Rattle.across.specs.Step.{stepRow}
+use Rattle.across.specs.Triangle.{most_links, at}
+use Rattle.across.specs.Step.{step_row}
 use Rattle.across.specs.Lines.{Pairwise}
 use Rattle.across.proofs.Kept.{row-at, row-size}
-use Rattle.router.specs.Limits.{mostAmount, mostLoad}
+use Rattle.router.specs.Limits.{most_amount, most_load}
 use Rattle.router.specs.Rows.{Table}
 use Rattle.router.specs.Arrays.{pair_at, Triangle}
 
@@ -32,8 +32,8 @@ pair_is n rs triangle s g h a b c =
 
 -- ---- one row
 
-module _ (n : ℕ) (r : Row) (rs : List Row) (old : List ℕ) (few : n ≤ mostLinks) where
-  pub put_on : Triangle n rs old → Pairwise n (λ g h. at old g h + r.d ≤ mostLoad) → Triangle n (r ∷ rs) (stepRow true n r old)
+module _ (n : ℕ) (r : Row) (rs : List Row) (old : List ℕ) (few : n ≤ most_links) where
+  pub put_on : Triangle n rs old → Pairwise n (λ g h. at old g h + r.d ≤ most_load) → Triangle n (r ∷ rs) (step_row true n r old)
   unfolding across
   put_on s small =
       record {
@@ -41,7 +41,7 @@ module _ (n : ℕ) (r : Row) (rs : List Row) (old : List ℕ) (few : n ≤ mostL
         is = λ g h a b c. omega (arith, row-at true n r old few g h a b c, s.is g h a b c, part_small r g h, small g h a b c);
       }
 
-  pub taken-off : Triangle n (r ∷ rs) old → Pairwise n (λ g h. at old g h ≤ mostLoad) → Triangle n rs (stepRow false n r old)
+  pub taken-off : Triangle n (r ∷ rs) old → Pairwise n (λ g h. at old g h ≤ most_load) → Triangle n rs (step_row false n r old)
   unfolding across
   taken-off s small =
       record {
@@ -63,21 +63,21 @@ module _ (n count : ℕ) (first second amount : List ℕ) (table : Table n count
   pub fill_start : (triangle : List ℕ) → Triangle n [] triangle → Filled n count first second amount triangle count
   fill_start triangle s = record { high = omega arith; so_far = rw (listed-none (row_at first second amount) count count (omega arith)) s }
 
-  pub fill_done : (triangle : List ℕ) (t : ℕ) → t ≤ 0 → Filled n count first second amount triangle t → Triangle n (rowsIn count first second amount) triangle
+  pub fill_done : (triangle : List ℕ) (t : ℕ) → t ≤ 0 → Filled n count first second amount triangle t → Triangle n (rows_in count first second amount) triangle
   fill_done triangle t l f =
       let e : t ≡ 0 = omega arith in
       rw (e, listed-all (row_at first second amount) count) at f.so_far
 
-  pub rows_fit : (triangle : List ℕ) (t : ℕ) → Triangle n (rows_from t) triangle → Pairwise n (λ g h. at triangle g h ≤ mostAmount * (count - t))
+  pub rows_fit : (triangle : List ℕ) (t : ℕ) → Triangle n (rows_from t) triangle → Pairwise n (λ g h. at triangle g h ≤ most_amount * (count - t))
   rows_fit triangle t s g h a b c =
       omega
-      (arith, s.is g h a b c, total-small (across-total g h) (row_at first second amount) mostAmount t (count - t) (λ x p q. omega (arith, part_small (row_at first second amount x) g h, table.small x (omega arith))))
+      (arith, s.is g h a b c, total-small (across-total g h) (row_at first second amount) most_amount t (count - t) (λ x p q. omega (arith, part_small (row_at first second amount x) g h, table.small x (omega arith))))
 
   pub fill-fits : (triangle : List ℕ) (t i : ℕ) → 0 < t → Filled n count first second amount triangle t → i ≡ get_or first (t - 1) 0 → 1 ≤ i
   fill-fits triangle t i l f e = omega (arith, (table.nodes (t - 1) (omega (arith, f.high))).low)
 
   pub fill-turn : (old new : List ℕ) (t i j : ℕ) → 0 < t → Filled n count first second amount old t → i ≡ get_or first (t - 1) 0 → j ≡ get_or second (t - 1) 0 →
-      new ≡ stepRow true n (row i j (get_or amount (t - 1) 0)) old → Filled n count first second amount new (t - 1)
+      new ≡ step_row true n (row i j (get_or amount (t - 1) 0)) old → Filled n count first second amount new (t - 1)
   fill-turn old new t i j l f ei ej e =
       record {
         high = omega (arith, f.high);

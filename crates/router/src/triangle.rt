@@ -1,7 +1,7 @@
 // The triangle of a table's across numbers: made once, read by rules A and B, and lowered as rows are sent, so that no sum over rows is taken for a
 // pair of links.
 ghost use Rattle.std.specs.Prelude.{[]};
-ghost use Rattle.ring.specs.Columns.{rowsIn};
+ghost use Rattle.ring.specs.Columns.{rows_in};
 ghost use Rattle.router.specs.Rows.{Table};
 ghost use Rattle.router.specs.Arrays.{Triangle};
 
@@ -19,7 +19,7 @@ pub(crate) fn fill(
 )
     requires table { Table n count first.now second.now amount.now }
     requires triangle { Triangle n [] triangle.old }
-    ensures { Triangle n (rowsIn count first.now second.now amount.now) triangle.new }
+    ensures { Triangle n (rows_in count first.now second.now amount.now) triangle.new }
 {
     let mut t: usize = count;
     while 0 < t {

@@ -6,13 +6,13 @@ use native.Mathlib.Omega.{arith}
 use lib.ListN.{length, get_or, length-map}
 use Rattle.ring.specs.Limits.{desk}
 use Rattle.ring.specs.Row.{Row, row}
-use Rattle.ring.specs.Routing.{Sent, sent, Routed, routed, Way, F, B, wayNumber, way_of}
-use Rattle.ring.specs.Sheet.{Link, Sheet, sents, demands, numbersFrom}
-use Rattle.ring.specs.Columns.{listed, column, row_at, rowsIn, routedAt, routedIn}
+use Rattle.ring.specs.Routing.{Sent, sent, Routed, routed, Way, F, B, way_number, way_of}
+use Rattle.ring.specs.Sheet.{Link, Sheet, sents, demands, numbers_from}
+use Rattle.ring.specs.Columns.{listed, column, row_at, rows_in, routed_at, routed_in}
 use Rattle.ring.proofs.Listed.{listed_same}
 use Rattle.table.proofs.Columns.{column-at, listed-members}
-use Rattle.sheet.specs.WriteSheet.{figuresOf}
-use Rattle.sheet.specs.Arrays.{link_at, linksIn, sheetIn}
+use Rattle.sheet.specs.WriteSheet.{figures_of}
+use Rattle.sheet.specs.Arrays.{link_at, links_in, sheet_in}
 
 -- a list by its places
 same-members : {A : Type 0} (none : A) (l : List A) (f : ℕ → A) → ((k : ℕ) → k < length l → f k ≡ get_or l k none) → listed f 0 (length l) ≡ l
@@ -29,7 +29,7 @@ at_listed f none m zero k h = absurd (omega arith)
 at_listed f none m (suc n) zero h = let e : m + 0 ≡ m = omega arith in rw e
 at_listed f none m (suc n) (suc k) h = let e : m + suc k ≡ suc m + k = omega arith in rw e (at_listed f none (suc m) n k (omega arith))
 
-pub way_back : (w : Way) → way_of (wayNumber w) ≡ w
+pub way_back : (w : Way) → way_of (way_number w) ≡ w
 way_back F = refl
 way_back B = refl
 
@@ -38,7 +38,7 @@ way_back B = refl
 no_row : Routed
 no_row = routed (sent 0 0 0 0 0) F
 
-module _ (rs : List Routed) (first second amount : List ℕ) (few : length rs ≤ desk.rows) (same : demands (sents rs) ≡ rowsIn (length rs) first second amount) where
+module _ (rs : List Routed) (first second amount : List ℕ) (few : length rs ≤ desk.rows) (same : demands (sents rs) ≡ rows_in (length rs) first second amount) where
   demand-at : (k : ℕ) → k < length rs → row_at first second amount k ≡ (get_or rs k no_row).sent.row
   demand-at k h =
       let e : 0 + k ≡ k = omega arith in
@@ -47,12 +47,12 @@ module _ (rs : List Routed) (first second amount : List ℕ) (few : length rs �
       ∙ ap (λ (s : Sent). s.row) (get_d_map (λ (r : Routed). r.sent) rs no_row no_row.sent k h)
 
   row-at : (k : ℕ) → k < length rs →
-      routedAt first second amount (column (λ (r : Routed). r.sent.front) desk.rows rs) (column (λ (r : Routed). r.sent.back) desk.rows rs) (column (λ (r : Routed). wayNumber r.way) desk.rows rs) k ≡ get_or rs k no_row
+      routed_at first second amount (column (λ (r : Routed). r.sent.front) desk.rows rs) (column (λ (r : Routed). r.sent.back) desk.rows rs) (column (λ (r : Routed). way_number r.way) desk.rows rs) k ≡ get_or rs k no_row
   row-at k h =
-      rw (column-at (λ (r : Routed). r.sent.front) desk.rows rs no_row k few h, column-at (λ (r : Routed). r.sent.back) desk.rows rs no_row k few h, column-at (λ (r : Routed). wayNumber r.way) desk.rows rs no_row k few h, way_back (get_or rs k no_row).way)
+      rw (column-at (λ (r : Routed). r.sent.front) desk.rows rs no_row k few h, column-at (λ (r : Routed). r.sent.back) desk.rows rs no_row k few h, column-at (λ (r : Routed). way_number r.way) desk.rows rs no_row k few h, way_back (get_or rs k no_row).way)
       (ap (λ (d : Row). routed (record { row = d; front = (get_or rs k no_row).sent.front; back = (get_or rs k no_row).sent.back }) (get_or rs k no_row).way) (demand-at k h))
 
-  pub rows_back : routedIn (length rs) first second amount (column (λ (r : Routed). r.sent.front) desk.rows rs) (column (λ (r : Routed). r.sent.back) desk.rows rs) (column (λ (r : Routed). wayNumber r.way) desk.rows rs) ≡ rs
+  pub rows_back : routed_in (length rs) first second amount (column (λ (r : Routed). r.sent.front) desk.rows rs) (column (λ (r : Routed). r.sent.back) desk.rows rs) (column (λ (r : Routed). way_number r.way) desk.rows rs) ≡ rs
   rows_back = same-members no_row rs _ row-at
 
 -- ---- links
@@ -60,18 +60,18 @@ module _ (rs : List Routed) (first second amount : List ℕ) (few : length rs �
 no-link : Link
 no-link = record { link = 0; split = 0; unsplit = 0 }
 
-pub numbers-length : (k m : ℕ) → length (numbersFrom k m) ≡ m
-unfolding numbersFrom
+pub numbers-length : (k m : ℕ) → length (numbers_from k m) ≡ m
+unfolding numbers_from
 numbers-length k zero = refl
 numbers-length k (suc m) = ap suc (numbers-length (suc k) m)
 
-pub number_at : (a m k : ℕ) → k < m → get_or (numbersFrom a m) k 0 ≡ a + k
-unfolding numbersFrom
+pub number_at : (a m k : ℕ) → k < m → get_or (numbers_from a m) k 0 ≡ a + k
+unfolding numbers_from
 number_at a zero k h = absurd (omega arith)
 number_at a (suc m) zero h = omega arith
 number_at a (suc m) (suc k) h = omega (arith, number_at (suc a) m k (omega arith))
 
-module _ (n : ℕ) (ls : List Link) (few : n ≤ desk.nodes) (same : map (λ (l : Link). l.link) ls ≡ numbersFrom 1 n) where
+module _ (n : ℕ) (ls : List Link) (few : n ≤ desk.nodes) (same : map (λ (l : Link). l.link) ls ≡ numbers_from 1 n) where
   many : length ls ≡ n
   many = sym (length-map ls (λ (l : Link). l.link)) ∙ ap length same ∙ numbers-length 1 n
 
@@ -81,15 +81,15 @@ module _ (n : ℕ) (ls : List Link) (few : n ≤ desk.nodes) (same : map (λ (l 
       omega (arith, number_at 1 n k (omega (arith, many)), ap (λ l. get_or l k 0) same, get_d_map (λ (l : Link). l.link) ls no-link 0 k h) in
       rw (column-at (λ (l : Link). l.split) desk.nodes ls no-link k (omega (arith, many)) h, column-at (λ (l : Link). l.unsplit) desk.nodes ls no-link k (omega (arith, many)) h, e)
 
-  pub links-back : linksIn n (column (λ (l : Link). l.split) desk.nodes ls) (column (λ (l : Link). l.unsplit) desk.nodes ls) ≡ ls
+  pub links-back : links_in n (column (λ (l : Link). l.split) desk.nodes ls) (column (λ (l : Link). l.unsplit) desk.nodes ls) ≡ ls
   links-back = let e = many in rw (← e) (same-members no-link ls _ link-at)
 
 -- ---- the sheet
 
 pub sheet-back : (x : Sheet) (count : ℕ) (first second amount : List ℕ) → length x.rows ≡ count → count ≤ desk.rows → x.ring.n ≤ desk.nodes →
-    demands (sents x.rows) ≡ rowsIn count first second amount → map (λ (l : Link). l.link) x.links ≡ numbersFrom 1 x.ring.n →
-    sheetIn (figuresOf x) count first second amount (column (λ (r : Routed). r.sent.front) desk.rows x.rows) (column (λ (r : Routed). r.sent.back) desk.rows x.rows) (column (λ (r : Routed). wayNumber r.way) desk.rows x.rows)
+    demands (sents x.rows) ≡ rows_in count first second amount → map (λ (l : Link). l.link) x.links ≡ numbers_from 1 x.ring.n →
+    sheet_in (figures_of x) count first second amount (column (λ (r : Routed). r.sent.front) desk.rows x.rows) (column (λ (r : Routed). r.sent.back) desk.rows x.rows) (column (λ (r : Routed). way_number r.way) desk.rows x.rows)
     (column (λ (l : Link). l.split) desk.nodes x.links) (column (λ (l : Link). l.unsplit) desk.nodes x.links) ≡ x
-unfolding sheetIn
+unfolding sheet_in
 sheet-back x count first second amount long few small same numbers =
-    rw (← long, rows_back x.rows first second amount (omega arith) (same ∙ ap (λ m. rowsIn m first second amount) (sym long)), links-back x.ring.n x.links small numbers)
+    rw (← long, rows_back x.rows first second amount (omega arith) (same ∙ ap (λ m. rows_in m first second amount) (sym long)), links-back x.ring.n x.links small numbers)

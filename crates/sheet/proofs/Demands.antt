@@ -9,7 +9,7 @@ use Rattle.ring.specs.Limits.{Limits, desk}
 use Rattle.ring.specs.Lists.{Each, none, more}
 use Rattle.ring.specs.Ring.{Ring}
 use Rattle.ring.specs.Row.{Row}
-use Rattle.ring.specs.Routing.{Sent, Routed, splitLoad, peak}
+use Rattle.ring.specs.Routing.{Sent, Routed, split_load, peak}
 use Rattle.ring.specs.Sheet.{Link, Sheet, sents, demands, plan}
 use Rattle.ring.specs.True.{TrueSheet}
 use Rattle.ring.proofs.NoLower.{no_lower}
@@ -17,9 +17,9 @@ use Rattle.ring.proofs.OurPlan.{plan-true}
 use Rattle.table.specs.Table as table
 use Rattle.table.specs.declared.judge.Verdict.TheVariants.{Fine}
 use Rattle.table.proofs.TableText.{desk-spelled}
-use Rattle.sheet.specs.WriteSheet.{writeSheet}
+use Rattle.sheet.specs.WriteSheet.{write_sheet}
 use Rattle.sheet.specs.Range.{InRange}
-use Rattle.sheet.specs.Judge.{judgeHalves}
+use Rattle.sheet.specs.Judge.{judge_halves}
 use Rattle.sheet.specs.Check.{accepted, when, check, form}
 use Rattle.sheet.proofs.Short.{plan-in-range}
 use Rattle.sheet.proofs.Read.{LinksJudged, no-links, and-link, Judged}
@@ -28,7 +28,7 @@ use Rattle.sheet.proofs.Truth.{judged-true}
 
 -- ---- where 8 to 14 are never given, nothing is asked of the figures
 
-rows-free : (rs : List Routed) → Each (λ r. when false (judgeHalves r) ≡ Fine) rs
+rows-free : (rs : List Routed) → Each (λ r. when false (judge_halves r) ≡ Fine) rs
 unfolding when
 rows-free [] = none
 rows-free (r ∷ rs) = more refl (rows-free rs)
@@ -44,13 +44,13 @@ free x = record { halves = rows-free x.rows; cut = refl; links = links-free x.ro
 
 module _ (limits : Limits) (limited : table.LimitsSpelled limits) (t : List ℕ) (x : Sheet) where
   -- a text is well-formed, and is this sheet, exactly when it is the sheet written and the sheet is in range
-  pub form-text : (form limits t ≡ accepted x) ↔ ((t ≡ writeSheet x) × InRange limits x)
+  pub form-text : (form limits t ≡ accepted x) ↔ ((t ≡ write_sheet x) × InRange limits x)
   unfolding form
   form-text =
       (λ e. let h = (sheet-text limits limited false t x).0 e in (h.0, h.1.0), λ h. (sheet-text limits limited false t x).1 (h.0, (h.1, free x)))
 
   -- a text is accepted as this sheet exactly when, besides, it is a true sheet
-  pub check-text : (check limits t ≡ accepted x) ↔ ((t ≡ writeSheet x) × (InRange limits x × TrueSheet x))
+  pub check-text : (check limits t ≡ accepted x) ↔ ((t ≡ write_sheet x) × (InRange limits x × TrueSheet x))
   unfolding check
   check-text = (
     λ e. let h = (sheet-text limits limited true t x).0 e in (h.0, (h.1.0, (judged-true x h.1.0.links).0 h.1.1)),
@@ -67,25 +67,25 @@ module _ (limits : Limits) (limited : table.LimitsSpelled limits) (t : List ℕ)
 
   module _ (e : check limits t ≡ accepted x) where
     -- demand 2: written again, it has the same bytes
-    pub write_read : writeSheet x ≡ t
+    pub write_read : write_sheet x ≡ t
     write_read = sym (check-text.0 e).0
 
     -- demand 3: no division of the demands, however fine, has a lower peak
-    pub no-lower-peak : (q : ℕ) (ss : List Sent) → Divides q (demands (sents x.rows)) ss → q * x.cut.number ≤ 2 * peak (splitLoad ss) x.ring.n
+    pub no-lower-peak : (q : ℕ) (ss : List Sent) → Divides q (demands (sents x.rows)) ss → q * x.cut.number ≤ 2 * peak (split_load ss) x.ring.n
     no-lower-peak = no_lower x (check-text.0 e).1.1
 
 module _ (limits : Limits) (limited : table.LimitsSpelled limits) where
   -- demand 2: read again, a sheet that was written has the same values
-  pub read-written : (x : Sheet) → InRange limits x → TrueSheet x → check limits (writeSheet x) ≡ accepted x
-  read-written x range true-sheet = (check-text limits limited (writeSheet x) x).1 (refl, (range, true-sheet))
+  pub read-written : (x : Sheet) → InRange limits x → TrueSheet x → check limits (write_sheet x) ≡ accepted x
+  read-written x range true-sheet = (check-text limits limited (write_sheet x) x).1 (refl, (range, true-sheet))
 
   -- two sheets written the same are the same sheet
-  pub same-sheet : (x y : Sheet) → InRange limits x → InRange limits y → writeSheet x ≡ writeSheet y → x ≡ y
+  pub same-sheet : (x y : Sheet) → InRange limits x → InRange limits y → write_sheet x ≡ write_sheet y → x ≡ y
   same-sheet x y r s e =
       let f : accepted x ≡ accepted y =
-      sym ((form-text limits limited (writeSheet x) x).1 (refl, r)) ∙ ap (form limits) e ∙ (form-text limits limited (writeSheet y) y).1 (refl, s) in
+      sym ((form-text limits limited (write_sheet x) x).1 (refl, r)) ∙ ap (form limits) e ∙ (form-text limits limited (write_sheet y) y).1 (refl, s) in
       cc
 
 -- demand 3: the sheet of a table's plan is accepted
-pub plan-accepted : (ring : Ring) (rs : List Row) → table.InRange desk ring rs → check desk (writeSheet (plan ring rs)) ≡ accepted (plan ring rs)
+pub plan-accepted : (ring : Ring) (rs : List Row) → table.InRange desk ring rs → check desk (write_sheet (plan ring rs)) ≡ accepted (plan ring rs)
 plan-accepted ring rs h = read-written desk desk-spelled (plan ring rs) (plan-in-range ring rs h) (plan-true ring rs h.few h.rows)

@@ -10,7 +10,7 @@ use lib.ListN.{length}
 use borrow.Author.Tests.{ltb-true, ltb-false}
 use Rattle.ring.specs.Cut.{Cut}
 use Rattle.ring.specs.Limits.{Limits}
-use Rattle.ring.specs.Ring.{Ring, ringOf}
+use Rattle.ring.specs.Ring.{Ring, ring_of}
 use Rattle.ring.specs.Routing.{Routed}
 use Rattle.ring.specs.Sheet.{Link}
 use Rattle.ring.proofs.Side.{cond-elim}
@@ -18,7 +18,7 @@ use Rattle.text.specs.declared.TwoNumbers.{TwoNumbers}
 use Rattle.text.specs.declared.ThreeNumbers.{ThreeNumbers}
 use Rattle.text.specs.declared.SentRow.{SentRow}
 use Rattle.table.specs.Lines.{lines}
-use Rattle.table.specs.Judge.{judgeRing}
+use Rattle.table.specs.Judge.{judge_ring}
 use Rattle.table.specs.Reasons.{rank_of}
 use Rattle.table.specs.Says.{LineIs, RingIs, line-faulty}
 use Rattle.table.specs.declared.reason.Reason.{Reason}
@@ -30,10 +30,10 @@ use Rattle.table.proofs.Against.{AgainstRing, by_size, by-fibres, ring-least}
 use Rattle.table.proofs.LineRead.{RingRead, is-ring, no-ring, ring-read}
 use Rattle.table.proofs.LineNumbers.{line-one}
 use Rattle.text.specs.FirstFault.{FirstFault}
-use Rattle.text.specs.Shapes.{sentShape}
-use Rattle.table.specs.Fields.{ringFault, rowFault}
+use Rattle.text.specs.Shapes.{sent_shape}
+use Rattle.table.specs.Fields.{ring_fault, row_fault}
 use Rattle.sheet.proofs.SheetBytes.{ByteOn, only-byte, ring-byte, neither, sent-row-bytes}
-use Rattle.sheet.specs.Check.{wholeLine, Turn, on, stop, unless, cut_of, routedOf, link_of, ringTurn, cutTurn, rowTurn, linkTurn, lastTurn, turn}
+use Rattle.sheet.specs.Check.{whole_line, Turn, on, stop, unless, cut_of, routed_of, link_of, ring_turn, cut_turn, row_turn, link_turn, last_turn, turn}
 use Rattle.sheet.specs.Says.{State, start, rows, links, end, SentIs, CutIs, LinkIs, LastIs, At, at-start, behind-ring, behind-row, behind-cut, behind-link, behind-last, Says, ring-due, row-or-cut-due, link-due, last-due, none-due, ByteIs}
 use Rattle.sheet.proofs.LineAt.{way-spelled}
 use Rattle.sheet.proofs.SheetLines.{SentRead, is-sent, no-sent, sent-read, CutRead, is_cut, no_cut, cut-read, LinkRead, is-link, no-link, link-read, LastRead, is_last, no_last, last-read}
@@ -64,16 +64,16 @@ module _ (limits : Limits) (judging : Bool) {t : List ℕ} {line : ℕ} where
   -- one of the right shape, against whose values there is one reason at most
   values-turned : {r : Reason} {A : Type 0} {v : Verdict} {state next : State} → First (λ s. Counts judging s × Only r A s) v → At t line state
       → ((s : Reason) → SaidAt limits t line state s → Only r A s) → (A → Says limits t r line) → ByteIs t r line 1 → At t (line + 1) next
-      → Turned limits judging t line (unless v wholeLine next)
+      → Turned limits judging t line (unless v whole_line next)
   values-turned {r} {A} {v} f at against says b to =
-      unless-turned wholeLine
+      unless-turned whole_line
       (first-as (λ s p. (p.0, only_then (λ s. Says limits t s line) says s p.1)) (λ s c. (c.0, against s (said_here at (said s c.1)))) f)
       (only-byte t line judging r A v f b)
       to
 
 -- ---- R n fibres
 
-ring-first : (limits : Limits) (ring : Ring) → First (AgainstRing limits ring) (judgeRing limits ring)
+ring-first : (limits : Limits) (ring : Ring) → First (AgainstRing limits ring) (judge_ring limits ring)
 ring-first limits ring = record { holds = go (ring-judged limits ring); least = λ s a. ring-least (ring-judged limits ring) a }
   where
     go : {v : Verdict} → RingJudged limits ring v → HoldsAs (AgainstRing limits ring) v
@@ -94,23 +94,23 @@ ring-said {ring} here s (by-fibres w) = record { at = refl; ring = ring; said = 
 
 module _ (limits : Limits) (judging : Bool) {t l : List ℕ} where
   -- R n fibres
-  ring-turned : {x : TwoNumbers} {line : ℕ} → At t line start → LineIs (lines t) line l → RingRead l x → Turned limits judging t line (ringTurn limits x)
-  unfolding ringTurn ByteIs
+  ring-turned : {x : TwoNumbers} {line : ℕ} → At t line start → LineIs (lines t) line l → RingRead l x → Turned limits judging t line (ring_turn limits x)
+  unfolding ring_turn ByteIs
   ring-turned at-start here (is-ring {n} {fibres} e w) =
-      let ring : RingIs t (ringOf n fibres) = record { text = subst (LineIs (lines t) 1) e here; spelled = w } in
-      unless-turned limits judging (ringFault (ringOf n fibres))
+      let ring : RingIs t (ring_of n fibres) = record { text = subst (LineIs (lines t) 1) e here; spelled = w } in
+      unless-turned limits judging (ring_fault (ring_of n fibres))
       (first-as (λ s p. (p.0, ring-said ring s p.1)) (λ s c. (c.0, said-of-ring ring (said_here at-start (said s c.1))))
-      (form-first judging (λ s. ring-early) (ring-first limits (ringOf n fibres))))
-      (ring-byte ring (ring-judged limits (ringOf n fibres)))
+      (form-first judging (λ s. ring-early) (ring-first limits (ring_of n fibres))))
+      (ring-byte ring (ring-judged limits (ring_of n fibres)))
       (behind-ring ring)
   ring-turned at-start here (no-ring none fault) =
       stops (unfit-first limits judging at-start (λ ring r. none ring.n ring.fibres (line-one here r.text refl) r.spelled)) (ring-due at-start (line-faulty here fault))
 
   module _ {line : ℕ} (here : LineIs (lines t) line l) where
     -- C g h across, where the line is no D line
-    cut-turned : {ring : Ring} {rs : List Routed} {x : ThreeNumbers} {o : ℕ} → At t line (rows ring rs) → ((r : Routed) → SentIs t line r → ⊥) → FirstFault sentShape l o → CutRead l x
-        → Turned limits judging t line (cutTurn judging ring rs o x)
-    unfolding cutTurn Says ByteIs
+    cut-turned : {ring : Ring} {rs : List Routed} {x : ThreeNumbers} {o : ℕ} → At t line (rows ring rs) → ((r : Routed) → SentIs t line r → ⊥) → FirstFault sent_shape l o → CutRead l x
+        → Turned limits judging t line (cut_turn judging ring rs o x)
+    unfolding cut_turn Says ByteIs
     cut-turned {ring} {rs} at none fault (is_cut {g} {h} {m} e u v w) =
         let is : CutIs t line (cut_of g h m) = record { text = subst (LineIs (lines t) line) e here; pair = (u, v); number = w } in
         values-turned limits judging (when-first judging (λ s o. omega (arith, only-rank o)) (cut-first ring.n rs (cut_of g h m))) at (λ s. said-of-cut is)
@@ -123,24 +123,24 @@ module _ (limits : Limits) (judging : Bool) {t l : List ℕ} where
 
     -- D i j amount front back F-or-B, else C
     row-turned : {ring : Ring} {rs : List Routed} {x : SentRow} {y : ThreeNumbers} → At t line (rows ring rs) → SentRead l x → CutRead l y
-        → Turned limits judging t line (rowTurn limits judging ring rs x y)
-    unfolding rowTurn
+        → Turned limits judging t line (row_turn limits judging ring rs x y)
+    unfolding row_turn
     row-turned {ring} at (is-sent {i} {j} {d} {f} {b = k} {w} e h) c =
-        let is : SentIs t line (routedOf i j d f k w) =
+        let is : SentIs t line (routed_of i j d f k w) =
         record {
           text = subst (LineIs (lines t) line) (e ∙ sym (way-spelled i j d f k w)) here;
           nodes = (h.first, h.second);
           amount = h.amount;
           halves = (h.front, h.back);
         } in
-        unless-turned limits judging (rowFault ring.n i j d) (sent-first limits at is judging) (sent-row-bytes at is limits judging) (behind-row at is)
+        unless-turned limits judging (row_fault ring.n i j d) (sent-first limits at is judging) (sent-row-bytes at is limits judging) (behind-row at is)
     row-turned at (no-sent none fault) c =
         cut-turned at (λ r s. none _ _ _ _ _ _ (line-one here s.text refl) (sent-spelled s)) fault c
 
     module _ {ring : Ring} {rs : List Routed} {c : Cut} {ks : List Link} (at : At t line (links ring rs c ks)) where
       -- L link split-load unsplit-load
-      link-turned : {x : ThreeNumbers} → length ks < ring.n → LinkRead l x → Turned limits judging t line (linkTurn judging ring rs c ks x)
-      unfolding linkTurn Says ByteIs
+      link-turned : {x : ThreeNumbers} → length ks < ring.n → LinkRead l x → Turned limits judging t line (link_turn judging ring rs c ks x)
+      unfolding link_turn Says ByteIs
       link-turned few (is-link {k} {s} {u} e p q o) =
           let is : LinkIs t line (link_of k s u) = record { text = subst (LineIs (lines t) line) e here; link = p; loads = (q, o) } in
           values-turned limits judging (when-first judging (λ s o. omega (arith, only-rank o)) (link-first rs (length ks + 1) (link_of k s u))) at
@@ -153,8 +153,8 @@ module _ (limits : Limits) (judging : Bool) {t l : List ℕ} where
           (link-due at few (line-faulty here fault))
 
       -- Z unsplit-peak size
-      last-turned : {x : TwoNumbers} → ring.n ≤ length ks → LastRead l x → Turned limits judging t line (lastTurn judging ring rs c ks x)
-      unfolding lastTurn Says ByteIs
+      last-turned : {x : TwoNumbers} → ring.n ≤ length ks → LastRead l x → Turned limits judging t line (last_turn judging ring rs c ks x)
+      unfolding last_turn Says ByteIs
       last-turned all (is_last {p} {z} e v w) =
           let is : LastIs t line p z = record { text = subst (LineIs (lines t) line) e here; spelled = (v, w) } in
           values-turned limits judging (when-first judging (λ s o. omega (arith, only-rank o)) (last-first ring rs p z)) at (λ s. said-of-last all is)

@@ -6,17 +6,17 @@ use mathlib.Core.Path.{◌≡◌, refl, ap, ◌∙◌, sym}
 use native.Mathlib.Omega.{arith}
 use lib.Dec.{eqb}
 use lib.ListN.{get_or}
-use Rattle.ring.specs.Routing.{F, B, wayNumber, way_of}
-use Rattle.ring.specs.Columns.{listed, routedAt, routedIn}
+use Rattle.ring.specs.Routing.{F, B, way_number, way_of}
+use Rattle.ring.specs.Columns.{listed, routed_at, routed_in}
 use Rattle.ring.proofs.Listed.{listed-snoc}
-use Rattle.text.specs.Mark.{markByte}
+use Rattle.text.specs.Mark.{mark_byte}
 use Rattle.text.specs.Field.{spell}
-use Rattle.text.specs.WriteLine.{writeLine}
-use Rattle.text.specs.Shapes.{sentShape, linkShape, sentLine, linkLine}
+use Rattle.text.specs.WriteLine.{write_line}
+use Rattle.text.specs.Shapes.{sent_shape, link_shape, sent_line, link_line}
 use Rattle.text.proofs.Lengths.{line-short}
 use Rattle.text.proofs.Pieces.{Pieces}
-use Rattle.sheet.specs.WriteSheet.{routedLine, loadLine, lines_of}
-use Rattle.sheet.specs.Arrays.{link_at, linksIn}
+use Rattle.sheet.specs.WriteSheet.{routed_line, load_line, lines_of}
+use Rattle.sheet.specs.Arrays.{link_at, links_in}
 
 lines_more : {A : Type 0} (line : A → List ℕ) (l : List A) (x : A) → lines_of line (l ++ x ∷ []) ≡ lines_of line l ++ line x
 unfolding lines_of
@@ -30,43 +30,43 @@ lines-listed line f k =
     ap (lines_of line) (listed-snoc f 0 k) ∙ lines_more line (listed f 0 k) (f (0 + k)) ∙ ap (λ m. lines_of line (listed f 0 k) ++ line (f m)) e
 
 -- a way is spelled by whether it is 0
-pub way-spelled : (i j d f b w : ℕ) → sentLine i j d f b (wayNumber (way_of w)) ≡ sentLine i j d f b w
-unfolding writeLine spell markByte
+pub way-spelled : (i j d f b w : ℕ) → sent_line i j d f b (way_number (way_of w)) ≡ sent_line i j d f b w
+unfolding write_line spell mark_byte
 way-spelled i j d f b w = go (eqb w 0) refl
   where
-    go : (t : Bool) → eqb w 0 ≡ t → sentLine i j d f b (wayNumber (cond t F B)) ≡ sentLine i j d f b w
+    go : (t : Bool) → eqb w 0 ≡ t → sent_line i j d f b (way_number (cond t F B)) ≡ sent_line i j d f b w
     go true e = rw e
     go false e = rw e
 
 module _ (first second amount front back way : List ℕ) where
-  abbrev pub sentLineAt : ℕ → List ℕ
-  sentLineAt k = sentLine (get_or first k 0) (get_or second k 0) (get_or amount k 0) (get_or front k 0) (get_or back k 0) (get_or way k 0)
+  abbrev pub sent_line_at : ℕ → List ℕ
+  sent_line_at k = sent_line (get_or first k 0) (get_or second k 0) (get_or amount k 0) (get_or front k 0) (get_or back k 0) (get_or way k 0)
 
-  abbrev pub sentText : ℕ → List ℕ
-  sentText k = lines_of routedLine (routedIn k first second amount front back way)
+  abbrev pub sent_text : ℕ → List ℕ
+  sent_text k = lines_of routed_line (routed_in k first second amount front back way)
 
-  pub sent_pieces : Pieces sentLineAt sentText
+  pub sent_pieces : Pieces sent_line_at sent_text
   unfolding listed lines_of
   sent_pieces =
       record {
         none = refl;
-        more = λ k. lines-listed routedLine (routedAt first second amount front back way) k
-            ∙ ap (λ l. sentText k ++ l) (way-spelled (get_or first k 0) (get_or second k 0) (get_or amount k 0) (get_or front k 0) (get_or back k 0) (get_or way k 0));
-        short = λ k. omega (arith, line-short sentShape (0 ∷ get_or first k 0 ∷ get_or second k 0 ∷ get_or amount k 0 ∷ get_or front k 0 ∷ get_or back k 0 ∷ get_or way k 0 ∷ []));
+        more = λ k. lines-listed routed_line (routed_at first second amount front back way) k
+            ∙ ap (λ l. sent_text k ++ l) (way-spelled (get_or first k 0) (get_or second k 0) (get_or amount k 0) (get_or front k 0) (get_or back k 0) (get_or way k 0));
+        short = λ k. omega (arith, line-short sent_shape (0 ∷ get_or first k 0 ∷ get_or second k 0 ∷ get_or amount k 0 ∷ get_or front k 0 ∷ get_or back k 0 ∷ get_or way k 0 ∷ []));
       }
 
 module _ (split unsplit : List ℕ) where
-  abbrev pub loadLineAt : ℕ → List ℕ
-  loadLineAt k = linkLine (k + 1) (get_or split k 0) (get_or unsplit k 0)
+  abbrev pub load_line_at : ℕ → List ℕ
+  load_line_at k = link_line (k + 1) (get_or split k 0) (get_or unsplit k 0)
 
-  abbrev pub loadText : ℕ → List ℕ
-  loadText k = lines_of loadLine (linksIn k split unsplit)
+  abbrev pub load_text : ℕ → List ℕ
+  load_text k = lines_of load_line (links_in k split unsplit)
 
-  pub load-pieces : Pieces loadLineAt loadText
+  pub load-pieces : Pieces load_line_at load_text
   unfolding listed lines_of
   load-pieces =
       record {
         none = refl;
-        more = λ k. lines-listed loadLine (link_at split unsplit) k;
-        short = λ k. omega (arith, line-short linkShape (0 ∷ (k + 1) ∷ get_or split k 0 ∷ get_or unsplit k 0 ∷ []));
+        more = λ k. lines-listed load_line (link_at split unsplit) k;
+        short = λ k. omega (arith, line-short link_shape (0 ∷ (k + 1) ∷ get_or split k 0 ∷ get_or unsplit k 0 ∷ []));
       }

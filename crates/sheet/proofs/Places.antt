@@ -5,16 +5,16 @@ use mathlib.Core.List.{List, [], ◌∷◌, ◌++◌}
 use mathlib.Core.Path.{◌≡◌, refl, ap, ap₂, ◌∙◌, sym, subst, subst₂}
 use native.Mathlib.Omega.{arith}
 use lib.ListN.{length, get_or}
-use Rattle.ring.specs.Routing.{wayNumber, Routed, Way, F, B, routed}
+use Rattle.ring.specs.Routing.{way_number, Routed, Way, F, B, routed}
 use Rattle.ring.specs.Cut.{Cut}
 use Rattle.ring.specs.Ring.{Ring}
 use Rattle.ring.specs.Sheet.{Link, Sheet}
 use Rattle.text.specs.Field.{spell}
-use Rattle.text.specs.Mark.{markByte}
-use Rattle.text.specs.WriteLine.{writeLine}
-use Rattle.text.specs.ReadLine.{readLine}
-use Rattle.text.specs.Answers.{twoIn, threeIn, sentIn}
-use Rattle.text.specs.Shapes.{sentShape, cutShape, linkShape, lastShape}
+use Rattle.text.specs.Mark.{mark_byte}
+use Rattle.text.specs.WriteLine.{write_line}
+use Rattle.text.specs.ReadLine.{read_line}
+use Rattle.text.specs.Answers.{two_in, three_in, sent_in}
+use Rattle.text.specs.Shapes.{sent_shape, cut_shape, link_shape, last_shape}
 use Rattle.text.specs.declared.TwoNumbers.TheVariants.{Are as AreTwo}
 use Rattle.text.specs.declared.ThreeNumbers.{ThreeNumbers}
 use Rattle.text.specs.declared.ThreeNumbers.TheVariants.{Are as AreThree, Bad as NotThree}
@@ -23,34 +23,34 @@ use Rattle.text.specs.declared.SentRow.TheVariants.{Is as IsSent, Bad as NotSent
 use Rattle.table.specs.Lines.{lines}
 use Rattle.table.specs.Says.{LineIs, RingIs}
 use Rattle.table.proofs.LineNumbers.{line-one, ring-one}
-use Rattle.sheet.specs.Check.{cut_of, routedOf, link_of}
+use Rattle.sheet.specs.Check.{cut_of, routed_of, link_of}
 use Rattle.sheet.specs.Says.{State, start, rows, links, end, SentIs, CutIs, LinkIs, LastIs, At, at-start, behind-ring, behind-row, behind-cut, behind-link, behind-last, WholeIs}
 use Rattle.sheet.proofs.Back.{way_back}
 use Rattle.sheet.proofs.SheetLines.{SentSpelled, sent-line-read, cut-line-read, link-line-read, last-line-read}
 
 -- ---- one reading
 
-way-small : (w : Way) → wayNumber w < 2
+way-small : (w : Way) → way_number w < 2
 way-small F = omega arith
 way-small B = omega arith
 
 pub sent-spelled : {t : List ℕ} {line : ℕ} {r : Routed} → SentIs t line r
-    → SentSpelled r.sent.row.i r.sent.row.j r.sent.row.d r.sent.front r.sent.back (wayNumber r.way)
+    → SentSpelled r.sent.row.i r.sent.row.j r.sent.row.d r.sent.front r.sent.back (way_number r.way)
 sent-spelled {r} s =
     record { first = s.nodes.0; second = s.nodes.1; amount = s.amount; front = s.halves.0; back = s.halves.1; way = way-small r.way }
 
 -- the values of an answer
-abbrev routedFrom : SentRow → Routed
-routedFrom (IsSent i j d f k w) = routedOf i j d f k w
-routedFrom (NotSent p) = routedOf 0 0 0 0 0 0
+abbrev routed_from : SentRow → Routed
+routed_from (IsSent i j d f k w) = routed_of i j d f k w
+routed_from (NotSent p) = routed_of 0 0 0 0 0 0
 
-abbrev cutFrom : ThreeNumbers → Cut
-cutFrom (AreThree g h m) = cut_of g h m
-cutFrom (NotThree p) = cut_of 0 0 0
+abbrev cut_from : ThreeNumbers → Cut
+cut_from (AreThree g h m) = cut_of g h m
+cut_from (NotThree p) = cut_of 0 0 0
 
-abbrev linkFrom : ThreeNumbers → Link
-linkFrom (AreThree k s u) = link_of k s u
-linkFrom (NotThree p) = link_of 0 0 0
+abbrev link_from : ThreeNumbers → Link
+link_from (AreThree k s u) = link_of k s u
+link_from (NotThree p) = link_of 0 0 0
 
 -- whatever reads a line answers once
 one_answer : {A : Type 0} {ls : List (List ℕ)} {line : ℕ} {l m : List ℕ} {x y : A} (read : List ℕ → A) → LineIs ls line l → LineIs ls line m → read l ≡ x
@@ -61,32 +61,32 @@ module _ {t : List ℕ} {line : ℕ} where
   pub sent-one : {r q : Routed} → SentIs t line r → SentIs t line q → r ≡ q
   sent-one {r} {q} a b =
       sym (ap (routed r.sent) (way_back r.way))
-      ∙ ap routedFrom (one_answer (λ l. sentIn (readLine sentShape l)) a.text b.text (sent-line-read _ _ _ _ _ _ (sent-spelled a)) (sent-line-read _ _ _ _ _ _ (sent-spelled b)))
+      ∙ ap routed_from (one_answer (λ l. sent_in (read_line sent_shape l)) a.text b.text (sent-line-read _ _ _ _ _ _ (sent-spelled a)) (sent-line-read _ _ _ _ _ _ (sent-spelled b)))
       ∙ ap (routed q.sent) (way_back q.way)
 
   pub cut-one : {c b : Cut} → CutIs t line c → CutIs t line b → c ≡ b
   cut-one p q =
-      ap cutFrom
-      (one_answer (λ l. threeIn (readLine cutShape l)) p.text q.text
+      ap cut_from
+      (one_answer (λ l. three_in (read_line cut_shape l)) p.text q.text
       (cut-line-read _ _ _ p.pair.0 p.pair.1 p.number)
       (cut-line-read _ _ _ q.pair.0 q.pair.1 q.number))
 
   pub link-one : {l m : Link} → LinkIs t line l → LinkIs t line m → l ≡ m
   link-one p q =
-      ap linkFrom
-      (one_answer (λ l. threeIn (readLine linkShape l)) p.text q.text
+      ap link_from
+      (one_answer (λ l. three_in (read_line link_shape l)) p.text q.text
       (link-line-read _ _ _ p.link p.loads.0 p.loads.1)
       (link-line-read _ _ _ q.link q.loads.0 q.loads.1))
 
   pub last_one : {p z q y : ℕ} → LastIs t line p z → LastIs t line q y → (p ≡ q) × (z ≡ y)
   last_one {p} {z} {q} {y} a b =
       let e : AreTwo p z ≡ AreTwo q y =
-      one_answer (λ l. twoIn (readLine lastShape l)) a.text b.text (last-line-read _ _ a.spelled.0 a.spelled.1) (last-line-read _ _ b.spelled.0 b.spelled.1) in
+      one_answer (λ l. two_in (read_line last_shape l)) a.text b.text (last-line-read _ _ a.spelled.0 a.spelled.1) (last-line-read _ _ b.spelled.0 b.spelled.1) in
       (cc, cc)
 
   -- a D and a C line differ in their letter
   pub sent-or-cut : {r : Routed} {c : Cut} → SentIs t line r → CutIs t line c → ⊥
-  unfolding writeLine spell markByte
+  unfolding write_line spell mark_byte
   sent-or-cut a b = omega (arith, ap (λ l. get_or l 0 0) (line-one a.text b.text refl))
 
 -- ---- one way on

@@ -13,14 +13,14 @@ use Rattle.ring.specs.Lists.{Each, none, more}
 use Rattle.ring.specs.Routing.{Routed}
 use Rattle.ring.specs.Sheet.{Link, Sheet, sents, demands}
 use Rattle.text.specs.Number.{limit}
-use Rattle.text.specs.Shapes.{ringLine, sentLine, cutLine, linkLine, lastLine}
+use Rattle.text.specs.Shapes.{ring_line, sent_line, cut_line, link_line, last_line}
 use Rattle.table.specs.declared.judge.Verdict.TheVariants.{Fine}
 use Rattle.table.proofs.Judged.{RingJudged, right-ring, ring-judged, RowJudged, row_fine, row-judged}
 use Rattle.table.proofs.FineRows.{FineRows, no_row, fine-row}
-use Rattle.sheet.specs.WriteSheet.{routedLine, loadLine, lines_of, figuresOf, endText, writeSheet}
+use Rattle.sheet.specs.WriteSheet.{routed_line, load_line, lines_of, figures_of, end_text, write_sheet}
 use Rattle.sheet.specs.Range.{RowSpelled, LinkSpelled, Spelled}
-use Rattle.sheet.specs.Judge.{judgeHalves, judgeCut, judgeLink, judgeLast, judgeWhole}
-use Rattle.sheet.specs.Check.{when, cut_of, routedOf, link_of, last_of, judgeNext}
+use Rattle.sheet.specs.Judge.{judge_halves, judge_cut, judge_link, judge_last, judge_whole}
+use Rattle.sheet.specs.Check.{when, cut_of, routed_of, link_of, last_of, judge_next}
 use Rattle.sheet.specs.Says.{start, rows, links, end}
 use Rattle.sheet.proofs.LineAt.{way-spelled}
 use Rattle.sheet.proofs.SheetLines.{SentSpelled}
@@ -32,16 +32,16 @@ use Rattle.sheet.proofs.Rest.{Rest, rest_end, rest-last, rest-link, rest-cut, re
 -- nothing is found against the links behind k others
 pub data LinksJudged (judging : Bool) (rs : List Routed) : ℕ → List Link → Type 0 where
   no-links : {k : ℕ} → LinksJudged judging rs k []
-  and-link : {k : ℕ} {l : Link} {ls : List Link} → when judging (judgeLink rs (k + 1) l) ≡ Fine → LinksJudged judging rs (k + 1) ls
+  and-link : {k : ℕ} {l : Link} {ls : List Link} → when judging (judge_link rs (k + 1) l) ≡ Fine → LinksJudged judging rs (k + 1) ls
       → LinksJudged judging rs k (l ∷ ls)
 
 -- nor against the rest of a sheet
 pub record Judged (judging : Bool) (x : Sheet) : Type 0 where
-  pub halves : Each (λ r. when judging (judgeHalves r) ≡ Fine) x.rows
-  pub cut : when judging (judgeCut x.ring.n x.rows x.cut) ≡ Fine
+  pub halves : Each (λ r. when judging (judge_halves r) ≡ Fine) x.rows
+  pub cut : when judging (judge_cut x.ring.n x.rows x.cut) ≡ Fine
   pub links : LinksJudged judging x.rows 0 x.links
-  pub last : when judging (judgeLast x.ring x.rows x.peak x.size) ≡ Fine
-  pub whole : when judging (judgeWhole x) ≡ Fine
+  pub last : when judging (judge_last x.ring x.rows x.peak x.size) ≡ Fine
+  pub whole : when judging (judge_whole x) ≡ Fine
 
 -- ---- behind the cut
 
@@ -49,7 +49,7 @@ module _ (judging : Bool) (x : Sheet) where
   record AtEnd (y : Sheet) (text : List ℕ) : Type 0 where
     same : y ≡ x
     nothing : text ≡ []
-    whole : when judging (judgeWhole x) ≡ Fine
+    whole : when judging (judge_whole x) ≡ Fine
 
   at-end : {limits : Limits} {y : Sheet} {text : List ℕ} → Rest limits judging x (end y) text → AtEnd y text
   at-end (rest_end v) = record { same = refl; nothing = refl; whole = v }
@@ -58,17 +58,17 @@ module _ (judging : Bool) (x : Sheet) where
   record FromLinks (ring : Ring) (rs : List Routed) (c : Cut) (ks : List Link) (text : List ℕ) : Type 0 where
     later : List Link
     same : x ≡ record { ring = ring; rows = rs; cut = c; links = ks ++ later; peak = x.peak; size = x.size }
-    is-text : text ≡ lines_of loadLine later ++ lastLine x.peak x.size
+    is-text : text ≡ lines_of load_line later ++ last_line x.peak x.size
     many : length ks + length later ≡ ring.n
     spelled : Each LinkSpelled later
     last : (x.peak < limit) × (x.size < limit)
     judged : LinksJudged judging rs (length ks) later
-    last-judged : when judging (judgeLast ring rs x.peak x.size) ≡ Fine
-    whole : when judging (judgeWhole x) ≡ Fine
+    last-judged : when judging (judge_last ring rs x.peak x.size) ≡ Fine
+    whole : when judging (judge_whole x) ≡ Fine
 
   last-from : {ring : Ring} {rs : List Routed} {c : Cut} {ks : List Link} {p z : ℕ} {text : List ℕ} → length ks ≤ ring.n → ring.n ≤ length ks → p < limit → z < limit
-      → when judging (judgeLast ring rs p z) ≡ Fine → AtEnd (record { ring = ring; rows = rs; cut = c; links = ks; peak = p; size = z }) text
-      → FromLinks ring rs c ks (lastLine p z ++ text)
+      → when judging (judge_last ring rs p z) ≡ Fine → AtEnd (record { ring = ring; rows = rs; cut = c; links = ks; peak = p; size = z }) text
+      → FromLinks ring rs c ks (last_line p z ++ text)
   unfolding lines_of
   last-from {ks = ks} {p = p} {z = z} within all a b v e =
       let ep : p ≡ x.peak = ap (λ (y : Sheet). y.peak) e.same in
@@ -77,7 +77,7 @@ module _ (judging : Bool) (x : Sheet) where
       record {
         later = [];
         same = sym e.same ∙ rw (append-nil ks, ep, ez);
-        is-text = rw (q, append-nil (lastLine p z), ep, ez);
+        is-text = rw (q, append-nil (last_line p z), ep, ez);
         many = omega arith;
         spelled = none;
         last = (rw (← ep) a, rw (← ez) b);
@@ -87,15 +87,15 @@ module _ (judging : Bool) (x : Sheet) where
       }
 
   link-from : {ring : Ring} {rs : List Routed} {c : Cut} {ks : List Link} {k s u : ℕ} {text : List ℕ} → k < limit → s < limit → u < limit
-      → when judging (judgeLink rs (length ks + 1) (link_of k s u)) ≡ Fine → FromLinks ring rs c (ks ++ link_of k s u ∷ []) text
-      → FromLinks ring rs c ks (linkLine k s u ++ text)
+      → when judging (judge_link rs (length ks + 1) (link_of k s u)) ≡ Fine → FromLinks ring rs c (ks ++ link_of k s u ∷ []) text
+      → FromLinks ring rs c ks (link_line k s u ++ text)
   unfolding lines_of
   link-from {rs = rs} {ks = ks} {k = k} {s = s} {u = u} a b d v f =
       let long : length (ks ++ link_of k s u ∷ []) ≡ length ks + 1 = length-append ks (link_of k s u ∷ []) in
       record {
         later = link_of k s u ∷ f.later;
         same = rw (append_assoc ks (link_of k s u ∷ []) f.later) at f.same;
-        is-text = ap (λ (t : List ℕ). linkLine k s u ++ t) f.is-text ∙ sym (append_assoc (linkLine k s u) (lines_of loadLine f.later) (lastLine x.peak x.size));
+        is-text = ap (λ (t : List ℕ). link_line k s u ++ t) f.is-text ∙ sym (append_assoc (link_line k s u) (lines_of load_line f.later) (last_line x.peak x.size));
         many = omega (arith, f.many);
         spelled = more (record { link = a; split = b; unsplit = d }) f.spelled;
         last = f.last;
@@ -116,22 +116,22 @@ module _ (judging : Bool) (x : Sheet) where
   record FromRows (limits : Limits) (ring : Ring) (rs : List Routed) (text : List ℕ) : Type 0 where
     later : List Routed
     same : x.rows ≡ rs ++ later
-    is-text : text ≡ lines_of routedLine later ++ endText (figuresOf x) x.links
+    is-text : text ≡ lines_of routed_line later ++ end_text (figures_of x) x.links
     fine : FineRows limits ring.n (length rs) (last_of rs).i (last_of rs).j (demands (sents later))
     halves : Each RowSpelled later
-    judged : Each (λ r. when judging (judgeHalves r) ≡ Fine) later
+    judged : Each (λ r. when judging (judge_halves r) ≡ Fine) later
     cut : (x.cut.g < limit) × ((x.cut.h < limit) × (x.cut.number < limit))
-    cut-judged : when judging (judgeCut ring.n x.rows x.cut) ≡ Fine
-    behind : FromLinks ring x.rows x.cut [] (lines_of loadLine x.links ++ lastLine x.peak x.size)
+    cut-judged : when judging (judge_cut ring.n x.rows x.cut) ≡ Fine
+    behind : FromLinks ring x.rows x.cut [] (lines_of load_line x.links ++ last_line x.peak x.size)
 
   cut-from : {limits : Limits} {ring : Ring} {rs : List Routed} {g h m : ℕ} {text : List ℕ} → g < limit → h < limit → m < limit
-      → when judging (judgeCut ring.n rs (cut_of g h m)) ≡ Fine → FromLinks ring rs (cut_of g h m) [] text → FromRows limits ring rs (cutLine g h m ++ text)
-  unfolding lines_of endText
+      → when judging (judge_cut ring.n rs (cut_of g h m)) ≡ Fine → FromLinks ring rs (cut_of g h m) [] text → FromRows limits ring rs (cut_line g h m ++ text)
+  unfolding lines_of end_text
   cut-from {ring = ring} {rs = rs} {g = g} {h = h} {m = m} {text = text} p q r v f =
       let er : x.rows ≡ rs = ap (λ (y : Sheet). y.rows) f.same in
       let ec : x.cut ≡ cut_of g h m = ap (λ (y : Sheet). y.cut) f.same in
       let el : x.links ≡ f.later = ap (λ (y : Sheet). y.links) f.same in
-      let et : text ≡ lines_of loadLine x.links ++ lastLine x.peak x.size = rw el f.is-text in
+      let et : text ≡ lines_of load_line x.links ++ last_line x.peak x.size = rw el f.is-text in
       record {
         later = [];
         same = er ∙ sym (append-nil rs);
@@ -147,17 +147,17 @@ module _ (judging : Bool) (x : Sheet) where
       }
 
   -- what holds of a row that nothing is found against
-  row_from : {limits : Limits} {ring : Ring} {rs : List Routed} {i j d f k w : ℕ} {text : List ℕ} → SentSpelled i j d f k w → judgeNext limits ring.n rs i j d ≡ Fine
-      → when judging (judgeHalves (routedOf i j d f k w)) ≡ Fine → FromRows limits ring (rs ++ routedOf i j d f k w ∷ []) text
-      → FromRows limits ring rs (sentLine i j d f k w ++ text)
+  row_from : {limits : Limits} {ring : Ring} {rs : List Routed} {i j d f k w : ℕ} {text : List ℕ} → SentSpelled i j d f k w → judge_next limits ring.n rs i j d ≡ Fine
+      → when judging (judge_halves (routed_of i j d f k w)) ≡ Fine → FromRows limits ring (rs ++ routed_of i j d f k w ∷ []) text
+      → FromRows limits ring rs (sent_line i j d f k w ++ text)
   unfolding lines_of
   row_from {limits} {ring} {rs} {i} {j} {d} {f} {k} {w} {text} spelled v u from =
       record {
         later = r ∷ from.later;
         same = from.same ∙ append_assoc rs (r ∷ []) from.later;
         is-text =
-            ap (λ (t : List ℕ). sentLine i j d f k w ++ t) from.is-text ∙ ap (λ (t : List ℕ). t ++ (lines_of routedLine from.later ++ endText (figuresOf x) x.links)) (sym (way-spelled i j d f k w))
-            ∙ sym (append_assoc (routedLine r) (lines_of routedLine from.later) (endText (figuresOf x) x.links));
+            ap (λ (t : List ℕ). sent_line i j d f k w ++ t) from.is-text ∙ ap (λ (t : List ℕ). t ++ (lines_of routed_line from.later ++ end_text (figures_of x) x.links)) (sym (way-spelled i j d f k w))
+            ∙ sym (append_assoc (routed_line r) (lines_of routed_line from.later) (end_text (figures_of x) x.links));
         fine = fine (rw v at (row-judged limits ring.n (length rs) (last_of rs).i (last_of rs).j i j d));
         halves = more (record { front = spelled.front; back = spelled.back }) from.halves;
         judged = more u from.judged;
@@ -167,7 +167,7 @@ module _ (judging : Bool) (x : Sheet) where
       }
     where
       r : Routed
-      r = routedOf i j d f k w
+      r = routed_of i j d f k w
 
       fine : RowJudged limits ring.n (length rs) (last_of rs).i (last_of rs).j i j d Fine → FineRows limits ring.n (length rs) (last_of rs).i (last_of rs).j (demands (sents (r ∷ from.later)))
       fine (row_fine on up room most) =
@@ -181,7 +181,7 @@ module _ (judging : Bool) (x : Sheet) where
 
 -- it is written as t, in range, and nothing is found against it
 pub record IsSheet (limits : Limits) (judging : Bool) (t : List ℕ) (x : Sheet) : Type 0 where
-  pub text : t ≡ writeSheet x
+  pub text : t ≡ write_sheet x
   pub few : limits.fewest ≤ x.ring.n
   pub many : x.ring.n ≤ limits.nodes
   pub fibres : IsFibres x.ring.fibres
@@ -191,15 +191,15 @@ pub record IsSheet (limits : Limits) (judging : Bool) (t : List ℕ) (x : Sheet)
   pub judged : Judged judging x
 
 sheet-from : (limits : Limits) (judging : Bool) (t : List ℕ) (x : Sheet) (ring : Ring) → RingJudged limits ring Fine → FromRows judging x limits ring [] t
-    → IsSheet limits judging (ringLine ring.n ring.fibres ++ t) x
-unfolding writeSheet
+    → IsSheet limits judging (ring_line ring.n ring.fibres ++ t) x
+unfolding write_sheet
 sheet-from limits judging t x ring (right-ring few many fibres) f =
     let b = f.behind in
     let en : x.ring ≡ ring = ap (λ (y : Sheet). y.ring) b.same in
     let el : x.links ≡ b.later = ap (λ (y : Sheet). y.links) b.same in
     let er : x.rows ≡ f.later = f.same in
     record {
-      text = rw (en, er) (ap (λ (s : List ℕ). ringLine ring.n ring.fibres ++ s) f.is-text);
+      text = rw (en, er) (ap (λ (s : List ℕ). ring_line ring.n ring.fibres ++ s) f.is-text);
       few = rw en few;
       many = rw en many;
       fibres = rw en fibres;

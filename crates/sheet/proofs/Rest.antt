@@ -10,53 +10,53 @@ use lib.ListN.{length, get_or}
 use borrow.Author.Tests.{lt-ltb, le-ltb}
 use Rattle.ring.specs.Cut.{Cut}
 use Rattle.ring.specs.Limits.{Limits}
-use Rattle.ring.specs.Ring.{Ring, ringOf}
+use Rattle.ring.specs.Ring.{Ring, ring_of}
 use Rattle.ring.specs.Lists.{Each, none, more}
 use Rattle.ring.specs.Routing.{Routed}
 use Rattle.ring.specs.Sheet.{Link, Sheet}
 use Rattle.text.specs.Number.{limit}
-use Rattle.text.specs.Answers.{threeIn}
-use Rattle.text.specs.Bytes.{letterC, letterD, letterL, number}
+use Rattle.text.specs.Answers.{three_in}
+use Rattle.text.specs.Bytes.{letter_c, letter_d, letter_l, number}
 use Rattle.text.specs.Field.{spell}
-use Rattle.text.specs.Mark.{markByte}
-use Rattle.text.specs.WriteLine.{writeLine}
-use Rattle.text.specs.Shapes.{cutShape, ringLine, sentLine, cutLine, linkLine, lastLine}
-use Rattle.text.specs.ReadLine.{readLine}
+use Rattle.text.specs.Mark.{mark_byte}
+use Rattle.text.specs.WriteLine.{write_line}
+use Rattle.text.specs.Shapes.{cut_shape, ring_line, sent_line, cut_line, link_line, last_line}
+use Rattle.text.specs.ReadLine.{read_line}
 use Rattle.text.specs.declared.TwoNumbers.{TwoNumbers}
 use Rattle.text.specs.declared.ThreeNumbers.{ThreeNumbers}
 use Rattle.text.specs.declared.SentRow.{SentRow}
 use Rattle.text.proofs.Apart.{clash}
 use Rattle.table.specs.Lines.{lines}
-use Rattle.table.specs.Judge.{judgeRing}
+use Rattle.table.specs.Judge.{judge_ring}
 use Rattle.table.specs.declared.judge.Verdict.{Verdict}
 use Rattle.table.specs.declared.judge.Verdict.TheVariants.{Fine, Fault}
 use Rattle.table.proofs.LineRead.{RingSpelled, RingRead, is-ring, no-ring, ring-read, ring-line-read}
 use Rattle.table.proofs.LinesOf.{FirstLine, NoLf, written-first, ring-first}
 use Rattle.sheet.specs.Verdicts.{or_else}
-use Rattle.sheet.specs.Judge.{judgeHalves, judgeCut, judgeLink, judgeLast, judgeWhole}
-use Rattle.table.specs.Fields.{ringFault, rowFault}
+use Rattle.sheet.specs.Judge.{judge_halves, judge_cut, judge_link, judge_last, judge_whole}
+use Rattle.table.specs.Fields.{ring_fault, row_fault}
 use Rattle.table.specs.declared.reason.Reason.{Reason}
-use Rattle.sheet.specs.Check.{wholeLine, accepted, judgeNext, Turn, on, stop, unless, when, cut_of, routedOf, link_of, ringTurn, cutTurn, rowTurn, linkTurn, lastTurn, turn, wholeResult, atEnd, after, checkFrom}
+use Rattle.sheet.specs.Check.{whole_line, accepted, judge_next, Turn, on, stop, unless, when, cut_of, routed_of, link_of, ring_turn, cut_turn, row_turn, link_turn, last_turn, turn, whole_result, at_end, after, check_from}
 use Rattle.sheet.specs.Says.{State, start, rows, links, end}
 use Rattle.sheet.proofs.SheetLines.{SentSpelled, SentRead, is-sent, no-sent, sent-read, CutRead, is_cut, no_cut, cut-read, LinkRead, is-link, no-link, link-read, LastRead, is_last, no_last, last-read, sent-line-read, cut-line-read, link-line-read, last-line-read, sent-in-range, cut-in-range, link-in-range, last-in-range}
 
 -- the rest `text` leads from a state to the sheet x; where `judging`, nothing is found against it
 pub data Rest (limits : Limits) (judging : Bool) (x : Sheet) : State → List ℕ → Type 0 where
-  rest_end : when judging (judgeWhole x) ≡ Fine → Rest limits judging x (end x) []
+  rest_end : when judging (judge_whole x) ≡ Fine → Rest limits judging x (end x) []
   rest-last : {ring : Ring} {rs : List Routed} {c : Cut} {ks : List Link} {p z : ℕ} {text : List ℕ} → ring.n ≤ length ks → p < limit → z < limit
-      → when judging (judgeLast ring rs p z) ≡ Fine → Rest limits judging x (end (record { ring = ring; rows = rs; cut = c; links = ks; peak = p; size = z })) text
-      → Rest limits judging x (links ring rs c ks) (lastLine p z ++ text)
+      → when judging (judge_last ring rs p z) ≡ Fine → Rest limits judging x (end (record { ring = ring; rows = rs; cut = c; links = ks; peak = p; size = z })) text
+      → Rest limits judging x (links ring rs c ks) (last_line p z ++ text)
   rest-link : {ring : Ring} {rs : List Routed} {c : Cut} {ks : List Link} {k s u : ℕ} {text : List ℕ} → length ks < ring.n → k < limit → s < limit → u < limit
-      → when judging (judgeLink rs (length ks + 1) (link_of k s u)) ≡ Fine → Rest limits judging x (links ring rs c (ks ++ link_of k s u ∷ [])) text
-      → Rest limits judging x (links ring rs c ks) (linkLine k s u ++ text)
+      → when judging (judge_link rs (length ks + 1) (link_of k s u)) ≡ Fine → Rest limits judging x (links ring rs c (ks ++ link_of k s u ∷ [])) text
+      → Rest limits judging x (links ring rs c ks) (link_line k s u ++ text)
   rest-cut : {ring : Ring} {rs : List Routed} {g h m : ℕ} {text : List ℕ} → g < limit → h < limit → m < limit
-      → when judging (judgeCut ring.n rs (cut_of g h m)) ≡ Fine → Rest limits judging x (links ring rs (cut_of g h m) []) text
-      → Rest limits judging x (rows ring rs) (cutLine g h m ++ text)
-  rest-row : {ring : Ring} {rs : List Routed} {i j d f k w : ℕ} {text : List ℕ} → SentSpelled i j d f k w → judgeNext limits ring.n rs i j d ≡ Fine
-      → when judging (judgeHalves (routedOf i j d f k w)) ≡ Fine → Rest limits judging x (rows ring (rs ++ routedOf i j d f k w ∷ [])) text
-      → Rest limits judging x (rows ring rs) (sentLine i j d f k w ++ text)
-  rest-ring : {ring : Ring} {text : List ℕ} → RingSpelled ring.n ring.fibres → judgeRing limits ring ≡ Fine → Rest limits judging x (rows ring []) text
-      → Rest limits judging x start (ringLine ring.n ring.fibres ++ text)
+      → when judging (judge_cut ring.n rs (cut_of g h m)) ≡ Fine → Rest limits judging x (links ring rs (cut_of g h m) []) text
+      → Rest limits judging x (rows ring rs) (cut_line g h m ++ text)
+  rest-row : {ring : Ring} {rs : List Routed} {i j d f k w : ℕ} {text : List ℕ} → SentSpelled i j d f k w → judge_next limits ring.n rs i j d ≡ Fine
+      → when judging (judge_halves (routed_of i j d f k w)) ≡ Fine → Rest limits judging x (rows ring (rs ++ routed_of i j d f k w ∷ [])) text
+      → Rest limits judging x (rows ring rs) (sent_line i j d f k w ++ text)
+  rest-ring : {ring : Ring} {text : List ℕ} → RingSpelled ring.n ring.fibres → judge_ring limits ring ≡ Fine → Rest limits judging x (rows ring []) text
+      → Rest limits judging x start (ring_line ring.n ring.fibres ++ text)
 
 -- ---- a line that leads on
 
@@ -75,41 +75,41 @@ module _ (limits : Limits) (judging : Bool) (x : Sheet) where
   abbrev Leads : State → List ℕ → Turn → Type 0
   Leads state l t = (next : State) → t ≡ on next → (text : List ℕ) → Rest limits judging x next text → Rest limits judging x state (l ++ text)
 
-  ring-leads : (l : List ℕ) {y : TwoNumbers} → RingRead l y → Leads start l (ringTurn limits y)
-  unfolding ringTurn
+  ring-leads : (l : List ℕ) {y : TwoNumbers} → RingRead l y → Leads start l (ring_turn limits y)
+  unfolding ring_turn
   ring-leads l (is-ring {n} {fibres} e w) next q text rest =
-      let u = unless-on (judgeRing limits (ringOf n fibres)) (ringFault (ringOf n fibres)) (rows (ringOf n fibres) []) next q in
-      rw e (rest-ring {ring = ringOf n fibres} w u.0 (subst (λ s. Rest limits judging x s text) (sym u.1) rest))
+      let u = unless-on (judge_ring limits (ring_of n fibres)) (ring_fault (ring_of n fibres)) (rows (ring_of n fibres) []) next q in
+      rw e (rest-ring {ring = ring_of n fibres} w u.0 (subst (λ s. Rest limits judging x s text) (sym u.1) rest))
   ring-leads l (no-ring misread fault) next q text rest = clash (cc)
 
   module _ (ring : Ring) (rs : List Routed) where
-    cut-leads : (l : List ℕ) (o : ℕ) {y : ThreeNumbers} → CutRead l y → Leads (rows ring rs) l (cutTurn judging ring rs o y)
-    unfolding cutTurn
+    cut-leads : (l : List ℕ) (o : ℕ) {y : ThreeNumbers} → CutRead l y → Leads (rows ring rs) l (cut_turn judging ring rs o y)
+    unfolding cut_turn
     cut-leads l o (is_cut {g} {h} {m} e p q r) next t text rest =
-        let u = unless-on (when judging (judgeCut ring.n rs (cut_of g h m))) wholeLine (links ring rs (cut_of g h m) []) next t in
+        let u = unless-on (when judging (judge_cut ring.n rs (cut_of g h m))) whole_line (links ring rs (cut_of g h m) []) next t in
         rw e (rest-cut p q r u.0 (subst (λ s. Rest limits judging x s text) (sym u.1) rest))
     cut-leads l o (no_cut misread fault) next t text rest = clash (cc)
 
-    row-leads : (l : List ℕ) {y : SentRow} {z : ThreeNumbers} → SentRead l y → CutRead l z → Leads (rows ring rs) l (rowTurn limits judging ring rs y z)
-    unfolding rowTurn
+    row-leads : (l : List ℕ) {y : SentRow} {z : ThreeNumbers} → SentRead l y → CutRead l z → Leads (rows ring rs) l (row_turn limits judging ring rs y z)
+    unfolding row_turn
     row-leads l (is-sent {i} {j} {d} {f} {b = k} {w} e spelled) other next t text rest =
-        let u = unless-on (or_else (judgeNext limits ring.n rs i j d) (when judging (judgeHalves (routedOf i j d f k w)))) (rowFault ring.n i j d) (rows ring (rs ++ routedOf i j d f k w ∷ [])) next t in
-        let v = or-fine (judgeNext limits ring.n rs i j d) (when judging (judgeHalves (routedOf i j d f k w))) u.0 in
+        let u = unless-on (or_else (judge_next limits ring.n rs i j d) (when judging (judge_halves (routed_of i j d f k w)))) (row_fault ring.n i j d) (rows ring (rs ++ routed_of i j d f k w ∷ [])) next t in
+        let v = or-fine (judge_next limits ring.n rs i j d) (when judging (judge_halves (routed_of i j d f k w))) u.0 in
         rw e (rest-row spelled v.0 v.1 (subst (λ s. Rest limits judging x s text) (sym u.1) rest))
     row-leads l (no-sent {p} misread fault) other next t text rest = cut-leads l p other next t text rest
 
     module _ (c : Cut) (ks : List Link) where
-      link-leads : (l : List ℕ) {y : ThreeNumbers} → length ks < ring.n → LinkRead l y → Leads (links ring rs c ks) l (linkTurn judging ring rs c ks y)
-      unfolding linkTurn
+      link-leads : (l : List ℕ) {y : ThreeNumbers} → length ks < ring.n → LinkRead l y → Leads (links ring rs c ks) l (link_turn judging ring rs c ks y)
+      unfolding link_turn
       link-leads l few (is-link {k} {s} {u} e p q r) next t text rest =
-          let v = unless-on (when judging (judgeLink rs (length ks + 1) (link_of k s u))) wholeLine (links ring rs c (ks ++ link_of k s u ∷ [])) next t in
+          let v = unless-on (when judging (judge_link rs (length ks + 1) (link_of k s u))) whole_line (links ring rs c (ks ++ link_of k s u ∷ [])) next t in
           rw e (rest-link few p q r v.0 (subst (λ s. Rest limits judging x s text) (sym v.1) rest))
       link-leads l few (no-link misread fault) next t text rest = clash (cc)
 
-      last-leads : (l : List ℕ) {y : TwoNumbers} → ring.n ≤ length ks → LastRead l y → Leads (links ring rs c ks) l (lastTurn judging ring rs c ks y)
-      unfolding lastTurn
+      last-leads : (l : List ℕ) {y : TwoNumbers} → ring.n ≤ length ks → LastRead l y → Leads (links ring rs c ks) l (last_turn judging ring rs c ks y)
+      unfolding last_turn
       last-leads l all (is_last {p} {z} e a b) next t text rest =
-          let u = unless-on (when judging (judgeLast ring rs p z)) wholeLine (end (record { ring = ring; rows = rs; cut = c; links = ks; peak = p; size = z })) next t in
+          let u = unless-on (when judging (judge_last ring rs p z)) whole_line (end (record { ring = ring; rows = rs; cut = c; links = ks; peak = p; size = z })) next t in
           rw e (rest-last all a b u.0 (subst (λ s. Rest limits judging x s text) (sym u.1) rest))
       last-leads l all (no_last misread fault) next t text rest = clash (cc)
 
@@ -126,24 +126,24 @@ module _ (limits : Limits) (judging : Bool) (x : Sheet) where
 
   -- ---- accepted, so there is a rest
 
-  ended : (state : State) (line : ℕ) → atEnd judging state line ≡ accepted x → Rest limits judging x state []
-  unfolding atEnd wholeResult
+  ended : (state : State) (line : ℕ) → at_end judging state line ≡ accepted x → Rest limits judging x state []
+  unfolding at_end whole_result
   ended start line e = clash (cc)
   ended (rows ring rs) line e = clash (cc)
   ended (links ring rs c ks) line e = clash (cc)
-  ended (end y) line e = go (when judging (judgeWhole y)) refl e
+  ended (end y) line e = go (when judging (judge_whole y)) refl e
     where
-      go : (v : Verdict) → when judging (judgeWhole y) ≡ v → wholeResult y v ≡ accepted x → Rest limits judging x (end y) []
-      go Fine q e = let same : y ≡ x = cc in subst (λ s. Rest limits judging x (end s) []) (sym same) (rest_end (subst (λ s. when judging (judgeWhole s) ≡ Fine) same q))
+      go : (v : Verdict) → when judging (judge_whole y) ≡ v → whole_result y v ≡ accepted x → Rest limits judging x (end y) []
+      go Fine q e = let same : y ≡ x = cc in subst (λ s. Rest limits judging x (end s) []) (sym same) (rest_end (subst (λ s. when judging (judge_whole s) ≡ Fine) same q))
       go (Fault r) q e = clash (cc)
 
-  pub read-rest : (ls : List (List ℕ)) (state : State) (line : ℕ) → checkFrom limits judging state line ls ≡ accepted x → Rest limits judging x state (flatten ls)
-  unfolding checkFrom after flatten
+  pub read-rest : (ls : List (List ℕ)) (state : State) (line : ℕ) → check_from limits judging state line ls ≡ accepted x → Rest limits judging x state (flatten ls)
+  unfolding check_from after flatten
   read-rest [] state line e = ended state line e
   read-rest (l ∷ ls) state line e = go (λ next f. read-rest ls next (line + 1) f) (turn limits judging state l) refl e
     where
-      go : ((next : State) → checkFrom limits judging next (line + 1) ls ≡ accepted x → Rest limits judging x next (flatten ls)) → (t : Turn)
-          → turn limits judging state l ≡ t → after t line (λ next. checkFrom limits judging next (line + 1) ls) ≡ accepted x
+      go : ((next : State) → check_from limits judging next (line + 1) ls ≡ accepted x → Rest limits judging x next (flatten ls)) → (t : Turn)
+          → turn limits judging state l ≡ t → after t line (λ next. check_from limits judging next (line + 1) ls) ≡ accepted x
           → Rest limits judging x state (l ++ flatten ls)
       go later (on next) q f = turn-leads state l next q (flatten ls) (later next f)
       go later (stop r byte) q f = clash (cc)
@@ -151,18 +151,18 @@ module _ (limits : Limits) (judging : Bool) (x : Sheet) where
 -- ---- there is a rest, so accepted
 
 -- a C line is no D line: they differ in their letter
-cut-no-row : (g h m i j d f b w : ℕ) → cutLine g h m ≡ sentLine i j d f b w → ⊥
-unfolding writeLine spell markByte
-cut-no-row g h m i j d f b w e = let q : letterC ≡ letterD = ap (λ l. get_or l 0 0) e in omega arith
+cut-no-row : (g h m i j d f b w : ℕ) → cut_line g h m ≡ sent_line i j d f b w → ⊥
+unfolding write_line spell mark_byte
+cut-no-row g h m i j d f b w e = let q : letter_c ≡ letter_d = ap (λ l. get_or l 0 0) e in omega arith
 
-cut-not-sent : (g h m : ℕ) {y : SentRow} → SentRead (cutLine g h m) y → (limits : Limits) (judging : Bool) (ring : Ring) (rs : List Routed) (z : ThreeNumbers)
-    → (o : ℕ) × (rowTurn limits judging ring rs y z ≡ cutTurn judging ring rs o z)
-unfolding rowTurn
+cut-not-sent : (g h m : ℕ) {y : SentRow} → SentRead (cut_line g h m) y → (limits : Limits) (judging : Bool) (ring : Ring) (rs : List Routed) (z : ThreeNumbers)
+    → (o : ℕ) × (row_turn limits judging ring rs y z ≡ cut_turn judging ring rs o z)
+unfolding row_turn
 cut-not-sent g h m (is-sent e s) limits judging ring rs z = absurd (cut-no-row g h m _ _ _ _ _ _ e)
 cut-not-sent g h m (no-sent {p} misread fault) limits judging ring rs z = (p, refl)
 
 -- each line is the first of what it begins
-pub sent-first : (i j d f b w : ℕ) → SentSpelled i j d f b w → FirstLine (sentLine i j d f b w)
+pub sent-first : (i j d f b w : ℕ) → SentSpelled i j d f b w → FirstLine (sent_line i j d f b w)
 sent-first i j d f b w h =
     written-first _ _ _
     (more (λ e. omega arith) (more (λ e. omega arith) (more (λ e. omega arith) (more (λ e. omega arith) (more (λ e. omega arith) (more (λ e. omega arith) (more (λ e. omega arith) none)))))))
@@ -174,25 +174,25 @@ four-marks f h = more h (more number-marks (more number-marks (more number-marks
     number-marks : NoLf number
     number-marks e = omega arith
 
-pub cut-first : (g h m : ℕ) → g < limit → h < limit → m < limit → FirstLine (cutLine g h m)
-cut-first g h m a b c = written-first _ _ _ (four-marks letterC (λ e. omega arith)) (cut-in-range g h m a b c)
+pub cut-first : (g h m : ℕ) → g < limit → h < limit → m < limit → FirstLine (cut_line g h m)
+cut-first g h m a b c = written-first _ _ _ (four-marks letter_c (λ e. omega arith)) (cut-in-range g h m a b c)
 
-pub link-first : (k s u : ℕ) → k < limit → s < limit → u < limit → FirstLine (linkLine k s u)
-link-first k s u a b c = written-first _ _ _ (four-marks letterL (λ e. omega arith)) (link-in-range k s u a b c)
+pub link-first : (k s u : ℕ) → k < limit → s < limit → u < limit → FirstLine (link_line k s u)
+link-first k s u a b c = written-first _ _ _ (four-marks letter_l (λ e. omega arith)) (link-in-range k s u a b c)
 
-pub last-first : (p z : ℕ) → p < limit → z < limit → FirstLine (lastLine p z)
+pub last-first : (p z : ℕ) → p < limit → z < limit → FirstLine (last_line p z)
 last-first p z a b = written-first _ _ _ (more (λ e. omega arith) (more (λ e. omega arith) (more (λ e. omega arith) none))) (last-in-range p z a b)
 
 module _ (limits : Limits) (judging : Bool) (x : Sheet) where
-  pub rest_read : {state : State} {text : List ℕ} → Rest limits judging x state text → (line : ℕ) → checkFrom limits judging state line (lines text) ≡ accepted x
-  unfolding checkFrom turn after atEnd wholeResult lines ringTurn rowTurn cutTurn linkTurn lastTurn unless or_else
+  pub rest_read : {state : State} {text : List ℕ} → Rest limits judging x state text → (line : ℕ) → check_from limits judging state line (lines text) ≡ accepted x
+  unfolding check_from turn after at_end whole_result lines ring_turn row_turn cut_turn link_turn last_turn unless or_else
   rest_read (rest_end v) line = rw v
   rest_read (rest-last {ring} {rs} {c} {ks} {p} {z} {text} all a b v rest) line =
       rw (last-first p z a b text, le-ltb (length ks) ring.n all, last-line-read p z a b, v) (rest_read rest (line + 1))
   rest_read (rest-link {ring} {rs} {c} {ks} {k} {s} {u} {text} few a b d v rest) line =
       rw (link-first k s u a b d text, lt-ltb (length ks) ring.n few, link-line-read k s u a b d, v) (rest_read rest (line + 1))
   rest_read (rest-cut {ring} {rs} {g} {h} {m} {text} p q r v rest) line =
-      rw (cut-first g h m p q r text, (cut-not-sent g h m (sent-read (cutLine g h m)) limits judging ring rs (threeIn (readLine cutShape (cutLine g h m)))).1, cut-line-read g h m p q r, v)
+      rw (cut-first g h m p q r text, (cut-not-sent g h m (sent-read (cut_line g h m)) limits judging ring rs (three_in (read_line cut_shape (cut_line g h m)))).1, cut-line-read g h m p q r, v)
       (rest_read rest (line + 1))
   rest_read (rest-row {ring} {rs} {i} {j} {d} {f} {k} {w} {text} spelled v u rest) line =
       rw (sent-first i j d f k w spelled text, sent-line-read i j d f k w spelled, v, u) (rest_read rest (line + 1))

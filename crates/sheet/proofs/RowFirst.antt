@@ -18,8 +18,8 @@ use Rattle.table.specs.declared.judge.Verdict.{Verdict}
 use Rattle.table.proofs.Judged.{RowJudged, no-such-node, not-below, out_of_order, too_many, too_much, row_fine, row-judged}
 use Rattle.table.proofs.Against.{AgainstRow, by-nodes, by-pair, by_order, by_count, by-amount, row-least}
 use Rattle.sheet.specs.Verdicts.{or_else}
-use Rattle.sheet.specs.Judge.{judgeHalves}
-use Rattle.sheet.specs.Check.{when, last_of, judgeNext}
+use Rattle.sheet.specs.Judge.{judge_halves}
+use Rattle.sheet.specs.Check.{when, last_of, judge_next}
 use Rattle.sheet.specs.Says.{rows, SentIs, At, behind-ring, behind-row, RowAt, WrongOrder, Says}
 use Rattle.sheet.proofs.Last.{last_more}
 use Rattle.sheet.proofs.FirstReason.{HoldsAs, First, first-as, or-else-first, only_then, Counts, form-first, when-first}
@@ -47,7 +47,7 @@ order-holds {r} (behind-row {line} {rs} {r = q} at is) row low wrong =
 module _ (limits : Limits) {t : List ℕ} {line : ℕ} {ring : Ring} {rs : List Routed} {r : Routed} (at : At t line (rows ring rs)) (is : SentIs t line r) where
   -- 4 to 7 and 16
   demand-first : First (λ s. AgainstDemand limits ring.n rs r.sent.row s × Says limits t s line)
-      (judgeNext limits ring.n rs r.sent.row.i r.sent.row.j r.sent.row.d)
+      (judge_next limits ring.n rs r.sent.row.i r.sent.row.j r.sent.row.d)
   unfolding Says
   demand-first =
       let judged = row-judged limits ring.n (length rs) (last_of rs).i (last_of rs).j r.sent.row.i r.sent.row.j r.sent.row.d in
@@ -69,7 +69,7 @@ module _ (limits : Limits) {t : List ℕ} {line : ℕ} {ring : Ring} {rs : List 
   halves-said s (inr o) = only_then (λ s. Says limits t s line) (λ w. record { r = r; row = row-at at is; wrong = w }) s o
 
   pub sent-first : (judging : Bool) → First (Counted limits judging t line)
-      (or_else (judgeNext limits ring.n rs r.sent.row.i r.sent.row.j r.sent.row.d) (when judging (judgeHalves r)))
+      (or_else (judge_next limits ring.n rs r.sent.row.i r.sent.row.j r.sent.row.d) (when judging (judge_halves r)))
   sent-first judging =
       first-as (λ s. ⊎_elim (λ p. (p.0, p.1.1)) (λ p. (p.0, halves-said s p.1))) (λ s c. go c (said-of-row is (said_here at (said s c.1))))
       (or-else-first (λ x y p q. omega (arith, early p.1.0, halves-late r y q.1))

@@ -10,16 +10,16 @@ use native.Mathlib.Decide.{dec_le}
 use lib.ListN.{length}
 use Rattle.ring.specs.Limits.{Limits}
 use Rattle.ring.specs.Ring.{Ring}
-use Rattle.ring.specs.Routing.{wayNumber, Routed}
+use Rattle.ring.specs.Routing.{way_number, Routed}
 use Rattle.ring.specs.Cut.{Cut}
 use Rattle.ring.specs.Sheet.{Link}
-use Rattle.text.specs.FieldByte.{fieldByte, rowByte}
+use Rattle.text.specs.FieldByte.{field_byte, row_byte}
 use Rattle.text.specs.FirstFault.{Agrees, FirstFault}
-use Rattle.text.specs.Shapes.{sentShape, cutShape}
-use Rattle.text.specs.WriteLine.{writeLine}
+use Rattle.text.specs.Shapes.{sent_shape, cut_shape}
+use Rattle.text.specs.WriteLine.{write_line}
 use Rattle.text.proofs.LineLaws.{fewer}
 use Rattle.text.proofs.Starts.{sent-row-byte}
-use Rattle.table.specs.Fields.{nodeField, ringFault, rowFault}
+use Rattle.table.specs.Fields.{node_field, ring_fault, row_fault}
 use Rattle.table.specs.Says.{RingIs, NoNode}
 use Rattle.table.specs.declared.reason.Reason.{Reason}
 use Rattle.table.specs.declared.reason.Reason.TheVariants.{TooLong, Misshapen, RingSize, Fibres, NoRow, NoSuchNode, NotBelow, OutOfOrder, TooMany, TooMuch, Full, WrongSum, WrongWay, WrongCut, WrongLink, WrongLast, NotTight, OverBound, NotZero, NotSymmetric, SumTooMuch, NoRoom}
@@ -28,10 +28,10 @@ use Rattle.table.specs.declared.judge.Verdict.TheVariants.{Fine, Fault}
 use Rattle.table.proofs.Against.{no-node-there}
 use Rattle.table.proofs.BytesGiven.{one-due as one-due-byte, one-shape-byte, one-ring-field}
 use Rattle.table.proofs.Judged.{RingJudged, wrong_size, wrong-fibres, right-ring, Node, no_node, has-node, node, RowJudged, no-such-node, not-below, out_of_order, too_many, too_much, row_fine, row-judged}
-use Rattle.sheet.specs.Verdicts.{faultIf, or_else}
-use Rattle.sheet.specs.Judge.{wrongSum, wrongWay, judgeHalves}
-use Rattle.sheet.specs.Check.{when, wholeLine, last_of, judgeNext}
-use Rattle.sheet.specs.Says.{State, start, rows, links, end, SentIs, At, RowAt, NeitherGoesOn, LineByte, ring-due, row-or-cut-due, link-due, last-due, none-due, routedByte, NodeByte, first-node, second-node, AmountByte, ByteIs}
+use Rattle.sheet.specs.Verdicts.{fault_if, or_else}
+use Rattle.sheet.specs.Judge.{wrong_sum, wrong_way, judge_halves}
+use Rattle.sheet.specs.Check.{when, whole_line, last_of, judge_next}
+use Rattle.sheet.specs.Says.{State, start, rows, links, end, SentIs, At, RowAt, NeitherGoesOn, LineByte, ring-due, row-or-cut-due, link-due, last-due, none-due, routed_byte, NodeByte, first-node, second-node, AmountByte, ByteIs}
 use Rattle.sheet.proofs.FirstReason.{First, Only, only_then, Counts}
 use Rattle.sheet.proofs.Places.{sent-one, place-one}
 use Rattle.sheet.proofs.RowFirst.{row-at}
@@ -43,14 +43,14 @@ ByteOn t line byte (Fault r) = ByteIs t r line (byte r)
 
 -- one reason at most, which judges the line as a whole
 pub only-byte : (t : List ℕ) (line : ℕ) (judging : Bool) (r : Reason) (A : Type 0) (v : Verdict) → First (λ s. Counts judging s × Only r A s) v → ByteIs t r line 1
-    → ByteOn t line wholeLine v
+    → ByteOn t line whole_line v
 only-byte t line judging r A Fine f b = tt
 only-byte t line judging r A (Fault s) f b = only_then (λ s. ByteIs t s line 1) (λ a. b) s f.holds.1
 
 -- ---- R n fibres
 
-pub ring-byte : {limits : Limits} {t : List ℕ} {ring : Ring} {v : Verdict} → RingIs t ring → RingJudged limits ring v → ByteOn t 1 (ringFault ring) v
-unfolding ByteIs ringFault
+pub ring-byte : {limits : Limits} {t : List ℕ} {ring : Ring} {v : Verdict} → RingIs t ring → RingJudged limits ring v → ByteOn t 1 (ring_fault ring) v
+unfolding ByteIs ring_fault
 ring-byte {ring} here (wrong_size w) = record { ring = ring; said = here; is = refl }
 ring-byte {ring} here (wrong-fibres l m w) = record { ring = ring; said = here; is = refl }
 ring-byte here (right-ring l m f) = tt
@@ -59,20 +59,20 @@ ring-byte here (right-ring l m f) = tt
 
 module _ {t : List ℕ} {line : ℕ} {ring : Ring} {rs : List Routed} {r : Routed} (at : At t line (rows ring rs)) (is : SentIs t line r) where
   -- a table's row and a sheet's have their first fields at the same bytes
-  field-byte : (k : ℕ) → k ≤ 3 → rowByte r.sent.row.i r.sent.row.j r.sent.row.d k ≡ routedByte r k
-  field-byte k h = sent-row-byte r.sent.row.i r.sent.row.j r.sent.row.d r.sent.front r.sent.back (wayNumber r.way) k h
+  field-byte : (k : ℕ) → k ≤ 3 → row_byte r.sent.row.i r.sent.row.j r.sent.row.d k ≡ routed_byte r k
+  field-byte k h = sent-row-byte r.sent.row.i r.sent.row.j r.sent.row.d r.sent.front r.sent.back (way_number r.way) k h
 
   abbrev byte : Reason → ℕ
-  byte = rowFault ring.n r.sent.row.i r.sent.row.j r.sent.row.d
+  byte = row_fault ring.n r.sent.row.i r.sent.row.j r.sent.row.d
 
   node-byte : Node ring.n r.sent.row.i → NoNode ring.n r.sent.row.i ⊎ NoNode ring.n r.sent.row.j → NodeByte t line (byte NoSuchNode)
-  unfolding rowFault nodeField
+  unfolding row_fault node_field
   node-byte (no_node w e) out = first-node (row-at at is) w (rw e (field-byte 1 (omega arith)))
   node-byte (has-node h e) (inl w) = absurd (no-node-there h w)
   node-byte (has-node h e) (inr w) = second-node (row-at at is) (no-node-there h) w (rw e (field-byte 2 (omega arith)))
 
   demand-byte : {limits : Limits} {k a b : ℕ} {v : Verdict} → RowJudged limits ring.n k a b r.sent.row.i r.sent.row.j r.sent.row.d v → ByteOn t line byte v
-  unfolding ByteIs rowFault fieldByte writeLine
+  unfolding ByteIs row_fault field_byte write_line
   demand-byte (no-such-node w) = node-byte (node ring.n r.sent.row.i) w
   demand-byte (not-below h p l) = refl
   demand-byte (out_of_order h p l o) = refl
@@ -85,16 +85,16 @@ module _ {t : List ℕ} {line : ℕ} {ring : Ring} {rs : List Routed} {r : Route
   or-else-byte Fine w a b = b
   or-else-byte (Fault s) w a b = a
 
-  fault-byte : (b : Bool) (s : Reason) → ByteIs t s line (byte s) → ByteOn t line byte (faultIf b s)
-  unfolding faultIf
+  fault-byte : (b : Bool) (s : Reason) → ByteIs t s line (byte s) → ByteOn t line byte (fault_if b s)
+  unfolding fault_if
   fault-byte true s h = h
   fault-byte false s h = tt
 
-  halves-byte : ByteOn t line byte (judgeHalves r)
-  unfolding judgeHalves ByteIs rowFault fieldByte writeLine
+  halves-byte : ByteOn t line byte (judge_halves r)
+  unfolding judge_halves ByteIs row_fault field_byte write_line
   halves-byte =
-      or-else-byte (faultIf (wrongSum r.sent) WrongSum) (faultIf (wrongWay r) WrongWay)
-      (fault-byte (wrongSum r.sent) WrongSum refl) (fault-byte (wrongWay r) WrongWay refl)
+      or-else-byte (fault_if (wrong_sum r.sent) WrongSum) (fault_if (wrong_way r) WrongWay)
+      (fault-byte (wrong_sum r.sent) WrongSum refl) (fault-byte (wrong_way r) WrongWay refl)
 
   when-byte : (judging : Bool) (v : Verdict) → ByteOn t line byte v → ByteOn t line byte (when judging v)
   unfolding when
@@ -102,19 +102,19 @@ module _ {t : List ℕ} {line : ℕ} {ring : Ring} {rs : List Routed} {r : Route
   when-byte false v b = tt
 
   pub sent-row-bytes : (limits : Limits) (judging : Bool)
-      → ByteOn t line byte (or_else (judgeNext limits ring.n rs r.sent.row.i r.sent.row.j r.sent.row.d) (when judging (judgeHalves r)))
+      → ByteOn t line byte (or_else (judge_next limits ring.n rs r.sent.row.i r.sent.row.j r.sent.row.d) (when judging (judge_halves r)))
   sent-row-bytes limits judging =
-      or-else-byte (judgeNext limits ring.n rs r.sent.row.i r.sent.row.j r.sent.row.d) (when judging (judgeHalves r))
+      or-else-byte (judge_next limits ring.n rs r.sent.row.i r.sent.row.j r.sent.row.d) (when judging (judge_halves r))
       (demand-byte (row-judged limits ring.n (length rs) (last_of rs).i (last_of rs).j r.sent.row.i r.sent.row.j r.sent.row.d))
-      (when-byte judging (judgeHalves r) halves-byte)
+      (when-byte judging (judge_halves r) halves-byte)
 
 -- ---- a line that is neither D nor C
 
-pub neither : {l : List ℕ} {q p : ℕ} → FirstFault sentShape l q → FirstFault cutShape l p → NeitherGoesOn l (max q p)
+pub neither : {l : List ℕ} {q p : ℕ} → FirstFault sent_shape l q → FirstFault cut_shape l p → NeitherGoesOn l (max q p)
 neither {l} {q} {p} f g =
     elim (dec_le q p) [
-      | yes h ↦ let e : max q p ≡ p = omega arith in rw e (record { before = inr g.before; no_row = λ a. f.here (fewer sentShape l (q + 1) (p + 1) (omega arith) a); no_cut = g.here })
-      | no h ↦ let e : max q p ≡ q = omega arith in rw e (record { before = inl f.before; no_row = f.here; no_cut = λ a. g.here (fewer cutShape l (p + 1) (q + 1) (omega arith) a) })
+      | yes h ↦ let e : max q p ≡ p = omega arith in rw e (record { before = inr g.before; no_row = λ a. f.here (fewer sent_shape l (q + 1) (p + 1) (omega arith) a); no_cut = g.here })
+      | no h ↦ let e : max q p ≡ q = omega arith in rw e (record { before = inl f.before; no_row = f.here; no_cut = λ a. g.here (fewer cut_shape l (p + 1) (q + 1) (omega arith) a) })
     ]
 
 -- ---- one byte
@@ -122,9 +122,9 @@ neither {l} {q} {p} f g =
 no-later : {l : List ℕ} {p q : ℕ} → NeitherGoesOn l p → NeitherGoesOn l q → p < q → ⊥
 no-later {l} {p} {q} x y h = go y.before
   where
-    go : Agrees sentShape l q ⊎ Agrees cutShape l q → ⊥
-    go (inl a) = x.no_row (fewer sentShape l (p + 1) q (omega arith) a)
-    go (inr a) = x.no_cut (fewer cutShape l (p + 1) q (omega arith) a)
+    go : Agrees sent_shape l q ⊎ Agrees cut_shape l q → ⊥
+    go (inl a) = x.no_row (fewer sent_shape l (p + 1) q (omega arith) a)
+    go (inr a) = x.no_cut (fewer cut_shape l (p + 1) q (omega arith) a)
 
 one-neither : {l : List ℕ} {p q : ℕ} → NeitherGoesOn l p → NeitherGoesOn l q → p ≡ q
 one-neither {p} {q} x y = let a : p < q → ⊥ = no-later x y in let b : q < p → ⊥ = no-later y x in omega arith
@@ -197,15 +197,15 @@ module _ {t : List ℕ} {line : ℕ} where
       nodes (end x) = 0
 
   one-node-byte : {b c : ℕ} → NodeByte t line b → NodeByte t line c → b ≡ c
-  one-node-byte (first-node x w e) (first-node y v f) = e ∙ ap (λ (r : Routed). routedByte r 1) (sent-one x.is y.is) ∙ sym f
+  one-node-byte (first-node x w e) (first-node y v f) = e ∙ ap (λ (r : Routed). routed_byte r 1) (sent-one x.is y.is) ∙ sym f
   one-node-byte (first-node x w e) (second-node y v u f) =
       let s = sent-one x.is y.is in let n = ring-nodes x y in absurd (v (rw (s, n) at w))
   one-node-byte (second-node x w u e) (first-node y v f) =
       let s = sent-one y.is x.is in let n = ring-nodes y x in absurd (w (rw (s, n) at v))
-  one-node-byte (second-node x w u e) (second-node y v z f) = e ∙ ap (λ (r : Routed). routedByte r 2) (sent-one x.is y.is) ∙ sym f
+  one-node-byte (second-node x w u e) (second-node y v z f) = e ∙ ap (λ (r : Routed). routed_byte r 2) (sent-one x.is y.is) ∙ sym f
 
   one-amount-byte : {b c : ℕ} → AmountByte t line b → AmountByte t line c → b ≡ c
-  one-amount-byte x y = x.is ∙ ap (λ (r : Routed). routedByte r 3) (sent-one x.row.is y.row.is) ∙ sym y.is
+  one-amount-byte x y = x.is ∙ ap (λ (r : Routed). routed_byte r 3) (sent-one x.row.is y.row.is) ∙ sym y.is
 
 pub one_byte : (t : List ℕ) (line b c : ℕ) (r : Reason) → ByteIs t r line b → ByteIs t r line c → b ≡ c
 unfolding ByteIs

@@ -10,13 +10,13 @@ use lib.ListN.{length, length-append}
 use borrow.Author.Tests.{le-ltb, ltb-false}
 use Rattle.ring.proofs.Figures.{demands-length}
 use Rattle.ring.proofs.Side.{cond-elim}
-use Rattle.ring.specs.Routing.{wayNumber, way_of, Routed}
+use Rattle.ring.specs.Routing.{way_number, way_of, Routed}
 use Rattle.ring.specs.Limits.{Limits}
 use Rattle.ring.specs.Row.{Row}
 use Rattle.ring.specs.LineSize.{IsFibres}
 use Rattle.ring.specs.Lists.{Each, none, more}
 use Rattle.ring.specs.Sheet.{Link, Sheet, sents, demands}
-use Rattle.text.specs.Shapes.{lastLine}
+use Rattle.text.specs.Shapes.{last_line}
 use Rattle.text.proofs.Apart.{clash}
 use Rattle.table.specs.Lines.{lines}
 use Rattle.table.specs.declared.judge.Verdict.TheVariants.{Fine}
@@ -25,10 +25,10 @@ use Rattle.table.proofs.FineRows.{FineRows, no_row, fine-row, fine-rows, table-r
 use Rattle.table.proofs.LinesOf.{join-lines}
 use Rattle.table.proofs.TableText.{ring-spelled}
 use Rattle.table.specs.Table.{LimitsSpelled}
-use Rattle.sheet.specs.WriteSheet.{routedLine, loadLine, lines_of, figuresOf, endText, writeSheet}
+use Rattle.sheet.specs.WriteSheet.{routed_line, load_line, lines_of, figures_of, end_text, write_sheet}
 use Rattle.sheet.specs.Range.{RowSpelled, LinkSpelled, Spelled, InRange}
-use Rattle.sheet.specs.Judge.{judgeHalves}
-use Rattle.sheet.specs.Check.{Result, accepted, when, last_of, checkBy}
+use Rattle.sheet.specs.Judge.{judge_halves}
+use Rattle.sheet.specs.Check.{Result, accepted, when, last_of, check_by}
 use Rattle.sheet.specs.Says.{start, rows, links}
 use Rattle.sheet.proofs.Back.{way_back}
 use Rattle.sheet.proofs.Short.{way-small}
@@ -42,35 +42,35 @@ use Rattle.sheet.proofs.Read.{LinksJudged, no-links, and-link, Judged, IsSheet, 
 module _ (limits : Limits) (judging : Bool) (x : Sheet) (judged : Judged judging x) (spelled : Spelled x) (count : length x.links ≡ x.ring.n) where
   -- the links ks are written, and those of `later` follow
   to-links : (later ks : List Link) → x.links ≡ ks ++ later → Each LinkSpelled later → LinksJudged judging x.rows (length ks) later
-      → Rest limits judging x (links x.ring x.rows x.cut ks) (lines_of loadLine later ++ lastLine x.peak x.size)
+      → Rest limits judging x (links x.ring x.rows x.cut ks) (lines_of load_line later ++ last_line x.peak x.size)
   unfolding lines_of
   to-links [] ks e none no-links =
       let k : x.links ≡ ks = e ∙ append-nil ks in
-      let end-text = append-nil (lastLine x.peak x.size) in
-      subst (λ l. Rest limits judging x (links x.ring x.rows x.cut l) (lastLine x.peak x.size)) k
+      let end-text = append-nil (last_line x.peak x.size) in
+      subst (λ l. Rest limits judging x (links x.ring x.rows x.cut l) (last_line x.peak x.size)) k
       (subst (λ t. Rest limits judging x (links x.ring x.rows x.cut x.links) t) end-text
       (rest-last (omega arith) spelled.last.0 spelled.last.1 judged.last (rest_end judged.whole)))
   to-links (l ∷ later) ks e (more s ss) (and-link v vs) =
       let long : length (ks ++ l ∷ []) ≡ length ks + 1 = length-append ks (l ∷ []) in
       let f : x.links ≡ (ks ++ l ∷ []) ++ later = e ∙ sym (append_assoc ks (l ∷ []) later) in
       let few : length ks < x.ring.n = omega (arith, ap length e, length-append ks (l ∷ later)) in
-      subst (λ t. Rest limits judging x (links x.ring x.rows x.cut ks) t) (sym (append_assoc (loadLine l) (lines_of loadLine later) (lastLine x.peak x.size)))
+      subst (λ t. Rest limits judging x (links x.ring x.rows x.cut ks) t) (sym (append_assoc (load_line l) (lines_of load_line later) (last_line x.peak x.size)))
       (rest-link few s.link s.split s.unsplit v (to-links later (ks ++ l ∷ []) f ss (subst (λ m. LinksJudged judging x.rows m later) (sym long) vs)))
 
   module _ (limited : LimitsSpelled limits) (many : x.ring.n ≤ limits.nodes) where
     to-rows : (later rs : List Routed) → x.rows ≡ rs ++ later → FineRows limits x.ring.n (length rs) (last_of rs).i (last_of rs).j (demands (sents later)) → Each RowSpelled later
-        → Each (λ r. when judging (judgeHalves r) ≡ Fine) later → Rest limits judging x (rows x.ring rs) (lines_of routedLine later ++ endText (figuresOf x) x.links)
-    unfolding lines_of endText
+        → Each (λ r. when judging (judge_halves r) ≡ Fine) later → Rest limits judging x (rows x.ring rs) (lines_of routed_line later ++ end_text (figures_of x) x.links)
+    unfolding lines_of end_text
     to-rows [] rs e no_row none none =
         let k : x.rows ≡ rs = e ∙ append-nil rs in
-        subst (λ l. Rest limits judging x (rows x.ring l) (endText (figuresOf x) x.links)) k
+        subst (λ l. Rest limits judging x (rows x.ring l) (end_text (figures_of x) x.links)) k
         (rest-cut spelled.cut.0 spelled.cut.1.0 spelled.cut.1.1 judged.cut (to-links x.links [] refl spelled.loads judged.links))
     to-rows (r ∷ later) rs e (fine-row on up room most fine) (more h hs) (more v vs) =
         let f : x.rows ≡ (rs ++ r ∷ []) ++ later = e ∙ sym (append_assoc rs (r ∷ []) later) in
         let one : length (rs ++ r ∷ []) ≡ length rs + 1 = length-append rs (r ∷ []) in
         let behind = subst (λ (q : Row). FineRows limits x.ring.n (length (rs ++ r ∷ [])) q.i q.j (demands (sents later))) (sym (last_more rs r)) (rw one fine) in
-        let same : way_of (wayNumber r.way) ≡ r.way = way_back r.way in
-        let s : SentSpelled r.sent.row.i r.sent.row.j r.sent.row.d r.sent.front r.sent.back (wayNumber r.way) =
+        let same : way_of (way_number r.way) ≡ r.way = way_back r.way in
+        let s : SentSpelled r.sent.row.i r.sent.row.j r.sent.row.d r.sent.front r.sent.back (way_number r.way) =
         record {
           first = omega (arith, on.order, on.high, limited.nodes);
           second = omega (arith, on.high, limited.nodes);
@@ -79,25 +79,25 @@ module _ (limits : Limits) (judging : Bool) (x : Sheet) (judged : Judged judging
           back = h.back;
           way = way-small r.way;
         } in
-        subst (λ t. Rest limits judging x (rows x.ring rs) t) (sym (append_assoc (routedLine r) (lines_of routedLine later) (endText (figuresOf x) x.links)))
+        subst (λ t. Rest limits judging x (rows x.ring rs) t) (sym (append_assoc (routed_line r) (lines_of routed_line later) (end_text (figures_of x) x.links)))
         (rest-row s (fine-row-judged limits x.ring.n (length rs) (last_of rs).i (last_of rs).j r.sent.row.i r.sent.row.j r.sent.row.d on up room most) (rw same v) (rw same (to-rows later (rs ++ r ∷ []) f behind hs vs)))
 
-    to_start : limits.fewest ≤ x.ring.n → IsFibres x.ring.fibres → FineRows limits x.ring.n 0 0 0 (demands (sents x.rows)) → Rest limits judging x start (writeSheet x)
-    unfolding writeSheet
+    to_start : limits.fewest ≤ x.ring.n → IsFibres x.ring.fibres → FineRows limits x.ring.n 0 0 0 (demands (sents x.rows)) → Rest limits judging x start (write_sheet x)
+    unfolding write_sheet
     to_start few fibres fine =
         rest-ring {ring = x.ring} (ring-spelled limits limited x.ring many fibres) (fine-ring-judged limits x.ring few many fibres) (to-rows x.rows [] refl fine spelled.halves judged.halves)
 
 -- ---- both
 
 module _ (limits : Limits) (limited : LimitsSpelled limits) (judging : Bool) (t : List ℕ) (x : Sheet) where
-  read-written : checkBy limits judging t ≡ accepted x → (t ≡ writeSheet x) × (InRange limits x × Judged judging x)
-  unfolding checkBy
+  read-written : check_by limits judging t ≡ accepted x → (t ≡ write_sheet x) × (InRange limits x × Judged judging x)
+  unfolding check_by
   read-written =
-      cond-elim (λ (r : Result). r ≡ accepted x → (t ≡ writeSheet x) × (InRange limits x × Judged judging x)) _ _ _
+      cond-elim (λ (r : Result). r ≡ accepted x → (t ≡ write_sheet x) × (InRange limits x × Judged judging x)) _ _ _
       (λ long e. clash (cc))
       (λ short e. whole (ltb-false limits.bytes (length t) short) (from_start limits judging t x (subst (Rest limits judging x start) (join-lines t) (read-rest limits judging x (lines t) start 1 e))))
     where
-      whole : length t ≤ limits.bytes → IsSheet limits judging t x → (t ≡ writeSheet x) × (InRange limits x × Judged judging x)
+      whole : length t ≤ limits.bytes → IsSheet limits judging t x → (t ≡ write_sheet x) × (InRange limits x × Judged judging x)
       whole short s = (
         s.text,
         (
@@ -116,8 +116,8 @@ module _ (limits : Limits) (limited : LimitsSpelled limits) (judging : Bool) (t 
         ),
       )
 
-  written_read : (t ≡ writeSheet x) × (InRange limits x × Judged judging x) → checkBy limits judging t ≡ accepted x
-  unfolding checkBy
+  written_read : (t ≡ write_sheet x) × (InRange limits x × Judged judging x) → check_by limits judging t ≡ accepted x
+  unfolding check_by
   written_read h =
       let e = h.0 in
       let r = h.1.0 in
@@ -126,5 +126,5 @@ module _ (limits : Limits) (limited : LimitsSpelled limits) (judging : Bool) (t 
       (rest_read limits judging x (subst (Rest limits judging x start) (sym e)
       (to_start limits judging x h.1.1 r.spelled r.links limited r.many r.few r.fibres (fine-rows {limits = limits} r.rows (omega (arith, r.count, demands-length x.rows)) r.amounts))) 1)
 
-  pub sheet-text : (checkBy limits judging t ≡ accepted x) ↔ ((t ≡ writeSheet x) × (InRange limits x × Judged judging x))
+  pub sheet-text : (check_by limits judging t ≡ accepted x) ↔ ((t ≡ write_sheet x) × (InRange limits x × Judged judging x))
   sheet-text = (read-written, written_read)

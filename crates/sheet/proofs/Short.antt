@@ -6,26 +6,26 @@ use mathlib.Core.Path.{◌≡◌, refl, ap, ◌∙◌, sym, subst}
 use native.Mathlib.Omega.{arith}
 use native.Mathlib.Nat.{mul-suc}
 use lib.ListN.{length, length-append, length-map}
-use Rattle.sonet.specs.Size.{sonetSizes}
-use Rattle.sonet.proofs.Sizes.{largestOf}
+use Rattle.sonet.specs.Size.{sonet_sizes}
+use Rattle.sonet.proofs.Sizes.{largest_of}
 use Rattle.ring.specs.Limits.{desk}
 use Rattle.ring.specs.Ring.{Ring}
 use Rattle.ring.specs.LineSize.{IsFibres}
 use Rattle.ring.specs.Lists.{Each, none, more}
 use Rattle.ring.specs.Row.{Row, OnRing, TableRows}
-use Rattle.ring.specs.Routing.{Sent, Routed, Way, F, B, wayNumber}
-use Rattle.ring.specs.Sheet.{Link, Sheet, sents, demands, numbersFrom, plan}
+use Rattle.ring.specs.Routing.{Sent, Routed, Way, F, B, way_number}
+use Rattle.ring.specs.Sheet.{Link, Sheet, sents, demands, numbers_from, plan}
 use Rattle.ring.specs.True.{TrueSheet}
 use Rattle.ring.proofs.Lists.{each, each_both, each-of-map}
 use Rattle.ring.proofs.Figures.{SmallFigures, figures-small, demands-length}
 use Rattle.ring.proofs.OurPlan.{plan-true, plan-demands}
 use Rattle.text.specs.Number.{limit}
-use Rattle.text.specs.Shapes.{ringShape, sentShape, cutShape, linkShape, lastShape, ringLine, cutLine, lastLine}
+use Rattle.text.specs.Shapes.{ring_shape, sent_shape, cut_shape, link_shape, last_shape, ring_line, cut_line, last_line}
 use Rattle.text.proofs.Lengths.{line-in-range-short}
 use Rattle.table.specs.Table as table
 use Rattle.table.proofs.LineRead.{ring-in-range}
 use Rattle.table.proofs.TableText.{desk-spelled, ring-spelled}
-use Rattle.sheet.specs.WriteSheet.{routedLine, loadLine, lines_of, figuresOf, endText, writeSheet}
+use Rattle.sheet.specs.WriteSheet.{routed_line, load_line, lines_of, figures_of, end_text, write_sheet}
 use Rattle.sheet.specs.Range.{RowSpelled, LinkSpelled, Spelled, InRange, longest}
 use Rattle.sheet.proofs.Back.{numbers-length}
 use Rattle.sheet.proofs.SheetLines.{SentSpelled, sent-in-range, cut-in-range, link-in-range, last-in-range}
@@ -37,7 +37,7 @@ unfolding lines_of
 lines-most line most none = omega arith
 lines-most line most (more {a = a} {l = l} p e) = omega (arith, length-append (line a) (lines_of line l), mul-suc most (length l), lines-most line most e)
 
-pub way-small : (w : Way) → wayNumber w < 2
+pub way-small : (w : Way) → way_number w < 2
 way-small F = omega arith
 way-small B = omega arith
 
@@ -48,7 +48,7 @@ pub record RowFine (n : ℕ) (r : Routed) : Type 0 where
   pub spelled : RowSpelled r
 
 module _ (n : ℕ) (many : n ≤ desk.nodes) where
-  pub row-spelled : (r : Routed) → RowFine n r → SentSpelled r.sent.row.i r.sent.row.j r.sent.row.d r.sent.front r.sent.back (wayNumber r.way)
+  pub row-spelled : (r : Routed) → RowFine n r → SentSpelled r.sent.row.i r.sent.row.j r.sent.row.d r.sent.front r.sent.back (way_number r.way)
   row-spelled r h =
       record {
         first = omega (arith, h.on.order, h.on.high);
@@ -59,13 +59,13 @@ module _ (n : ℕ) (many : n ≤ desk.nodes) where
         way = way-small r.way;
       }
 
-  row-short : (r : Routed) → RowFine n r → length (routedLine r) ≤ 56
+  row-short : (r : Routed) → RowFine n r → length (routed_line r) ≤ 56
   row-short r h =
-      line-in-range-short sentShape (0 ∷ r.sent.row.i ∷ r.sent.row.j ∷ r.sent.row.d ∷ r.sent.front ∷ r.sent.back ∷ wayNumber r.way ∷ [])
-      (sent-in-range r.sent.row.i r.sent.row.j r.sent.row.d r.sent.front r.sent.back (wayNumber r.way) (row-spelled r h))
+      line-in-range-short sent_shape (0 ∷ r.sent.row.i ∷ r.sent.row.j ∷ r.sent.row.d ∷ r.sent.front ∷ r.sent.back ∷ way_number r.way ∷ [])
+      (sent-in-range r.sent.row.i r.sent.row.j r.sent.row.d r.sent.front r.sent.back (way_number r.way) (row-spelled r h))
 
-link-short : (l : Link) → LinkSpelled l → length (loadLine l) ≤ 32
-link-short l h = line-in-range-short linkShape (0 ∷ l.link ∷ l.split ∷ l.unsplit ∷ []) (link-in-range l.link l.split l.unsplit h.link h.split h.unsplit)
+link-short : (l : Link) → LinkSpelled l → length (load_line l) ≤ 32
+link-short l h = line-in-range-short link_shape (0 ∷ l.link ∷ l.split ∷ l.unsplit ∷ []) (link-in-range l.link l.split l.unsplit h.link h.split h.unsplit)
 
 module _ (x : Sheet) (many : x.ring.n ≤ desk.nodes) (fibres : IsFibres x.ring.fibres) (rows : TableRows x.ring.n (demands (sents x.rows))) (amounts : Each (λ (r : Row). r.d ≤ desk.amount) (demands (sents x.rows))) where
   of-demands : {P : Row → Type 0} → Each P (demands (sents x.rows)) → Each (λ (r : Routed). P r.sent.row) x.rows
@@ -76,8 +76,8 @@ module _ (x : Sheet) (many : x.ring.n ≤ desk.nodes) (fibres : IsFibres x.ring.
       each_both {P = λ (r : Routed). OnRing x.ring.n r.sent.row × (r.sent.row.d ≤ desk.amount)} (λ r h s. record { on = h.0; amount = h.1; spelled = s })
       (each_both (λ r o a. (o, a)) (of-demands {P = OnRing x.ring.n} rows.nodes) (of-demands {P = λ r. r.d ≤ desk.amount} amounts)) halves
 
-  pub sheet-short : length x.rows ≤ desk.rows → Spelled x → length x.links ≡ x.ring.n → length (writeSheet x) ≤ longest desk
-  unfolding writeSheet endText
+  pub sheet-short : length x.rows ≤ desk.rows → Spelled x → length x.links ≡ x.ring.n → length (write_sheet x) ≤ longest desk
+  unfolding write_sheet end_text
   sheet-short count spelled links =
       let n = x.ring.n in
       let c = x.cut in
@@ -86,25 +86,25 @@ module _ (x : Sheet) (many : x.ring.n ≤ desk.nodes) (fibres : IsFibres x.ring.
         count,
         many,
         links,
-        length-append (ringLine n x.ring.fibres) (lines_of routedLine x.rows ++ endText (figuresOf x) x.links),
-        length-append (lines_of routedLine x.rows) (endText (figuresOf x) x.links),
-        length-append (cutLine c.g c.h c.number) (lines_of loadLine x.links ++ lastLine x.peak x.size),
-        length-append (lines_of loadLine x.links) (lastLine x.peak x.size),
-        line-in-range-short ringShape (0 ∷ n ∷ x.ring.fibres ∷ []) (ring-in-range n x.ring.fibres (ring-spelled desk desk-spelled x.ring many fibres)),
-        line-in-range-short cutShape (0 ∷ c.g ∷ c.h ∷ c.number ∷ []) (cut-in-range c.g c.h c.number spelled.cut.0 spelled.cut.1.0 spelled.cut.1.1),
-        line-in-range-short lastShape (0 ∷ x.peak ∷ x.size ∷ []) (last-in-range x.peak x.size spelled.last.0 spelled.last.1),
-        lines-most routedLine 56 (each (row-short n many) (rows-fine spelled.halves)),
-        lines-most loadLine 32 (each link-short spelled.loads),
+        length-append (ring_line n x.ring.fibres) (lines_of routed_line x.rows ++ end_text (figures_of x) x.links),
+        length-append (lines_of routed_line x.rows) (end_text (figures_of x) x.links),
+        length-append (cut_line c.g c.h c.number) (lines_of load_line x.links ++ last_line x.peak x.size),
+        length-append (lines_of load_line x.links) (last_line x.peak x.size),
+        line-in-range-short ring_shape (0 ∷ n ∷ x.ring.fibres ∷ []) (ring-in-range n x.ring.fibres (ring-spelled desk desk-spelled x.ring many fibres)),
+        line-in-range-short cut_shape (0 ∷ c.g ∷ c.h ∷ c.number ∷ []) (cut-in-range c.g c.h c.number spelled.cut.0 spelled.cut.1.0 spelled.cut.1.1),
+        line-in-range-short last_shape (0 ∷ x.peak ∷ x.size ∷ []) (last-in-range x.peak x.size spelled.last.0 spelled.last.1),
+        lines-most routed_line 56 (each (row-short n many) (rows-fine spelled.halves)),
+        lines-most load_line 32 (each link-short spelled.loads),
       )
 
 -- ---- a true sheet's figures
 
-sizes-spelled : largestOf sonetSizes < limit
-unfolding largestOf
+sizes-spelled : largest_of sonet_sizes < limit
+unfolding largest_of
 sizes-spelled = omega arith
 
-numbers-within : (top k m : ℕ) → k + m ≤ top → Each (λ j. j < top) (numbersFrom k m)
-unfolding numbersFrom
+numbers-within : (top k m : ℕ) → k + m ≤ top → Each (λ j. j < top) (numbers_from k m)
+unfolding numbers_from
 numbers-within top k zero h = none
 numbers-within top k (suc m) h = more {a = k} (omega arith) (numbers-within top (suc k) m (omega arith))
 
@@ -129,7 +129,7 @@ module _ (x : Sheet) (t : TrueSheet x) (many : x.ring.n ≤ desk.nodes) (fibres 
   pub true-links : length x.links ≡ x.ring.n
   true-links = sym (length-map x.links (λ (l : Link). l.link)) ∙ ap length t.links ∙ numbers-length 1 x.ring.n
 
-  pub true-short : length (writeSheet x) ≤ longest desk
+  pub true-short : length (write_sheet x) ≤ longest desk
   true-short = sheet-short x many fibres rows amounts count true-spelled true-links
 
 -- ---- so a plan's
@@ -157,7 +157,7 @@ module _ (ring : Ring) (rs : List Row) (h : table.InRange desk ring rs) where
   amounts : Each (λ (r : Row). r.d ≤ desk.amount) (demands (sents (plan ring rs).rows))
   amounts = let e = plan-demands ring rs h.few h.rows in rw e h.amounts
 
-  pub plan-short : length (writeSheet (plan ring rs)) ≤ longest desk
+  pub plan-short : length (write_sheet (plan ring rs)) ≤ longest desk
   plan-short = true-short (plan ring rs) true-plan many fibres rows count amounts
 
   pub plan-in-range : InRange desk (plan ring rs)

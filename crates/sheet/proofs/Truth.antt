@@ -8,13 +8,13 @@ use mathlib.Core.Path.{◌≡◌, refl, ap, ap₂, ◌∙◌, sym}
 use native.Mathlib.Decide.{ℕ_discrete, dec_lt, dec_le}
 use native.Mathlib.Omega.{arith}
 use lib.ListN.{length}
-use Rattle.sonet.specs.Size.{sonetSizes}
+use Rattle.sonet.specs.Size.{sonet_sizes}
 use Rattle.ring.specs.Ring.{Ring}
-use Rattle.ring.specs.LineSize.{lineSize}
+use Rattle.ring.specs.LineSize.{line_size}
 use Rattle.ring.specs.Cut.{Cut, IsCut, across}
 use Rattle.ring.specs.Lists.{Each, none, more}
-use Rattle.ring.specs.Routing.{Routed, Way, F, B, splitLoad, unsplitLoad, peak}
-use Rattle.ring.specs.Sheet.{Link, Sheet, sents, demands, numbersFrom, splitPeak, unsplitPeak, largestSplitOf}
+use Rattle.ring.specs.Routing.{Routed, Way, F, B, split_load, unsplit_load, peak}
+use Rattle.ring.specs.Sheet.{Link, Sheet, sents, demands, numbers_from, split_peak, unsplit_peak, largest_split_of}
 use Rattle.ring.specs.True.{SumsTo2d, Kept, TrueLoads, TrueSheet}
 use Rattle.ring.proofs.Lists.{each, each_both, each-of-map}
 use Rattle.text.proofs.Apart.{clash}
@@ -22,7 +22,7 @@ use Rattle.table.specs.declared.reason.Reason.{Reason}
 use Rattle.table.specs.declared.reason.Reason.TheVariants.{WrongSum, WrongWay, WrongCut, WrongLink, WrongLast, NotTight, OverBound}
 use Rattle.table.specs.declared.judge.Verdict.{Verdict}
 use Rattle.table.specs.declared.judge.Verdict.TheVariants.{Fine, Fault}
-use Rattle.sheet.specs.Judge.{judgeHalves, judgeCut, judgeLink, judgeLast, judgeWhole}
+use Rattle.sheet.specs.Judge.{judge_halves, judge_cut, judge_link, judge_last, judge_whole}
 use Rattle.sheet.specs.Check.{when}
 use Rattle.sheet.proofs.FirstReason.{First, Only, only, only_fact}
 use Rattle.sheet.proofs.SheetJudged.{halves-first, CutWrong, cut-first, link-first, last-first, whole-first}
@@ -60,12 +60,12 @@ kept r n = record { front = λ e. front r.way refl e; back = λ e h. back r.way 
 
 -- ---- a row
 
-pub row-true : (r : Routed) → judgeHalves r ≡ Fine → SumsTo2d r.sent × Kept r
+pub row-true : (r : Routed) → judge_halves r ≡ Fine → SumsTo2d r.sent × Kept r
 row-true r e =
     let never = none-holds (halves-first r) e in
     (same (r.sent.front + r.sent.back) (2 * r.sent.row.d) (λ d. never WrongSum (inl (only d))), kept r (λ k. never WrongWay (inr (only k))))
 
-row_fine : (r : Routed) → SumsTo2d r.sent → Kept r → judgeHalves r ≡ Fine
+row_fine : (r : Routed) → SumsTo2d r.sent → Kept r → judge_halves r ≡ Fine
 row_fine r s k = is-fine (halves-first r) (λ q. ⊎_elim (no-fact (λ d. d s) q) (no-fact (λ d. d k) q))
 
 -- ---- the cut
@@ -74,7 +74,7 @@ record CutTrue (n : ℕ) (rs : List Routed) (c : Cut) : Type 0 where
   pair : IsCut n c
   number : c.number ≡ across (demands (sents rs)) c.g c.h
 
-cut-true : (n : ℕ) (rs : List Routed) (c : Cut) → judgeCut n rs c ≡ Fine → CutTrue n rs c
+cut-true : (n : ℕ) (rs : List Routed) (c : Cut) → judge_cut n rs c ≡ Fine → CutTrue n rs c
 cut-true n rs c e = record { pair = pair; number = same c.number (across (demands (sents rs)) c.g c.h) (λ d. never WrongCut (only (inr d))) }
   where
     never : (s : Reason) → Only WrongCut (CutWrong n rs c) s → ⊥
@@ -90,36 +90,36 @@ cut-true n rs c e = record { pair = pair; number = same c.number (across (demand
       high = elim (dec_le c.h n) [ yes l ↦ l | no l ↦ absurd (is (λ k. l k.high)) ];
     }
 
-cut-fine : (n : ℕ) (rs : List Routed) (c : Cut) → IsCut n c → c.number ≡ across (demands (sents rs)) c.g c.h → judgeCut n rs c ≡ Fine
+cut-fine : (n : ℕ) (rs : List Routed) (c : Cut) → IsCut n c → c.number ≡ across (demands (sents rs)) c.g c.h → judge_cut n rs c ≡ Fine
 cut-fine n rs c k e = is-fine (cut-first n rs c) (no-fact (⊎_elim (λ d. d k) (λ d. d e)))
 
 -- ---- the links
 
 pub record LinkTrue (rs : List Routed) (k : ℕ) (l : Link) : Type 0 where
   pub number : l.link ≡ k
-  pub split : l.split ≡ splitLoad (sents rs) k
-  pub unsplit : l.unsplit ≡ unsplitLoad rs k
+  pub split : l.split ≡ split_load (sents rs) k
+  pub unsplit : l.unsplit ≡ unsplit_load rs k
 
-pub link-true : (rs : List Routed) (k : ℕ) (l : Link) → judgeLink rs k l ≡ Fine → LinkTrue rs k l
+pub link-true : (rs : List Routed) (k : ℕ) (l : Link) → judge_link rs k l ≡ Fine → LinkTrue rs k l
 link-true rs k l e =
     let never = none-holds (link-first rs k l) e in
     record {
       number = same l.link k (λ d. never WrongLink (only (inl d)));
-      split = same l.split (splitLoad (sents rs) k) (λ d. never WrongLink (only (inr (inl d))));
-      unsplit = same l.unsplit (unsplitLoad rs k) (λ d. never WrongLink (only (inr (inr d))));
+      split = same l.split (split_load (sents rs) k) (λ d. never WrongLink (only (inr (inl d))));
+      unsplit = same l.unsplit (unsplit_load rs k) (λ d. never WrongLink (only (inr (inr d))));
     }
 
-link-fine : (rs : List Routed) (k : ℕ) (l : Link) → LinkTrue rs k l → judgeLink rs k l ≡ Fine
+link-fine : (rs : List Routed) (k : ℕ) (l : Link) → LinkTrue rs k l → judge_link rs k l ≡ Fine
 link-fine rs k l t = is-fine (link-first rs k l) (no-fact (⊎_elim (λ d. d t.number) (⊎_elim (λ d. d t.split) (λ d. d t.unsplit))))
 
 -- their numbers run on from k, and their loads are true
 record LinksTrue (x : Sheet) (k : ℕ) (ls : List Link) : Type 0 where
-  numbers : map (λ (l : Link). l.link) ls ≡ numbersFrom (suc k) (length ls)
+  numbers : map (λ (l : Link). l.link) ls ≡ numbers_from (suc k) (length ls)
   loads : Each (TrueLoads x) ls
 
 module _ (x : Sheet) where
   links-true : {k : ℕ} {ls : List Link} → LinksJudged true x.rows k ls → LinksTrue x k ls
-  unfolding numbersFrom when
+  unfolding numbers_from when
   links-true no-links = record { numbers = refl; loads = none }
   links-true {k} (and-link {l = l} {ls = ls} v vs) = go (link-true x.rows (k + 1) l v) (links-true vs)
     where
@@ -129,46 +129,46 @@ module _ (x : Sheet) where
           let s : suc (k + 1) ≡ suc (suc k) = omega arith in
           let q : l.link ≡ k + 1 = t.number in
           record {
-            numbers = ap₂ {B = List ℕ} {C = List ℕ} (λ a m. a ∷ m) e (ts.numbers ∙ ap (λ m. numbersFrom m (length ls)) s);
+            numbers = ap₂ {B = List ℕ} {C = List ℕ} (λ a m. a ∷ m) e (ts.numbers ∙ ap (λ m. numbers_from m (length ls)) s);
             loads = more {a = l} (record { split = rw q t.split; unsplit = rw q t.unsplit }) ts.loads;
           }
 
   links-fine : (k : ℕ) (ls : List Link) → LinksTrue x k ls → LinksJudged true x.rows k ls
-  unfolding numbersFrom when
+  unfolding numbers_from when
   links-fine k [] t = no-links
   links-fine k (l ∷ ls) t = go t.numbers t.loads (links-fine (k + 1) ls)
     where
-      go : l.link ∷ map (λ (l : Link). l.link) ls ≡ suc k ∷ numbersFrom (suc (suc k)) (length ls) → Each (TrueLoads x) (l ∷ ls)
+      go : l.link ∷ map (λ (l : Link). l.link) ls ≡ suc k ∷ numbers_from (suc (suc k)) (length ls) → Each (TrueLoads x) (l ∷ ls)
           → (LinksTrue x (k + 1) ls → LinksJudged true x.rows (k + 1) ls) → LinksJudged true x.rows k (l ∷ ls)
       go e (more t ts) later =
           let q : l.link ≡ suc k = cc in
-          let m : map (λ (l : Link). l.link) ls ≡ numbersFrom (suc (suc k)) (length ls) = cc in
+          let m : map (λ (l : Link). l.link) ls ≡ numbers_from (suc (suc k)) (length ls) = cc in
           let s : suc (suc k) ≡ suc (k + 1) = omega arith in
           let n : l.link ≡ k + 1 = omega arith in
           and-link (link-fine x.rows (k + 1) l (record { number = n; split = rw n at t.split; unsplit = rw n at t.unsplit }))
-          (later (record { numbers = m ∙ ap (λ a. numbersFrom a (length ls)) s; loads = ts }))
+          (later (record { numbers = m ∙ ap (λ a. numbers_from a (length ls)) s; loads = ts }))
 
 -- ---- the last line, and the whole
 
-pub last-true : (ring : Ring) (rs : List Routed) (p z : ℕ) → judgeLast ring rs p z ≡ Fine
-    → (p ≡ peak (unsplitLoad rs) ring.n) × (z ≡ lineSize sonetSizes ring.fibres (peak (unsplitLoad rs) ring.n))
+pub last-true : (ring : Ring) (rs : List Routed) (p z : ℕ) → judge_last ring rs p z ≡ Fine
+    → (p ≡ peak (unsplit_load rs) ring.n) × (z ≡ line_size sonet_sizes ring.fibres (peak (unsplit_load rs) ring.n))
 last-true ring rs p z e =
     let never = none-holds (last-first ring rs p z) e in
-    let u = peak (unsplitLoad rs) ring.n in
-    (same p u (λ d. never WrongLast (only (inl d))), same z (lineSize sonetSizes ring.fibres u) (λ d. never WrongLast (only (inr d))))
+    let u = peak (unsplit_load rs) ring.n in
+    (same p u (λ d. never WrongLast (only (inl d))), same z (line_size sonet_sizes ring.fibres u) (λ d. never WrongLast (only (inr d))))
 
-whole-true : (x : Sheet) → judgeWhole x ≡ Fine → (splitPeak x ≡ x.cut.number) × (2 * unsplitPeak x ≤ splitPeak x + 3 * largestSplitOf x)
+whole-true : (x : Sheet) → judge_whole x ≡ Fine → (split_peak x ≡ x.cut.number) × (2 * unsplit_peak x ≤ split_peak x + 3 * largest_split_of x)
 whole-true x e =
     let never = none-holds (whole-first x) e in
-    let within : splitPeak x + 3 * largestSplitOf x < 2 * unsplitPeak x → ⊥ = λ l. never OverBound (inr (only l)) in
-    (same (splitPeak x) x.cut.number (λ d. never NotTight (inl (only d))), omega arith)
+    let within : split_peak x + 3 * largest_split_of x < 2 * unsplit_peak x → ⊥ = λ l. never OverBound (inr (only l)) in
+    (same (split_peak x) x.cut.number (λ d. never NotTight (inl (only d))), omega arith)
 
 -- ---- all of them
 
-rows_both : {rs : List Routed} → Each SumsTo2d (sents rs) → Each Kept rs → Each (λ (r : Routed). judgeHalves r ≡ Fine) rs
+rows_both : {rs : List Routed} → Each SumsTo2d (sents rs) → Each Kept rs → Each (λ (r : Routed). judge_halves r ≡ Fine) rs
 rows_both {rs} ss ks = each_both (λ r s k. row_fine r s k) (each-of-map (λ (r : Routed). r.sent) {P = SumsTo2d} rs ss) ks
 
-sums-of : {rs : List Routed} → Each (λ (r : Routed). judgeHalves r ≡ Fine) rs → Each SumsTo2d (sents rs)
+sums-of : {rs : List Routed} → Each (λ (r : Routed). judge_halves r ≡ Fine) rs → Each SumsTo2d (sents rs)
 sums-of none = none
 sums-of (more {a = r} e es) = more (row-true r e).0 (sums-of es)
 
@@ -186,7 +186,7 @@ judged-true x many = (there, back)
           sums = sums-of j.halves;
           cut = c.pair;
           across = c.number;
-          links = ls.numbers ∙ ap (numbersFrom 1) many;
+          links = ls.numbers ∙ ap (numbers_from 1) many;
           loads = ls.loads;
           peak = l.0;
           size = l.1;
@@ -200,7 +200,7 @@ judged-true x many = (there, back)
         record {
           halves = rows_both t.sums t.kept;
           cut = cut-fine x.ring.n x.rows x.cut t.cut t.across;
-          links = links-fine x 0 x.links (record { numbers = t.links ∙ ap (numbersFrom 1) (sym many); loads = t.loads });
+          links = links-fine x 0 x.links (record { numbers = t.links ∙ ap (numbers_from 1) (sym many); loads = t.loads });
           last = is-fine (last-first x.ring x.rows x.peak x.size) (no-fact (⊎_elim (λ d. d t.peak) (λ d. d t.size)));
           whole = is-fine (whole-first x) (λ q. ⊎_elim (no-fact (λ d. d t.tight) q) (no-fact (λ l. omega (arith, t.bound)) q));
         }

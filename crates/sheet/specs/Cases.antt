@@ -4,13 +4,13 @@ use Rattle.std.specs.Prelude.{ℕ, ◌+◌, ◌*◌, min, cond, List, [], ◌∷
 use Prim.Native.String.{String}
 use Rattle.ring.specs.Cut.{across}
 use Rattle.ring.specs.Limits.{desk}
-use Rattle.ring.specs.Routing.{Sent, F, B, Routed, routed, unsplitLoad, peak}
-use Rattle.ring.specs.RuleA.{ruleA}
-use Rattle.ring.specs.RuleB.{ruleB}
-use Rattle.ring.specs.Sheet.{Sheet, sents, demands, plan, splitPeak, unsplitPeak, largestSplitOf}
+use Rattle.ring.specs.Routing.{Sent, F, B, Routed, routed, unsplit_load, peak}
+use Rattle.ring.specs.RuleA.{rule_a}
+use Rattle.ring.specs.RuleB.{rule_b}
+use Rattle.ring.specs.Sheet.{Sheet, sents, demands, plan, split_peak, unsplit_peak, largest_split_of}
 use Rattle.table.specs.Reasons.{number_of}
 use Rattle.table.specs.ReadTable.{Result as TableResult, accepted as a-table, refused as no_table, table_of}
-use Rattle.sheet.specs.WriteSheet.{writeSheet}
+use Rattle.sheet.specs.WriteSheet.{write_sheet}
 use Rattle.sheet.specs.Check.{Result, accepted, refused, check, form}
 use Rattle.sheet.specs.Printed.{printed}
 
@@ -139,33 +139,33 @@ halves ss = map (λ (s : Sent). s.front & s.back) ss
 -- is the split peak the across number?
 abbrev tightness : Sheet → Claim
 tightness x =
-    let s = splitPeak x in
+    let s = split_peak x in
     let m = across (demands (sents x.rows)) x.cut.g x.cut.h in
     cond (eqb s m) (tight s m) (not-tight s m)
 
 -- does the bound of rule D hold?
 abbrev bound : Sheet → Claim
 bound x =
-    let u = 2 * unsplitPeak x in
-    let s = splitPeak x in
-    let d = 3 * largestSplitOf x in
+    let u = 2 * unsplit_peak x in
+    let s = split_peak x in
+    let d = 3 * largest_split_of x in
     cond (leb u (s + d)) (u at-most s plus d) (u above s plus d)
 
 -- the least peak over all ways of the demands ss, those of the rows rs being chosen
-unfoldable pub bestPeak : ℕ → List Routed → List Sent → ℕ
-unfolding peak unsplitLoad
-bestPeak n rs [] = peak (unsplitLoad rs) n
-bestPeak n rs (s ∷ ss) = min (bestPeak n (routed s F ∷ rs) ss) (bestPeak n (routed s B ∷ rs) ss)
+unfoldable pub best_peak : ℕ → List Routed → List Sent → ℕ
+unfolding peak unsplit_load
+best_peak n rs [] = peak (unsplit_load rs) n
+best_peak n rs (s ∷ ss) = min (best_peak n (routed s F ∷ rs) ss) (best_peak n (routed s B ∷ rs) ss)
 
 unfoldable pub truth : Sheet → Claim → Claim
-unfolding across ruleA ruleB bestPeak peak
-truth x (M-is m) = M-is (ruleA x.ring.n (demands (sents x.rows))).number
-truth x (sent-by-B hs) = sent-by-B (halves (ruleB x.ring.n (demands (sents x.rows))))
+unfolding across rule_a rule_b best_peak peak
+truth x (M-is m) = M-is (rule_a x.ring.n (demands (sents x.rows))).number
+truth x (sent-by-B hs) = sent-by-B (halves (rule_b x.ring.n (demands (sents x.rows))))
 truth x (tight s m) = tightness x
 truth x (not-tight s m) = tightness x
 truth x (u at-most s plus d) = bound x
 truth x (u above s plus d) = bound x
-truth x (best-peak-is p) = best-peak-is (bestPeak x.ring.n [] (sents x.rows))
+truth x (best-peak-is p) = best-peak-is (best_peak x.ring.n [] (sents x.rows))
 
 -- ---- the answers
 
@@ -178,8 +178,8 @@ pub data Answer : Type 0 where
 
 -- the router's
 unfoldable pub routing : TableResult → Answer
-unfolding plan writeSheet
-routing (a-table ring rs) = text (writeSheet (plan ring rs))
+unfolding plan write_sheet
+routing (a-table ring rs) = text (write_sheet (plan ring rs))
 routing (no_table reason line byte) = E (number_of reason) line byte
 
 -- the checker's

@@ -6,9 +6,9 @@ use Rattle.ring.specs.Lists.{Each}
 use Rattle.ring.specs.Row.{Row, TableRows}
 use Rattle.ring.specs.Routing.{Routed}
 use Rattle.ring.specs.Sheet.{Link, Sheet, sents, demands}
-use Rattle.text.specs.Number.{mostDigits, limit}
-use Rattle.text.specs.Shapes.{ringShape, sentShape, cutShape, linkShape, lastShape}
-use Rattle.sheet.specs.WriteSheet.{writeSheet}
+use Rattle.text.specs.Number.{most_digits, limit}
+use Rattle.text.specs.Shapes.{ring_shape, sent_shape, cut_shape, link_shape, last_shape}
+use Rattle.sheet.specs.WriteSheet.{write_sheet}
 
 -- the halves of a row can be spelled
 pub record RowSpelled (r : Routed) : Type 0 where
@@ -39,8 +39,8 @@ pub record InRange (limits : Limits) (x : Sheet) : Type 0 where
   pub spelled : Spelled x
   -- as many L lines as the ring has links
   pub links : length x.links ≡ x.ring.n
-  pub short : length (writeSheet x) ≤ limits.bytes
+  pub short : length (write_sheet x) ≤ limits.bytes
 
 -- no sheet of so many rows and nodes is longer: a field has at most 7 digits and the byte behind them
 abbrev pub longest : Limits → ℕ
-longest limits = (mostDigits + 1) * (length ringShape + length sentShape * limits.rows + length cutShape + length linkShape * limits.nodes + length lastShape)
+longest limits = (most_digits + 1) * (length ring_shape + length sent_shape * limits.rows + length cut_shape + length link_shape * limits.nodes + length last_shape)

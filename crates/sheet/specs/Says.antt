@@ -1,49 +1,49 @@
 -- To believe: what each reason says of a sheet's text, by its lines and the writer alone, and which byte of the line goes with it; which reason is given; and what accepted and well-formed sheets are.
 use Rattle.std.specs.Prelude.{ℕ, ◌+◌, ◌*◌, ◌≤◌, ◌<◌, List, [], ◌∷◌, ◌++◌, ◌⊎◌, ◌≡◌, length}
-use Rattle.sonet.specs.Size.{sonetSizes}
+use Rattle.sonet.specs.Size.{sonet_sizes}
 use Rattle.ring.specs.Cut.{Cut, IsCut, across}
 use Rattle.ring.specs.Limits.{Limits}
 use Rattle.ring.specs.Ring.{Ring}
-use Rattle.ring.specs.LineSize.{lineSize}
+use Rattle.ring.specs.LineSize.{line_size}
 use Rattle.ring.specs.Row.{PairBefore}
-use Rattle.ring.specs.Routing.{wayNumber, Routed, splitLoad, unsplitLoad, peak}
-use Rattle.ring.specs.Sheet.{Link, Sheet, sents, demands, splitPeak, unsplitPeak, largestSplitOf}
+use Rattle.ring.specs.Routing.{way_number, Routed, split_load, unsplit_load, peak}
+use Rattle.ring.specs.Sheet.{Link, Sheet, sents, demands, split_peak, unsplit_peak, largest_split_of}
 use Rattle.ring.specs.True.{SumsTo2d, Kept}
 use Rattle.text.specs.Number.{limit}
-use Rattle.text.specs.FieldByte.{sentByte}
+use Rattle.text.specs.FieldByte.{sent_byte}
 use Rattle.text.specs.FirstFault.{Agrees}
-use Rattle.text.specs.Shapes.{ringShape, sentShape, cutShape, linkShape, lastShape, cutLine, lastLine}
+use Rattle.text.specs.Shapes.{ring_shape, sent_shape, cut_shape, link_shape, last_shape, cut_line, last_line}
 use Rattle.table.specs.Lines.{lines}
 use Rattle.table.specs.Reasons.{rank_of}
 use Rattle.table.specs.Says.{LineIs, RingIs, WrongRing, WrongFibres, NoNode, DueByte, ShapeByte, RingField}
 use Rattle.table.specs.declared.reason.Reason.{Reason}
 use Rattle.table.specs.declared.reason.Reason.TheVariants.{TooLong, Misshapen, RingSize, Fibres, NoRow, NoSuchNode, NotBelow, OutOfOrder, TooMany, TooMuch, Full, WrongSum, WrongWay, WrongCut, WrongLink, WrongLast, NotTight, OverBound, NotZero, NotSymmetric, SumTooMuch, NoRoom}
-use Rattle.sheet.specs.WriteSheet.{routedLine, loadLine}
+use Rattle.sheet.specs.WriteSheet.{routed_line, load_line}
 
 -- ---- lines
 
 -- this line is D i j amount front back F-or-B
 pub record SentIs (t : List ℕ) (line : ℕ) (r : Routed) : Type 0 where
-  pub text : LineIs (lines t) line (routedLine r)
+  pub text : LineIs (lines t) line (routed_line r)
   pub nodes : (r.sent.row.i < limit) × (r.sent.row.j < limit)
   pub amount : r.sent.row.d < limit
   pub halves : (r.sent.front < limit) × (r.sent.back < limit)
 
 -- this line is C g h across
 pub record CutIs (t : List ℕ) (line : ℕ) (c : Cut) : Type 0 where
-  pub text : LineIs (lines t) line (cutLine c.g c.h c.number)
+  pub text : LineIs (lines t) line (cut_line c.g c.h c.number)
   pub pair : (c.g < limit) × (c.h < limit)
   pub number : c.number < limit
 
 -- this line is L link split-load unsplit-load
 pub record LinkIs (t : List ℕ) (line : ℕ) (l : Link) : Type 0 where
-  pub text : LineIs (lines t) line (loadLine l)
+  pub text : LineIs (lines t) line (load_line l)
   pub link : l.link < limit
   pub loads : (l.split < limit) × (l.unsplit < limit)
 
 -- this line is Z unsplit-peak size
 pub record LastIs (t : List ℕ) (line p z : ℕ) : Type 0 where
-  pub text : LineIs (lines t) line (lastLine p z)
+  pub text : LineIs (lines t) line (last_line p z)
   pub spelled : (p < limit) × (z < limit)
 
 -- what lines have said, and so what is due behind them: the R line; a D line or the C line; behind the C line an L line for each link, and then the Z line;
@@ -152,7 +152,7 @@ pub record WrongLinkLine (t : List ℕ) (line : ℕ) : Type 0 where
   pub few : length ks < ring.n
   pub l : Link
   pub is : LinkIs t line l
-  pub wrong : (l.link ≡ length ks + 1 → ⊥) ⊎ ((l.split ≡ splitLoad (sents rs) (length ks + 1) → ⊥) ⊎ (l.unsplit ≡ unsplitLoad rs (length ks + 1) → ⊥))
+  pub wrong : (l.link ≡ length ks + 1 → ⊥) ⊎ ((l.split ≡ split_load (sents rs) (length ks + 1) → ⊥) ⊎ (l.unsplit ≡ unsplit_load rs (length ks + 1) → ⊥))
 
 -- 12: unsplit peak or size false
 pub record WrongLastLine (t : List ℕ) (line : ℕ) : Type 0 where
@@ -165,7 +165,7 @@ pub record WrongLastLine (t : List ℕ) (line : ℕ) : Type 0 where
   pub p : ℕ
   pub z : ℕ
   pub is : LastIs t line p z
-  pub wrong : (p ≡ peak (unsplitLoad rs) ring.n → ⊥) ⊎ (z ≡ lineSize sonetSizes ring.fibres (peak (unsplitLoad rs) ring.n) → ⊥)
+  pub wrong : (p ≡ peak (unsplit_load rs) ring.n → ⊥) ⊎ (z ≡ line_size sonet_sizes ring.fibres (peak (unsplit_load rs) ring.n) → ⊥)
 
 -- the text is a whole sheet: its lines end behind the Z line
 pub record WholeIs (t : List ℕ) (x : Sheet) : Type 0 where
@@ -177,13 +177,13 @@ pub record WholeIs (t : List ℕ) (x : Sheet) : Type 0 where
 pub record WrongPeak (t : List ℕ) : Type 0 where
   pub x : Sheet
   pub whole : WholeIs t x
-  pub wrong : splitPeak x ≡ x.cut.number → ⊥
+  pub wrong : split_peak x ≡ x.cut.number → ⊥
 
 -- 14: the bound of rule D broken
 pub record WrongBound (t : List ℕ) : Type 0 where
   pub x : Sheet
   pub whole : WholeIs t x
-  pub wrong : splitPeak x + 3 * largestSplitOf x < 2 * unsplitPeak x
+  pub wrong : split_peak x + 3 * largest_split_of x < 2 * unsplit_peak x
 
 -- what a reason says, with its line
 unfoldable pub Says : Limits → List ℕ → Reason → ℕ → Type 0
@@ -215,32 +215,32 @@ Says limits t NoRoom line = ⊥
 
 -- where a D line or the C line is due, both shapes count: p is the place of the first byte at which neither goes on
 pub record NeitherGoesOn (l : List ℕ) (p : ℕ) : Type 0 where
-  pub before : Agrees sentShape l p ⊎ Agrees cutShape l p
-  pub no_row : Agrees sentShape l (p + 1) → ⊥
-  pub no_cut : Agrees cutShape l (p + 1) → ⊥
+  pub before : Agrees sent_shape l p ⊎ Agrees cut_shape l p
+  pub no_row : Agrees sent_shape l (p + 1) → ⊥
+  pub no_cut : Agrees cut_shape l (p + 1) → ⊥
 
 -- 2: by the shape that is due; 1 where the line is left over
 pub data LineByte (t : List ℕ) (line byte : ℕ) : Type 0 where
-  ring-due : At t line start → ShapeByte t ringShape line byte → LineByte t line byte
+  ring-due : At t line start → ShapeByte t ring_shape line byte → LineByte t line byte
   row-or-cut-due : {ring : Ring} {rs : List Routed} → At t line (rows ring rs) → DueByte t line NeitherGoesOn byte → LineByte t line byte
-  link-due : {ring : Ring} {rs : List Routed} {c : Cut} {ks : List Link} → At t line (links ring rs c ks) → length ks < ring.n → ShapeByte t linkShape line byte → LineByte t line byte
-  last-due : {ring : Ring} {rs : List Routed} {c : Cut} {ks : List Link} → At t line (links ring rs c ks) → ring.n ≤ length ks → ShapeByte t lastShape line byte → LineByte t line byte
+  link-due : {ring : Ring} {rs : List Routed} {c : Cut} {ks : List Link} → At t line (links ring rs c ks) → length ks < ring.n → ShapeByte t link_shape line byte → LineByte t line byte
+  last-due : {ring : Ring} {rs : List Routed} {c : Cut} {ks : List Link} → At t line (links ring rs c ks) → ring.n ≤ length ks → ShapeByte t last_shape line byte → LineByte t line byte
   none-due : {x : Sheet} → At t line (end x) → byte ≡ 1 → LineByte t line byte
 
 -- where field k of a D line starts: the nodes are fields 1 and 2, the amount is field 3
-abbrev pub routedByte : Routed → ℕ → ℕ
-routedByte r k = sentByte r.sent.row.i r.sent.row.j r.sent.row.d r.sent.front r.sent.back (wayNumber r.way) k
+abbrev pub routed_byte : Routed → ℕ → ℕ
+routed_byte r k = sent_byte r.sent.row.i r.sent.row.j r.sent.row.d r.sent.front r.sent.back (way_number r.way) k
 
 -- 4: where the first of the two nodes that is outside starts
 pub data NodeByte (t : List ℕ) (line byte : ℕ) : Type 0 where
-  first-node : {r : Routed} (row : RowAt t line r) → NoNode row.ring.n r.sent.row.i → byte ≡ routedByte r 1 → NodeByte t line byte
-  second-node : {r : Routed} (row : RowAt t line r) → (NoNode row.ring.n r.sent.row.i → ⊥) → NoNode row.ring.n r.sent.row.j → byte ≡ routedByte r 2 → NodeByte t line byte
+  first-node : {r : Routed} (row : RowAt t line r) → NoNode row.ring.n r.sent.row.i → byte ≡ routed_byte r 1 → NodeByte t line byte
+  second-node : {r : Routed} (row : RowAt t line r) → (NoNode row.ring.n r.sent.row.i → ⊥) → NoNode row.ring.n r.sent.row.j → byte ≡ routed_byte r 2 → NodeByte t line byte
 
 -- 7: where the amount starts
 pub record AmountByte (t : List ℕ) (line byte : ℕ) : Type 0 where
   pub r : Routed
   pub row : RowAt t line r
-  pub is : byte ≡ routedByte r 3
+  pub is : byte ≡ routed_byte r 3
 
 -- the byte of a reason that holds on a line
 unfoldable pub ByteIs : List ℕ → Reason → ℕ → ℕ → Type 0

@@ -1,10 +1,10 @@
 // A sheet's values in arrays to text: measured first, then written.
 ghost use Rattle.std.specs.Prelude.{◌≡◌, ◌+◌, ◌≤◌, length};
 ghost use Rattle.ring.specs.Limits.{desk};
-ghost use Rattle.ring.specs.Columns.{routedIn};
+ghost use Rattle.ring.specs.Columns.{routed_in};
 ghost use Rattle.text.specs.Written.{Written};
-ghost use Rattle.sheet.specs.WriteSheet.{routedLine, loadLine, lines_of, endText, writeSheet};
-ghost use Rattle.sheet.specs.Arrays.{linksIn, sheetIn};
+ghost use Rattle.sheet.specs.WriteSheet.{routed_line, load_line, lines_of, end_text, write_sheet};
+ghost use Rattle.sheet.specs.Arrays.{links_in, sheet_in};
 
 use crate::Figures;
 use ring::{LINKS, ROWS, wide};
@@ -22,7 +22,7 @@ fn rows_length<'a>(
     way: &'a [u32; ROWS],
 ) -> usize
     requires { count ≤ desk.rows }
-    ensures { result ≡ length (lines_of routedLine (routedIn count first.now second.now amount.now front.now back.now way.now)) }
+    ensures { result ≡ length (lines_of routed_line (routed_in count first.now second.now amount.now front.now back.now way.now)) }
 {
     let mut size: usize = 0;
     let mut k: usize = 0;
@@ -36,7 +36,7 @@ fn rows_length<'a>(
 // The L lines.
 fn links_length<'a>(n: u32, split: &'a [u32; LINKS], unsplit: &'a [u32; LINKS]) -> usize
     requires { n ≤ desk.nodes }
-    ensures { result ≡ length (lines_of loadLine (linksIn n split.now unsplit.now)) }
+    ensures { result ≡ length (lines_of load_line (links_in n split.now unsplit.now)) }
 {
     let links = wide(n);
     let mut size: usize = 0;
@@ -63,7 +63,7 @@ pub fn sheet_length<'a>(
     unsplit: &'a [u32; LINKS],
 ) -> usize
     requires { (count ≤ desk.rows) × (x.n ≤ desk.nodes) }
-    ensures { result ≡ length (writeSheet (sheetIn x count first.now second.now amount.now front.now back.now way.now split.now unsplit.now)) }
+    ensures { result ≡ length (write_sheet (sheet_in x count first.now second.now amount.now front.now back.now way.now split.now unsplit.now)) }
 {
     let ring = text::ring_length(x.n, x.fibres);
     let rows = rows_length(count, first, second, amount, front, back, way);
@@ -87,8 +87,8 @@ fn write_rows<'a>(
     back: &'a [u32; ROWS],
     way: &'a [u32; ROWS],
 ) -> usize
-    requires { (count ≤ desk.rows) × (at + length (lines_of routedLine (routedIn count first.now second.now amount.now front.now back.now way.now)) ≤ length buf.old) }
-    ensures { Written buf.old at (lines_of routedLine (routedIn count first.now second.now amount.now front.now back.now way.now)) buf.new result }
+    requires { (count ≤ desk.rows) × (at + length (lines_of routed_line (routed_in count first.now second.now amount.now front.now back.now way.now)) ≤ length buf.old) }
+    ensures { Written buf.old at (lines_of routed_line (routed_in count first.now second.now amount.now front.now back.now way.now)) buf.new result }
 {
     let mut p = at;
     let mut k: usize = 0;
@@ -109,8 +109,8 @@ fn write_links<'a>(
     split: &'a [u32; LINKS],
     unsplit: &'a [u32; LINKS],
 ) -> usize
-    requires { (n ≤ desk.nodes) × (at + length (lines_of loadLine (linksIn n split.now unsplit.now)) ≤ length buf.old) }
-    ensures { Written buf.old at (lines_of loadLine (linksIn n split.now unsplit.now)) buf.new result }
+    requires { (n ≤ desk.nodes) × (at + length (lines_of load_line (links_in n split.now unsplit.now)) ≤ length buf.old) }
+    ensures { Written buf.old at (lines_of load_line (links_in n split.now unsplit.now)) buf.new result }
 {
     let links = wide(n);
     let mut p = at;
@@ -131,8 +131,8 @@ fn write_end<'a>(
     split: &'a [u32; LINKS],
     unsplit: &'a [u32; LINKS],
 ) -> usize
-    requires { (x.n ≤ desk.nodes) × (at + length (endText x (linksIn x.n split.now unsplit.now)) ≤ length buf.old) }
-    ensures { Written buf.old at (endText x (linksIn x.n split.now unsplit.now)) buf.new result }
+    requires { (x.n ≤ desk.nodes) × (at + length (end_text x (links_in x.n split.now unsplit.now)) ≤ length buf.old) }
+    ensures { Written buf.old at (end_text x (links_in x.n split.now unsplit.now)) buf.new result }
 {
     let p = text::write_cut(buf, at, x.g, x.h, x.across);
     let q = write_links(buf, p, x.n, split, unsplit);
@@ -153,8 +153,8 @@ pub fn write_sheet<'a>(
     split: &'a [u32; LINKS],
     unsplit: &'a [u32; LINKS],
 ) -> usize
-    requires { (count ≤ desk.rows) × (x.n ≤ desk.nodes) × (length (writeSheet (sheetIn x count first.now second.now amount.now front.now back.now way.now split.now unsplit.now)) ≤ length buf.old) }
-    ensures { Written buf.old 0 (writeSheet (sheetIn x count first.now second.now amount.now front.now back.now way.now split.now unsplit.now)) buf.new result }
+    requires { (count ≤ desk.rows) × (x.n ≤ desk.nodes) × (length (write_sheet (sheet_in x count first.now second.now amount.now front.now back.now way.now split.now unsplit.now)) ≤ length buf.old) }
+    ensures { Written buf.old 0 (write_sheet (sheet_in x count first.now second.now amount.now front.now back.now way.now split.now unsplit.now)) buf.new result }
 {
     let p = text::write_ring(buf, 0, x.n, x.fibres);
     let q = write_rows(buf, p, count, first, second, amount, front, back, way);

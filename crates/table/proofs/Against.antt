@@ -9,12 +9,12 @@ use Rattle.ring.specs.Ring.{Ring}
 use Rattle.ring.specs.LineSize.{IsFibres}
 use Rattle.table.specs.Reasons.{rank_of}
 use Rattle.table.specs.Says.{NoNode}
-use Rattle.table.specs.Judge.{judgeRing, judgeRow}
+use Rattle.table.specs.Judge.{judge_ring, judge_row}
 use Rattle.table.specs.declared.reason.Reason.{Reason}
 use Rattle.table.specs.declared.reason.Reason.TheVariants.{RingSize, Fibres, NoSuchNode, NotBelow, OutOfOrder, TooMany, TooMuch}
 use Rattle.table.specs.declared.judge.Verdict.{Verdict}
 use Rattle.table.specs.declared.judge.Verdict.TheVariants.{Fine, Fault}
-use Rattle.table.proofs.Judged.{RingJudged, wrong_size, wrong-fibres, right-ring, ring-judged, HasNode, RowJudged, no-such-node, not-below, out_of_order, too_many, too_much, row_fine, row-judged}
+use Rattle.table.proofs.Judged.{RingJudged, wrong-size, wrong-fibres, right-ring, ring-judged, HasNode, RowJudged, no-such-node, not-below, out_of_order, too_many, too_much, row_fine, row-judged}
 
 -- the verdict comes no later than the reason s, and where it is Fine there is no such reason
 abbrev pub NoLater : Verdict → Reason → Type 0
@@ -77,7 +77,7 @@ module _ {limits : Limits} {n k a b i j d : ℕ} where
   row-least (row_fine r o c m) (by-amount w) = omega arith
 
 pub fine-row-judged : (limits : Limits) (n k a b i j d : ℕ) → OnRing n (row i j d) → PairUpTo a b i j → k < limits.rows → d ≤ limits.amount
-    → judgeRow limits n k a b i j d ≡ Fine
+    → judge_row limits n k a b i j d ≡ Fine
 fine-row-judged limits n k a b i j d r o c m = go (row-judged limits n k a b i j d)
   where
     none : {s : Reason} → AgainstRow limits n k a b i j d s → ⊥
@@ -103,17 +103,17 @@ has-size few many (inr l) = omega arith
 
 module _ {limits : Limits} {ring : Ring} where
   pub ring-least : {v : Verdict} {s : Reason} → RingJudged limits ring v → AgainstRing limits ring s → NoLater v s
-  ring-least (wrong_size u) (by_size w) = omega arith
-  ring-least (wrong_size u) (by-fibres w) = omega arith
+  ring-least (wrong-size u) (by_size w) = omega arith
+  ring-least (wrong-size u) (by-fibres w) = omega arith
   ring-least (wrong-fibres l m u) (by_size w) = absurd (has-size l m w)
   ring-least (wrong-fibres l m u) (by-fibres w) = omega arith
   ring-least (right-ring l m f) (by_size w) = has-size l m w
   ring-least (right-ring l m f) (by-fibres w) = w f
 
-pub fine-ring-judged : (limits : Limits) (ring : Ring) → limits.fewest ≤ ring.n → ring.n ≤ limits.nodes → IsFibres ring.fibres → judgeRing limits ring ≡ Fine
+pub fine-ring-judged : (limits : Limits) (ring : Ring) → limits.fewest ≤ ring.n → ring.n ≤ limits.nodes → IsFibres ring.fibres → judge_ring limits ring ≡ Fine
 fine-ring-judged limits ring few many fibres = go (ring-judged limits ring)
   where
     go : {v : Verdict} → RingJudged limits ring v → v ≡ Fine
-    go (wrong_size w) = absurd (has-size few many w)
+    go (wrong-size w) = absurd (has-size few many w)
     go (wrong-fibres l m w) = absurd (w fibres)
     go (right-ring l m f) = refl

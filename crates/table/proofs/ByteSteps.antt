@@ -3,20 +3,20 @@ use Prim.Native.Nat.{ℕ, ◌≤◌}
 use mathlib.Core.Bool.{Bool, true, false, cond}
 use mathlib.Core.Path.{◌≡◌, sym, ◌∙◌}
 use native.Mathlib.Omega.{arith}
-use Rattle.ring.specs.Ring.{ringOf}
-use Rattle.text.specs.FieldByte.{ringByte, rowByte}
-use Rattle.table.specs.Fields.{field_of, nodeField, ringFault, rowFault}
+use Rattle.ring.specs.Ring.{ring_of}
+use Rattle.text.specs.FieldByte.{ring_byte, row_byte}
+use Rattle.table.specs.Fields.{field_of, node_field, ring_fault, row_fault}
 use Rattle.table.specs.Judge.{outside}
 use Rattle.table.specs.declared.reason.Reason.{Reason}
 use Rattle.table.specs.declared.reason.Reason.TheVariants.{TooLong, Misshapen, RingSize, Fibres, NoRow, NoSuchNode, NotBelow, OutOfOrder, TooMany, TooMuch, Full, WrongSum, WrongWay, WrongCut, WrongLink, WrongLast, NotTight, OverBound, NotZero, NotSymmetric, SumTooMuch, NoRoom}
 
 module _ (n i : ℕ) (x : Bool) (ex : x ≡ outside n i) where
-  pub first-outside : x ≡ true → 1 ≡ nodeField n i
-  unfolding nodeField
+  pub first-outside : x ≡ true → 1 ≡ node_field n i
+  unfolding node_field
   first-outside t = rw (sym ex ∙ t)
 
-  pub first-inside : x ≡ false → 2 ≡ nodeField n i
-  unfolding nodeField
+  pub first-inside : x ≡ false → 2 ≡ node_field n i
+  unfolding node_field
   first-inside t = rw (sym ex ∙ t)
 
 few : (r : Reason) (node : ℕ) → node ≤ 3 → field_of r node ≤ 3
@@ -43,8 +43,8 @@ few NotSymmetric node h = omega arith
 few SumTooMuch node h = omega arith
 few NoRoom node h = omega arith
 
-node-few : (n i : ℕ) → nodeField n i ≤ 3
-unfolding nodeField
+node-few : (n i : ℕ) → node_field n i ≤ 3
+unfolding node_field
 node-few n i = go (outside n i)
   where
     go : (b : Bool) → cond b 1 2 ≤ 3
@@ -55,13 +55,13 @@ module _ (r : Reason) (k : ℕ) where
   pub few-ring : k ≡ field_of r 0 → k ≤ 3
   few-ring e = omega (arith, few r 0 (omega arith))
 
-  pub few-row : (n i node : ℕ) → node ≡ nodeField n i → k ≡ field_of r node → k ≤ 4
+  pub few-row : (n i node : ℕ) → node ≡ node_field n i → k ≡ field_of r node → k ≤ 4
   few-row n i node f e = omega (arith, node-few n i, few r node (omega (arith, node-few n i)))
 
-pub ring-fault-is : (n fibres k r : ℕ) (reason : Reason) → k ≡ field_of reason 0 → r ≡ ringByte n fibres k → r ≡ ringFault (ringOf n fibres) reason
-unfolding ringFault
+pub ring-fault-is : (n fibres k r : ℕ) (reason : Reason) → k ≡ field_of reason 0 → r ≡ ring_byte n fibres k → r ≡ ring_fault (ring_of n fibres) reason
+unfolding ring_fault
 ring-fault-is n fibres k r reason e f = rw (f, e)
 
-pub row-fault-is : (n i j d node k r : ℕ) (reason : Reason) → node ≡ nodeField n i → k ≡ field_of reason node → r ≡ rowByte i j d k → r ≡ rowFault n i j d reason
-unfolding rowFault
+pub row-fault-is : (n i j d node k r : ℕ) (reason : Reason) → node ≡ node_field n i → k ≡ field_of reason node → r ≡ row_byte i j d k → r ≡ row_fault n i j d reason
+unfolding row_fault
 row-fault-is n i j d node k r reason g e f = rw (f, e, g)

@@ -7,16 +7,16 @@ use mathlib.Core.Path.{◌≡◌, refl, ap, sym, ◌∙◌, subst}
 use native.Mathlib.Omega.{arith}
 use Rattle.ring.specs.Limits.{Limits}
 use Rattle.ring.specs.Ring.{Ring}
-use Rattle.text.specs.FieldByte.{fieldByte, ringByte}
-use Rattle.text.specs.WriteLine.{writeLine}
+use Rattle.text.specs.FieldByte.{field_byte, ring_byte}
+use Rattle.text.specs.WriteLine.{write_line}
 use Rattle.text.proofs.LineLaws.{one-fault}
-use Rattle.table.specs.Fields.{nodeField, ringFault, rowFault}
+use Rattle.table.specs.Fields.{node_field, ring_fault, row_fault}
 use Rattle.table.specs.Says.{RingIs, RowIs, NoNode, ShapeByte, DueByte, line-missing, line-faulty, LineByte, ring-due, row-due, RingField, NodeByte, first-node, second-node, AmountByte, at-amount, ByteIs}
 use Rattle.table.specs.declared.reason.Reason.{Reason}
 use Rattle.table.specs.declared.reason.Reason.TheVariants.{TooLong, Misshapen, RingSize, Fibres, NoRow, NoSuchNode, NotBelow, OutOfOrder, TooMany, TooMuch, Full, WrongSum, WrongWay, WrongCut, WrongLink, WrongLast, NotTight, OverBound, NotZero, NotSymmetric, SumTooMuch, NoRoom}
 use Rattle.table.specs.declared.judge.Verdict.{Verdict}
 use Rattle.table.specs.declared.judge.Verdict.TheVariants.{Fine, Fault}
-use Rattle.table.proofs.Judged.{RingJudged, wrong_size, wrong-fibres, right-ring, Node, no_node, has-node, node, RowJudged, no-such-node, not-below, out_of_order, too_many, too_much, row_fine}
+use Rattle.table.proofs.Judged.{RingJudged, wrong-size, wrong-fibres, right-ring, Node, no_node, has-node, node, RowJudged, no-such-node, not-below, out_of_order, too_many, too_much, row_fine}
 use Rattle.table.proofs.Against.{no-node-there}
 use Rattle.table.proofs.LineNumbers.{line-one, ring-one, row_one}
 
@@ -25,21 +25,21 @@ abbrev pub ByteOn : List ℕ → ℕ → (Reason → ℕ) → Verdict → Type 0
 ByteOn t line byte Fine = Unit {0}
 ByteOn t line byte (Fault r) = ByteIs t r line (byte r)
 
-pub ring-byte : {limits : Limits} {t : List ℕ} {ring : Ring} {v : Verdict} → RingIs t ring → RingJudged limits ring v → ByteOn t 1 (ringFault ring) v
-unfolding ByteIs ringFault
-ring-byte {ring} here (wrong_size w) = record { ring = ring; said = here; is = refl }
+pub ring-byte : {limits : Limits} {t : List ℕ} {ring : Ring} {v : Verdict} → RingIs t ring → RingJudged limits ring v → ByteOn t 1 (ring_fault ring) v
+unfolding ByteIs ring_fault
+ring-byte {ring} here (wrong-size w) = record { ring = ring; said = here; is = refl }
 ring-byte {ring} here (wrong-fibres l m w) = record { ring = ring; said = here; is = refl }
 ring-byte here (right-ring l m f) = tt
 
 module _ {t : List ℕ} {ring : Ring} {line i j d : ℕ} (here : RingIs t ring) (row : RowIs t line i j d) where
-  node-byte : Node ring.n i → NoNode ring.n i ⊎ NoNode ring.n j → NodeByte t line (rowFault ring.n i j d NoSuchNode)
-  unfolding rowFault nodeField
+  node-byte : Node ring.n i → NoNode ring.n i ⊎ NoNode ring.n j → NodeByte t line (row_fault ring.n i j d NoSuchNode)
+  unfolding row_fault node_field
   node-byte (no_node w e) out = rw e (first-node here row w)
   node-byte (has-node h e) (inl w) = absurd (no-node-there h w)
   node-byte (has-node h e) (inr w) = rw e (second-node here row (no-node-there h) w)
 
-  pub row-byte : {limits : Limits} {k a b : ℕ} {v : Verdict} → RowJudged limits ring.n k a b i j d v → ByteOn t line (rowFault ring.n i j d) v
-  unfolding ByteIs rowFault fieldByte writeLine
+  pub row-byte : {limits : Limits} {k a b : ℕ} {v : Verdict} → RowJudged limits ring.n k a b i j d v → ByteOn t line (row_fault ring.n i j d) v
+  unfolding ByteIs row_fault field_byte write_line
   row-byte (no-such-node w) = node-byte (node ring.n i) w
   row-byte (not-below h p l) = refl
   row-byte (out_of_order h p l o) = refl
@@ -66,7 +66,7 @@ one-line-byte (row-due e x) (ring-due f y) = absurd (omega arith)
 one-line-byte (row-due e x) (row-due f y) = one-shape-byte x y
 
 pub one-ring-field : {t : List ℕ} {k b c : ℕ} → RingField t k b → RingField t k c → b ≡ c
-one-ring-field {k} x y = x.is ∙ ap (λ (r : Ring). ringByte r.n r.fibres k) (ring-one x.said y.said) ∙ sym y.is
+one-ring-field {k} x y = x.is ∙ ap (λ (r : Ring). ring_byte r.n r.fibres k) (ring-one x.said y.said) ∙ sym y.is
 
 one-node-byte : {t : List ℕ} {line b c : ℕ} → NodeByte t line b → NodeByte t line c → b ≡ c
 one-node-byte (first-node r x w) (first-node s y v) = let e = row_one x y refl in rw (e.same-i, e.same-j, e.same-d)

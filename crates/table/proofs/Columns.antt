@@ -6,7 +6,7 @@ use native.Mathlib.Omega.{arith}
 use lib.ListN.{length, get_or, set, drop, replicate, length-map, length-replicate}
 use lib.Seq.{sets, sets-eq, length-sets, get_or-append-add, get_or-drop}
 use Rattle.ring.specs.Row.{Row, row}
-use Rattle.ring.specs.Columns.{listed, column, rowsIn}
+use Rattle.ring.specs.Columns.{listed, column, rows_in}
 use Rattle.ring.proofs.Laid.{zeros-at}
 use Rattle.ring.proofs.Listed.{listed-shift, listed_same}
 use Rattle.text.proofs.Writing.{sets-append}
@@ -55,7 +55,7 @@ listed-members none [] = refl
 listed-members none (x ∷ l) = ap (λ m. x ∷ m) (listed-shift (λ k. get_or (x ∷ l) k none) 0 (length l) ∙ listed-members none l)
 
 pub rows_back : (size : ℕ) (rs : List Row) → length rs ≤ size →
-    rowsIn (length rs) (column (λ r. r.i) size rs) (column (λ r. r.j) size rs) (column (λ r. r.d) size rs) ≡ rs
+    rows_in (length rs) (column (λ r. r.i) size rs) (column (λ r. r.j) size rs) (column (λ r. r.d) size rs) ≡ rs
 rows_back size rs few =
     listed_same _ (λ k. get_or rs k (row 0 0 0)) 0 (length rs) same ∙ listed-members (row 0 0 0) rs
   where

@@ -15,7 +15,7 @@ use Rattle.table.specs.declared.reason.Reason.{Reason}
 use Rattle.table.specs.declared.reason.Reason.TheVariants.{Misshapen}
 use Rattle.table.specs.declared.judge.Verdict.{Verdict}
 use Rattle.table.specs.declared.judge.Verdict.TheVariants.{Fine, Fault}
-use Rattle.table.proofs.Judged.{RingJudged, wrong_size, wrong-fibres as other-fibres, right-ring, RowJudged, no-such-node, not-below, out_of_order, too_many, too_much, row_fine}
+use Rattle.table.proofs.Judged.{RingJudged, wrong-size, wrong-fibres as other-fibres, right-ring, RowJudged, no-such-node, not-below, out_of_order, too_many, too_much, row_fine}
 use Rattle.table.proofs.Against.{NoLater, AgainstRow, by-nodes, by-pair, by_order, by_count, by-amount, row-least, AgainstRing, by_size, by-fibres, ring-least}
 use Rattle.table.proofs.LineNumbers.{ring-one, row_one}
 use Rattle.table.proofs.Said.{Said, too_long, no-ring-line, no-row-line, wrong-ring, wrong-fibres, wrong-node, wrong-pair, wrong-order, wrong-count, wrong-amount, said, Stands, on_none, on-first, on-later, stands}
@@ -71,7 +71,7 @@ module _ {limits : Limits} {t : List ℕ} {ring : Ring} (here : RingIs t ring) w
   ring-judged-first judged = record { holds = go judged; least = λ s h. ring-least judged (said-of-ring (said s h)) }
     where
       go : {v : Verdict} → RingJudged limits ring v → Holds limits t 1 v
-      go (wrong_size w) = record { at = refl; ring = ring; said = here; wrong = w }
+      go (wrong-size w) = record { at = refl; ring = ring; said = here; wrong = w }
       go (other-fibres l m w) = record { at = refl; ring = ring; said = here; wrong = w }
       go (right-ring l m f) = tt
 

@@ -10,9 +10,9 @@ use borrow.Author.Tests.{lt-ltb, le-ltb, le-leb, lt-leb, eq-eqb, ne_eqb}
 use Rattle.ring.specs.Row.{row, OnRing, PairBefore, PairUpTo}
 use Rattle.ring.specs.Limits.{Limits}
 use Rattle.ring.specs.Ring.{Ring}
-use Rattle.ring.specs.LineSize.{twoFibres, fourFibres, IsFibres}
+use Rattle.ring.specs.LineSize.{two_fibres, four_fibres, IsFibres}
 use Rattle.table.specs.Says.{NoNode}
-use Rattle.table.specs.Judge.{wrongSize, judgeSize, otherFibres, judgeRing, outside, isBelow, judgeRow}
+use Rattle.table.specs.Judge.{wrong_size, judge_size, other_fibres, judge_ring, outside, is_below, judge_row}
 use Rattle.table.specs.declared.reason.Reason.TheVariants.{RingSize, Fibres, NoSuchNode, NotBelow, OutOfOrder, TooMany, TooMuch}
 use Rattle.table.specs.declared.judge.Verdict.{Verdict}
 use Rattle.table.specs.declared.judge.Verdict.TheVariants.{Fine, Fault}
@@ -20,11 +20,11 @@ use Rattle.table.specs.declared.judge.Verdict.TheVariants.{Fine, Fault}
 -- ---- a ring
 
 data Size (limits : Limits) (n : ℕ) : Type 0 where
-  wrong : (n < limits.fewest) ⊎ (limits.nodes < n) → wrongSize limits n ≡ true → Size limits n
-  right : limits.fewest ≤ n → n ≤ limits.nodes → wrongSize limits n ≡ false → Size limits n
+  wrong : (n < limits.fewest) ⊎ (limits.nodes < n) → wrong_size limits n ≡ true → Size limits n
+  right : limits.fewest ≤ n → n ≤ limits.nodes → wrong_size limits n ≡ false → Size limits n
 
 size : (limits : Limits) (n : ℕ) → Size limits n
-unfolding wrongSize
+unfolding wrong_size
 size limits n =
     elim (dec_lt n limits.fewest) [
       | yes l ↦ wrong (inl l) (rw (lt-ltb n limits.fewest l))
@@ -38,15 +38,15 @@ pub data SizeJudged (limits : Limits) (n : ℕ) : Verdict → Type 0 where
   not-so-many : (n < limits.fewest) ⊎ (limits.nodes < n) → SizeJudged limits n (Fault RingSize)
   right-size : limits.fewest ≤ n → n ≤ limits.nodes → SizeJudged limits n Fine
 
-pub size-judged : (limits : Limits) (n : ℕ) → SizeJudged limits n (judgeSize limits n)
-unfolding judgeSize
+pub size-judged : (limits : Limits) (n : ℕ) → SizeJudged limits n (judge_size limits n)
+unfolding judge_size
 size-judged limits n = go (size limits n)
   where
-    go : Size limits n → SizeJudged limits n (judgeSize limits n)
+    go : Size limits n → SizeJudged limits n (judge_size limits n)
     go (wrong w e) = rw e (not-so-many w)
     go (right few many e) = rw e (right-size few many)
 
-pub fine-size : (limits : Limits) (n : ℕ) → limits.fewest ≤ n → n ≤ limits.nodes → judgeSize limits n ≡ Fine
+pub fine-size : (limits : Limits) (n : ℕ) → limits.fewest ≤ n → n ≤ limits.nodes → judge_size limits n ≡ Fine
 fine-size limits n few many = go (size-judged limits n)
   where
     go : {v : Verdict} → SizeJudged limits n v → v ≡ Fine
@@ -55,31 +55,31 @@ fine-size limits n few many = go (size-judged limits n)
 
 -- fibres, by their test
 pub data Fibred (fibres : ℕ) : Type 0 where
-  other : (IsFibres fibres → ⊥) → otherFibres fibres ≡ true → Fibred fibres
-  known : IsFibres fibres → otherFibres fibres ≡ false → Fibred fibres
+  other : (IsFibres fibres → ⊥) → other_fibres fibres ≡ true → Fibred fibres
+  known : IsFibres fibres → other_fibres fibres ≡ false → Fibred fibres
 
 pub fibred : (fibres : ℕ) → Fibred fibres
-unfolding otherFibres
+unfolding other_fibres
 fibred fibres =
-    elim (ℕ_discrete fibres twoFibres) [
-      | yes e ↦ known (inl e) (rw (eq-eqb fibres twoFibres e))
-      | no e ↦ elim (ℕ_discrete fibres fourFibres) [
-        | yes f ↦ known (inr f) (rw (ne_eqb fibres twoFibres e, eq-eqb fibres fourFibres f))
-        | no f ↦ other (⊎_elim e f) (rw (ne_eqb fibres twoFibres e, ne_eqb fibres fourFibres f))
+    elim (ℕ_discrete fibres two_fibres) [
+      | yes e ↦ known (inl e) (rw (eq-eqb fibres two_fibres e))
+      | no e ↦ elim (ℕ_discrete fibres four_fibres) [
+        | yes f ↦ known (inr f) (rw (ne_eqb fibres two_fibres e, eq-eqb fibres four_fibres f))
+        | no f ↦ other (⊎_elim e f) (rw (ne_eqb fibres two_fibres e, ne_eqb fibres four_fibres f))
       ]
     ]
 
 pub data RingJudged (limits : Limits) (ring : Ring) : Verdict → Type 0 where
-  wrong_size : (ring.n < limits.fewest) ⊎ (limits.nodes < ring.n) → RingJudged limits ring (Fault RingSize)
+  wrong-size : (ring.n < limits.fewest) ⊎ (limits.nodes < ring.n) → RingJudged limits ring (Fault RingSize)
   wrong-fibres : limits.fewest ≤ ring.n → ring.n ≤ limits.nodes → (IsFibres ring.fibres → ⊥) → RingJudged limits ring (Fault Fibres)
   right-ring : limits.fewest ≤ ring.n → ring.n ≤ limits.nodes → IsFibres ring.fibres → RingJudged limits ring Fine
 
-pub ring-judged : (limits : Limits) (ring : Ring) → RingJudged limits ring (judgeRing limits ring)
-unfolding judgeRing
+pub ring-judged : (limits : Limits) (ring : Ring) → RingJudged limits ring (judge_ring limits ring)
+unfolding judge_ring
 ring-judged limits ring = go (size limits ring.n) (fibred ring.fibres)
   where
-    go : Size limits ring.n → Fibred ring.fibres → RingJudged limits ring (judgeRing limits ring)
-    go (wrong w e) f = rw e (wrong_size w)
+    go : Size limits ring.n → Fibred ring.fibres → RingJudged limits ring (judge_ring limits ring)
+    go (wrong w e) f = rw e (wrong-size w)
     go (right l m e) (other o f) = rw (e, f) (wrong-fibres l m o)
     go (right l m e) (known o f) = rw (e, f) (right-ring l m o)
 
@@ -107,11 +107,11 @@ node n i =
 -- ---- two rows' nodes
 
 data Order (a b i j : ℕ) : Type 0 where
-  falls : PairBefore i j a b → isBelow a b i j ≡ true → Order a b i j
-  keeps : PairUpTo a b i j → isBelow a b i j ≡ false → Order a b i j
+  falls : PairBefore i j a b → is_below a b i j ≡ true → Order a b i j
+  keeps : PairUpTo a b i j → is_below a b i j ≡ false → Order a b i j
 
 order : (a b i j : ℕ) → Order a b i j
-unfolding isBelow
+unfolding is_below
 order a b i j =
     elim (dec_lt i a) [
       | yes l ↦ falls (inl l) (rw (lt-ltb i a l))
@@ -121,7 +121,7 @@ order a b i j =
       ]
     ]
   where
-    same : {t : Bool} → a ≤ i → i ≡ a → ltb j b ≡ t → isBelow a b i j ≡ t
+    same : {t : Bool} → a ≤ i → i ≡ a → ltb j b ≡ t → is_below a b i j ≡ t
     same l e f = rw (le-ltb i a l, eq-eqb i a e) f
 
 -- ---- a row, behind k rows
@@ -134,12 +134,12 @@ pub data RowJudged (limits : Limits) (n k a b i j d : ℕ) : Verdict → Type 0 
   too_much : HasNode n i → HasNode n j → i < j → PairUpTo a b i j → k < limits.rows → limits.amount < d → RowJudged limits n k a b i j d (Fault TooMuch)
   row_fine : OnRing n (row i j d) → PairUpTo a b i j → k < limits.rows → d ≤ limits.amount → RowJudged limits n k a b i j d Fine
 
-pub row-judged : (limits : Limits) (n k a b i j d : ℕ) → RowJudged limits n k a b i j d (judgeRow limits n k a b i j d)
-unfolding judgeRow
+pub row-judged : (limits : Limits) (n k a b i j d : ℕ) → RowJudged limits n k a b i j d (judge_row limits n k a b i j d)
+unfolding judge_row
 row-judged limits n k a b i j d = go (node n i) (node n j) (dec_le j i) (order a b i j) (dec_le limits.rows k) (dec_lt limits.amount d)
   where
     go : Node n i → Node n j → Dec (j ≤ i) → Order a b i j → Dec (limits.rows ≤ k) → Dec (limits.amount < d)
-        → RowJudged limits n k a b i j d (judgeRow limits n k a b i j d)
+        → RowJudged limits n k a b i j d (judge_row limits n k a b i j d)
     go (no_node u e) s t o c m = rw e (no-such-node (inl u))
     go (has-node u e) (no_node v f) t o c m = rw (e, f) (no-such-node (inr v))
     go (has-node u e) (has-node v f) (yes l) o c m = rw (e, f, le-leb j i l) (not-below u v l)

@@ -5,12 +5,12 @@ use mathlib.Core.List.{List, [], ◌∷◌}
 use mathlib.Core.Path.{◌≡◌, refl, ap, ap₂, ◌∙◌, sym, subst}
 use native.Mathlib.Omega.{arith}
 use lib.ListN.{length}
-use Rattle.text.specs.ReadLine.{readLine}
-use Rattle.text.specs.Shapes.{ringShape, rowShape}
-use Rattle.text.specs.Answers.{twoIn, threeIn}
+use Rattle.text.specs.ReadLine.{read_line}
+use Rattle.text.specs.Shapes.{ring_shape, row_shape}
+use Rattle.text.specs.Answers.{two_in, three_in}
 use Rattle.text.specs.declared.TwoNumbers.TheVariants.{Are as AreTwo}
 use Rattle.text.specs.declared.ThreeNumbers.TheVariants.{Are as AreThree}
-use Rattle.ring.specs.Ring.{Ring, ringOf}
+use Rattle.ring.specs.Ring.{Ring, ring_of}
 use Rattle.table.specs.Says.{LineIs, at_first, behind, RingIs, RowIs}
 use Rattle.table.proofs.LineRead.{ring-line-read, row-line-read}
 
@@ -29,9 +29,9 @@ line-one (behind p) (behind q) e = line-one p q (omega arith)
 pub ring-one : {t : List ℕ} {r s : Ring} → RingIs t r → RingIs t s → r ≡ s
 ring-one {t} {r} {s} p q =
     let e : AreTwo r.n r.fibres ≡ AreTwo s.n s.fibres =
-    sym (ring-line-read r.n r.fibres p.spelled) ∙ ap (λ l. twoIn (readLine ringShape l)) (line-one p.text q.text refl)
+    sym (ring-line-read r.n r.fibres p.spelled) ∙ ap (λ l. two_in (read_line ring_shape l)) (line-one p.text q.text refl)
     ∙ ring-line-read s.n s.fibres q.spelled in
-    ap₂ ringOf (cc) (cc)
+    ap₂ ring_of (cc) (cc)
 
 -- the same three numbers
 pub record SameRow (i j d i' j' d' : ℕ) : Type 0 where
@@ -42,7 +42,7 @@ pub record SameRow (i j d i' j' d' : ℕ) : Type 0 where
 pub row_one : {t : List ℕ} {line other i j d i' j' d' : ℕ} → RowIs t line i j d → RowIs t other i' j' d' → line ≡ other → SameRow i j d i' j' d'
 row_one {i} {j} {d} {i'} {j'} {d'} p q e =
     let f : AreThree i j d ≡ AreThree i' j' d' =
-    sym (row-line-read i j d p.spelled) ∙ ap (λ l. threeIn (readLine rowShape l)) (line-one p.text q.text e) ∙ row-line-read i' j' d' q.spelled in
+    sym (row-line-read i j d p.spelled) ∙ ap (λ l. three_in (read_line row_shape l)) (line-one p.text q.text e) ∙ row-line-read i' j' d' q.spelled in
     record { same-i = cc; same-j = cc; same-d = cc }
 
 -- ---- in order

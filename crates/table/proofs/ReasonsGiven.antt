@@ -13,12 +13,12 @@ use Rattle.ring.proofs.Side.{cond-elim}
 use Rattle.text.specs.declared.TwoNumbers.{TwoNumbers}
 use Rattle.text.specs.declared.ThreeNumbers.{ThreeNumbers}
 use Rattle.ring.specs.Limits.{Limits}
-use Rattle.ring.specs.Ring.{Ring, ringOf}
+use Rattle.ring.specs.Ring.{Ring, ring_of}
 use Rattle.table.specs.Lines.{lines}
-use Rattle.table.specs.Judge.{judgeRing, judgeRow}
+use Rattle.table.specs.Judge.{judge_ring, judge_row}
 use Rattle.table.specs.Reasons.{rank_of}
-use Rattle.table.specs.Fields.{ringFault, rowFault}
-use Rattle.table.specs.ReadTable.{Result, accepted, refused, ringOr, rowOr, unless, rows_of, tableLines, table_of}
+use Rattle.table.specs.Fields.{ring_fault, row_fault}
+use Rattle.table.specs.ReadTable.{Result, accepted, refused, ring_or, row_or, unless, rows_of, table_lines, table_of}
 use Rattle.table.specs.Says.{RingIs, RowIs, Says, line-missing, line-faulty, ring-due, row-due, ByteIs, Earlier, Given, Accepted}
 use Rattle.table.specs.declared.reason.Reason.{Reason}
 use Rattle.table.specs.declared.reason.Reason.TheVariants.{TooLong}
@@ -86,7 +86,7 @@ module _ {limits : Limits} {t : List ℕ} where
 
   rows_right : {ring : Ring} → RingIs t ring → (ls : List (List ℕ)) (line a b : ℕ) (rs : List Row) → LinesFrom (lines t) line ls → line ≡ length rs + 2 → Clean limits t line
       → RowBefore t line a b → Right limits t (rows_of limits ring line a b rs ls)
-  unfolding rows_of rowOr ByteIs
+  unfolding rows_of row_or ByteIs
   rows_right here [] line a b rs from place clean before = none-holds (clean_end (omega arith) from clean)
   rows_right {ring} here (l ∷ ls) line a b rs from place clean before =
       go (row_read l) (λ i j d. rows_right here ls (line + 1) i j (rs ++ row i j d ∷ []) (from_next from) (omega (arith, length-append rs (row i j d ∷ []))))
@@ -95,7 +95,7 @@ module _ {limits : Limits} {t : List ℕ} where
       next i j d = rows_of limits ring (line + 1) i j (rs ++ row i j d ∷ []) ls
 
       go : {x : ThreeNumbers} → RowRead l x → ((i j d : ℕ) → Clean limits t (line + 1) → RowBefore t (line + 1) i j → Right limits t (next i j d))
-          → Right limits t (rowOr x line λ i j d. unless (judgeRow limits ring.n (length rs) a b i j d) line (rowFault ring.n i j d) (next i j d))
+          → Right limits t (row_or x line λ i j d. unless (judge_row limits ring.n (length rs) a b i j d) line (row_fault ring.n i j d) (next i j d))
       go (is-row {i} {j} {d} e w) rest =
           let now : RowIs t line i j d = record { later = omega arith; text = rw e at (line-here from); spelled = w } in
           let judged = row-judged limits ring.n (length rs) a b i j d in
@@ -104,15 +104,15 @@ module _ {limits : Limits} {t : List ℕ} where
           first_holds (given-here clean (no-row-first (omega arith) (line-here from) (λ i j d r. none i j d (line-one (line-here from) r.text refl) r.spelled))
           (row-due (omega arith) (line-faulty (line-here from) fault)))
 
-  lines-right : length t ≤ limits.bytes → (ls : List (List ℕ)) → LinesFrom (lines t) 1 ls → Right limits t (tableLines limits ls)
-  unfolding tableLines ringOr ByteIs
+  lines-right : length t ≤ limits.bytes → (ls : List (List ℕ)) → LinesFrom (lines t) 1 ls → Right limits t (table_lines limits ls)
+  unfolding table_lines ring_or ByteIs
   lines-right short [] from = first_holds (given-here (clean-start short) (no-ring-first (λ n r. omega (arith, no-line-left from r.text))) (ring-due refl (line-missing (λ l is. omega (arith, no-line-left from is)))))
   lines-right short (l ∷ ls) from = go (ring-read l)
     where
-      go : {x : TwoNumbers} → RingRead l x → Right limits t (ringOr x 1 λ ring. unless (judgeRing limits ring) 1 (ringFault ring) (rows_of limits ring 2 0 0 [] ls))
+      go : {x : TwoNumbers} → RingRead l x → Right limits t (ring_or x 1 λ ring. unless (judge_ring limits ring) 1 (ring_fault ring) (rows_of limits ring 2 0 0 [] ls))
       go (is-ring {n} {fibres} e w) =
-          let here : RingIs t (ringOf n fibres) = record { text = rw e at (line-here from); spelled = w } in
-          let judged = ring-judged limits (ringOf n fibres) in
+          let here : RingIs t (ring_of n fibres) = record { text = rw e at (line-here from); spelled = w } in
+          let judged = ring-judged limits (ring_of n fibres) in
           unless-right _ _ (clean-start short) (ring-judged-first here judged) (ring-byte here judged)
           (λ c. rows_right here ls 2 0 0 [] (from_next from) refl c no-row-before)
       go (no-ring none fault) =

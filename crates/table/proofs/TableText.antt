@@ -10,17 +10,17 @@ use borrow.Author.Tests.{le-ltb, ltb-false}
 use Rattle.ring.specs.Row.{Row, row}
 use Rattle.ring.proofs.Side.{cond-elim}
 use Rattle.text.specs.Number.{limit}
-use Rattle.text.specs.Shapes.{ringLine, row_line}
+use Rattle.text.specs.Shapes.{ring_line, row_line}
 use Rattle.text.specs.declared.TwoNumbers.{TwoNumbers}
 use Rattle.text.specs.declared.ThreeNumbers.{ThreeNumbers}
 use Rattle.ring.specs.Limits.{Limits, desk}
-use Rattle.ring.specs.Ring.{Ring, ringOf}
+use Rattle.ring.specs.Ring.{Ring, ring_of}
 use Rattle.ring.specs.LineSize.{IsFibres}
 use Rattle.table.specs.Lines.{lines}
-use Rattle.table.specs.Judge.{judgeRing, judgeRow}
-use Rattle.table.specs.Table.{writeRows, writeTable, LimitsSpelled, InRange}
-use Rattle.table.specs.Fields.{ringFault, rowFault}
-use Rattle.table.specs.ReadTable.{Result, accepted, refused, ringOr, rowOr, unless, rows_of, tableLines, table_of}
+use Rattle.table.specs.Judge.{judge_ring, judge_row}
+use Rattle.table.specs.Table.{write_rows, write_table, LimitsSpelled, InRange}
+use Rattle.table.specs.Fields.{ring_fault, row_fault}
+use Rattle.table.specs.ReadTable.{Result, accepted, refused, ring_or, row_or, unless, rows_of, table_lines, table_of}
 use Rattle.table.specs.declared.reason.Reason.{Reason}
 use Rattle.table.specs.declared.judge.Verdict.{Verdict}
 use Rattle.table.specs.declared.judge.Verdict.TheVariants.{Fine, Fault}
@@ -37,7 +37,7 @@ desk-spelled = record { nodes = omega arith; amount = omega arith }
 
 -- rows behind the rows rs, of which the last is a, b, as the lines ls are read to them
 data RowsRead (limits : Limits) (ring : Ring) (a b : ℕ) (rs : List Row) (ls : List (List ℕ)) : Result → Type 0 where
-  rows_are : {all : List Row} (more : List Row) → all ≡ rs ++ more → flatten ls ≡ writeRows more → FineRows limits ring.n (length rs) a b more
+  rows_are : {all : List Row} (more : List Row) → all ≡ rs ++ more → flatten ls ≡ write_rows more → FineRows limits ring.n (length rs) a b more
       → RowsRead limits ring a b rs ls (accepted ring all)
   rows-refused : {r : Reason} {line byte : ℕ} → RowsRead limits ring a b rs ls (refused r line byte)
 
@@ -45,7 +45,7 @@ module _ {limits : Limits} {ring : Ring} where
   -- one row more in front
   row_more : (line : ℕ) (byte : Reason → ℕ) {a b i j d : ℕ} {rs : List Row} {l : List ℕ} {ls : List (List ℕ)} {v : Verdict} {x : Result} → l ≡ row_line i j d
       → RowJudged limits ring.n (length rs) a b i j d v → RowsRead limits ring i j (rs ++ row i j d ∷ []) ls x → RowsRead limits ring a b rs (l ∷ ls) (unless v line byte x)
-  unfolding unless writeRows flatten
+  unfolding unless write_rows flatten
   row_more line byte {v = Fault r} e w rest = rows-refused
   row_more line byte {i} {j} {d} {rs} {v = Fine} e (row_fine o up c m) (rows_are more whole text fine) =
       let one = length-append rs (row i j d ∷ []) in
@@ -53,7 +53,7 @@ module _ {limits : Limits} {ring : Ring} where
   row_more line byte {v = Fine} e w rows-refused = rows-refused
 
   rows-read : (ls : List (List ℕ)) (line a b : ℕ) (rs : List Row) → RowsRead limits ring a b rs ls (rows_of limits ring line a b rs ls)
-  unfolding rows_of rowOr writeRows flatten
+  unfolding rows_of row_or write_rows flatten
   rows-read [] line a b rs = rows_are [] (sym (append-nil rs)) refl no_row
   rows-read (l ∷ ls) line a b rs = go (row_read l) (λ i j d. rows-read ls (line + 1) i j (rs ++ row i j d ∷ []))
     where
@@ -61,22 +61,22 @@ module _ {limits : Limits} {ring : Ring} where
       next i j d = rows_of limits ring (line + 1) i j (rs ++ row i j d ∷ []) ls
 
       go : {x : ThreeNumbers} → RowRead l x → ((i j d : ℕ) → RowsRead limits ring i j (rs ++ row i j d ∷ []) ls (next i j d))
-          → RowsRead limits ring a b rs (l ∷ ls) (rowOr x line λ i j d. unless (judgeRow limits ring.n (length rs) a b i j d) line (rowFault ring.n i j d) (next i j d))
-      go (is-row {i} {j} {d} e w) rest = row_more line (rowFault ring.n i j d) e (row-judged limits ring.n (length rs) a b i j d) (rest i j d)
+          → RowsRead limits ring a b rs (l ∷ ls) (row_or x line λ i j d. unless (judge_row limits ring.n (length rs) a b i j d) line (row_fault ring.n i j d) (next i j d))
+      go (is-row {i} {j} {d} e w) rest = row_more line (row_fault ring.n i j d) e (row-judged limits ring.n (length rs) a b i j d) (rest i j d)
       go (no-row-line none fault) rest = rows-refused
 
 -- what a text is read to
 data TableRead (limits : Limits) (t : List ℕ) : Result → Type 0 where
-  table_is : {ring : Ring} {rs : List Row} → t ≡ writeTable ring rs → InRange limits ring rs → TableRead limits t (accepted ring rs)
+  table_is : {ring : Ring} {rs : List Row} → t ≡ write_table ring rs → InRange limits ring rs → TableRead limits t (accepted ring rs)
   table-refused : {r : Reason} {line byte : ℕ} → TableRead limits t (refused r line byte)
 
 module _ {limits : Limits} {t : List ℕ} (short : length t ≤ limits.bytes) where
-  ring-more : (byte : Reason → ℕ) {ring : Ring} {l : List ℕ} {ls : List (List ℕ)} {v : Verdict} {x : Result} → t ≡ l ++ flatten ls → l ≡ ringLine ring.n ring.fibres
+  ring-more : (byte : Reason → ℕ) {ring : Ring} {l : List ℕ} {ls : List (List ℕ)} {v : Verdict} {x : Result} → t ≡ l ++ flatten ls → l ≡ ring_line ring.n ring.fibres
       → RingJudged limits ring v → RowsRead limits ring 0 0 [] ls x → TableRead limits t (unless v 1 byte x)
-  unfolding unless writeTable
+  unfolding unless write_table
   ring-more byte {v = Fault r} whole e w rows = table-refused
   ring-more byte {ring} {v = Fine} whole e (right-ring few many fibres) (rows_are {all} rs is text fine) =
-      let written : t ≡ writeTable ring all = whole ∙ rw (e, text, is) in
+      let written : t ≡ write_table ring all = whole ∙ rw (e, text, is) in
       table_is {rs = all} written (record {
         few = few;
         many = many;
@@ -88,13 +88,13 @@ module _ {limits : Limits} {t : List ℕ} (short : length t ≤ limits.bytes) wh
       })
   ring-more byte {v = Fine} whole e w rows-refused = table-refused
 
-  lines-read : (ls : List (List ℕ)) → t ≡ flatten ls → TableRead limits t (tableLines limits ls)
-  unfolding tableLines ringOr flatten
+  lines-read : (ls : List (List ℕ)) → t ≡ flatten ls → TableRead limits t (table_lines limits ls)
+  unfolding table_lines ring_or flatten
   lines-read [] whole = table-refused
   lines-read (l ∷ ls) whole = go (ring-read l)
     where
-      go : {x : TwoNumbers} → RingRead l x → TableRead limits t (ringOr x 1 λ ring. unless (judgeRing limits ring) 1 (ringFault ring) (rows_of limits ring 2 0 0 [] ls))
-      go (is-ring {n} {fibres} e w) = ring-more (ringFault (ringOf n fibres)) whole e (ring-judged limits (ringOf n fibres)) (rows-read ls 2 0 0 [])
+      go : {x : TwoNumbers} → RingRead l x → TableRead limits t (ring_or x 1 λ ring. unless (judge_ring limits ring) 1 (ring_fault ring) (rows_of limits ring 2 0 0 [] ls))
+      go (is-ring {n} {fibres} e w) = ring-more (ring_fault (ring_of n fibres)) whole e (ring-judged limits (ring_of n fibres)) (rows-read ls 2 0 0 [])
       go (no-ring none fault) = table-refused
 
 table-read : (limits : Limits) (t : List ℕ) → TableRead limits t (table_of limits t)
@@ -106,12 +106,12 @@ table-read limits t =
 
 module _ (limits : Limits) (spelled : LimitsSpelled limits) (ring : Ring) (many : ring.n ≤ limits.nodes) where
   written-rows-read : (line : ℕ) (rs : List Row) {k a b : ℕ} {more : List Row} → length rs ≡ k → FineRows limits ring.n k a b more
-      → rows_of limits ring line a b rs (lines (writeRows more)) ≡ accepted ring (rs ++ more)
-  unfolding rows_of rowOr unless writeRows lines
+      → rows_of limits ring line a b rs (lines (write_rows more)) ≡ accepted ring (rs ++ more)
+  unfolding rows_of row_or unless write_rows lines
   written-rows-read line rs e no_row = ap (accepted ring) (sym (append-nil rs))
   written-rows-read line rs {k} {a} {b} e (fine-row {r = r} {rs = more} o up c m fine) =
       let w : RowSpelled r.i r.j r.d = (omega (arith, o.order, o.high), (omega (arith, o.high), omega arith)) in
-      rw (row_first r.i r.j r.d w (writeRows more), row-line-read r.i r.j r.d w, e, fine-row-judged limits ring.n k a b r.i r.j r.d o up c m)
+      rw (row_first r.i r.j r.d w (write_rows more), row-line-read r.i r.j r.d w, e, fine-row-judged limits ring.n k a b r.i r.j r.d o up c m)
       (written-rows-read (line + 1) (rs ++ r ∷ []) (omega (arith, length-append rs (r ∷ []))) fine ∙ ap (accepted ring) (append_assoc rs (r ∷ []) more))
 
 -- fibres have one digit
@@ -122,13 +122,13 @@ fibres-spelled fibres (inr e) = omega arith
 pub ring-spelled : (limits : Limits) → LimitsSpelled limits → (ring : Ring) → ring.n ≤ limits.nodes → IsFibres ring.fibres → RingSpelled ring.n ring.fibres
 ring-spelled limits spelled ring many fibres = (omega (arith, many, spelled.nodes), fibres-spelled ring.fibres fibres)
 
-written_read : (limits : Limits) → LimitsSpelled limits → (ring : Ring) (rs : List Row) → InRange limits ring rs → table_of limits (writeTable ring rs) ≡ accepted ring rs
-unfolding table_of tableLines ringOr unless writeTable
+written_read : (limits : Limits) → LimitsSpelled limits → (ring : Ring) (rs : List Row) → InRange limits ring rs → table_of limits (write_table ring rs) ≡ accepted ring rs
+unfolding table_of table_lines ring_or unless write_table
 written_read limits spelled ring rs range =
     let w : RingSpelled ring.n ring.fibres = ring-spelled limits spelled ring range.many range.fibres in
     rw (
-      le-ltb limits.bytes (length (writeTable ring rs)) range.short,
-      ring-first ring.n ring.fibres w (writeRows rs),
+      le-ltb limits.bytes (length (write_table ring rs)) range.short,
+      ring-first ring.n ring.fibres w (write_rows rs),
       ring-line-read ring.n ring.fibres w,
       fine-ring-judged limits ring range.few range.many range.fibres,
     ) (written-rows-read limits spelled ring range.many 2 [] refl (fine-rows range.rows range.count range.amounts))
@@ -136,8 +136,8 @@ written_read limits spelled ring rs range =
 -- ---- both
 
 pub table-text : (limits : Limits) → LimitsSpelled limits → (t : List ℕ) (ring : Ring) (rs : List Row)
-    → (table_of limits t ≡ accepted ring rs) ↔ ((t ≡ writeTable ring rs) × InRange limits ring rs)
+    → (table_of limits t ≡ accepted ring rs) ↔ ((t ≡ write_table ring rs) × InRange limits ring rs)
 table-text limits spelled t ring rs = (λ e. go (subst (TableRead limits t) e (table-read limits t)), λ h. rw h.0 (written_read limits spelled ring rs h.1))
   where
-    go : TableRead limits t (accepted ring rs) → (t ≡ writeTable ring rs) × InRange limits ring rs
+    go : TableRead limits t (accepted ring rs) → (t ≡ write_table ring rs) × InRange limits ring rs
     go (table_is text range) = (text, range)

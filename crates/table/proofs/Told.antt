@@ -7,23 +7,23 @@ use native.Mathlib.Omega.{arith}
 use lib.ListN.{length}
 use Rattle.text.proofs.Apart.{clash}
 use Rattle.ring.specs.Limits.{desk}
-use Rattle.ring.specs.Ring.{ringOf}
+use Rattle.ring.specs.Ring.{ring_of}
 use Rattle.table.specs.ReadTable.{Result, accepted, refused, table_of}
 use Rattle.ring.specs.Row.{Row}
-use Rattle.ring.specs.Columns.{column, rowsIn}
-use Rattle.table.specs.Arrays.{Table, tableIn}
+use Rattle.ring.specs.Columns.{column, rows_in}
+use Rattle.table.specs.Arrays.{Table, table_in}
 use Rattle.table.specs.declared.reason.Reason.{Reason}
 use Rattle.table.specs.declared.read.Answer.TheVariants.{Is, Refused}
 use Rattle.table.proofs.TableText.{desk-spelled, table-text}
 use Rattle.table.proofs.Columns.{rows_back}
 
 pub record Told (s : List ℕ) (n fibres count : ℕ) (first second amount : List ℕ) : Type 0 where
-  pub is : table_of desk s ≡ accepted (ringOf n fibres) (rowsIn count first second amount)
+  pub is : table_of desk s ≡ accepted (ring_of n fibres) (rows_in count first second amount)
   pub room : count ≤ desk.rows
 
 module _ (s : List ℕ) (t : Table) where
-  a-table : (r : Result) → table_of desk s ≡ r → t ≡ tableIn r → (n fibres count : ℕ) → t.answer ≡ Is n fibres count → Told s n fibres count t.first t.second t.amount
-  unfolding tableIn
+  a-table : (r : Result) → table_of desk s ≡ r → t ≡ table_in r → (n fibres count : ℕ) → t.answer ≡ Is n fibres count → Told s n fibres count t.first t.second t.amount
+  unfolding table_in
   a-table (accepted ring rs) q e n fibres count a =
       let p : Is n fibres count ≡ Is ring.n ring.fibres (length rs) = sym a ∙ ap (λ (x : Table). x.answer) e in
       let kn : n ≡ ring.n = cc in
@@ -36,8 +36,8 @@ module _ (s : List ℕ) (t : Table) where
       record { is = q ∙ sym (rw (kn, kf, kc, ef, es, ea, rows_back desk.rows rs h)); room = omega arith }
   a-table (refused reason line byte) q e n fibres count a = clash (let p : Is n fibres count ≡ Refused reason line byte = sym a ∙ ap (λ (x : Table). x.answer) e in cc)
 
-  a-refusal : (r : Result) → table_of desk s ≡ r → t ≡ tableIn r → (reason : Reason) (line byte : ℕ) → t.answer ≡ Refused reason line byte → table_of desk s ≡ refused reason line byte
-  unfolding tableIn
+  a-refusal : (r : Result) → table_of desk s ≡ r → t ≡ table_in r → (reason : Reason) (line byte : ℕ) → t.answer ≡ Refused reason line byte → table_of desk s ≡ refused reason line byte
+  unfolding table_in
   a-refusal (accepted ring rs) q e reason line byte a = clash (let p : Refused reason line byte ≡ Is ring.n ring.fibres (length rs) = sym a ∙ ap (λ (x : Table). x.answer) e in cc)
   a-refusal (refused why at on) q e reason line byte a =
       let p : Refused reason line byte ≡ Refused why at on = sym a ∙ ap (λ (x : Table). x.answer) e in
@@ -46,7 +46,7 @@ module _ (s : List ℕ) (t : Table) where
       let kb : on ≡ byte = cc in
       q ∙ rw (kw, kl, kb)
 
-  module _ (e : t ≡ tableIn (table_of desk s)) where
+  module _ (e : t ≡ table_in (table_of desk s)) where
     pub told-table : (n fibres count : ℕ) → t.answer ≡ Is n fibres count → Told s n fibres count t.first t.second t.amount
     told-table = a-table (table_of desk s) refl e
 

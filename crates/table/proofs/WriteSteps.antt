@@ -4,60 +4,60 @@ use mathlib.Core.List.{List, [], ◌∷◌, ◌++◌, append_assoc, append-nil}
 use mathlib.Core.Path.{◌≡◌, refl, ap, ◌∙◌, sym}
 use native.Mathlib.Omega.{arith}
 use lib.ListN.{length, get_or, length-append}
-use Rattle.ring.specs.Ring.{ringOf}
+use Rattle.ring.specs.Ring.{ring_of}
 use Rattle.ring.specs.Row.{Row}
-use Rattle.ring.specs.Columns.{listed, rowsIn, row_at}
+use Rattle.ring.specs.Columns.{listed, rows_in, row_at}
 use Rattle.ring.proofs.Listed.{listed-snoc}
-use Rattle.text.specs.Shapes.{ringShape, rowShape, ringLine, row_line}
+use Rattle.text.specs.Shapes.{ring_shape, row_shape, ring_line, row_line}
 use Rattle.text.specs.Written.{Written}
 use Rattle.text.proofs.Lengths.{line-short}
 use Rattle.text.proofs.Writing.{written_behind, written-length}
 use Rattle.text.proofs.Pieces.{Pieces}
-use Rattle.table.specs.Table.{writeRows, writeTable}
+use Rattle.table.specs.Table.{write_rows, write_table}
 
-rows_more : (rs : List Row) (r : Row) → writeRows (rs ++ r ∷ []) ≡ writeRows rs ++ row_line r.i r.j r.d
-unfolding writeRows
+rows_more : (rs : List Row) (r : Row) → write_rows (rs ++ r ∷ []) ≡ write_rows rs ++ row_line r.i r.j r.d
+unfolding write_rows
 rows_more [] r = append-nil _
-rows_more (x ∷ rs) r = ap (λ l. row_line x.i x.j x.d ++ l) (rows_more rs r) ∙ sym (append_assoc (row_line x.i x.j x.d) (writeRows rs) _)
+rows_more (x ∷ rs) r = ap (λ l. row_line x.i x.j x.d ++ l) (rows_more rs r) ∙ sym (append_assoc (row_line x.i x.j x.d) (write_rows rs) _)
 
 module _ (first second amount : List ℕ) where
   -- the line of the row at place k, and the lines of the first k rows
-  abbrev pub rowLineAt : ℕ → List ℕ
-  rowLineAt k = row_line (get_or first k 0) (get_or second k 0) (get_or amount k 0)
+  abbrev pub row_line_at : ℕ → List ℕ
+  row_line_at k = row_line (get_or first k 0) (get_or second k 0) (get_or amount k 0)
 
-  abbrev pub rowsText : ℕ → List ℕ
-  rowsText k = writeRows (rowsIn k first second amount)
+  abbrev pub rows_text : ℕ → List ℕ
+  rows_text k = write_rows (rows_in k first second amount)
 
-  pub row-pieces : Pieces rowLineAt rowsText
-  unfolding listed writeRows
-  row-pieces = record { none = refl; more = more; short = λ k. omega (arith, line-short rowShape (0 ∷ get_or first k 0 ∷ get_or second k 0 ∷ get_or amount k 0 ∷ [])) }
+  pub row-pieces : Pieces row_line_at rows_text
+  unfolding listed write_rows
+  row-pieces = record { none = refl; more = more; short = λ k. omega (arith, line-short row_shape (0 ∷ get_or first k 0 ∷ get_or second k 0 ∷ get_or amount k 0 ∷ [])) }
     where
-      more : (k : ℕ) → rowsText (k + 1) ≡ rowsText k ++ rowLineAt k
+      more : (k : ℕ) → rows_text (k + 1) ≡ rows_text k ++ row_line_at k
       more k =
           let e : 0 + k ≡ k = omega arith in
-          ap writeRows (listed-snoc (row_at first second amount) 0 k ∙ ap (λ m. rowsIn k first second amount ++ row_at first second amount m ∷ []) e) ∙ rows_more (rowsIn k first second amount) (row_at first second amount k)
+          ap write_rows (listed-snoc (row_at first second amount) 0 k ∙ ap (λ m. rows_in k first second amount ++ row_at first second amount m ∷ []) e) ∙ rows_more (rows_in k first second amount) (row_at first second amount k)
 
 -- ---- R n fibres, and the rows behind it
 
-pub ring-short : (n fibres size : ℕ) → size ≡ length (ringLine n fibres) → size ≤ 100
-ring-short n fibres size e = omega (arith, line-short ringShape (0 ∷ n ∷ fibres ∷ []))
+pub ring-short : (n fibres size : ℕ) → size ≡ length (ring_line n fibres) → size ≤ 100
+ring-short n fibres size e = omega (arith, line-short ring_shape (0 ∷ n ∷ fibres ∷ []))
 
 module _ (n fibres : ℕ) (rs : List Row) where
-  whole_long : length (writeTable (ringOf n fibres) rs) ≡ length (ringLine n fibres) + length (writeRows rs)
-  unfolding writeTable
-  whole_long = length-append (ringLine n fibres) (writeRows rs)
+  whole_long : length (write_table (ring_of n fibres) rs) ≡ length (ring_line n fibres) + length (write_rows rs)
+  unfolding write_table
+  whole_long = length-append (ring_line n fibres) (write_rows rs)
 
-  pub table-measured : (start size : ℕ) → start ≡ length (ringLine n fibres) → size ≡ start + length (writeRows rs) → size ≡ length (writeTable (ringOf n fibres) rs)
+  pub table-measured : (start size : ℕ) → start ≡ length (ring_line n fibres) → size ≡ start + length (write_rows rs) → size ≡ length (write_table (ring_of n fibres) rs)
   table-measured start size e f = omega (arith, whole_long)
 
-  module _ (old : List ℕ) (room : length (writeTable (ringOf n fibres) rs) ≤ length old) where
-    pub ring-has-room : 0 + length (ringLine n fibres) ≤ length old
+  module _ (old : List ℕ) (room : length (write_table (ring_of n fibres) rs) ≤ length old) where
+    pub ring-has-room : 0 + length (ring_line n fibres) ≤ length old
     ring-has-room = omega (arith, room, whole_long)
 
-    module _ (mid : List ℕ) (at : ℕ) (w : Written old 0 (ringLine n fibres) mid at) where
-      pub rows-have-room : at + length (writeRows rs) ≤ length mid
-      rows-have-room = omega (arith, room, whole_long, w.place, written-length old mid (ringLine n fibres) 0 at w)
+    module _ (mid : List ℕ) (at : ℕ) (w : Written old 0 (ring_line n fibres) mid at) where
+      pub rows-have-room : at + length (write_rows rs) ≤ length mid
+      rows-have-room = omega (arith, room, whole_long, w.place, written-length old mid (ring_line n fibres) 0 at w)
 
-      pub table-written : (new : List ℕ) (r : ℕ) → Written mid at (writeRows rs) new r → Written old 0 (writeTable (ringOf n fibres) rs) new r
-      unfolding writeTable
-      table-written new r v = written_behind old mid new (ringLine n fibres) (writeRows rs) 0 at r w v
+      pub table-written : (new : List ℕ) (r : ℕ) → Written mid at (write_rows rs) new r → Written old 0 (write_table (ring_of n fibres) rs) new r
+      unfolding write_table
+      table-written new r v = written_behind old mid new (ring_line n fibres) (write_rows rs) 0 at r w v

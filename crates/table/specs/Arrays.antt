@@ -24,12 +24,12 @@ abbrev pub beside : Answer → List ℕ → List ℕ → List ℕ → Table
 beside answer first second amount = record { answer = answer; first = first; second = second; amount = amount }
 
 -- an answer beside the columns of rows
-abbrev pub besideRows : Answer → List Row → Table
-besideRows answer rs =
+abbrev pub beside_rows : Answer → List Row → Table
+beside_rows answer rs =
     beside answer (column (λ (r : Row). r.i) desk.rows rs) (column (λ (r : Row). r.j) desk.rows rs) (column (λ (r : Row). r.d) desk.rows rs)
 
 -- the answer beside its rows; a refusal leaves none
-unfoldable pub tableIn : Result → Table
+unfoldable pub table_in : Result → Table
 unfolding column
-tableIn (accepted ring rs) = besideRows (Is ring.n ring.fibres (length rs)) rs
-tableIn (refused reason line byte) = besideRows (Refused reason line byte) []
+table_in (accepted ring rs) = beside_rows (Is ring.n ring.fibres (length rs)) rs
+table_in (refused reason line byte) = beside_rows (Refused reason line byte) []

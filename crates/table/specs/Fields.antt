@@ -1,7 +1,7 @@
 -- Internal: which field of its line a reason is about; its byte is where that field starts (02, K5).
 use Rattle.std.specs.Prelude.{ℕ, cond}
 use Rattle.ring.specs.Ring.{Ring}
-use Rattle.text.specs.FieldByte.{ringByte, rowByte}
+use Rattle.text.specs.FieldByte.{ring_byte, row_byte}
 use Rattle.table.specs.Judge.{outside}
 use Rattle.table.specs.declared.reason.Reason.{Reason}
 use Rattle.table.specs.declared.reason.Reason.TheVariants.{TooLong, Misshapen, RingSize, Fibres, NoRow, NoSuchNode, NotBelow, OutOfOrder, TooMany, TooMuch, Full, WrongSum, WrongWay, WrongCut, WrongLink, WrongLast, NotTight, OverBound, NotZero, NotSymmetric, SumTooMuch, NoRoom}
@@ -36,14 +36,14 @@ field_of SumTooMuch node = 0
 field_of NoRoom node = 0
 
 -- the first of the two nodes that is outside
-unfoldable pub nodeField : ℕ → ℕ → ℕ
-nodeField n i = cond (outside n i) 1 2
+unfoldable pub node_field : ℕ → ℕ → ℕ
+node_field n i = cond (outside n i) 1 2
 
 -- the byte of a reason found against R n fibres ..
-unfoldable pub ringFault : Ring → Reason → ℕ
-ringFault ring reason = ringByte ring.n ring.fibres (field_of reason 0)
+unfoldable pub ring_fault : Ring → Reason → ℕ
+ring_fault ring reason = ring_byte ring.n ring.fibres (field_of reason 0)
 
 -- .. and against D i j d on a ring of n nodes
-unfoldable pub rowFault : ℕ → ℕ → ℕ → ℕ → Reason → ℕ
-unfolding nodeField
-rowFault n i j d reason = rowByte i j d (field_of reason (nodeField n i))
+unfoldable pub row_fault : ℕ → ℕ → ℕ → ℕ → Reason → ℕ
+unfolding node_field
+row_fault n i j d reason = row_byte i j d (field_of reason (node_field n i))

@@ -1,18 +1,18 @@
 -- Internal: reading a table: reason 1 first, then lines in order, and in a line the reasons in their order.
 use Rattle.std.specs.Prelude.{ℕ, ◌+◌, cond, List, [], ◌∷◌, ◌++◌, length, ltb}
 use Rattle.ring.specs.Row.{Row, row}
-use Rattle.text.specs.ReadLine.{readLine}
-use Rattle.text.specs.Answers.{twoIn, threeIn}
-use Rattle.text.specs.Shapes.{ringShape, rowShape}
+use Rattle.text.specs.ReadLine.{read_line}
+use Rattle.text.specs.Answers.{two_in, three_in}
+use Rattle.text.specs.Shapes.{ring_shape, row_shape}
 use Rattle.text.specs.declared.TwoNumbers.{TwoNumbers}
 use Rattle.text.specs.declared.TwoNumbers.TheVariants.{Are as AreTwo, Bad as NotTwo}
 use Rattle.text.specs.declared.ThreeNumbers.{ThreeNumbers}
 use Rattle.text.specs.declared.ThreeNumbers.TheVariants.{Are as AreThree, Bad as NotThree}
 use Rattle.ring.specs.Limits.{Limits}
-use Rattle.ring.specs.Ring.{Ring, ringOf}
+use Rattle.ring.specs.Ring.{Ring, ring_of}
 use Rattle.table.specs.Lines.{lines}
-use Rattle.table.specs.Judge.{judgeRing, judgeRow}
-use Rattle.table.specs.Fields.{ringFault, rowFault}
+use Rattle.table.specs.Judge.{judge_ring, judge_row}
+use Rattle.table.specs.Fields.{ring_fault, row_fault}
 use Rattle.table.specs.declared.reason.Reason.{Reason}
 use Rattle.table.specs.declared.reason.Reason.TheVariants.{TooLong, Misshapen}
 use Rattle.table.specs.declared.judge.Verdict.{Verdict}
@@ -25,13 +25,13 @@ pub data Result : Type 0 where
 
 -- ---- one line: its shape, then what is found against its numbers
 
-unfoldable pub ringOr : TwoNumbers → ℕ → (Ring → Result) → Result
-ringOr (AreTwo n fibres) line next = next (ringOf n fibres)
-ringOr (NotTwo p) line next = refused Misshapen line (p + 1)
+unfoldable pub ring_or : TwoNumbers → ℕ → (Ring → Result) → Result
+ring_or (AreTwo n fibres) line next = next (ring_of n fibres)
+ring_or (NotTwo p) line next = refused Misshapen line (p + 1)
 
-unfoldable pub rowOr : ThreeNumbers → ℕ → (ℕ → ℕ → ℕ → Result) → Result
-rowOr (AreThree i j d) line next = next i j d
-rowOr (NotThree p) line next = refused Misshapen line (p + 1)
+unfoldable pub row_or : ThreeNumbers → ℕ → (ℕ → ℕ → ℕ → Result) → Result
+row_or (AreThree i j d) line next = next i j d
+row_or (NotThree p) line next = refused Misshapen line (p + 1)
 
 unfoldable pub unless : Verdict → ℕ → (Reason → ℕ) → Result → Result
 unless Fine line byte next = next
@@ -41,19 +41,19 @@ unless (Fault reason) line byte next = refused reason line (byte reason)
 
 -- the rows of the lines ls, of which the first has the number `line`, behind the rows rs, of which the last is a, b
 unfoldable pub rows_of : Limits → Ring → ℕ → ℕ → ℕ → List Row → List (List ℕ) → Result
-unfolding rowOr unless rowFault
+unfolding row_or unless row_fault
 rows_of limits ring line a b rs [] = accepted ring rs
 rows_of limits ring line a b rs (l ∷ ls) =
-    rowOr (threeIn (readLine rowShape l)) line λ i j d.
-    unless (judgeRow limits ring.n (length rs) a b i j d) line (rowFault ring.n i j d)
+    row_or (three_in (read_line row_shape l)) line λ i j d.
+    unless (judge_row limits ring.n (length rs) a b i j d) line (row_fault ring.n i j d)
     (rows_of limits ring (line + 1) i j (rs ++ row i j d ∷ []) ls)
 
 -- R n fibres, then rows; a missing first line is line 1
-unfoldable pub tableLines : Limits → List (List ℕ) → Result
-unfolding ringOr unless ringFault rows_of
-tableLines limits [] = refused Misshapen 1 1
-tableLines limits (l ∷ ls) = ringOr (twoIn (readLine ringShape l)) 1 λ ring. unless (judgeRing limits ring) 1 (ringFault ring) (rows_of limits ring 2 0 0 [] ls)
+unfoldable pub table_lines : Limits → List (List ℕ) → Result
+unfolding ring_or unless ring_fault rows_of
+table_lines limits [] = refused Misshapen 1 1
+table_lines limits (l ∷ ls) = ring_or (two_in (read_line ring_shape l)) 1 λ ring. unless (judge_ring limits ring) 1 (ring_fault ring) (rows_of limits ring 2 0 0 [] ls)
 
 unfoldable pub table_of : Limits → List ℕ → Result
-unfolding tableLines
-table_of limits t = cond (ltb limits.bytes (length t)) (refused TooLong 0 0) (tableLines limits (lines t))
+unfolding table_lines
+table_of limits t = cond (ltb limits.bytes (length t)) (refused TooLong 0 0) (table_lines limits (lines t))

@@ -1,9 +1,9 @@
 -- To believe: what each reason says of a table's text, by its lines and the writer alone, and which byte of the line goes with it; which reason is given; and what an accepted table is.
 use Rattle.std.specs.Prelude.{ℕ, ◌+◌, ◌≤◌, ◌<◌, List, ◌∷◌, ◌⊎◌, ◌≡◌, length}
 use Rattle.text.specs.Number.{limit}
-use Rattle.text.specs.FieldByte.{ringByte, rowByte}
+use Rattle.text.specs.FieldByte.{ring_byte, row_byte}
 use Rattle.text.specs.FirstFault.{FirstFault}
-use Rattle.text.specs.Shapes.{ringShape, rowShape, ringLine, row_line}
+use Rattle.text.specs.Shapes.{ring_shape, row_shape, ring_line, row_line}
 use Rattle.ring.specs.Limits.{Limits}
 use Rattle.ring.specs.Ring.{Ring}
 use Rattle.ring.specs.LineSize.{IsFibres}
@@ -22,7 +22,7 @@ pub data LineIs : List (List ℕ) → ℕ → List ℕ → Type 0 where
 
 -- the first line is R n fibres
 pub record RingIs (t : List ℕ) (ring : Ring) : Type 0 where
-  pub text : LineIs (lines t) 1 (ringLine ring.n ring.fibres)
+  pub text : LineIs (lines t) 1 (ring_line ring.n ring.fibres)
   pub spelled : (ring.n < limit) × (ring.fibres < limit)
 
 -- a later line is D i j d
@@ -149,23 +149,23 @@ ShapeByte t shape line = DueByte t line (FirstFault shape)
 
 -- 2: by the shape that is due
 pub data LineByte (t : List ℕ) (line byte : ℕ) : Type 0 where
-  ring-due : line ≡ 1 → ShapeByte t ringShape line byte → LineByte t line byte
-  row-due : 2 ≤ line → ShapeByte t rowShape line byte → LineByte t line byte
+  ring-due : line ≡ 1 → ShapeByte t ring_shape line byte → LineByte t line byte
+  row-due : 2 ≤ line → ShapeByte t row_shape line byte → LineByte t line byte
 
 -- 3: where n starts, which is field 1; 20: where fibres starts, which is field 2
 pub record RingField (t : List ℕ) (k byte : ℕ) : Type 0 where
   pub ring : Ring
   pub said : RingIs t ring
-  pub is : byte ≡ ringByte ring.n ring.fibres k
+  pub is : byte ≡ ring_byte ring.n ring.fibres k
 
 -- 4: where the first of the two nodes that is outside starts
 pub data NodeByte (t : List ℕ) (line : ℕ) : ℕ → Type 0 where
-  first-node : {ring : Ring} {i j d : ℕ} → RingIs t ring → RowIs t line i j d → NoNode ring.n i → NodeByte t line (rowByte i j d 1)
-  second-node : {ring : Ring} {i j d : ℕ} → RingIs t ring → RowIs t line i j d → (NoNode ring.n i → ⊥) → NoNode ring.n j → NodeByte t line (rowByte i j d 2)
+  first-node : {ring : Ring} {i j d : ℕ} → RingIs t ring → RowIs t line i j d → NoNode ring.n i → NodeByte t line (row_byte i j d 1)
+  second-node : {ring : Ring} {i j d : ℕ} → RingIs t ring → RowIs t line i j d → (NoNode ring.n i → ⊥) → NoNode ring.n j → NodeByte t line (row_byte i j d 2)
 
 -- 7: where the amount starts
 pub data AmountByte (t : List ℕ) (line : ℕ) : ℕ → Type 0 where
-  at-amount : {i j d : ℕ} → RowIs t line i j d → AmountByte t line (rowByte i j d 3)
+  at-amount : {i j d : ℕ} → RowIs t line i j d → AmountByte t line (row_byte i j d 3)
 
 -- the byte of a reason that holds on a line
 unfoldable pub ByteIs : List ℕ → Reason → ℕ → ℕ → Type 0

@@ -5,17 +5,17 @@ use Rattle.ring.specs.Ring.{Ring}
 use Rattle.ring.specs.LineSize.{IsFibres}
 use Rattle.ring.specs.Lists.{Each}
 use Rattle.ring.specs.Row.{Row, TableRows}
-use Rattle.text.specs.Number.{limit, mostDigits}
-use Rattle.text.specs.Shapes.{ringShape, rowShape, ringLine, row_line}
+use Rattle.text.specs.Number.{limit, most_digits}
+use Rattle.text.specs.Shapes.{ring_shape, row_shape, ring_line, row_line}
 
 -- R n fibres, then D lines
-unfoldable pub writeRows : List Row → List ℕ
-writeRows [] = []
-writeRows (r ∷ rs) = row_line r.i r.j r.d ++ writeRows rs
+unfoldable pub write_rows : List Row → List ℕ
+write_rows [] = []
+write_rows (r ∷ rs) = row_line r.i r.j r.d ++ write_rows rs
 
-unfoldable pub writeTable : Ring → List Row → List ℕ
-unfolding writeRows
-writeTable ring rs = ringLine ring.n ring.fibres ++ writeRows rs
+unfoldable pub write_table : Ring → List Row → List ℕ
+unfolding write_rows
+write_table ring rs = ring_line ring.n ring.fibres ++ write_rows rs
 
 -- limits whose numbers can be spelled
 pub record LimitsSpelled (limits : Limits) : Type 0 where
@@ -30,8 +30,8 @@ pub record InRange (limits : Limits) (ring : Ring) (rs : List Row) : Type 0 wher
   pub rows : TableRows ring.n rs
   pub count : length rs ≤ limits.rows
   pub amounts : Each (λ r. r.d ≤ limits.amount) rs
-  pub short : length (writeTable ring rs) ≤ limits.bytes
+  pub short : length (write_table ring rs) ≤ limits.bytes
 
 -- the R line and as many rows as there may be, each field of at most 7 digits and the byte behind them
-abbrev pub tableRoom : Limits → ℕ
-tableRoom limits = (mostDigits + 1) * (length ringShape + length rowShape * limits.rows)
+abbrev pub table_room : Limits → ℕ
+table_room limits = (most_digits + 1) * (length ring_shape + length row_shape * limits.rows)

@@ -1,8 +1,8 @@
 // The byte of a line that a refusal names, counted from 1. It is asked only where a text is refused, so that an accepted one costs nothing more.
 ghost use Rattle.std.specs.Prelude.{◌≡◌, ◌+◌, ◌≤◌};
 ghost use Rattle.ring.specs.Limits.{desk};
-ghost use Rattle.ring.specs.Ring.{ringOf};
-ghost use Rattle.table.specs.Fields.{field_of, nodeField, ringFault, rowFault};
+ghost use Rattle.ring.specs.Ring.{ring_of};
+ghost use Rattle.table.specs.Fields.{field_of, node_field, ring_fault, row_fault};
 
 use crate::judge::no_node;
 use crate::reason::Reason;
@@ -47,7 +47,7 @@ fn field_of(reason: Reason, node: usize) -> usize
 
 // The field of the first node of a row that is outside, where one is.
 fn node_field(n: u32, i: u32) -> usize
-    ensures { result ≡ nodeField n i }
+    ensures { result ≡ node_field n i }
 {
     let missing = no_node(n, i);
     if missing {
@@ -58,7 +58,7 @@ fn node_field(n: u32, i: u32) -> usize
 
 // Of a reason found against R n fibres.
 pub fn ring_fault(n: u32, fibres: u32, reason: Reason) -> u32
-    ensures { result ≡ ringFault (ringOf n fibres) reason }
+    ensures { result ≡ ring_fault (ring_of n fibres) reason }
 {
     let k = field_of(reason, 0);
     text::ring_byte(n, fibres, k)
@@ -66,7 +66,7 @@ pub fn ring_fault(n: u32, fibres: u32, reason: Reason) -> u32
 
 // Of a reason found against D i j d on a ring of n nodes.
 pub fn row_fault(n: u32, i: u32, j: u32, d: u32, reason: Reason) -> u32
-    ensures { result ≡ rowFault n i j d reason }
+    ensures { result ≡ row_fault n i j d reason }
 {
     let node = node_field(n, i);
     let k = field_of(reason, node);

@@ -1,10 +1,10 @@
 // A text to rows in arrays.
 ghost use Rattle.std.specs.Prelude.{◌≡◌, [], ◌≤◌, length, drop};
 ghost use Rattle.ring.specs.Limits.{desk};
-ghost use Rattle.ring.specs.Ring.{ringOf};
+ghost use Rattle.ring.specs.Ring.{ring_of};
 ghost use Rattle.table.specs.Lines.{lines};
 ghost use Rattle.table.specs.ReadTable.{refused, rows_of, table_of};
-ghost use Rattle.table.specs.Arrays.{NoRows, beside, tableIn};
+ghost use Rattle.table.specs.Arrays.{NoRows, beside, table_in};
 
 use crate::byte::{byte_at, ring_fault, row_fault};
 use crate::judge::{Verdict, judge_ring, judge_row};
@@ -38,7 +38,7 @@ pub fn refusal(
     line: u32,
     byte: u32,
 ) -> Answer
-    ensures { beside result first.new second.new amount.new ≡ tableIn (refused reason line byte) }
+    ensures { beside result first.new second.new amount.new ≡ table_in (refused reason line byte) }
 {
     clear(first, second, amount);
     Answer::Refused(reason, line, byte)
@@ -56,7 +56,7 @@ fn read_rows(
 ) -> Answer
     requires from_in_bounds { (from ≤ length s.now) × (length s.now ≤ desk.bytes) }
     requires no_rows { NoRows first.old second.old amount.old }
-    ensures { beside result first.new second.new amount.new ≡ tableIn (rows_of desk (ringOf n fibres) 2 0 0 [] (lines (drop from s.now))) }
+    ensures { beside result first.new second.new amount.new ≡ table_in (rows_of desk (ring_of n fibres) 2 0 0 [] (lines (drop from s.now))) }
 {
     let mut count: usize = 0;
     let mut line: u32 = 2;
@@ -101,7 +101,7 @@ pub fn read_table(
     second: &mut [u32; ROWS],
     amount: &mut [u32; ROWS],
 ) -> Answer
-    ensures { beside result first.new second.new amount.new ≡ tableIn (table_of desk s.now) }
+    ensures { beside result first.new second.new amount.new ≡ table_in (table_of desk s.now) }
 {
     if BYTES < s.len() {
         return refusal(first, second, amount, Reason::TooLong, 0, 0);

@@ -2,9 +2,9 @@
 ghost use Rattle.std.specs.Prelude.{◌≡◌, ◌+◌, ◌≤◌, length};
 ghost use Rattle.text.specs.Written.{Written};
 ghost use Rattle.ring.specs.Limits.{desk};
-ghost use Rattle.ring.specs.Ring.{ringOf};
-ghost use Rattle.table.specs.Table.{writeRows, writeTable};
-ghost use Rattle.ring.specs.Columns.{rowsIn};
+ghost use Rattle.ring.specs.Ring.{ring_of};
+ghost use Rattle.table.specs.Table.{write_rows, write_table};
+ghost use Rattle.ring.specs.Columns.{rows_in};
 
 use ring::ROWS;
 
@@ -18,7 +18,7 @@ pub fn table_length<'a>(
     amount: &'a [u32; ROWS],
 ) -> usize
     requires { count ≤ desk.rows }
-    ensures { result ≡ length (writeTable (ringOf n fibres) (rowsIn count first.now second.now amount.now)) }
+    ensures { result ≡ length (write_table (ring_of n fibres) (rows_in count first.now second.now amount.now)) }
 {
     let mut size = text::ring_length(n, fibres);
     let mut k: usize = 0;
@@ -38,8 +38,8 @@ fn write_rows<'a>(
     second: &'a [u32; ROWS],
     amount: &'a [u32; ROWS],
 ) -> usize
-    requires { (count ≤ desk.rows) × (at + length (writeRows (rowsIn count first.now second.now amount.now)) ≤ length buf.old) }
-    ensures { Written buf.old at (writeRows (rowsIn count first.now second.now amount.now)) buf.new result }
+    requires { (count ≤ desk.rows) × (at + length (write_rows (rows_in count first.now second.now amount.now)) ≤ length buf.old) }
+    ensures { Written buf.old at (write_rows (rows_in count first.now second.now amount.now)) buf.new result }
 {
     let mut p = at;
     let mut k: usize = 0;
@@ -60,8 +60,8 @@ pub fn write_table<'a>(
     second: &'a [u32; ROWS],
     amount: &'a [u32; ROWS],
 ) -> usize
-    requires { (count ≤ desk.rows) × (length (writeTable (ringOf n fibres) (rowsIn count first.now second.now amount.now)) ≤ length buf.old) }
-    ensures { Written buf.old 0 (writeTable (ringOf n fibres) (rowsIn count first.now second.now amount.now)) buf.new result }
+    requires { (count ≤ desk.rows) × (length (write_table (ring_of n fibres) (rows_in count first.now second.now amount.now)) ≤ length buf.old) }
+    ensures { Written buf.old 0 (write_table (ring_of n fibres) (rows_in count first.now second.now amount.now)) buf.new result }
 {
     let at = text::write_ring(buf, 0, n, fibres);
     write_rows(buf, at, count, first, second, amount)

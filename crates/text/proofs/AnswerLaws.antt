@@ -6,14 +6,14 @@ use mathlib.Core.List.{List, [], ◌∷◌}
 use mathlib.Core.Logic.{◌↔◌}
 use native.Mathlib.Omega.{arith}
 use lib.ListN.{length, get_or}
-use Rattle.text.specs.Bytes.{letterR, letterD, letterC, letterL, letterZ, number, way}
+use Rattle.text.specs.Bytes.{letter_r, letter_d, letter_c, letter_l, letter_z, number, way}
 use Rattle.text.specs.Mark.{marks}
 use Rattle.text.specs.Field.{top}
-use Rattle.text.specs.WriteLine.{writeLine, FitsShape}
-use Rattle.text.specs.ReadLine.{Reading, good, bad, readLine}
+use Rattle.text.specs.WriteLine.{write_line, FitsShape}
+use Rattle.text.specs.ReadLine.{Reading, good, bad, read_line}
 use Rattle.text.specs.FirstFault.{FirstFault}
-use Rattle.text.specs.Shapes.{ringShape, rowShape, sentShape, cutShape, linkShape, lastShape}
-use Rattle.text.specs.Answers.{twoIn, threeIn, sentIn}
+use Rattle.text.specs.Shapes.{ring_shape, row_shape, sent_shape, cut_shape, link_shape, last_shape}
+use Rattle.text.specs.Answers.{two_in, three_in, sent_in}
 use Rattle.text.specs.declared.TwoNumbers.TheVariants.{Are as AreTwo, Bad as NotTwo}
 use Rattle.text.specs.declared.ThreeNumbers.TheVariants.{Are as AreThree, Bad as NotThree}
 use Rattle.text.specs.declared.SentRow.TheVariants.{Is as IsSent, Bad as NotSent}
@@ -22,11 +22,11 @@ use Rattle.text.proofs.LineLaws.{line-good, line-bad, bad-within}
 
 -- the text s is read to the answer x exactly when it is the line of the values vs, and they are in range
 abbrev pub AnswerIs : {A : Type 0} → (Reading → A) → List ℕ → List ℕ → A → List ℕ → Type 0
-AnswerIs answer shape s x vs = (answer (readLine shape s) ≡ x) ↔ ((s ≡ writeLine shape vs) × FitsShape shape vs)
+AnswerIs answer shape s x vs = (answer (read_line shape s) ≡ x) ↔ ((s ≡ write_line shape vs) × FitsShape shape vs)
 
 -- the text s is read to the answer x exactly when p is the place of its first faulty byte
 abbrev pub Refuses : {A : Type 0} → (Reading → A) → List ℕ → List ℕ → A → ℕ → Type 0
-Refuses answer shape s x p = (answer (readLine shape s) ≡ x) ↔ FirstFault shape s p
+Refuses answer shape s x p = (answer (read_line shape s) ≡ x) ↔ FirstFault shape s p
 
 -- ---- any answer
 
@@ -34,9 +34,9 @@ module _ {A : Type 0} (answer : Reading → A) (shape s : List ℕ) (x : A) wher
   -- one that only the values vs give
   answer-good : (vs : List ℕ) → answer (good vs) ≡ x → ((us : List ℕ) → FitsShape shape us → answer (good us) ≡ x → us ≡ vs)
       → ((p : ℕ) → answer (bad p) ≡ x → ⊥) → AnswerIs answer shape s x vs
-  answer-good vs is only no-fault = (λ e. there (readLine shape s) refl e, λ h. ap answer ((line-good shape s vs).1 h) ∙ is)
+  answer-good vs is only no-fault = (λ e. there (read_line shape s) refl e, λ h. ap answer ((line-good shape s vs).1 h) ∙ is)
     where
-      there : (y : Reading) → readLine shape s ≡ y → answer (readLine shape s) ≡ x → (s ≡ writeLine shape vs) × FitsShape shape vs
+      there : (y : Reading) → read_line shape s ≡ y → answer (read_line shape s) ≡ x → (s ≡ write_line shape vs) × FitsShape shape vs
       there (good us) i e =
           let u : us ≡ vs = only us ((line-good shape s us).0 i).1 (sym (ap answer i) ∙ e) in
           (line-good shape s vs).0 (i ∙ ap good u)
@@ -45,9 +45,9 @@ module _ {A : Type 0} (answer : Reading → A) (shape s : List ℕ) (x : A) wher
   -- one that only the fault at p gives
   answer-bad : (p : ℕ) → answer (bad p) ≡ x → ((q : ℕ) → answer (bad q) ≡ x → q ≡ p) → ((us : List ℕ) → answer (good us) ≡ x → ⊥)
       → Refuses answer shape s x p
-  answer-bad p is only no-values = (λ e. there (readLine shape s) refl e, λ h. ap answer ((line-bad shape s p).1 h) ∙ is)
+  answer-bad p is only no-values = (λ e. there (read_line shape s) refl e, λ h. ap answer ((line-bad shape s p).1 h) ∙ is)
     where
-      there : (y : Reading) → readLine shape s ≡ y → answer (readLine shape s) ≡ x → FirstFault shape s p
+      there : (y : Reading) → read_line shape s ≡ y → answer (read_line shape s) ≡ x → FirstFault shape s p
       there (good us) i e = absurd (no-values us (sym (ap answer i) ∙ e))
       there (bad q) i e = (line-bad shape s p).0 (i ∙ ap bad (only q (sym (ap answer i) ∙ e)))
 
@@ -74,80 +74,80 @@ behind-letter f fs (v ∷ vs) e r =
     rw z (ap (λ (l : List ℕ). 0 ∷ l) (values_listed fs vs r.1))
 
 module _ (letter : ℕ) (is-letter : top letter ≡ 1) (s : List ℕ) where
-  pub two_good : (a b : ℕ) → AnswerIs twoIn (letter ∷ number ∷ number ∷ []) s (AreTwo a b) (0 ∷ a ∷ b ∷ [])
-  unfolding twoIn
+  pub two_good : (a b : ℕ) → AnswerIs two_in (letter ∷ number ∷ number ∷ []) s (AreTwo a b) (0 ∷ a ∷ b ∷ [])
+  unfolding two_in
   two_good a b =
-      answer-good twoIn _ _ _ _ refl
+      answer-good two_in _ _ _ _ refl
       (λ us r e. let l = behind-letter letter _ us is-letter r in cc)
       (λ p e. clash (cc))
 
-  pub three-good : (a b c : ℕ) → AnswerIs threeIn (letter ∷ number ∷ number ∷ number ∷ []) s (AreThree a b c) (0 ∷ a ∷ b ∷ c ∷ [])
-  unfolding threeIn
+  pub three-good : (a b c : ℕ) → AnswerIs three_in (letter ∷ number ∷ number ∷ number ∷ []) s (AreThree a b c) (0 ∷ a ∷ b ∷ c ∷ [])
+  unfolding three_in
   three-good a b c =
-      answer-good threeIn _ _ _ _ refl
+      answer-good three_in _ _ _ _ refl
       (λ us r e. let l = behind-letter letter _ us is-letter r in cc)
       (λ p e. clash (cc))
 
   pub sent-good : (i j amount front back w : ℕ)
-      → AnswerIs sentIn (letter ∷ number ∷ number ∷ number ∷ number ∷ number ∷ way ∷ []) s (IsSent i j amount front back w) (0 ∷ i ∷ j ∷ amount ∷ front ∷ back ∷ w ∷ [])
-  unfolding sentIn
+      → AnswerIs sent_in (letter ∷ number ∷ number ∷ number ∷ number ∷ number ∷ way ∷ []) s (IsSent i j amount front back w) (0 ∷ i ∷ j ∷ amount ∷ front ∷ back ∷ w ∷ [])
+  unfolding sent_in
   sent-good i j amount front back w =
-      answer-good sentIn _ _ _ _ refl
+      answer-good sent_in _ _ _ _ refl
       (λ us r e. let l = behind-letter letter _ us is-letter r in cc)
       (λ p e. clash (cc))
 
 -- ---- the six lines
 
 module _ (s : List ℕ) where
-  pub ring-good : (n fibres : ℕ) → AnswerIs twoIn ringShape s (AreTwo n fibres) (0 ∷ n ∷ fibres ∷ [])
+  pub ring-good : (n fibres : ℕ) → AnswerIs two_in ring_shape s (AreTwo n fibres) (0 ∷ n ∷ fibres ∷ [])
   unfolding top marks
-  ring-good = two_good letterR refl s
+  ring-good = two_good letter_r refl s
 
-  pub row-good : (i j amount : ℕ) → AnswerIs threeIn rowShape s (AreThree i j amount) (0 ∷ i ∷ j ∷ amount ∷ [])
+  pub row-good : (i j amount : ℕ) → AnswerIs three_in row_shape s (AreThree i j amount) (0 ∷ i ∷ j ∷ amount ∷ [])
   unfolding top marks
-  row-good = three-good letterD refl s
+  row-good = three-good letter_d refl s
 
-  pub sent-row-good : (i j amount front back w : ℕ) → AnswerIs sentIn sentShape s (IsSent i j amount front back w) (0 ∷ i ∷ j ∷ amount ∷ front ∷ back ∷ w ∷ [])
+  pub sent-row-good : (i j amount front back w : ℕ) → AnswerIs sent_in sent_shape s (IsSent i j amount front back w) (0 ∷ i ∷ j ∷ amount ∷ front ∷ back ∷ w ∷ [])
   unfolding top marks
-  sent-row-good = sent-good letterD refl s
+  sent-row-good = sent-good letter_d refl s
 
-  pub cut-good : (g h across : ℕ) → AnswerIs threeIn cutShape s (AreThree g h across) (0 ∷ g ∷ h ∷ across ∷ [])
+  pub cut-good : (g h across : ℕ) → AnswerIs three_in cut_shape s (AreThree g h across) (0 ∷ g ∷ h ∷ across ∷ [])
   unfolding top marks
-  cut-good = three-good letterC refl s
+  cut-good = three-good letter_c refl s
 
-  pub link-good : (link split unsplit : ℕ) → AnswerIs threeIn linkShape s (AreThree link split unsplit) (0 ∷ link ∷ split ∷ unsplit ∷ [])
+  pub link-good : (link split unsplit : ℕ) → AnswerIs three_in link_shape s (AreThree link split unsplit) (0 ∷ link ∷ split ∷ unsplit ∷ [])
   unfolding top marks
-  link-good = three-good letterL refl s
+  link-good = three-good letter_l refl s
 
-  pub last-good : (peak size : ℕ) → AnswerIs twoIn lastShape s (AreTwo peak size) (0 ∷ peak ∷ size ∷ [])
+  pub last-good : (peak size : ℕ) → AnswerIs two_in last_shape s (AreTwo peak size) (0 ∷ peak ∷ size ∷ [])
   unfolding top marks
-  last-good = two_good letterZ refl s
+  last-good = two_good letter_z refl s
 
 -- ---- a faulty line, of any shape
 
 module _ (shape s : List ℕ) (p : ℕ) where
-  pub two-bad : Refuses twoIn shape s (NotTwo p) p
-  unfolding twoIn
-  two-bad = answer-bad twoIn _ _ _ p refl (λ q e. cc) (λ us e. clash (cc))
+  pub two-bad : Refuses two_in shape s (NotTwo p) p
+  unfolding two_in
+  two-bad = answer-bad two_in _ _ _ p refl (λ q e. cc) (λ us e. clash (cc))
 
-  pub three-bad : Refuses threeIn shape s (NotThree p) p
-  unfolding threeIn
-  three-bad = answer-bad threeIn _ _ _ p refl (λ q e. cc) (λ us e. clash (cc))
+  pub three-bad : Refuses three_in shape s (NotThree p) p
+  unfolding three_in
+  three-bad = answer-bad three_in _ _ _ p refl (λ q e. cc) (λ us e. clash (cc))
 
-  pub sent-bad : Refuses sentIn shape s (NotSent p) p
-  unfolding sentIn
-  sent-bad = answer-bad sentIn _ _ _ p refl (λ q e. cc) (λ us e. clash (cc))
+  pub sent-bad : Refuses sent_in shape s (NotSent p) p
+  unfolding sent_in
+  sent-bad = answer-bad sent_in _ _ _ p refl (λ q e. cc) (λ us e. clash (cc))
 
 -- it is not behind the text
 module _ (shape s : List ℕ) (p : ℕ) where
   fault-within : FirstFault shape s p → p ≤ length s
   fault-within f = bad-within shape s p ((line-bad shape s p).1 f)
 
-  pub two-within : twoIn (readLine shape s) ≡ NotTwo p → p ≤ length s
+  pub two-within : two_in (read_line shape s) ≡ NotTwo p → p ≤ length s
   two-within e = fault-within ((two-bad shape s p).0 e)
 
-  pub three-within : threeIn (readLine shape s) ≡ NotThree p → p ≤ length s
+  pub three-within : three_in (read_line shape s) ≡ NotThree p → p ≤ length s
   three-within e = fault-within ((three-bad shape s p).0 e)
 
-  pub sent-within : sentIn (readLine shape s) ≡ NotSent p → p ≤ length s
+  pub sent-within : sent_in (read_line shape s) ≡ NotSent p → p ≤ length s
   sent-within e = fault-within ((sent-bad shape s p).0 e)

@@ -9,9 +9,9 @@ use lib.Dec.{eqb}
 use borrow.Author.Tests.{eqb-false, ne_eqb}
 use Rattle.text.specs.Bytes.{number}
 use Rattle.text.specs.Number.{base}
-use Rattle.text.specs.ReadNumber.{digitOf, digitsFrom, numberFrom, number_at}
-use Rattle.text.specs.ReadMark.{mark_of, endFrom, markFrom, markAt}
-use Rattle.text.specs.ReadLine.{field_at, good, bad, fieldThen, fieldsFrom}
+use Rattle.text.specs.ReadNumber.{digit_of, digits_from, number_from, number_at}
+use Rattle.text.specs.ReadMark.{mark_of, end_from, mark_from, mark_at}
+use Rattle.text.specs.ReadLine.{field_at, good, bad, field_then, fields_from}
 use Rattle.text.specs.WriteLine.{end_of}
 use Rattle.text.specs.declared.field.Field.{Field}
 use Rattle.text.specs.declared.field.Field.TheVariants.{Is, Bad}
@@ -76,42 +76,42 @@ module _ (read : ℕ → List ℕ → Field) (p : ℕ) where
 
 -- ---- a field
 
-digits-local : (xs : List ℕ) (end v p : ℕ) → Local (digitsFrom end v) p xs
-unfolding digitsFrom
-digits-local [] end v p = empty (digitsFrom end v) p refl
-digits-local (b ∷ xs) end v p = go (next-digit end v p b) (digits-local xs end (v * base + digitOf b) (p + 1))
+digits-local : (xs : List ℕ) (end v p : ℕ) → Local (digits_from end v) p xs
+unfolding digits_from
+digits-local [] end v p = empty (digits_from end v) p refl
+digits-local (b ∷ xs) end v p = go (next-digit end v p b) (digits-local xs end (v * base + digit_of b) (p + 1))
   where
-    go : NextDigit end v p b → Local (digitsFrom end (v * base + digitOf b)) (p + 1) xs → Local (digitsFrom end v) p (b ∷ xs)
-    go (more hd hv hf s) ih = goes_on (digitsFrom end v) p b xs (digitsFrom end (v * base + digitOf b)) s ih
-    go (ends he s) ih = decided (digitsFrom end v) p b xs (Is v (p + 1)) refl (omega arith) s
-    go (stops s) ih = decided (digitsFrom end v) p b xs (Bad p) refl (omega arith) s
+    go : NextDigit end v p b → Local (digits_from end (v * base + digit_of b)) (p + 1) xs → Local (digits_from end v) p (b ∷ xs)
+    go (more hd hv hf s) ih = goes_on (digits_from end v) p b xs (digits_from end (v * base + digit_of b)) s ih
+    go (ends he s) ih = decided (digits_from end v) p b xs (Is v (p + 1)) refl (omega arith) s
+    go (stops s) ih = decided (digits_from end v) p b xs (Bad p) refl (omega arith) s
 
-number-local : (xs : List ℕ) (end p : ℕ) → Local (numberFrom end) p xs
-unfolding numberFrom
-number-local [] end p = empty (numberFrom end) p refl
+number-local : (xs : List ℕ) (end p : ℕ) → Local (number_from end) p xs
+unfolding number_from
+number-local [] end p = empty (number_from end) p refl
 number-local (b ∷ xs) end p = go (first-digit end p b)
   where
-    go : FirstDigit end p b → Local (numberFrom end) p (b ∷ xs)
-    go (digit hd s) = goes_on (numberFrom end) p b xs (digitsFrom end (digitOf b)) s (digits-local xs end (digitOf b) (p + 1))
-    go (no_digit s) = decided (numberFrom end) p b xs (Bad p) refl (omega arith) s
+    go : FirstDigit end p b → Local (number_from end) p (b ∷ xs)
+    go (digit hd s) = goes_on (number_from end) p b xs (digits_from end (digit_of b)) s (digits-local xs end (digit_of b) (p + 1))
+    go (no_digit s) = decided (number_from end) p b xs (Bad p) refl (omega arith) s
 
-end-local : (xs : List ℕ) (end v p : ℕ) → Local (endFrom end v) p xs
-unfolding endFrom
-end-local [] end v p = empty (endFrom end v) p refl
+end-local : (xs : List ℕ) (end v p : ℕ) → Local (end_from end v) p xs
+unfolding end_from
+end-local [] end v p = empty (end_from end v) p refl
 end-local (b ∷ xs) end v p = go (end-byte end v p b)
   where
-    go : EndByte end v p b → Local (endFrom end v) p (b ∷ xs)
-    go (closed he s) = decided (endFrom end v) p b xs (Is v (p + 1)) refl (omega arith) s
-    go (not-closed s) = decided (endFrom end v) p b xs (Bad p) refl (omega arith) s
+    go : EndByte end v p b → Local (end_from end v) p (b ∷ xs)
+    go (closed he s) = decided (end_from end v) p b xs (Is v (p + 1)) refl (omega arith) s
+    go (not-closed s) = decided (end_from end v) p b xs (Bad p) refl (omega arith) s
 
-mark-local : (f : ℕ) (xs : List ℕ) (end p : ℕ) → Local (markFrom f end) p xs
-unfolding markFrom
-mark-local f [] end p = empty (markFrom f end) p refl
+mark-local : (f : ℕ) (xs : List ℕ) (end p : ℕ) → Local (mark_from f end) p xs
+unfolding mark_from
+mark-local f [] end p = empty (mark_from f end) p refl
 mark-local f (b ∷ xs) end p = go (mark-byte f end p b)
   where
-    go : MarkByte f end p b → Local (markFrom f end) p (b ∷ xs)
-    go (mark h s) = goes_on (markFrom f end) p b xs (endFrom end (mark_of f b)) s (end-local xs end (mark_of f b) (p + 1))
-    go (no-mark s) = decided (markFrom f end) p b xs (Bad p) refl (omega arith) s
+    go : MarkByte f end p b → Local (mark_from f end) p (b ∷ xs)
+    go (mark h s) = goes_on (mark_from f end) p b xs (end_from end (mark_of f b)) s (end-local xs end (mark_of f b) (p + 1))
+    go (no-mark s) = decided (mark_from f end) p b xs (Bad p) refl (omega arith) s
 
 -- the field f at the place p of the text s, read as x: the same, in places of the whole text
 pub record LocalField (f : ℕ) (s : List ℕ) (p end : ℕ) (x : Field) : Type 0 where
@@ -120,7 +120,7 @@ pub record LocalField (f : ℕ) (s : List ℕ) (p end : ℕ) (x : Field) : Type 
   pub same : (k : ℕ) (r : List ℕ) → reach x ≤ k → take k r ≡ take k s → field_at f r p end ≡ x
 
 pub field-local : (f : ℕ) (s : List ℕ) (p end : ℕ) (x : Field) → field_at f s p end ≡ x → LocalField f s p end x
-unfolding field_at number_at markAt
+unfolding field_at number_at mark_at
 field-local f s p end x i = go (eqb f number) refl
   where
     by-reader : (read : ℕ → List ℕ → Field) → ((r : List ℕ) → field_at f r p end ≡ read p (drop p r)) → Local read p (drop p s) → LocalField f s p end x
@@ -135,14 +135,14 @@ field-local f s p end x i = go (eqb f number) refl
         }
 
     go : (n : Bool) → eqb f number ≡ n → LocalField f s p end x
-    go true n = by-reader (numberFrom end) (λ r. rw n) (number-local (drop p s) end p)
-    go false n = by-reader (markFrom f end) (λ r. rw n) (mark-local f (drop p s) end p)
+    go true n = by-reader (number_from end) (λ r. rw n) (number-local (drop p s) end p)
+    go false n = by-reader (mark_from f end) (λ r. rw n) (mark-local f (drop p s) end p)
 
 -- ---- a line
 
 -- the fault is not before the fields that are read, and not behind the text
-pub fields_within : (fs s : List ℕ) (p : ℕ) (acc : List ℕ) (q : ℕ) → p ≤ length s → fieldsFrom fs s p acc ≡ bad q → (p ≤ q) × (q ≤ length s)
-unfolding fieldsFrom
+pub fields_within : (fs s : List ℕ) (p : ℕ) (acc : List ℕ) (q : ℕ) → p ≤ length s → fields_from fs s p acc ≡ bad q → (p ≤ q) × (q ≤ length s)
+unfolding fields_from
 fields_within [] s p acc q h e = go (eqb p (length s)) e
   where
     go : (t : Bool) → cond t (good acc) (bad p) ≡ bad q → (p ≤ q) × (q ≤ length s)
@@ -150,8 +150,8 @@ fields_within [] s p acc q h e = go (eqb p (length s)) e
     go false e = let pq : p ≡ q = cc in (omega arith, omega arith)
 fields_within (f ∷ fs) s p acc q h e = go (field_at f s p (end_of (length fs))) refl e (λ o more. fields_within fs s o more q)
   where
-    go : (x : Field) → field_at f s p (end_of (length fs)) ≡ x → fieldThen x (λ v o. fieldsFrom fs s o (acc ++ v ∷ [])) ≡ bad q
-        → ((o : ℕ) (more : List ℕ) → o ≤ length s → fieldsFrom fs s o more ≡ bad q → (o ≤ q) × (q ≤ length s)) → (p ≤ q) × (q ≤ length s)
+    go : (x : Field) → field_at f s p (end_of (length fs)) ≡ x → field_then x (λ v o. fields_from fs s o (acc ++ v ∷ [])) ≡ bad q
+        → ((o : ℕ) (more : List ℕ) → o ≤ length s → fields_from fs s o more ≡ bad q → (o ≤ q) × (q ≤ length s)) → (p ≤ q) × (q ≤ length s)
     go (Is v o) i e ih =
         let l = field-local f s p (end_of (length fs)) (Is v o) i in
         let w = ih o (acc ++ v ∷ []) (l.within h) e in
@@ -162,9 +162,9 @@ fields_within (f ∷ fs) s p acc q h e = go (field_at f s p (end_of (length fs))
         (omega (arith, l.looks), omega (arith, l.within h))
 
 -- a text with the same bytes up to the fault has it too
-pub fields-local : (fs s r : List ℕ) (p : ℕ) (acc : List ℕ) (q : ℕ) → p ≤ length s → fieldsFrom fs s p acc ≡ bad q → take (q + 1) r ≡ take (q + 1) s
-    → fieldsFrom fs r p acc ≡ bad q
-unfolding fieldsFrom
+pub fields-local : (fs s r : List ℕ) (p : ℕ) (acc : List ℕ) (q : ℕ) → p ≤ length s → fields_from fs s p acc ≡ bad q → take (q + 1) r ≡ take (q + 1) s
+    → fields_from fs r p acc ≡ bad q
+unfolding fields_from
 fields-local [] s r p acc q h e a = go (eqb p (length s)) refl e
   where
     go : (t : Bool) → eqb p (length s) ≡ t → cond t (good acc) (bad p) ≡ bad q → cond (eqb p (length r)) (good acc) (bad p) ≡ bad q
@@ -175,9 +175,9 @@ fields-local [] s r p acc q h e a = go (eqb p (length s)) refl e
         rw (ne_eqb p (length r) (λ z. omega (arith, length-take (q + 1) r, length-take (q + 1) s, ap length a))) e
 fields-local (f ∷ fs) s r p acc q h e a = go (field_at f s p (end_of (length fs))) refl e (λ o more. fields-local fs s r o more q)
   where
-    go : (x : Field) → field_at f s p (end_of (length fs)) ≡ x → fieldThen x (λ v o. fieldsFrom fs s o (acc ++ v ∷ [])) ≡ bad q
-        → ((o : ℕ) (more : List ℕ) → o ≤ length s → fieldsFrom fs s o more ≡ bad q → take (q + 1) r ≡ take (q + 1) s → fieldsFrom fs r o more ≡ bad q)
-        → fieldThen (field_at f r p (end_of (length fs))) (λ v o. fieldsFrom fs r o (acc ++ v ∷ [])) ≡ bad q
+    go : (x : Field) → field_at f s p (end_of (length fs)) ≡ x → field_then x (λ v o. fields_from fs s o (acc ++ v ∷ [])) ≡ bad q
+        → ((o : ℕ) (more : List ℕ) → o ≤ length s → fields_from fs s o more ≡ bad q → take (q + 1) r ≡ take (q + 1) s → fields_from fs r o more ≡ bad q)
+        → field_then (field_at f r p (end_of (length fs))) (λ v o. fields_from fs r o (acc ++ v ∷ [])) ≡ bad q
     go (Is v o) i e ih =
         let l = field-local f s p (end_of (length fs)) (Is v o) i in
         let w = fields_within fs s o (acc ++ v ∷ []) q (l.within h) e in

@@ -7,23 +7,23 @@ use native.Mathlib.Omega.{arith}
 use lib.Dec.{ltb, leb, eqb}
 use borrow.Author.Tests.{ltb-true, leb-false, eqb-true, eqb-false}
 use Rattle.text.specs.Number.{base}
-use Rattle.text.specs.ReadNumber.{full, digitOf, digitsFrom, numberFrom}
+use Rattle.text.specs.ReadNumber.{full, digit_of, digits_from, number_from}
 use Rattle.text.specs.Mark.{marks}
-use Rattle.text.specs.ReadMark.{mark_of, endFrom, markFrom}
+use Rattle.text.specs.ReadMark.{mark_of, end_from, mark_from}
 use Rattle.text.specs.declared.field.Field.TheVariants.{Is, Bad}
 
 -- the byte b behind the number v: one more digit, the end, or a fault
 pub data NextDigit (end v p b : ℕ) : Type 0 where
-  more : digitOf b < base → 0 < v → v < full
-      → ((xs : List ℕ) → digitsFrom end v p (b ∷ xs) ≡ digitsFrom end (v * base + digitOf b) (p + 1) xs) → NextDigit end v p b
-  ends : b ≡ end → ((xs : List ℕ) → digitsFrom end v p (b ∷ xs) ≡ Is v (p + 1)) → NextDigit end v p b
-  stops : ((xs : List ℕ) → digitsFrom end v p (b ∷ xs) ≡ Bad p) → NextDigit end v p b
+  more : digit_of b < base → 0 < v → v < full
+      → ((xs : List ℕ) → digits_from end v p (b ∷ xs) ≡ digits_from end (v * base + digit_of b) (p + 1) xs) → NextDigit end v p b
+  ends : b ≡ end → ((xs : List ℕ) → digits_from end v p (b ∷ xs) ≡ Is v (p + 1)) → NextDigit end v p b
+  stops : ((xs : List ℕ) → digits_from end v p (b ∷ xs) ≡ Bad p) → NextDigit end v p b
 
 pub next-digit : (end v p b : ℕ) → NextDigit end v p b
-unfolding digitsFrom
-next-digit end v p b = go (ltb (digitOf b) base) refl (eqb v 0) refl (leb full v) refl (eqb b end) refl
+unfolding digits_from
+next-digit end v p b = go (ltb (digit_of b) base) refl (eqb v 0) refl (leb full v) refl (eqb b end) refl
   where
-    go : (d : Bool) → ltb (digitOf b) base ≡ d → (z : Bool) → eqb v 0 ≡ z → (f : Bool) → leb full v ≡ f → (e : Bool) → eqb b end ≡ e → NextDigit end v p b
+    go : (d : Bool) → ltb (digit_of b) base ≡ d → (z : Bool) → eqb v 0 ≡ z → (f : Bool) → leb full v ≡ f → (e : Bool) → eqb b end ≡ e → NextDigit end v p b
     go true hd true hz f hf e he = stops (λ xs. rw (hd, hz))
     go true hd false hz true hf e he = stops (λ xs. rw (hd, hz, hf))
     go true hd false hz false hf e he =
@@ -34,24 +34,24 @@ next-digit end v p b = go (ltb (digitOf b) base) refl (eqb v 0) refl (leb full v
 
 -- the byte b where a number begins: its first digit, or a fault
 pub data FirstDigit (end p b : ℕ) : Type 0 where
-  digit : digitOf b < base → ((xs : List ℕ) → numberFrom end p (b ∷ xs) ≡ digitsFrom end (digitOf b) (p + 1) xs) → FirstDigit end p b
-  no_digit : ((xs : List ℕ) → numberFrom end p (b ∷ xs) ≡ Bad p) → FirstDigit end p b
+  digit : digit_of b < base → ((xs : List ℕ) → number_from end p (b ∷ xs) ≡ digits_from end (digit_of b) (p + 1) xs) → FirstDigit end p b
+  no_digit : ((xs : List ℕ) → number_from end p (b ∷ xs) ≡ Bad p) → FirstDigit end p b
 
 pub first-digit : (end p b : ℕ) → FirstDigit end p b
-unfolding numberFrom
-first-digit end p b = go (ltb (digitOf b) base) refl
+unfolding number_from
+first-digit end p b = go (ltb (digit_of b) base) refl
   where
-    go : (d : Bool) → ltb (digitOf b) base ≡ d → FirstDigit end p b
+    go : (d : Bool) → ltb (digit_of b) base ≡ d → FirstDigit end p b
     go true hd = digit (ltb-true _ _ hd) (λ xs. rw hd)
     go false hd = no_digit (λ xs. rw hd)
 
 -- the byte b where a mark is due: a mark of the field f, or a fault
 pub data MarkByte (f end p b : ℕ) : Type 0 where
-  mark : mark_of f b < marks f → ((xs : List ℕ) → markFrom f end p (b ∷ xs) ≡ endFrom end (mark_of f b) (p + 1) xs) → MarkByte f end p b
-  no-mark : ((xs : List ℕ) → markFrom f end p (b ∷ xs) ≡ Bad p) → MarkByte f end p b
+  mark : mark_of f b < marks f → ((xs : List ℕ) → mark_from f end p (b ∷ xs) ≡ end_from end (mark_of f b) (p + 1) xs) → MarkByte f end p b
+  no-mark : ((xs : List ℕ) → mark_from f end p (b ∷ xs) ≡ Bad p) → MarkByte f end p b
 
 pub mark-byte : (f end p b : ℕ) → MarkByte f end p b
-unfolding markFrom
+unfolding mark_from
 mark-byte f end p b = go (ltb (mark_of f b) (marks f)) refl
   where
     go : (m : Bool) → ltb (mark_of f b) (marks f) ≡ m → MarkByte f end p b
@@ -60,11 +60,11 @@ mark-byte f end p b = go (ltb (mark_of f b) (marks f)) refl
 
 -- the byte b behind the mark v: the end, or a fault
 pub data EndByte (end v p b : ℕ) : Type 0 where
-  closed : b ≡ end → ((xs : List ℕ) → endFrom end v p (b ∷ xs) ≡ Is v (p + 1)) → EndByte end v p b
-  not-closed : ((xs : List ℕ) → endFrom end v p (b ∷ xs) ≡ Bad p) → EndByte end v p b
+  closed : b ≡ end → ((xs : List ℕ) → end_from end v p (b ∷ xs) ≡ Is v (p + 1)) → EndByte end v p b
+  not-closed : ((xs : List ℕ) → end_from end v p (b ∷ xs) ≡ Bad p) → EndByte end v p b
 
 pub end-byte : (end v p b : ℕ) → EndByte end v p b
-unfolding endFrom
+unfolding end_from
 end-byte end v p b = go (eqb b end) refl
   where
     go : (e : Bool) → eqb b end ≡ e → EndByte end v p b

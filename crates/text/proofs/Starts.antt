@@ -7,13 +7,13 @@ use native.Mathlib.Omega.{arith}
 use lib.ListN.{length, take, drop, length-append, length-take}
 use mir.Val.{Fits}
 use mir.Syntax.{w32}
-use Rattle.text.specs.WriteLine.{end_of, writeLine}
+use Rattle.text.specs.WriteLine.{end_of, write_line}
 use Rattle.text.specs.Field.{spell}
-use Rattle.text.specs.FieldByte.{fieldByte, rowByte, sentByte}
+use Rattle.text.specs.FieldByte.{field_byte, row_byte, sent_byte}
 use Rattle.text.proofs.Lengths.{line-short}
 
 -- the code's steps
-module _ (shape values : List ℕ) (k r : ℕ) (is : r ≡ length (writeLine (take (k - 0) (drop 0 shape)) values)) where
+module _ (shape values : List ℕ) (k r : ℕ) (is : r ≡ length (write_line (take (k - 0) (drop 0 shape)) values)) where
   whole : k - 0 ≡ k
   whole = omega arith
 
@@ -23,13 +23,13 @@ module _ (shape values : List ℕ) (k r : ℕ) (is : r ≡ length (writeLine (ta
   pub byte_fits : (behind : ℕ) → behind ≤ 2 → length shape ≤ 1000 → Fits w32 (r + behind)
   byte_fits behind l h = omega (arith, line-short (take (k - 0) shape) values, length-take (k - 0) shape)
 
-  pub byte-is : r + 1 ≡ fieldByte shape values k
-  unfolding fieldByte
+  pub byte-is : r + 1 ≡ field_byte shape values k
+  unfolding field_byte
   byte-is = rw (is, whole)
 
 -- the first three fields of a sheet's D line
-pub sent-row-byte : (i j d f b w k : ℕ) → k ≤ 3 → rowByte i j d k ≡ sentByte i j d f b w k
-unfolding fieldByte writeLine
+pub sent-row-byte : (i j d f b w k : ℕ) → k ≤ 3 → row_byte i j d k ≡ sent_byte i j d f b w k
+unfolding field_byte write_line
 sent-row-byte i j d f b w zero h = refl
 sent-row-byte i j d f b w (suc zero) h = refl
 sent-row-byte i j d f b w (suc (suc zero)) h = refl
@@ -42,20 +42,20 @@ skip : (p q : List ℕ) (n : ℕ) → drop (length p + n) (p ++ q) ≡ drop n q
 skip [] q n = let e : 0 + n ≡ n = omega arith in ap (λ (m : ℕ). drop m q) e
 skip (x ∷ p) q n = let e : length (x ∷ p) + n ≡ suc (length p + n) = omega arith in rw e (skip p q n)
 
-behind : (fs vs : List ℕ) (k : ℕ) → k ≤ length fs → length fs ≤ length vs → drop (length (writeLine (take k fs) vs)) (writeLine fs vs) ≡ writeLine (drop k fs) (drop k vs)
-unfolding writeLine
+behind : (fs vs : List ℕ) (k : ℕ) → k ≤ length fs → length fs ≤ length vs → drop (length (write_line (take k fs) vs)) (write_line fs vs) ≡ write_line (drop k fs) (drop k vs)
+unfolding write_line
 behind fs vs zero a b = refl
 behind [] vs (suc k) a b = absurd (omega arith)
 behind (f ∷ fs) [] (suc k) a b = absurd (omega arith)
 behind (f ∷ fs) (v ∷ vs) (suc k) a b =
-    let rest : List ℕ = end_of (length fs) ∷ writeLine fs vs in
-    let e : length (spell f v ++ end_of (length (take k fs)) ∷ writeLine (take k fs) vs) ≡ length (spell f v) + suc (length (writeLine (take k fs) vs)) =
-    length-append (spell f v) (end_of (length (take k fs)) ∷ writeLine (take k fs) vs) in
-    rw e (skip (spell f v) rest (suc (length (writeLine (take k fs) vs))) ∙ behind fs vs k (omega arith) (omega arith))
+    let rest : List ℕ = end_of (length fs) ∷ write_line fs vs in
+    let e : length (spell f v ++ end_of (length (take k fs)) ∷ write_line (take k fs) vs) ≡ length (spell f v) + suc (length (write_line (take k fs) vs)) =
+    length-append (spell f v) (end_of (length (take k fs)) ∷ write_line (take k fs) vs) in
+    rw e (skip (spell f v) rest (suc (length (write_line (take k fs) vs))) ∙ behind fs vs k (omega arith) (omega arith))
 
 pub from_byte : (shape vs : List ℕ) (k : ℕ) → k ≤ length shape → length shape ≤ length vs
-    → drop (fieldByte shape vs k - 1) (writeLine shape vs) ≡ writeLine (drop k shape) (drop k vs)
-unfolding fieldByte
+    → drop (field_byte shape vs k - 1) (write_line shape vs) ≡ write_line (drop k shape) (drop k vs)
+unfolding field_byte
 from_byte shape vs k a b =
-    let e : length (writeLine (take k shape) vs) + 1 - 1 ≡ length (writeLine (take k shape) vs) = omega arith in
+    let e : length (write_line (take k shape) vs) + 1 - 1 ≡ length (write_line (take k shape) vs) = omega arith in
     rw e (behind shape vs k a b)

@@ -3,13 +3,13 @@ use Prim.Native.Nat.{ℕ}
 use mathlib.Core.Path.{◌≡◌, ◌∙◌, sym}
 use mathlib.Core.List.{List}
 use lib.ListN.{length}
-use Rattle.text.specs.ReadLine.{readLine, field_at}
-use Rattle.text.specs.Answers.{twoIn, threeIn, sentIn}
-use Rattle.text.specs.Shapes.{ringShape, rowShape, sentShape, cutShape, linkShape, lastShape, ringLine, row_line, sentLine, cutLine, linkLine, lastLine}
-use Rattle.text.specs.FieldByte.{ringByte, rowByte}
+use Rattle.text.specs.ReadLine.{read_line, field_at}
+use Rattle.text.specs.Answers.{two_in, three_in, sent_in}
+use Rattle.text.specs.Shapes.{ring_shape, row_shape, sent_shape, cut_shape, link_shape, last_shape, ring_line, row_line, sent_line, cut_line, link_line, last_line}
+use Rattle.text.specs.FieldByte.{ring_byte, row_byte}
 use Rattle.text.specs.Written.{Written}
 use Rattle.text.specs.Bytes.{number}
-use Rattle.text.specs.WriteLine.{end_of, writeLine}
+use Rattle.text.specs.WriteLine.{end_of, write_line}
 use Rattle.text.specs.declared.field.Field.{Field}
 use Rattle.text.specs.declared.TwoNumbers.{TwoNumbers}
 use Rattle.text.specs.declared.ThreeNumbers.{ThreeNumbers}
@@ -26,22 +26,22 @@ same-written w x = (same-result w.place x.place, same-result w.buffer x.buffer)
 -- ---- readers
 
 module _ (s : List ℕ) where
-  pub read-ring-unique : (r q : TwoNumbers) → r ≡ twoIn (readLine ringShape s) → q ≡ twoIn (readLine ringShape s) → r ≡ q
+  pub read-ring-unique : (r q : TwoNumbers) → r ≡ two_in (read_line ring_shape s) → q ≡ two_in (read_line ring_shape s) → r ≡ q
   read-ring-unique r q = same-result
 
-  pub read-row-unique : (r q : ThreeNumbers) → r ≡ threeIn (readLine rowShape s) → q ≡ threeIn (readLine rowShape s) → r ≡ q
+  pub read-row-unique : (r q : ThreeNumbers) → r ≡ three_in (read_line row_shape s) → q ≡ three_in (read_line row_shape s) → r ≡ q
   read-row-unique r q = same-result
 
-  pub read-sent-unique : (r q : SentRow) → r ≡ sentIn (readLine sentShape s) → q ≡ sentIn (readLine sentShape s) → r ≡ q
+  pub read-sent-unique : (r q : SentRow) → r ≡ sent_in (read_line sent_shape s) → q ≡ sent_in (read_line sent_shape s) → r ≡ q
   read-sent-unique r q = same-result
 
-  pub read-cut-unique : (r q : ThreeNumbers) → r ≡ threeIn (readLine cutShape s) → q ≡ threeIn (readLine cutShape s) → r ≡ q
+  pub read-cut-unique : (r q : ThreeNumbers) → r ≡ three_in (read_line cut_shape s) → q ≡ three_in (read_line cut_shape s) → r ≡ q
   read-cut-unique r q = same-result
 
-  pub read-link-unique : (r q : ThreeNumbers) → r ≡ threeIn (readLine linkShape s) → q ≡ threeIn (readLine linkShape s) → r ≡ q
+  pub read-link-unique : (r q : ThreeNumbers) → r ≡ three_in (read_line link_shape s) → q ≡ three_in (read_line link_shape s) → r ≡ q
   read-link-unique r q = same-result
 
-  pub read-last-unique : (r q : TwoNumbers) → r ≡ twoIn (readLine lastShape s) → q ≡ twoIn (readLine lastShape s) → r ≡ q
+  pub read-last-unique : (r q : TwoNumbers) → r ≡ two_in (read_line last_shape s) → q ≡ two_in (read_line last_shape s) → r ≡ q
   read-last-unique r q = same-result
 
   pub read-entry-unique : (at left : ℕ) (r q : Field) → r ≡ field_at number s at (end_of left) → q ≡ field_at number s at (end_of left) → r ≡ q
@@ -49,43 +49,43 @@ module _ (s : List ℕ) where
 
 -- ---- lengths
 
-pub line-length-unique : (shape vs : List ℕ) (r q : ℕ) → r ≡ length (writeLine shape vs) → q ≡ length (writeLine shape vs) → r ≡ q
+pub line-length-unique : (shape vs : List ℕ) (r q : ℕ) → r ≡ length (write_line shape vs) → q ≡ length (write_line shape vs) → r ≡ q
 line-length-unique _ _ r q = same-result
 
-pub ring-length-unique : (n fibres r q : ℕ) → r ≡ length (ringLine n fibres) → q ≡ length (ringLine n fibres) → r ≡ q
+pub ring-length-unique : (n fibres r q : ℕ) → r ≡ length (ring_line n fibres) → q ≡ length (ring_line n fibres) → r ≡ q
 ring-length-unique _ _ r q = same-result
 
 pub row-length-unique : (i j amount r q : ℕ) → r ≡ length (row_line i j amount) → q ≡ length (row_line i j amount) → r ≡ q
 row-length-unique _ _ _ r q = same-result
 
-pub sent-length-unique : (i j amount front back way r q : ℕ) → r ≡ length (sentLine i j amount front back way) → q ≡ length (sentLine i j amount front back way) → r ≡ q
+pub sent-length-unique : (i j amount front back way r q : ℕ) → r ≡ length (sent_line i j amount front back way) → q ≡ length (sent_line i j amount front back way) → r ≡ q
 sent-length-unique _ _ _ _ _ _ r q = same-result
 
-pub cut-length-unique : (g h across r q : ℕ) → r ≡ length (cutLine g h across) → q ≡ length (cutLine g h across) → r ≡ q
+pub cut-length-unique : (g h across r q : ℕ) → r ≡ length (cut_line g h across) → q ≡ length (cut_line g h across) → r ≡ q
 cut-length-unique _ _ _ r q = same-result
 
-pub link-length-unique : (link split unsplit r q : ℕ) → r ≡ length (linkLine link split unsplit) → q ≡ length (linkLine link split unsplit) → r ≡ q
+pub link-length-unique : (link split unsplit r q : ℕ) → r ≡ length (link_line link split unsplit) → q ≡ length (link_line link split unsplit) → r ≡ q
 link-length-unique _ _ _ r q = same-result
 
-pub last-length-unique : (peak size r q : ℕ) → r ≡ length (lastLine peak size) → q ≡ length (lastLine peak size) → r ≡ q
+pub last-length-unique : (peak size r q : ℕ) → r ≡ length (last_line peak size) → q ≡ length (last_line peak size) → r ≡ q
 last-length-unique _ _ r q = same-result
 
 -- ---- where a field starts
 
-pub ring-byte-unique : (n fibres k r q : ℕ) → r ≡ ringByte n fibres k → q ≡ ringByte n fibres k → r ≡ q
+pub ring-byte-unique : (n fibres k r q : ℕ) → r ≡ ring_byte n fibres k → q ≡ ring_byte n fibres k → r ≡ q
 ring-byte-unique _ _ _ r q = same-result
 
-pub row-byte-unique : (i j amount k r q : ℕ) → r ≡ rowByte i j amount k → q ≡ rowByte i j amount k → r ≡ q
+pub row-byte-unique : (i j amount k r q : ℕ) → r ≡ row_byte i j amount k → q ≡ row_byte i j amount k → r ≡ q
 row-byte-unique _ _ _ _ r q = same-result
 
 -- ---- writers
 
 module _ (old : List ℕ) (at : ℕ) where
-  pub write-line-unique : (shape vs : List ℕ) (r q : ℕ) (new buf : List ℕ) → Written old at (writeLine shape vs) new r → Written old at (writeLine shape vs) buf q
+  pub write-line-unique : (shape vs : List ℕ) (r q : ℕ) (new buf : List ℕ) → Written old at (write_line shape vs) new r → Written old at (write_line shape vs) buf q
       → (r ≡ q) × (new ≡ buf)
   write-line-unique _ _ r q new buf = same-written
 
-  pub write-ring-unique : (n fibres r q : ℕ) (new buf : List ℕ) → Written old at (ringLine n fibres) new r → Written old at (ringLine n fibres) buf q
+  pub write-ring-unique : (n fibres r q : ℕ) (new buf : List ℕ) → Written old at (ring_line n fibres) new r → Written old at (ring_line n fibres) buf q
       → (r ≡ q) × (new ≡ buf)
   write-ring-unique _ _ r q new buf = same-written
 
@@ -93,18 +93,18 @@ module _ (old : List ℕ) (at : ℕ) where
       → (r ≡ q) × (new ≡ buf)
   write-row-unique _ _ _ r q new buf = same-written
 
-  pub write-sent-unique : (i j amount front back way r q : ℕ) (new buf : List ℕ) → Written old at (sentLine i j amount front back way) new r → Written old at (sentLine i j amount front back way) buf q
+  pub write-sent-unique : (i j amount front back way r q : ℕ) (new buf : List ℕ) → Written old at (sent_line i j amount front back way) new r → Written old at (sent_line i j amount front back way) buf q
       → (r ≡ q) × (new ≡ buf)
   write-sent-unique _ _ _ _ _ _ r q new buf = same-written
 
-  pub write-cut-unique : (g h across r q : ℕ) (new buf : List ℕ) → Written old at (cutLine g h across) new r → Written old at (cutLine g h across) buf q
+  pub write-cut-unique : (g h across r q : ℕ) (new buf : List ℕ) → Written old at (cut_line g h across) new r → Written old at (cut_line g h across) buf q
       → (r ≡ q) × (new ≡ buf)
   write-cut-unique _ _ _ r q new buf = same-written
 
-  pub write-link-unique : (link split unsplit r q : ℕ) (new buf : List ℕ) → Written old at (linkLine link split unsplit) new r → Written old at (linkLine link split unsplit) buf q
+  pub write-link-unique : (link split unsplit r q : ℕ) (new buf : List ℕ) → Written old at (link_line link split unsplit) new r → Written old at (link_line link split unsplit) buf q
       → (r ≡ q) × (new ≡ buf)
   write-link-unique _ _ _ r q new buf = same-written
 
-  pub write-last-unique : (peak size r q : ℕ) (new buf : List ℕ) → Written old at (lastLine peak size) new r → Written old at (lastLine peak size) buf q
+  pub write-last-unique : (peak size r q : ℕ) (new buf : List ℕ) → Written old at (last_line peak size) new r → Written old at (last_line peak size) buf q
       → (r ≡ q) × (new ≡ buf)
   write-last-unique _ _ r q new buf = same-written

@@ -9,12 +9,12 @@ use mir.Val.{Fits}
 use mir.Syntax.{w64}
 use Rattle.text.specs.Bytes.{digit0, number}
 use Rattle.text.specs.Number.{base, digits}
-use Rattle.text.specs.Mark.{markByte}
+use Rattle.text.specs.Mark.{mark_byte}
 use Rattle.text.specs.Field.{spell}
-use Rattle.text.specs.WriteLine.{end_of, writeLine}
+use Rattle.text.specs.WriteLine.{end_of, write_line}
 use Rattle.text.specs.Written.{Written}
 use Rattle.text.proofs.Digits.{u32-limit, digits-one, digits-split}
-use Rattle.text.proofs.Lengths.{one-long, more-long, spell-number, spell-mark, fieldText, restText, rest-step, rest-length, none_left}
+use Rattle.text.proofs.Lengths.{one-long, more-long, spell-number, spell-mark, field_text, rest_text, rest-step, rest-length, none_left}
 
 -- one piece behind another is both pieces
 pub sets-append : (p q l : List ℕ) (i : ℕ) → sets (sets l i p) (i + length p) q ≡ sets l i (p ++ q)
@@ -83,14 +83,14 @@ module _ (old : List ℕ) (at : ℕ) where
     pub number-written : (new : List ℕ) (r : ℕ) → f ≡ number → Written old at (digits v) new r → Written old at (spell f v) new r
     number-written new r e w = rw (spell-number f v e) w
 
-    pub mark-written : (b : ℕ) → (f ≡ number → ⊥) → b ≡ markByte f v → Written old at (spell f v) (set old at b) (at + 1)
+    pub mark-written : (b : ℕ) → (f ≡ number → ⊥) → b ≡ mark_byte f v → Written old at (spell f v) (set old at b) (at + 1)
     mark-written b e h = rw (spell-mark f v e, ← h) (one_byte b)
 
 -- ---- a line: the fields from t on are left, and go to the place p of buf
 
 pub record Writing (fs vs old : List ℕ) (start t p : ℕ) (buf : List ℕ) : Type 0 where
-  pub place : p + length (restText fs vs t) ≡ start + length (writeLine fs vs)
-  pub text : sets buf p (restText fs vs t) ≡ sets old start (writeLine fs vs)
+  pub place : p + length (rest_text fs vs t) ≡ start + length (write_line fs vs)
+  pub text : sets buf p (rest_text fs vs t) ≡ sets old start (write_line fs vs)
   pub within : t ≤ length fs
   pub same : length buf ≡ length old
 
@@ -99,15 +99,15 @@ writing_start fs vs old start = record { place = refl; text = refl; within = ome
 
 module _ (fs vs old : List ℕ) (start t p : ℕ) (buf : List ℕ) (inv : Writing fs vs old start t p buf) where
   module _ (h : t < length fs) (l : length fs ≤ length vs) where
-    pub field_fits : start + length (writeLine fs vs) ≤ length old → p + length (fieldText fs vs t) + 1 ≤ length buf
+    pub field_fits : start + length (write_line fs vs) ≤ length old → p + length (field_text fs vs t) + 1 ≤ length buf
     field_fits k = omega (arith, rest-length fs vs t h l)
 
     pub writing-turn : (end q : ℕ) (new : List ℕ) → end ≡ end_of (length fs - t - 1)
-        → Written buf p (fieldText fs vs t ++ end ∷ []) new q → Writing fs vs old start (t + 1) q new
+        → Written buf p (field_text fs vs t ++ end ∷ []) new q → Writing fs vs old start (t + 1) q new
     writing-turn end q new e w =
-        let rest : List ℕ = restText fs vs (t + 1) in
-        let field : List ℕ = fieldText fs vs t in
-        let whole : (field ++ end ∷ []) ++ rest ≡ restText fs vs t = append_assoc field (end ∷ []) rest ∙ rw (e, rest-step fs vs t h l) in
+        let rest : List ℕ = rest_text fs vs (t + 1) in
+        let field : List ℕ = field_text fs vs t in
+        let whole : (field ++ end ∷ []) ++ rest ≡ rest_text fs vs t = append_assoc field (end ∷ []) rest ∙ rw (e, rest-step fs vs t h l) in
         record {
           place = omega (arith, w.place, length-append field (end ∷ []), rest-length fs vs t h l);
           text = rw (w.buffer, w.place) (sets-append (field ++ end ∷ []) rest buf p ∙ ap (sets buf p) whole ∙ inv.text);
@@ -115,7 +115,7 @@ module _ (fs vs old : List ℕ) (start t p : ℕ) (buf : List ℕ) (inv : Writin
           same = written-length buf new (field ++ end ∷ []) p q w ∙ inv.same;
         }
 
-  pub writing-done : length fs ≤ t → Written old start (writeLine fs vs) buf p
+  pub writing-done : length fs ≤ t → Written old start (write_line fs vs) buf p
   writing-done h = record {
     place = omega (arith, ap length (none_left fs vs t h));
     buffer = sym (ap (sets buf p) (none_left fs vs t h)) ∙ inv.text;

@@ -9,16 +9,16 @@ use Rattle.text.specs.declared.SentRow.{SentRow}
 use Rattle.text.specs.declared.SentRow.TheVariants.{Is as IsSent, Bad as NotSent}
 
 -- R n fibres, Z unsplit-peak size
-unfoldable pub twoIn : Reading → TwoNumbers
-twoIn (good vs) = AreTwo (get_or vs 1 0) (get_or vs 2 0)
-twoIn (bad p) = NotTwo p
+unfoldable pub two_in : Reading → TwoNumbers
+two_in (good vs) = AreTwo (get_or vs 1 0) (get_or vs 2 0)
+two_in (bad p) = NotTwo p
 
 -- D i j amount, C g h across, L link split-load unsplit-load
-unfoldable pub threeIn : Reading → ThreeNumbers
-threeIn (good vs) = AreThree (get_or vs 1 0) (get_or vs 2 0) (get_or vs 3 0)
-threeIn (bad p) = NotThree p
+unfoldable pub three_in : Reading → ThreeNumbers
+three_in (good vs) = AreThree (get_or vs 1 0) (get_or vs 2 0) (get_or vs 3 0)
+three_in (bad p) = NotThree p
 
 -- D i j amount front back F-or-B
-unfoldable pub sentIn : Reading → SentRow
-sentIn (good vs) = IsSent (get_or vs 1 0) (get_or vs 2 0) (get_or vs 3 0) (get_or vs 4 0) (get_or vs 5 0) (get_or vs 6 0)
-sentIn (bad p) = NotSent p
+unfoldable pub sent_in : Reading → SentRow
+sent_in (good vs) = IsSent (get_or vs 1 0) (get_or vs 2 0) (get_or vs 3 0) (get_or vs 4 0) (get_or vs 5 0) (get_or vs 6 0)
+sent_in (bad p) = NotSent p

@@ -20,32 +20,32 @@ digit9 = 57
 -- ---- the letters
 
 -- R n fibres: how many nodes and fibres the ring has
-abbrev pub letterR : ℕ
-letterR = 82
+abbrev pub letter_r : ℕ
+letter_r = 82
 
 -- D: a demand
-abbrev pub letterD : ℕ
-letterD = 68
+abbrev pub letter_d : ℕ
+letter_d = 68
 
 -- C: the cut
-abbrev pub letterC : ℕ
-letterC = 67
+abbrev pub letter_c : ℕ
+letter_c = 67
 
 -- L: a link and its loads
-abbrev pub letterL : ℕ
-letterL = 76
+abbrev pub letter_l : ℕ
+letter_l = 76
 
 -- Z: the unsplit peak and the size
-abbrev pub letterZ : ℕ
-letterZ = 90
+abbrev pub letter_z : ℕ
+letter_z = 90
 
 -- F: a row that goes front
-abbrev pub letterF : ℕ
-letterF = 70
+abbrev pub letter_f : ℕ
+letter_f = 70
 
 -- B: a row that goes back
-abbrev pub letterB : ℕ
-letterB = 66
+abbrev pub letter_b : ℕ
+letter_b = 66
 
 -- ---- what stands in a shape for a field that is no letter
 

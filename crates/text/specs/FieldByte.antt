@@ -1,20 +1,20 @@
 -- To believe: the byte of a line where a field starts, counted from 1: one more than the length of what is written before it.
 use Rattle.std.specs.Prelude.{ℕ, ◌+◌, List, [], ◌∷◌, length, take}
-use Rattle.text.specs.Shapes.{ringShape, rowShape, sentShape}
-use Rattle.text.specs.WriteLine.{writeLine}
+use Rattle.text.specs.Shapes.{ring_shape, row_shape, sent_shape}
+use Rattle.text.specs.WriteLine.{write_line}
 
 -- k fields stand before the field; each is written with the byte behind it
-unfoldable pub fieldByte : List ℕ → List ℕ → ℕ → ℕ
-fieldByte shape vs k = length (writeLine (take k shape) vs) + 1
+unfoldable pub field_byte : List ℕ → List ℕ → ℕ → ℕ
+field_byte shape vs k = length (write_line (take k shape) vs) + 1
 
 -- in the line R n fibres; the letter is field 0
-abbrev pub ringByte : ℕ → ℕ → ℕ → ℕ
-ringByte n fibres k = fieldByte ringShape (0 ∷ n ∷ fibres ∷ []) k
+abbrev pub ring_byte : ℕ → ℕ → ℕ → ℕ
+ring_byte n fibres k = field_byte ring_shape (0 ∷ n ∷ fibres ∷ []) k
 
 -- in the line D i j amount
-abbrev pub rowByte : ℕ → ℕ → ℕ → ℕ → ℕ
-rowByte i j amount k = fieldByte rowShape (0 ∷ i ∷ j ∷ amount ∷ []) k
+abbrev pub row_byte : ℕ → ℕ → ℕ → ℕ → ℕ
+row_byte i j amount k = field_byte row_shape (0 ∷ i ∷ j ∷ amount ∷ []) k
 
 -- in the line D i j amount front back F-or-B
-abbrev pub sentByte : ℕ → ℕ → ℕ → ℕ → ℕ → ℕ → ℕ → ℕ
-sentByte i j amount front back w k = fieldByte sentShape (0 ∷ i ∷ j ∷ amount ∷ front ∷ back ∷ w ∷ []) k
+abbrev pub sent_byte : ℕ → ℕ → ℕ → ℕ → ℕ → ℕ → ℕ → ℕ
+sent_byte i j amount front back w k = field_byte sent_shape (0 ∷ i ∷ j ∷ amount ∷ front ∷ back ∷ w ∷ []) k

@@ -1,12 +1,12 @@
 -- To believe: the first faulty byte of a text that is no line of a shape, by the writer alone.
 use Rattle.std.specs.Prelude.{ℕ, ◌+◌, ◌≡◌, List, take}
-use Rattle.text.specs.WriteLine.{writeLine, FitsShape}
+use Rattle.text.specs.WriteLine.{write_line, FitsShape}
 
 -- some line of this shape has the first k bytes of s (and where s has fewer, ends where s ends)
 pub record Agrees (shape s : List ℕ) (k : ℕ) : Type 0 where
   pub vs : List ℕ
   pub range : FitsShape shape vs
-  pub text : take k (writeLine shape vs) ≡ take k s
+  pub text : take k (write_line shape vs) ≡ take k s
 
 -- p is the place of the first faulty byte: a line may begin with the bytes before it, and none with it too
 pub record FirstFault (shape s : List ℕ) (p : ℕ) : Type 0 where

@@ -9,10 +9,10 @@ unfoldable pub end_of : ℕ → ℕ
 end_of left = cond (eqb left 0) lf tab
 
 -- the line of a shape and its values
-unfoldable pub writeLine : List ℕ → List ℕ → List ℕ
-writeLine [] vs = []
-writeLine (f ∷ fs) [] = []
-writeLine (f ∷ fs) (v ∷ vs) = spell f v ++ end_of (length fs) ∷ writeLine fs vs
+unfoldable pub write_line : List ℕ → List ℕ → List ℕ
+write_line [] vs = []
+write_line (f ∷ fs) [] = []
+write_line (f ∷ fs) (v ∷ vs) = spell f v ++ end_of (length fs) ∷ write_line fs vs
 
 -- there is one value for each field, and the field has it
 unfoldable pub FitsShape : List ℕ → List ℕ → Type 0

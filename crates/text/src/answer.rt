@@ -1,14 +1,14 @@
 // A line of two or three numbers by any shape, its values taken from behind the letter.
 ghost use Rattle.std.specs.Prelude.{◌≡◌, length};
-ghost use Rattle.text.specs.ReadLine.{readLine};
-ghost use Rattle.text.specs.Answers.{twoIn, threeIn};
+ghost use Rattle.text.specs.ReadLine.{read_line};
+ghost use Rattle.text.specs.Answers.{two_in, three_in};
 
 use crate::line::{Line, read_line};
 use crate::{ThreeNumbers, TwoNumbers};
 
 pub(crate) fn read_two(s: &[u8], shape: &[u8; 3]) -> TwoNumbers
     requires { length shape.now ≡ 3 }
-    ensures { result ≡ twoIn (readLine shape.now s.now) }
+    ensures { result ≡ two_in (read_line shape.now s.now) }
 {
     let mut values = [0u32; 3];
     let line = read_line(s, shape, &mut values);
@@ -20,7 +20,7 @@ pub(crate) fn read_two(s: &[u8], shape: &[u8; 3]) -> TwoNumbers
 
 pub(crate) fn read_three(s: &[u8], shape: &[u8; 4]) -> ThreeNumbers
     requires { length shape.now ≡ 4 }
-    ensures { result ≡ threeIn (readLine shape.now s.now) }
+    ensures { result ≡ three_in (read_line shape.now s.now) }
 {
     let mut values = [0u32; 4];
     let line = read_line(s, shape, &mut values);

@@ -13,12 +13,12 @@ mod answer; // what a line of so many numbers says
 
 ghost use Rattle.std.specs.Prelude.{◌≡◌, ◌+◌, ◌≤◌, length};
 ghost use Rattle.text.specs.Bytes.{number};
-ghost use Rattle.text.specs.ReadLine.{field_at, readLine};
+ghost use Rattle.text.specs.ReadLine.{field_at, read_line};
 ghost use Rattle.text.specs.WriteLine.{end_of};
 ghost use Rattle.text.specs.Written.{Written};
-ghost use Rattle.text.specs.Answers.{twoIn, threeIn, sentIn};
-ghost use Rattle.text.specs.FieldByte.{ringByte, rowByte};
-ghost use Rattle.text.specs.Shapes.{ringShape, rowShape, sentShape, cutShape, linkShape, lastShape, ringLine, row_line, sentLine, cutLine, linkLine, lastLine};
+ghost use Rattle.text.specs.Answers.{two_in, three_in, sent_in};
+ghost use Rattle.text.specs.FieldByte.{ring_byte, row_byte};
+ghost use Rattle.text.specs.Shapes.{ring_shape, row_shape, sent_shape, cut_shape, link_shape, last_shape, ring_line, row_line, sent_line, cut_line, link_line, last_line};
 
 use answer::{read_three, read_two};
 use field::read_field;
@@ -85,20 +85,20 @@ pub fn read_entry(s: &[u8], at: usize, left: usize) -> Field
 // ---- R n fibres
 
 pub fn read_ring(s: &[u8]) -> TwoNumbers
-    ensures { result ≡ twoIn (readLine ringShape s.now) }
+    ensures { result ≡ two_in (read_line ring_shape s.now) }
 {
     read_two(s, &RING)
 }
 
 pub fn ring_length(n: u32, fibres: u32) -> usize
-    ensures { result ≡ length (ringLine n fibres) }
+    ensures { result ≡ length (ring_line n fibres) }
 {
     line_length(&RING, &[0, n, fibres])
 }
 
 pub fn write_ring(buf: &mut [u8], at: usize, n: u32, fibres: u32) -> usize
-    requires { at + length (ringLine n fibres) ≤ length buf.old }
-    ensures { Written buf.old at (ringLine n fibres) buf.new result }
+    requires { at + length (ring_line n fibres) ≤ length buf.old }
+    ensures { Written buf.old at (ring_line n fibres) buf.new result }
 {
     write_line(buf, at, &RING, &[0, n, fibres])
 }
@@ -106,7 +106,7 @@ pub fn write_ring(buf: &mut [u8], at: usize, n: u32, fibres: u32) -> usize
 // The byte where field k starts: n is field 1, fibres is field 2.
 pub fn ring_byte(n: u32, fibres: u32, k: usize) -> u32
     requires { k ≤ 3 }
-    ensures { result ≡ ringByte n fibres k }
+    ensures { result ≡ ring_byte n fibres k }
 {
     field_byte(&RING, &[0, n, fibres], k)
 }
@@ -114,7 +114,7 @@ pub fn ring_byte(n: u32, fibres: u32, k: usize) -> u32
 // ---- D i j amount, in a table
 
 pub fn read_row(s: &[u8]) -> ThreeNumbers
-    ensures { result ≡ threeIn (readLine rowShape s.now) }
+    ensures { result ≡ three_in (read_line row_shape s.now) }
 {
     read_three(s, &ROW)
 }
@@ -135,7 +135,7 @@ pub fn write_row(buf: &mut [u8], at: usize, i: u32, j: u32, amount: u32) -> usiz
 // The byte where field k starts: the nodes are fields 1 and 2, the amount is field 3. In a sheet they start where they do in a table.
 pub fn row_byte(i: u32, j: u32, amount: u32, k: usize) -> u32
     requires { k ≤ 4 }
-    ensures { result ≡ rowByte i j amount k }
+    ensures { result ≡ row_byte i j amount k }
 {
     field_byte(&ROW, &[0, i, j, amount], k)
 }
@@ -143,7 +143,7 @@ pub fn row_byte(i: u32, j: u32, amount: u32, k: usize) -> u32
 // ---- D i j amount front back F-or-B, in a sheet
 
 pub fn read_sent(s: &[u8]) -> SentRow
-    ensures { result ≡ sentIn (readLine sentShape s.now) }
+    ensures { result ≡ sent_in (read_line sent_shape s.now) }
 {
     let mut values = [0u32; 7];
     let line = read_line(s, &SENT, &mut values);
@@ -161,7 +161,7 @@ pub fn read_sent(s: &[u8]) -> SentRow
 }
 
 pub fn sent_length(i: u32, j: u32, amount: u32, front: u32, back: u32, way: u32) -> usize
-    ensures { result ≡ length (sentLine i j amount front back way) }
+    ensures { result ≡ length (sent_line i j amount front back way) }
 {
     line_length(&SENT, &[0, i, j, amount, front, back, way])
 }
@@ -176,8 +176,8 @@ pub fn write_sent(
     back: u32,
     way: u32,
 ) -> usize
-    requires { at + length (sentLine i j amount front back way) ≤ length buf.old }
-    ensures { Written buf.old at (sentLine i j amount front back way) buf.new result }
+    requires { at + length (sent_line i j amount front back way) ≤ length buf.old }
+    ensures { Written buf.old at (sent_line i j amount front back way) buf.new result }
 {
     write_line(buf, at, &SENT, &[0, i, j, amount, front, back, way])
 }
@@ -185,20 +185,20 @@ pub fn write_sent(
 // ---- C g h across
 
 pub fn read_cut(s: &[u8]) -> ThreeNumbers
-    ensures { result ≡ threeIn (readLine cutShape s.now) }
+    ensures { result ≡ three_in (read_line cut_shape s.now) }
 {
     read_three(s, &CUT)
 }
 
 pub fn cut_length(g: u32, h: u32, across: u32) -> usize
-    ensures { result ≡ length (cutLine g h across) }
+    ensures { result ≡ length (cut_line g h across) }
 {
     line_length(&CUT, &[0, g, h, across])
 }
 
 pub fn write_cut(buf: &mut [u8], at: usize, g: u32, h: u32, across: u32) -> usize
-    requires { at + length (cutLine g h across) ≤ length buf.old }
-    ensures { Written buf.old at (cutLine g h across) buf.new result }
+    requires { at + length (cut_line g h across) ≤ length buf.old }
+    ensures { Written buf.old at (cut_line g h across) buf.new result }
 {
     write_line(buf, at, &CUT, &[0, g, h, across])
 }
@@ -206,20 +206,20 @@ pub fn write_cut(buf: &mut [u8], at: usize, g: u32, h: u32, across: u32) -> usiz
 // ---- L link split-load unsplit-load
 
 pub fn read_link(s: &[u8]) -> ThreeNumbers
-    ensures { result ≡ threeIn (readLine linkShape s.now) }
+    ensures { result ≡ three_in (read_line link_shape s.now) }
 {
     read_three(s, &LINK)
 }
 
 pub fn link_length(link: u32, split: u32, unsplit: u32) -> usize
-    ensures { result ≡ length (linkLine link split unsplit) }
+    ensures { result ≡ length (link_line link split unsplit) }
 {
     line_length(&LINK, &[0, link, split, unsplit])
 }
 
 pub fn write_link(buf: &mut [u8], at: usize, link: u32, split: u32, unsplit: u32) -> usize
-    requires { at + length (linkLine link split unsplit) ≤ length buf.old }
-    ensures { Written buf.old at (linkLine link split unsplit) buf.new result }
+    requires { at + length (link_line link split unsplit) ≤ length buf.old }
+    ensures { Written buf.old at (link_line link split unsplit) buf.new result }
 {
     write_line(buf, at, &LINK, &[0, link, split, unsplit])
 }
@@ -227,20 +227,20 @@ pub fn write_link(buf: &mut [u8], at: usize, link: u32, split: u32, unsplit: u32
 // ---- Z unsplit-peak size
 
 pub fn read_last(s: &[u8]) -> TwoNumbers
-    ensures { result ≡ twoIn (readLine lastShape s.now) }
+    ensures { result ≡ two_in (read_line last_shape s.now) }
 {
     read_two(s, &LAST)
 }
 
 pub fn last_length(peak: u32, size: u32) -> usize
-    ensures { result ≡ length (lastLine peak size) }
+    ensures { result ≡ length (last_line peak size) }
 {
     line_length(&LAST, &[0, peak, size])
 }
 
 pub fn write_last(buf: &mut [u8], at: usize, peak: u32, size: u32) -> usize
-    requires { at + length (lastLine peak size) ≤ length buf.old }
-    ensures { Written buf.old at (lastLine peak size) buf.new result }
+    requires { at + length (last_line peak size) ≤ length buf.old }
+    ensures { Written buf.old at (last_line peak size) buf.new result }
 {
     write_line(buf, at, &LAST, &[0, peak, size])
 }

@@ -1,8 +1,8 @@
 // A line of any shape: one reader, one writer and one length, all driven by the shape.
 ghost use Rattle.std.specs.Prelude.{◌≡◌, ◌+◌, ◌≤◌, length};
-ghost use Rattle.text.specs.WriteLine.{end_of, writeLine};
-ghost use Rattle.text.specs.ReadLine.{readLine};
-ghost use Rattle.text.specs.FieldByte.{fieldByte};
+ghost use Rattle.text.specs.WriteLine.{end_of, write_line};
+ghost use Rattle.text.specs.ReadLine.{read_line};
+ghost use Rattle.text.specs.FieldByte.{field_byte};
 ghost use Rattle.text.specs.Filled.{filled};
 ghost use Rattle.text.specs.Written.{Written};
 
@@ -29,7 +29,7 @@ pub(crate) fn end_of(left: usize) -> u8
 // not public.
 pub(crate) fn read_line(s: &[u8], shape: &[u8], values: &mut [u32]) -> Line
     requires { length shape.now ≡ length values.old }
-    ensures { filled result values.new ≡ readLine shape.now s.now }
+    ensures { filled result values.new ≡ read_line shape.now s.now }
 {
     let mut p: usize = 0;
     let mut t: usize = 0;
@@ -54,8 +54,8 @@ pub(crate) fn read_line(s: &[u8], shape: &[u8], values: &mut [u32]) -> Line
 
 // Writes the line of a shape and its values from `at` on, and answers the place behind it.
 pub fn write_line(buf: &mut [u8], at: usize, shape: &[u8], values: &[u32]) -> usize
-    requires { (length shape.now ≤ length values.now) × (at + length (writeLine shape.now values.now) ≤ length buf.old) }
-    ensures { Written buf.old at (writeLine shape.now values.now) buf.new result }
+    requires { (length shape.now ≤ length values.now) × (at + length (write_line shape.now values.now) ≤ length buf.old) }
+    ensures { Written buf.old at (write_line shape.now values.now) buf.new result }
 {
     let mut p = at;
     let mut next: usize = 0;
@@ -70,7 +70,7 @@ pub fn write_line(buf: &mut [u8], at: usize, shape: &[u8], values: &[u32]) -> us
 // How many bytes the line of a shape and its values has. The sum fits since no shape is long.
 pub fn line_length(shape: &[u8], values: &[u32]) -> usize
     requires { (length shape.now ≤ 1000) × (length shape.now ≤ length values.now) }
-    ensures { result ≡ length (writeLine shape.now values.now) }
+    ensures { result ≡ length (write_line shape.now values.now) }
 {
     let mut sum: usize = 0;
     let mut t: usize = 0;
@@ -85,7 +85,7 @@ pub fn line_length(shape: &[u8], values: &[u32]) -> usize
 // The byte where the field behind k others starts, counted from 1. It is asked only of a line that is refused.
 pub(crate) fn field_byte(shape: &[u8], values: &[u32], k: usize) -> u32
     requires { (length shape.now ≤ 1000) × (length shape.now ≤ length values.now) × (k ≤ length shape.now) }
-    ensures { result ≡ fieldByte shape.now values.now k }
+    ensures { result ≡ field_byte shape.now values.now k }
 {
     let before = line_length(&shape[0..k], values);
     before as u32 + 1

@@ -1,7 +1,7 @@
 // Marks: a field that is no number is one byte, the letter that its shape names, or the F or B of a way.
 ghost use Rattle.std.specs.Prelude.{◌≡◌};
-ghost use Rattle.text.specs.Mark.{marks, markByte};
-ghost use Rattle.text.specs.ReadMark.{mark_of, markAt};
+ghost use Rattle.text.specs.Mark.{marks, mark_byte};
+ghost use Rattle.text.specs.ReadMark.{mark_of, mark_at};
 
 use crate::field::{Field, WAY};
 use crate::{WAY_B, WAY_F};
@@ -37,7 +37,7 @@ fn mark_of(f: u8, b: u8) -> u32
 
 // The byte of the mark v of the field f.
 pub(crate) fn mark_byte(f: u8, v: u32) -> u8
-    ensures { result ≡ markByte f v }
+    ensures { result ≡ mark_byte f v }
 {
     if f == WAY {
         if v == WAY_F {
@@ -50,7 +50,7 @@ pub(crate) fn mark_byte(f: u8, v: u32) -> u8
 
 // Reads the mark of the field f at `at` and the byte `end` behind it.
 pub(crate) fn read_mark(s: &[u8], at: usize, f: u8, end: u8) -> Field
-    ensures { result ≡ markAt f s.now at end }
+    ensures { result ≡ mark_at f s.now at end }
 {
     if s.len() <= at {
         return Field::Bad(at);

@@ -1,7 +1,7 @@
 // Numbers: 1 to 7 digits, with no leading zero but 0 itself.
 ghost use Rattle.std.specs.Prelude.{◌≡◌, ◌+◌, ◌≤◌, length};
 ghost use Rattle.text.specs.Number.{digits};
-ghost use Rattle.text.specs.ReadNumber.{digitOf, number_at};
+ghost use Rattle.text.specs.ReadNumber.{digit_of, number_at};
 ghost use Rattle.text.specs.Written.{Written};
 
 use crate::field::Field;
@@ -20,7 +20,7 @@ const ALONE: u32 = 0;
 
 // The value of a digit, BASE for any other byte.
 fn digit_of(b: u8) -> u32
-    ensures { result ≡ digitOf b }
+    ensures { result ≡ digit_of b }
 {
     if b < b'0' {
         return BASE;

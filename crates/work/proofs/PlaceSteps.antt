@@ -8,36 +8,36 @@ use lib.Dec.{ltb}
 use lib.ListN.{get_or}
 use borrow.Author.Tests.{ltb-true, lt-ltb, le-ltb, eq-eqb, ne_eqb}
 use Rattle.ring.specs.Limits.{desk}
-use Rattle.work.specs.Changes.{freeFrom, freeIn, holdsIn}
+use Rattle.work.specs.Changes.{free_from, free_in, holds_in}
 
 -- ---- the loop: what is left of the scan is the scan of all
 
 pub record Seeking (first : List ℕ) (k : ℕ) : Type 0 where
   pub high : k ≤ desk.rows
-  pub left : freeFrom first k (desk.rows - k) ≡ freeIn first
+  pub left : free_from first k (desk.rows - k) ≡ free_in first
 
 module _ (first : List ℕ) where
   pub seek-start : Seeking first 0
   seek-start = record { high = omega arith; left = refl }
 
   module _ (k : ℕ) (s : Seeking first k) where
-    pub seek_found : k < desk.rows → get_or first k 0 ≡ 0 → k ≡ freeIn first
+    pub seek_found : k < desk.rows → get_or first k 0 ≡ 0 → k ≡ free_in first
     seek_found l z =
         let e : desk.rows - k ≡ suc (desk.rows - (k + 1)) = omega arith in
-        let now : k ≡ freeFrom first k (desk.rows - k) = rw e (unfold freeFrom in rw (eq-eqb (get_or first k 0) 0 z)) in
+        let now : k ≡ free_from first k (desk.rows - k) = rw e (unfold free_from in rw (eq-eqb (get_or first k 0) 0 z)) in
         now ∙ s.left
 
     pub seek-on : k < desk.rows → (get_or first k 0 ≡ 0 → ⊥) → Seeking first (k + 1)
     seek-on l z =
         let e : desk.rows - k ≡ suc (desk.rows - (k + 1)) = omega arith in
         let n : k + 1 ≡ suc k = omega arith in
-        let now : freeFrom first (k + 1) (desk.rows - (k + 1)) ≡ freeFrom first k (desk.rows - k) = rw (e, n) (unfold freeFrom in rw (ne_eqb (get_or first k 0) 0 z)) in
+        let now : free_from first (k + 1) (desk.rows - (k + 1)) ≡ free_from first k (desk.rows - k) = rw (e, n) (unfold free_from in rw (ne_eqb (get_or first k 0) 0 z)) in
         record { high = omega arith; left = now ∙ s.left }
 
-    pub seek-none : desk.rows ≤ k → k ≡ freeIn first
+    pub seek-none : desk.rows ≤ k → k ≡ free_in first
     seek-none l =
         let e : desk.rows - k ≡ 0 = omega arith in
-        let now : k ≡ freeFrom first k (desk.rows - k) = rw e (unfold freeFrom in refl) in
+        let now : k ≡ free_from first k (desk.rows - k) = rw e (unfold free_from in refl) in
         now ∙ s.left
 
 -- ---- a place that holds a row
@@ -48,28 +48,28 @@ pub record Holding (first : List ℕ) (p : ℕ) : Type 0 where
   pub row : 1 ≤ get_or first (p - 1) 0
 
 module _ (first : List ℕ) (p : ℕ) where
-  pub no_place : p < 1 → false ≡ holdsIn first p
-  unfolding holdsIn
+  pub no_place : p < 1 → false ≡ holds_in first p
+  unfolding holds_in
   no_place l = rw (le-ltb 0 p (omega arith))
 
   module _ (k : ℕ) (l : 1 ≤ p) (e : k ≡ p - 1) where
-    pub past_the_end : desk.rows ≤ k → false ≡ holdsIn first p
-    unfolding holdsIn
+    pub past_the_end : desk.rows ≤ k → false ≡ holds_in first p
+    unfolding holds_in
     past_the_end m = rw (lt-ltb 0 p (omega arith), le-ltb (p - 1) desk.rows (omega arith))
 
-    pub at_place : k < desk.rows → ltb 0 (get_or first k 0) ≡ holdsIn first p
-    unfolding holdsIn
+    pub at_place : k < desk.rows → ltb 0 (get_or first k 0) ≡ holds_in first p
+    unfolding holds_in
     at_place m = rw (lt-ltb 0 p (omega arith), lt-ltb (p - 1) desk.rows (omega arith), e)
 
-  pub holding : holdsIn first p ≡ true → Holding first p
-  unfolding holdsIn
+  pub holding : holds_in first p ≡ true → Holding first p
+  unfolding holds_in
   holding e =
       let one = (and-eq-true_iff (ltb 0 p) _).0 e in
       let two = (and-eq-true_iff (ltb (p - 1) desk.rows) (ltb 0 (get_or first (p - 1) 0))).0 one.1 in
       record { low = ltb-true 0 p one.0; high = ltb-true (p - 1) desk.rows two.0; row = ltb-true 0 (get_or first (p - 1) 0) two.1 }
 
   -- the same, of what a test said
-  module _ (b : Bool) (e : b ≡ holdsIn first p) (t : b ≡ true) where
+  module _ (b : Bool) (e : b ≡ holds_in first p) (t : b ≡ true) where
     pub place-low : 1 ≤ p
     place-low = (holding (sym e ∙ t)).low
 

@@ -9,14 +9,14 @@ use lib.ListN.{get_or}
 use borrow.Author.Tests.{lt-ltb, le-ltb, ne_eqb}
 use Rattle.ring.specs.Cut.{Cut}
 use Rattle.ring.specs.Row.{Row, row}
-use Rattle.ring.specs.RuleA.{ruleA}
+use Rattle.ring.specs.RuleA.{rule_a}
 use Rattle.ring.proofs.LargestCut.{rule-A}
-use Rattle.work.specs.Places.{Place, empty, holds, Plain, rowsHeld}
-use Rattle.work.specs.Calls.{Call, start, add, change, remove, Outcome, freshPlain, outcome, after, answer, refusal, acceptance, no_row, the_row, rowSaid, rowAnswer}
-use Rattle.work.specs.Changes.{refusedIn, keptIn, row_in, startedIn, addedIn, changedIn, removedIn}
-use Rattle.work.specs.Made.{Made, begun, called, calledIn, plain_of}
-use Rattle.work.specs.Kept.{keptCut}
-use Rattle.work.specs.Played.{played, named_by, lastNamed, AsPlayed}
+use Rattle.work.specs.Places.{Place, empty, holds, Plain, rows_held}
+use Rattle.work.specs.Calls.{Call, start, add, change, remove, Outcome, fresh_plain, outcome, after, answer, refusal, acceptance, no_row, the_row, row_said, row_answer}
+use Rattle.work.specs.Changes.{refused_in, kept_in, row_in, started_in, added_in, changed_in, removed_in}
+use Rattle.work.specs.Made.{Made, begun, called, called_in, plain_of}
+use Rattle.work.specs.Kept.{kept_cut}
+use Rattle.work.specs.Played.{played, named_by, last_named, AsPlayed}
 use Rattle.work.specs.Promises.{RowAt, NoRow, Given, NoneHolds, faults, Makes, WorkSays, refused, accepted, WorkPromise, RowSays, none-there, row-there, RowPromise}
 use Rattle.work.specs.declared.Work.{Work}
 use Rattle.work.specs.declared.held.WorkReply.{WorkReply}
@@ -29,18 +29,18 @@ use Rattle.work.proofs.ByCalls.{Step, both-refuse, both-make, start-step, call_s
 -- ---- one call
 
 -- an accepted reply names a link, and so is no refusal
-names-a-link : (x : Work) → Right x → 1 ≤ (ruleA x.n (rowsHeld (plain_of x).places)).g
-names-a-link x s = (rule-A x.n (rowsHeld (plain_of x).places) s.two).among.low
+names-a-link : (x : Work) → Right x → 1 ≤ (rule_a x.n (rows_held (plain_of x).places)).g
+names-a-link x s = (rule-A x.n (rows_held (plain_of x).places) s.two).among.low
 
 module _ (w : Work) (c : Call) (r : WorkReply) (x : Work) where
   -- a refusal with a reason above 0, or a table that is right
   data Case : Type 0 where
     is-refused : {reason : ℕ} → Given (faults (plain_of w) c) reason → (reason ≡ 0 → ⊥) → r ≡ refusal reason → x ≡ w → Case
-    is-accepted : {p : ℕ} {u : Plain} → NoneHolds (faults (plain_of w) c) → Makes (plain_of w) c p u → r ≡ acceptance p u → plain_of x ≡ u → 1 ≤ (ruleA u.n (rowsHeld u.places)).g → Case
+    is-accepted : {p : ℕ} {u : Plain} → NoneHolds (faults (plain_of w) c) → Makes (plain_of w) c p u → r ≡ acceptance p u → plain_of x ≡ u → 1 ≤ (rule_a u.n (rows_held u.places)).g → Case
 
-  module _ (er : r ≡ (calledIn w c).reply) (ex : x ≡ (calledIn w c).work) where
+  module _ (er : r ≡ (called_in w c).reply) (ex : x ≡ (called_in w c).work) where
     case-of : {o : Outcome} → Step w c → outcome (plain_of w) c ≡ o → Ends (faults (plain_of w) c) (Makes (plain_of w) c) o → Case
-    unfolding keptIn
+    unfolding kept_in
     case-of (both-refuse reason z e f) is (stops {reason = k} g) = let q : k ≡ reason = cc in is-refused g (λ y. z (sym q ∙ y)) (er ∙ (rw (e, q))) (ex ∙ (rw e))
     case-of (both-refuse reason z e f) is (goes n m) = absurd (let z : ◌≡◌ {A = ℕ} 0 1 = cc in omega arith)
     case-of (both-make p y s e f) is (stops g) = absurd (let z : ◌≡◌ {A = ℕ} 0 1 = cc in omega arith)
@@ -77,7 +77,7 @@ module _ (w : Work) (c : Call) (r : WorkReply) (x : Work) where
     taken (is-refused {reason = k} g z er ex) h = absurd (none-given (faults (plain_of w) c) k g h.0)
     taken (is-accepted n m er ex l) h = let q = one-made h.1 m in rw (q.0, q.1) (er, ex)
 
-  promise : Step w c → (r ≡ (calledIn w c).reply) × (x ≡ (calledIn w c).work) → WorkPromise w c r x
+  promise : Step w c → (r ≡ (called_in w c).reply) × (x ≡ (called_in w c).work) → WorkPromise w c r x
   promise step is =
       let k = case-of is.0 is.1 step refl (call_ends (plain_of w) c) in
       record {
@@ -88,32 +88,32 @@ module _ (w : Work) (c : Call) (r : WorkReply) (x : Work) where
       }
 
 -- on whatever bytes
-pub start-promise : (any : Work) (n fibres : ℕ) (r : WorkReply) (x : Work) → (r ≡ (startedIn any n fibres).reply) × (x ≡ (startedIn any n fibres).work) → WorkPromise any (start n fibres) r x
+pub start-promise : (any : Work) (n fibres : ℕ) (r : WorkReply) (x : Work) → (r ≡ (started_in any n fibres).reply) × (x ≡ (started_in any n fibres).work) → WorkPromise any (start n fibres) r x
 start-promise any n fibres r x = promise any (start n fibres) r x (start-step any n fibres)
 
 -- on a table made by calls
 module _ {cs : List Call} {w : Work} (m : Made cs w) (r : WorkReply) (x : Work) where
-  pub add-promise : (i j d : ℕ) → (r ≡ (addedIn w i j d).reply) × (x ≡ (addedIn w i j d).work) → WorkPromise w (add i j d) r x
+  pub add-promise : (i j d : ℕ) → (r ≡ (added_in w i j d).reply) × (x ≡ (added_in w i j d).work) → WorkPromise w (add i j d) r x
   add-promise i j d = promise w (add i j d) r x (call_step w (made-sound m).right (add i j d))
 
-  pub change-promise : (p i j d : ℕ) → (r ≡ (changedIn w p i j d).reply) × (x ≡ (changedIn w p i j d).work) → WorkPromise w (change p i j d) r x
+  pub change-promise : (p i j d : ℕ) → (r ≡ (changed_in w p i j d).reply) × (x ≡ (changed_in w p i j d).work) → WorkPromise w (change p i j d) r x
   change-promise p i j d = promise w (change p i j d) r x (call_step w (made-sound m).right (change p i j d))
 
-  pub remove-promise : (p : ℕ) → (r ≡ (removedIn w p).reply) × (x ≡ (removedIn w p).work) → WorkPromise w (remove p) r x
+  pub remove-promise : (p : ℕ) → (r ≡ (removed_in w p).reply) × (x ≡ (removed_in w p).work) → WorkPromise w (remove p) r x
   remove-promise p = promise w (remove p) r x (call_step w (made-sound m).right (remove p))
 
 -- ---- the row at a place
 
 module _ (t : Plain) (p : ℕ) (r : RowReply) where
-  said : r ≡ rowAnswer t p → RowSays t.places p r
-  unfolding rowAnswer rowSaid
+  said : r ≡ row_answer t p → RowSays t.places p r
+  unfolding row_answer row_said
   said is =
       elim (dec_lt 0 p) [
         | yes l ↦ go l (get_or t.places (p - 1) empty) refl (is ∙ (rw (lt-ltb 0 p l)))
         | no l ↦ none-there (λ y. omega (arith, y.there.from-1)) (is ∙ (rw (le-ltb 0 p (omega arith))))
       ]
     where
-      go : 1 ≤ p → (x : Place) → get_or t.places (p - 1) empty ≡ x → r ≡ rowSaid x → RowSays t.places p r
+      go : 1 ≤ p → (x : Place) → get_or t.places (p - 1) empty ≡ x → r ≡ row_said x → RowSays t.places p r
       go l empty e q = none-there (λ y. let f = y.there.is in let z : ◌≡◌ {A = ℕ} 0 1 = cc in omega arith) q
       go l (holds x) e q = row-there x (record { from-1 = l; is = e }) q
 
@@ -145,19 +145,19 @@ row-promise {w = w} m p r is =
 
 -- a call, from a table that is t and keeps the cut d; of the two nothing need be known where the call is accepted
 next : {w : Work} {c : Call} (t : Plain) (d : Cut) → Step w c → outcome (plain_of w) c ≡ outcome t c
-    → ((reason : ℕ) → (reason ≡ 0 → ⊥) → calledIn w c ≡ refusedIn w reason → (plain_of w ≡ t) × (keptCut w ≡ d))
-    → (plain_of (calledIn w c).work ≡ after t (outcome t c)) × (keptCut (calledIn w c).work ≡ named_by (answer (outcome t c)) d)
-unfolding after answer named_by keptIn
+    → ((reason : ℕ) → (reason ≡ 0 → ⊥) → called_in w c ≡ refused_in w reason → (plain_of w ≡ t) × (kept_cut w ≡ d))
+    → (plain_of (called_in w c).work ≡ after t (outcome t c)) × (kept_cut (called_in w c).work ≡ named_by (answer (outcome t c)) d)
+unfolding after answer named_by kept_in
 next t d (both-refuse reason z e f) same was = let b = was reason z e in rw (e, ← same, f, ne_eqb reason 0 z) b
 next t d (both-make p y s e f) same was = rw (e, ← same, f, cut-is y s) (refl, refl)
 
-behind : {cs : List Call} {w : Work} → Made cs w → (plain_of w ≡ played cs) × (keptCut w ≡ lastNamed cs)
-unfolding played lastNamed outcome
+behind : {cs : List Call} {w : Work} → Made cs w → (plain_of w ≡ played cs) × (kept_cut w ≡ last_named cs)
+unfolding played last_named outcome
 behind (begun any n fibres a) =
-    next (freshPlain 0 0) (record { g = 0; h = 0; number = 0 }) (start-step any n fibres) refl (λ reason z e. absurd (z (sym (ap (λ (x : Changed). x.reply.reason) e) ∙ a)))
+    next (fresh_plain 0 0) (record { g = 0; h = 0; number = 0 }) (start-step any n fibres) refl (λ reason z e. absurd (z (sym (ap (λ (x : Changed). x.reply.reason) e) ∙ a)))
 behind (called {cs = cs} {w = w} m c) =
     let b = behind m in
-    next (played cs) (lastNamed cs) (call_step w (made-sound m).right c) (ap (λ t. outcome t c) b.0) (λ reason z e. b)
+    next (played cs) (last_named cs) (call_step w (made-sound m).right c) (ap (λ t. outcome t c) b.0) (λ reason z e. b)
 
 pub made-as-played : {cs : List Call} {w : Work} → Made cs w → AsPlayed cs w
 made-as-played {w = w} m =

@@ -12,10 +12,10 @@ use Rattle.ring.specs.LineSize.{IsFibres}
 use Rattle.ring.specs.Limits.{desk}
 use Rattle.ring.specs.Row.{Row, row}
 use Rattle.table.proofs.Tested.{Tested, is-so, not_so, test-or, test-less, test-most, test-same}
-use Rattle.work.specs.Places.{Place, empty, holds, Plain, is_row, lowestFree, holdsRow}
-use Rattle.work.specs.Calls.{Call, start, add, change, remove, Outcome, refuses, makes, judgeStart, judgeDemand, judgePlace, judgeRoom, withPlace, outcome}
+use Rattle.work.specs.Places.{Place, empty, holds, Plain, is_row, lowest_free, holds_row}
+use Rattle.work.specs.Calls.{Call, start, add, change, remove, Outcome, refuses, makes, judge_start, judge_demand, judge_place, judge_room, with_place, outcome}
 use Rattle.work.specs.Sorted.{HoldsAt}
-use Rattle.work.specs.Promises.{Taken, NoRow, AllTaken, LowestFree, Faults, no_more, fault, Given, NoneHolds, rowFaults, faults, Makes, starts, adds, changes, removes}
+use Rattle.work.specs.Promises.{Taken, NoRow, AllTaken, LowestFree, Faults, no_more, fault, Given, NoneHolds, row_faults, faults, Makes, starts, adds, changes, removes}
 
 -- ---- an outcome by reasons: the first that holds, or what is made where none does
 
@@ -51,8 +51,8 @@ test-row : (ps : List Place) (p : ℕ) → 1 ≤ p → (x : Place) → get_or ps
 test-row ps p l empty e = not_so (λ t. let f = t.there.is in let z : ◌≡◌ {A = ℕ} 0 1 = cc in omega arith)
 test-row ps p l (holds r) e = is-so (record { r = r; there = record { from-1 = l; is = e } })
 
-test-place : (ps : List Place) (p : ℕ) → Tested (Taken ps p) (holdsRow ps p)
-unfolding holdsRow
+test-place : (ps : List Place) (p : ℕ) → Tested (Taken ps p) (holds_row ps p)
+unfolding holds_row
 test-place ps p =
     elim (dec_lt 0 p) [
       | yes l ↦ rw (lt-ltb 0 p l) (test-row ps p l (get_or ps (p - 1) empty) refl)
@@ -60,8 +60,8 @@ test-place ps p =
     ]
 
 -- the lowest free place, if there is one
-no-row-at : (ps : List Place) → lowestFree ps < length ps → get_or ps (lowestFree ps) empty ≡ empty
-unfolding lowestFree
+no-row-at : (ps : List Place) → lowest_free ps < length ps → get_or ps (lowest_free ps) empty ≡ empty
+unfolding lowest_free
 no-row-at [] l = absurd (omega arith)
 no-row-at (empty ∷ ps) l = refl
 no-row-at (holds r ∷ ps) l = no-row-at ps (omega arith)
@@ -70,62 +70,62 @@ record Holding (ps : List Place) (k : ℕ) : Type 0 where
   r : Row
   is : HoldsAt ps k r
 
-row_below : (ps : List Place) (k : ℕ) → k < lowestFree ps → Holding ps k
-unfolding lowestFree
+row_below : (ps : List Place) (k : ℕ) → k < lowest_free ps → Holding ps k
+unfolding lowest_free
 row_below [] k l = absurd (omega arith)
 row_below (empty ∷ ps) k l = absurd (omega arith)
 row_below (holds r ∷ ps) zero l = record { r = r; is = refl }
 row_below (holds r ∷ ps) (suc k) l = let t = row_below ps k (omega arith) in record { r = t.r; is = t.is }
 
-below-is-taken : (ps : List Place) (q : ℕ) → 1 ≤ q → q ≤ lowestFree ps → Taken ps q
+below-is-taken : (ps : List Place) (q : ℕ) → 1 ≤ q → q ≤ lowest_free ps → Taken ps q
 below-is-taken ps q a b = let t = row_below ps (q - 1) (omega arith) in record { r = t.r; there = record { from-1 = a; is = t.is } }
 
-lowest : (ps : List Place) → lowestFree ps < length ps → LowestFree ps (lowestFree ps + 1)
+lowest : (ps : List Place) → lowest_free ps < length ps → LowestFree ps (lowest_free ps + 1)
 lowest ps l =
     record {
       from-1 = omega arith;
       to_last = omega arith;
-      free = λ t. let e : lowestFree ps + 1 - 1 ≡ lowestFree ps = omega arith in let f = rw e at t.there.is in let g = no-row-at ps l in let z : ◌≡◌ {A = ℕ} 0 1 = cc in omega arith;
+      free = λ t. let e : lowest_free ps + 1 - 1 ≡ lowest_free ps = omega arith in let f = rw e at t.there.is in let g = no-row-at ps l in let z : ◌≡◌ {A = ℕ} 0 1 = cc in omega arith;
       below = λ q a b. below-is-taken ps q a (omega arith);
     }
 
 -- ---- the judges
 
 module _ {fs : Faults} {M : ℕ → Plain → Type 0} {o : Outcome} where
-  start-ends : (n fibres : ℕ) → Ends fs M o → Ends (fault 3 ((n < desk.fewest) ⊎ (desk.nodes < n)) (fault 20 (IsFibres fibres → ⊥) fs)) M (judgeStart n fibres o)
-  unfolding judgeStart
+  start-ends : (n fibres : ℕ) → Ends fs M o → Ends (fault 3 ((n < desk.fewest) ⊎ (desk.nodes < n)) (fault 20 (IsFibres fibres → ⊥) fs)) M (judge_start n fibres o)
+  unfolding judge_start
   start-ends n fibres e = if (test-or (test-less n desk.fewest) (test-less desk.nodes n)) (unless (test-or (test-same fibres 2) (test-same fibres 4)) e)
 
-  demand-ends : (n i j d : ℕ) → Ends fs M o → Ends (rowFaults n i j d fs) M (judgeDemand n i j d o)
-  unfolding judgeDemand
+  demand-ends : (n i j d : ℕ) → Ends fs M o → Ends (row_faults n i j d fs) M (judge_demand n i j d o)
+  unfolding judge_demand
   demand-ends n i j d e =
       if (test-or (test-or (test-less i 1) (test-less n i)) (test-or (test-less j 1) (test-less n j))) (if (test-most j i) (if (test-less desk.amount d) e))
 
-  place-ends : (t : Plain) (p : ℕ) → Ends fs M o → Ends (fault 22 (NoRow t.places p) fs) M (judgePlace t p o)
-  unfolding judgePlace
+  place-ends : (t : Plain) (p : ℕ) → Ends fs M o → Ends (fault 22 (NoRow t.places p) fs) M (judge_place t p o)
+  unfolding judge_place
   place-ends t p e = unless (test-place t.places p) e
 
-  room-ends : (t : Plain) → (LowestFree t.places (lowestFree t.places + 1) → Ends fs M o) → Ends (fault 21 (AllTaken t.places) fs) M (judgeRoom t o)
-  unfolding judgeRoom
+  room-ends : (t : Plain) → (LowestFree t.places (lowest_free t.places + 1) → Ends fs M o) → Ends (fault 21 (AllTaken t.places) fs) M (judge_room t o)
+  unfolding judge_room
   room-ends t e =
       let ps = t.places in
-      elim (dec_lt (lowestFree ps) (length ps)) [
-        | yes l ↦ let f = lowest ps l in rw (lt-ltb (lowestFree ps) (length ps) l) (later (λ all. f.free (all (lowestFree ps + 1) f.from-1 f.to_last)) (e f))
-        | no l ↦ rw (le-ltb (lowestFree ps) (length ps) (omega arith)) (now (λ p a b. below-is-taken ps p a (omega arith)))
+      elim (dec_lt (lowest_free ps) (length ps)) [
+        | yes l ↦ let f = lowest ps l in rw (lt-ltb (lowest_free ps) (length ps) l) (later (λ all. f.free (all (lowest_free ps + 1) f.from-1 f.to_last)) (e f))
+        | no l ↦ rw (le-ltb (lowest_free ps) (length ps) (omega arith)) (now (λ p a b. below-is-taken ps p a (omega arith)))
       ]
 
 -- ---- every call
 
-made_at : (t : Plain) (i j d k : ℕ) → LowestFree t.places (k + 1) → Makes t (add i j d) (k + 1) (withPlace t k (holds (row i j d)))
+made_at : (t : Plain) (i j d k : ℕ) → LowestFree t.places (k + 1) → Makes t (add i j d) (k + 1) (with_place t k (holds (row i j d)))
 made_at t i j d k f =
-    let made : Makes t (add i j d) (k + 1) (withPlace t (k + 1 - 1) (holds (row i j d))) = adds f in
+    let made : Makes t (add i j d) (k + 1) (with_place t (k + 1 - 1) (holds (row i j d))) = adds f in
     let e : k + 1 - 1 ≡ k = omega arith in
     rw e at made
 
 pub call_ends : (t : Plain) (c : Call) → Ends (faults t c) (Makes t c) (outcome t c)
 unfolding faults outcome
 call_ends t (start n fibres) = start-ends n fibres (none_left starts)
-call_ends t (add i j d) = demand-ends t.n i j d (room-ends t (λ f. none_left (made_at t i j d (lowestFree t.places) f)))
+call_ends t (add i j d) = demand-ends t.n i j d (room-ends t (λ f. none_left (made_at t i j d (lowest_free t.places) f)))
 call_ends t (change p i j d) = place-ends t p (demand-ends t.n i j d (none_left changes))
 call_ends t (remove p) = place-ends t p (none_left removes)
 

@@ -10,19 +10,19 @@ use Rattle.ring.specs.LineSize.{IsFibres}
 use Rattle.ring.specs.Lists.{Each, none}
 use Rattle.ring.specs.Row.{Row, row, OnRing}
 use Rattle.ring.specs.Cut.{part, across}
-use Rattle.ring.specs.RuleA.{ruleA}
+use Rattle.ring.specs.RuleA.{rule_a}
 use Rattle.ring.specs.Columns.{row_at}
 use Rattle.ring.proofs.Lists.{each}
 use Rattle.ring.proofs.Totals.{across-total, total-most, part_small}
 use Rattle.ring.proofs.Laid.{zeros-at}
-use Rattle.across.specs.Triangle.{mostPairs, place_of, at}
+use Rattle.across.specs.Triangle.{most_pairs, place_of, at}
 use Rattle.across.specs.Lines.{Pairwise}
 use Rattle.across.proofs.Kept.{row-at}
 use Rattle.across.proofs.CutSteps.{same-cut}
 use Rattle.work.specs.Places.{empty, holds}
 use Rattle.work.specs.Made.{place_in, plain_of}
 use Rattle.work.specs.Kept.{held}
-use Rattle.work.specs.Changes.{ringSize, cut_of, put_in, clearedIn, freshIn}
+use Rattle.work.specs.Changes.{ring_size, cut_of, put_in, cleared_in, fresh_in}
 use Rattle.work.specs.declared.Work.{Work}
 use Rattle.work.proofs.RowsHeld.{across-set, held-few, each_set, held-fresh, places-set, places-length, places-at, places-fresh}
 
@@ -42,7 +42,7 @@ pub record Right (w : Work) : Type 0 where
   pub kept : Pairwise w.n (λ g h. at w.triangle g h ≡ across (held w) g h)
 
 module _ (w : Work) (s : Right w) where
-  pub size_is : ringSize w.n ≡ w.n
+  pub size_is : ring_size w.n ≡ w.n
   size_is = omega (arith, s.two, s.few)
 
   same-firsts : length w.first ≡ length w.second
@@ -104,18 +104,18 @@ module _ (w : Work) (s : Right w) (k : ℕ) (in_table : k < desk.rows) where
     abbrev gone : Row
     gone = row_at w.first w.second w.amount k
 
-    pub clear-places : (plain_of (clearedIn w k)).places ≡ set (plain_of w).places k empty
-    unfolding clearedIn
+    pub clear-places : (plain_of (cleared_in w k)).places ≡ set (plain_of w).places k empty
+    unfolding cleared_in
     clear-places = places-set w.first w.second w.amount k 0 0 0
 
-    clear-across : (g h : ℕ) → across (held (clearedIn w k)) g h + part gone g h ≡ across (held w) g h
+    clear-across : (g h : ℕ) → across (held (cleared_in w k)) g h + part gone g h ≡ across (held w) g h
     clear-across g h =
         let was : get_or (plain_of w).places k empty ≡ holds gone = place_is w s k ∙ place-holds _ _ _ taken in
         let sum = rw was at (across-set (plain_of w).places k empty g h (omega (arith, count w s))) in
         rw clear-places (omega arith)
 
-    pub clear-right : Right (clearedIn w k)
-    unfolding clearedIn
+    pub clear-right : Right (cleared_in w k)
+    unfolding cleared_in
     clear-right =
         record {
           two = s.two;
@@ -131,14 +131,14 @@ module _ (w : Work) (s : Right w) (k : ℕ) (in_table : k < desk.rows) where
 
 -- ---- an empty table
 
-pub fresh-places : (n fibres : ℕ) → (plain_of (freshIn n fibres)).places ≡ replicate desk.rows empty
-unfolding freshIn
+pub fresh-places : (n fibres : ℕ) → (plain_of (fresh_in n fibres)).places ≡ replicate desk.rows empty
+unfolding fresh_in
 fresh-places n fibres = places-fresh desk.rows
 
-pub fresh-right : (n fibres : ℕ) → desk.fewest ≤ n → n ≤ desk.nodes → IsFibres fibres → Right (freshIn n fibres)
-unfolding freshIn across
+pub fresh-right : (n fibres : ℕ) → desk.fewest ≤ n → n ≤ desk.nodes → IsFibres fibres → Right (fresh_in n fibres)
+unfolding fresh_in across
 fresh-right n fibres a b c =
-    let no_row : held (freshIn n fibres) ≡ [] = rw (fresh-places n fibres) (held-fresh desk.rows) in
+    let no_row : held (fresh_in n fibres) ≡ [] = rw (fresh-places n fibres) (held-fresh desk.rows) in
     record {
       two = a;
       few = b;
@@ -147,11 +147,11 @@ fresh-right n fibres a b c =
       seconds = length-replicate {A = ℕ} desk.rows 0;
       amounts = length-replicate {A = ℕ} desk.rows 0;
       rows = rw no_row none;
-      kept = λ g h _ _ _. rw no_row (zeros-at mostPairs (place_of g h));
+      kept = λ g h _ _ _. rw no_row (zeros-at most_pairs (place_of g h));
     }
 
 -- ---- the largest cut
 
-pub cut-is : (w : Work) → Right w → cut_of w ≡ ruleA w.n (held w)
-unfolding ruleA
+pub cut-is : (w : Work) → Right w → cut_of w ≡ rule_a w.n (held w)
+unfolding rule_a
 cut-is w s = rw (size_is w s) (same-cut w.n (at w.triangle) (across (held w)) s.kept s.two)

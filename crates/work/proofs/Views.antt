@@ -11,16 +11,16 @@ use lib.ListN.{get_or, get_or-eq_default}
 use borrow.Author.Tests.{lt-ltb, le-ltb, le-leb, lt-leb, eq-eqb, ne_eqb}
 use Rattle.ring.specs.Limits.{desk}
 use Rattle.ring.specs.Row.{row}
-use Rattle.table.specs.Judge.{judgeRow}
+use Rattle.table.specs.Judge.{judge_row}
 use Rattle.table.specs.Reasons.{number_of}
 use Rattle.table.specs.declared.reason.Reason.{Reason}
 use Rattle.table.specs.declared.judge.Verdict.{Verdict}
 use Rattle.table.specs.declared.judge.Verdict.TheVariants.{Fine, Fault}
 use Rattle.table.proofs.Judged.{RowJudged, no-such-node, not-below, out_of_order, too_many, too_much, row_fine, row-judged}
-use Rattle.work.specs.Places.{is_row, lowestFree, holdsRow}
-use Rattle.work.specs.Calls.{Outcome, refuses, judgeDemand}
+use Rattle.work.specs.Places.{is_row, lowest_free, holds_row}
+use Rattle.work.specs.Calls.{Outcome, refuses, judge_demand}
 use Rattle.work.specs.Made.{place_in, plain_of}
-use Rattle.work.specs.Changes.{freeFrom, freeIn, holdsIn}
+use Rattle.work.specs.Changes.{free_from, free_in, holds_in}
 use Rattle.work.specs.declared.Work.{Work}
 use Rattle.work.proofs.RowsHeld.{places-free}
 use Rattle.work.proofs.Right.{Good, Right, place_is}
@@ -28,11 +28,11 @@ use Rattle.work.proofs.Right.{Good, Right, place_is}
 -- ---- a row
 
 pub data Demand (n i j d : ℕ) (v : Verdict) : Type 0 where
-  bad : (reason : Reason) → v ≡ Fault reason → ((next : Outcome) → judgeDemand n i j d next ≡ refuses (number_of reason)) → Demand n i j d v
-  good : v ≡ Fine → Good n (row i j d) → ((next : Outcome) → judgeDemand n i j d next ≡ next) → Demand n i j d v
+  bad : (reason : Reason) → v ≡ Fault reason → ((next : Outcome) → judge_demand n i j d next ≡ refuses (number_of reason)) → Demand n i j d v
+  good : v ≡ Fine → Good n (row i j d) → ((next : Outcome) → judge_demand n i j d next ≡ next) → Demand n i j d v
 
-pub demand : (n i j d : ℕ) → Demand n i j d (judgeRow desk n 0 0 0 i j d)
-unfolding judgeDemand
+pub demand : (n i j d : ℕ) → Demand n i j d (judge_row desk n 0 0 0 i j d)
+unfolding judge_demand
 demand n i j d = go (row-judged desk n 0 0 0 i j d)
   where
     go : {v : Verdict} → RowJudged desk n 0 0 0 i j d v → Demand n i j d v
@@ -69,19 +69,19 @@ module _ (w : Work) (s : Right w) where
             rw (none, and-false (ltb k desk.rows))
       ]
 
-  pub same_place : (p : ℕ) → holdsRow (plain_of w).places p ≡ holdsIn w.first p
-  unfolding holdsRow holdsIn
+  pub same_place : (p : ℕ) → holds_row (plain_of w).places p ≡ holds_in w.first p
+  unfolding holds_row holds_in
   same_place p = rw (place_is w s (p - 1), is-row (get_or w.first (p - 1) 0) (get_or w.second (p - 1) 0) (get_or w.amount (p - 1) 0), within (p - 1))
 
   -- ---- the lowest free place
 
-  pub same-free : lowestFree (plain_of w).places ≡ freeIn w.first
+  pub same-free : lowest_free (plain_of w).places ≡ free_in w.first
   same-free =
       places-free w.first w.second w.amount (omega (arith, s.firsts, s.seconds)) (omega (arith, s.seconds, s.amounts)) ∙
-      ap (λ m. freeFrom w.first 0 m) s.firsts
+      ap (λ m. free_from w.first 0 m) s.firsts
 
-pub free-is-free : (first : List ℕ) (k m : ℕ) → freeFrom first k m < k + m → get_or first (freeFrom first k m) 0 ≡ 0
-unfolding freeFrom
+pub free-is-free : (first : List ℕ) (k m : ℕ) → free_from first k m < k + m → get_or first (free_from first k m) 0 ≡ 0
+unfolding free_from
 free-is-free first k zero l = absurd (omega arith)
 free-is-free first k (suc m) l =
     elim (ℕ_discrete (get_or first k 0) 0) [
@@ -89,5 +89,5 @@ free-is-free first k (suc m) l =
       | no e ↦ rw (ne_eqb (get_or first k 0) 0 e) (free-is-free first (suc k) m (rest (rw (ne_eqb (get_or first k 0) 0 e) at l)))
     ]
   where
-    rest : freeFrom first (suc k) m < k + suc m → freeFrom first (suc k) m < suc k + m
+    rest : free_from first (suc k) m < k + suc m → free_from first (suc k) m < suc k + m
     rest q = omega arith

@@ -1,12 +1,12 @@
 -- To believe: what each call does to the list of places, what it refuses and in which order, and what it answers.
 use Rattle.std.specs.Prelude.{ℕ, ◌+◌, ◌-◌, cond, ◌||◌, ltb, leb, eqb, length, get_or, set, replicate}
 use Rattle.ring.specs.Limits.{desk}
-use Rattle.ring.specs.LineSize.{twoFibres, fourFibres}
+use Rattle.ring.specs.LineSize.{two_fibres, four_fibres}
 use Rattle.ring.specs.Row.{Row, row}
-use Rattle.ring.specs.RuleA.{ruleA}
+use Rattle.ring.specs.RuleA.{rule_a}
 use Rattle.table.specs.Reasons.{number_of}
 use Rattle.table.specs.declared.reason.Reason.TheVariants.{RingSize, Fibres, NoRow, NoSuchNode, NotBelow, TooMuch, Full}
-use Rattle.work.specs.Places.{Place, empty, holds, Plain, rowsHeld, lowestFree, holdsRow}
+use Rattle.work.specs.Places.{Place, empty, holds, Plain, rows_held, lowest_free, holds_row}
 use Rattle.work.specs.declared.held.WorkReply.{WorkReply}
 use Rattle.work.specs.declared.place.RowReply.{RowReply}
 
@@ -23,42 +23,42 @@ pub data Outcome : Type 0 where
   makes : ℕ → Plain → Outcome
 
 -- 3, then 20
-unfoldable pub judgeStart : ℕ → ℕ → Outcome → Outcome
-judgeStart n fibres next =
+unfoldable pub judge_start : ℕ → ℕ → Outcome → Outcome
+judge_start n fibres next =
     cond (ltb n desk.fewest || ltb desk.nodes n) (refuses (number_of RingSize))
-    (cond (eqb fibres twoFibres || eqb fibres fourFibres) next (refuses (number_of Fibres)))
+    (cond (eqb fibres two_fibres || eqb fibres four_fibres) next (refuses (number_of Fibres)))
 
 -- 4, 5, 7: a node outside 1..n, the first not below the second, an amount over 9,999
-unfoldable pub judgeDemand : ℕ → ℕ → ℕ → ℕ → Outcome → Outcome
-judgeDemand n i j d next =
+unfoldable pub judge_demand : ℕ → ℕ → ℕ → ℕ → Outcome → Outcome
+judge_demand n i j d next =
     cond ((ltb i 1 || ltb n i) || (ltb j 1 || ltb n j)) (refuses (number_of NoSuchNode))
     (cond (leb j i) (refuses (number_of NotBelow))
     (cond (ltb desk.amount d) (refuses (number_of TooMuch))
     next))
 
 -- 22: the place holds no row
-unfoldable pub judgePlace : Plain → ℕ → Outcome → Outcome
-judgePlace t p next = cond (holdsRow t.places p) next (refuses (number_of NoRow))
+unfoldable pub judge_place : Plain → ℕ → Outcome → Outcome
+judge_place t p next = cond (holds_row t.places p) next (refuses (number_of NoRow))
 
 -- 21: all places are taken
-unfoldable pub judgeRoom : Plain → Outcome → Outcome
-judgeRoom t next = cond (ltb (lowestFree t.places) (length t.places)) next (refuses (number_of Full))
+unfoldable pub judge_room : Plain → Outcome → Outcome
+judge_room t next = cond (ltb (lowest_free t.places) (length t.places)) next (refuses (number_of Full))
 
 -- the place with `k` places before it becomes x
-abbrev pub withPlace : Plain → ℕ → Place → Plain
-withPlace t k x = record { n = t.n; fibres = t.fibres; places = set t.places k x }
+abbrev pub with_place : Plain → ℕ → Place → Plain
+with_place t k x = record { n = t.n; fibres = t.fibres; places = set t.places k x }
 
-abbrev pub freshPlain : ℕ → ℕ → Plain
-freshPlain n fibres = record { n = n; fibres = fibres; places = replicate desk.rows empty }
+abbrev pub fresh_plain : ℕ → ℕ → Plain
+fresh_plain n fibres = record { n = n; fibres = fibres; places = replicate desk.rows empty }
 
 unfoldable pub outcome : Plain → Call → Outcome
-unfolding judgeStart judgeDemand judgePlace judgeRoom
-outcome t (start n fibres) = judgeStart n fibres (makes 0 (freshPlain n fibres))
+unfolding judge_start judge_demand judge_place judge_room
+outcome t (start n fibres) = judge_start n fibres (makes 0 (fresh_plain n fibres))
 outcome t (add i j d) =
-    judgeDemand t.n i j d
-    (judgeRoom t (makes (lowestFree t.places + 1) (withPlace t (lowestFree t.places) (holds (row i j d)))))
-outcome t (change p i j d) = judgePlace t p (judgeDemand t.n i j d (makes p (withPlace t (p - 1) (holds (row i j d)))))
-outcome t (remove p) = judgePlace t p (makes p (withPlace t (p - 1) empty))
+    judge_demand t.n i j d
+    (judge_room t (makes (lowest_free t.places + 1) (with_place t (lowest_free t.places) (holds (row i j d)))))
+outcome t (change p i j d) = judge_place t p (judge_demand t.n i j d (makes p (with_place t (p - 1) (holds (row i j d)))))
+outcome t (remove p) = judge_place t p (makes p (with_place t (p - 1) empty))
 
 -- a refused call changes nothing
 unfoldable pub after : Plain → Outcome → Plain
@@ -71,7 +71,7 @@ refusal reason = record { reason = reason; line = 0; place = 0; g = 0; h = 0; ac
 
 abbrev pub acceptance : ℕ → Plain → WorkReply
 acceptance p u =
-    let c = ruleA u.n (rowsHeld u.places) in
+    let c = rule_a u.n (rows_held u.places) in
     record { reason = 0; line = 0; place = p; g = c.g; h = c.h; across = c.number }
 
 unfoldable pub answer : Outcome → WorkReply
@@ -85,10 +85,10 @@ no_row = record { reason = number_of NoRow; line = 0; first = 0; second = 0; amo
 abbrev pub the_row : Row → RowReply
 the_row r = record { reason = 0; line = 0; first = r.i; second = r.j; amount = r.d }
 
-unfoldable pub rowSaid : Place → RowReply
-rowSaid empty = no_row
-rowSaid (holds r) = the_row r
+unfoldable pub row_said : Place → RowReply
+row_said empty = no_row
+row_said (holds r) = the_row r
 
-unfoldable pub rowAnswer : Plain → ℕ → RowReply
-unfolding rowSaid
-rowAnswer t p = cond (ltb 0 p) (rowSaid (get_or t.places (p - 1) empty)) (rowSaid empty)
+unfoldable pub row_answer : Plain → ℕ → RowReply
+unfolding row_said
+row_answer t p = cond (ltb 0 p) (row_said (get_or t.places (p - 1) empty)) (row_said empty)

@@ -1,14 +1,14 @@
 -- Internal: what each call answers and leaves, for every value of the struct; over tables made by calls the list of places (Places, Calls) says it in plain words.
 use Rattle.std.specs.Prelude.{ℕ, zero, suc, ◌+◌, ◌-◌, ◌≤◌, ◌<◌, min, max, Bool, true, false, cond, ◌&&◌, List, ltb, eqb, get_or, set, replicate}
 use Rattle.ring.specs.Limits.{desk}
-use Rattle.ring.specs.Ring.{ringOf}
+use Rattle.ring.specs.Ring.{ring_of}
 use Rattle.ring.specs.Row.{row}
 use Rattle.ring.specs.Cut as ring
-use Rattle.ring.specs.RuleA.{largestCut}
+use Rattle.ring.specs.RuleA.{largest_cut}
 use Rattle.ring.specs.Columns.{row_at}
-use Rattle.across.specs.Triangle.{mostPairs, at}
-use Rattle.across.specs.Step.{stepRow}
-use Rattle.table.specs.Judge.{judgeRing, judgeRow}
+use Rattle.across.specs.Triangle.{most_pairs, at}
+use Rattle.across.specs.Step.{step_row}
+use Rattle.table.specs.Judge.{judge_ring, judge_row}
 use Rattle.table.specs.Reasons.{number_of}
 use Rattle.table.specs.declared.reason.Reason.TheVariants.{NoRow, Full}
 use Rattle.table.specs.declared.judge.Verdict.{Verdict}
@@ -19,45 +19,45 @@ use Rattle.work.specs.declared.held.Changed.{Changed}
 use Rattle.work.specs.declared.place.RowReply.{RowReply}
 
 -- a ring size outside 2 to 32 counts as the nearest within
-abbrev pub ringSize : ℕ → ℕ
-ringSize n = max desk.fewest (min n desk.nodes)
+abbrev pub ring_size : ℕ → ℕ
+ring_size n = max desk.fewest (min n desk.nodes)
 
 -- ---- the answer and the table behind it
 
-abbrev pub refusedIn : Work → ℕ → Changed
-refusedIn w reason = record { reply = record { reason = reason; line = 0; place = 0; g = 0; h = 0; across = 0 }; work = w }
+abbrev pub refused_in : Work → ℕ → Changed
+refused_in w reason = record { reply = record { reason = reason; line = 0; place = 0; g = 0; h = 0; across = 0 }; work = w }
 
-abbrev pub withCut : Work → ring.Cut → Work
-withCut w c =
+abbrev pub with_cut : Work → ring.Cut → Work
+with_cut w c =
     record { triangle = w.triangle; n = w.n; fibres = w.fibres; g = c.g; h = c.h; across = c.number; amount = w.amount; first = w.first; second = w.second }
 
-abbrev pub replyWith : ℕ → ring.Cut → WorkReply
-replyWith place c = record { reason = 0; line = 0; place = place; g = c.g; h = c.h; across = c.number }
+abbrev pub reply_with : ℕ → ring.Cut → WorkReply
+reply_with place c = record { reason = 0; line = 0; place = place; g = c.g; h = c.h; across = c.number }
 
 -- the largest of the kept numbers
 abbrev pub cut_of : Work → ring.Cut
-cut_of w = largestCut (at w.triangle) (ringSize w.n)
+cut_of w = largest_cut (at w.triangle) (ring_size w.n)
 
-unfoldable pub keptIn : Work → ℕ → Changed
-keptIn w place = record { reply = replyWith place (cut_of w); work = withCut w (cut_of w) }
+unfoldable pub kept_in : Work → ℕ → Changed
+kept_in w place = record { reply = reply_with place (cut_of w); work = with_cut w (cut_of w) }
 
 -- ---- places
 
 -- the lowest free place, of m places from k on, all counted from 0; k + m where none is
-unfoldable pub freeFrom : List ℕ → ℕ → ℕ → ℕ
-freeFrom first k zero = k
-freeFrom first k (suc m) = cond (eqb (get_or first k 0) 0) k (freeFrom first (suc k) m)
+unfoldable pub free_from : List ℕ → ℕ → ℕ → ℕ
+free_from first k zero = k
+free_from first k (suc m) = cond (eqb (get_or first k 0) 0) k (free_from first (suc k) m)
 
-abbrev pub freeIn : List ℕ → ℕ
-freeIn first = freeFrom first 0 desk.rows
+abbrev pub free_in : List ℕ → ℕ
+free_in first = free_from first 0 desk.rows
 
 -- whether a place, counted from 1, holds a row
-unfoldable pub holdsIn : List ℕ → ℕ → Bool
-holdsIn first place = ltb 0 place && (ltb (place - 1) desk.rows && ltb 0 (get_or first (place - 1) 0))
+unfoldable pub holds_in : List ℕ → ℕ → Bool
+holds_in first place = ltb 0 place && (ltb (place - 1) desk.rows && ltb 0 (get_or first (place - 1) 0))
 
 unfoldable pub row_in : Work → ℕ → RowReply
 row_in w p =
-    cond (holdsIn w.first p)
+    cond (holds_in w.first p)
     (record { reason = 0; line = 0; first = get_or w.first (p - 1) 0; second = get_or w.second (p - 1) 0; amount = get_or w.amount (p - 1) 0 })
     (record { reason = number_of NoRow; line = 0; first = 0; second = 0; amount = 0 })
 
@@ -78,21 +78,21 @@ with_row w triangle k i j d =
     }
 
 unfoldable pub put_in : Work → ℕ → ℕ → ℕ → ℕ → Work
-put_in w k i j d = with_row w (stepRow true (ringSize w.n) (row i j d) w.triangle) k i j d
+put_in w k i j d = with_row w (step_row true (ring_size w.n) (row i j d) w.triangle) k i j d
 
-unfoldable pub clearedIn : Work → ℕ → Work
-clearedIn w k = with_row w (stepRow false (ringSize w.n) (row_at w.first w.second w.amount k) w.triangle) k 0 0 0
+unfoldable pub cleared_in : Work → ℕ → Work
+cleared_in w k = with_row w (step_row false (ring_size w.n) (row_at w.first w.second w.amount k) w.triangle) k 0 0 0
 
 -- ---- the calls
 
-unfoldable pub unlessFault : Verdict → Work → Changed → Changed
-unlessFault Fine w next = next
-unlessFault (Fault reason) w next = refusedIn w (number_of reason)
+unfoldable pub unless_fault : Verdict → Work → Changed → Changed
+unless_fault Fine w next = next
+unless_fault (Fault reason) w next = refused_in w (number_of reason)
 
-unfoldable pub freshIn : ℕ → ℕ → Work
-freshIn n fibres =
+unfoldable pub fresh_in : ℕ → ℕ → Work
+fresh_in n fibres =
     record {
-      triangle = replicate mostPairs 0;
+      triangle = replicate most_pairs 0;
       n = n;
       fibres = fibres;
       g = 0;
@@ -104,26 +104,26 @@ freshIn n fibres =
     }
 
 -- a ring is judged as a table's is: 3, 20
-unfoldable pub startedIn : Work → ℕ → ℕ → Changed
-startedIn w n fibres = unlessFault (judgeRing desk (ringOf n fibres)) w (keptIn (freshIn n fibres) 0)
+unfoldable pub started_in : Work → ℕ → ℕ → Changed
+started_in w n fibres = unless_fault (judge_ring desk (ring_of n fibres)) w (kept_in (fresh_in n fibres) 0)
 
 -- a row is judged as the first of a table is: 4, 5, 7
 abbrev pub judged : Work → ℕ → ℕ → ℕ → Verdict
-judged w i j d = judgeRow desk (ringSize w.n) 0 0 0 i j d
+judged w i j d = judge_row desk (ring_size w.n) 0 0 0 i j d
 
-unfoldable pub addedIn : Work → ℕ → ℕ → ℕ → Changed
-addedIn w i j d =
-    unlessFault (judged w i j d) w
-    (cond (ltb (freeIn w.first) desk.rows) (keptIn (put_in w (freeIn w.first) i j d) (freeIn w.first + 1)) (refusedIn w (number_of Full)))
+unfoldable pub added_in : Work → ℕ → ℕ → ℕ → Changed
+added_in w i j d =
+    unless_fault (judged w i j d) w
+    (cond (ltb (free_in w.first) desk.rows) (kept_in (put_in w (free_in w.first) i j d) (free_in w.first + 1)) (refused_in w (number_of Full)))
 
-unfoldable pub changedIn : Work → ℕ → ℕ → ℕ → ℕ → Changed
-changedIn w p i j d =
-    cond (holdsIn w.first p)
-    (unlessFault (judged w i j d) w (keptIn (put_in (clearedIn w (p - 1)) (p - 1) i j d) p))
-    (refusedIn w (number_of NoRow))
+unfoldable pub changed_in : Work → ℕ → ℕ → ℕ → ℕ → Changed
+changed_in w p i j d =
+    cond (holds_in w.first p)
+    (unless_fault (judged w i j d) w (kept_in (put_in (cleared_in w (p - 1)) (p - 1) i j d) p))
+    (refused_in w (number_of NoRow))
 
-unfoldable pub removedIn : Work → ℕ → Changed
-removedIn w p = cond (holdsIn w.first p) (keptIn (clearedIn w (p - 1)) p) (refusedIn w (number_of NoRow))
+unfoldable pub removed_in : Work → ℕ → Changed
+removed_in w p = cond (holds_in w.first p) (kept_in (cleared_in w (p - 1)) p) (refused_in w (number_of NoRow))
 
 -- what a row must be to stand in the columns
 pub record Fitting (k i j d : ℕ) : Type 0 where

@@ -13,21 +13,21 @@ pub record Plain : Type 0 where
   pub places : List Place
 
 -- the rows held, by place
-unfoldable pub rowsHeld : List Place → List Row
-rowsHeld [] = []
-rowsHeld (empty ∷ ps) = rowsHeld ps
-rowsHeld (holds r ∷ ps) = r ∷ rowsHeld ps
+unfoldable pub rows_held : List Place → List Row
+rows_held [] = []
+rows_held (empty ∷ ps) = rows_held ps
+rows_held (holds r ∷ ps) = r ∷ rows_held ps
 
 -- how many places stand before the lowest free one; all of them where none is free
-unfoldable pub lowestFree : List Place → ℕ
-lowestFree [] = 0
-lowestFree (empty ∷ ps) = 0
-lowestFree (holds r ∷ ps) = suc (lowestFree ps)
+unfoldable pub lowest_free : List Place → ℕ
+lowest_free [] = 0
+lowest_free (empty ∷ ps) = 0
+lowest_free (holds r ∷ ps) = suc (lowest_free ps)
 
 abbrev pub is_row : Place → Bool
 is_row empty = false
 is_row (holds r) = true
 
 -- whether a place, counted from 1, holds a row; a place that the list has not got holds none
-unfoldable pub holdsRow : List Place → ℕ → Bool
-holdsRow ps p = ltb 0 p && is_row (get_or ps (p - 1) empty)
+unfoldable pub holds_row : List Place → ℕ → Bool
+holds_row ps p = ltb 0 p && is_row (get_or ps (p - 1) empty)

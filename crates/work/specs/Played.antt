@@ -2,28 +2,28 @@
 use Rattle.std.specs.Prelude.{cond, List, [], ◌∷◌, ◌≡◌, eqb}
 use Rattle.ring.specs.Cut.{Cut}
 use Rattle.work.specs.Places.{Plain}
-use Rattle.work.specs.Calls.{Call, freshPlain, outcome, after, answer}
-use Rattle.work.specs.Made.{calledIn, plain_of}
-use Rattle.work.specs.Kept.{keptCut}
+use Rattle.work.specs.Calls.{Call, fresh_plain, outcome, after, answer}
+use Rattle.work.specs.Made.{called_in, plain_of}
+use Rattle.work.specs.Kept.{kept_cut}
 use Rattle.work.specs.declared.Work.{Work}
 use Rattle.work.specs.declared.held.WorkReply.{WorkReply}
 
 -- the last call is the first of the list; before any call there is no ring and no row
 unfoldable pub played : List Call → Plain
-played [] = freshPlain 0 0
+played [] = fresh_plain 0 0
 played (c ∷ cs) = after (played cs) (outcome (played cs) c)
 
 -- an accepted reply names a cut; a refusal leaves the one named before
 unfoldable pub named_by : WorkReply → Cut → Cut
 named_by r c = cond (eqb r.reason 0) (record { g = r.g; h = r.h; number = r.across }) c
 
-unfoldable pub lastNamed : List Call → Cut
+unfoldable pub last_named : List Call → Cut
 unfolding named_by
-lastNamed [] = record { g = 0; h = 0; number = 0 }
-lastNamed (c ∷ cs) = named_by (answer (outcome (played cs) c)) (lastNamed cs)
+last_named [] = record { g = 0; h = 0; number = 0 }
+last_named (c ∷ cs) = named_by (answer (outcome (played cs) c)) (last_named cs)
 
 -- a table is as the calls played: its places and its cut, and what the next call answers
 pub record AsPlayed (cs : List Call) (w : Work) : Type 0 where
   pub table : plain_of w ≡ played cs
-  pub cut : keptCut w ≡ lastNamed cs
-  pub replies : (c : Call) → (calledIn w c).reply ≡ answer (outcome (played cs) c)
+  pub cut : kept_cut w ≡ last_named cs
+  pub replies : (c : Call) → (called_in w c).reply ≡ answer (outcome (played cs) c)

@@ -7,7 +7,7 @@ use Rattle.table.specs.Reasons.{number_of}
 use Rattle.table.specs.Says.{NoNode}
 use Rattle.table.specs.declared.reason.Reason.TheVariants.{RingSize, Fibres, NoRow as NoPlaceRow, NoSuchNode, NotBelow, TooMuch, Full}
 use Rattle.work.specs.Places.{Place, empty, holds, Plain}
-use Rattle.work.specs.Calls.{Call, start, add, change, remove, withPlace, freshPlain, refusal, acceptance, no_row, the_row}
+use Rattle.work.specs.Calls.{Call, start, add, change, remove, with_place, fresh_plain, refusal, acceptance, no_row, the_row}
 use Rattle.work.specs.Made.{plain_of}
 use Rattle.work.specs.Sorted.{HoldsAt}
 use Rattle.work.specs.declared.Work.{Work}
@@ -57,24 +57,24 @@ NoneHolds no_more = Unit {0}
 NoneHolds (fault k A fs) = (A → ⊥) × NoneHolds fs
 
 -- a node outside 1..n; the first not below the second; an amount over 9,999
-abbrev pub rowFaults : ℕ → ℕ → ℕ → ℕ → Faults → Faults
-rowFaults n i j d fs = fault (number_of NoSuchNode) (NoNode n i ⊎ NoNode n j) (fault (number_of NotBelow) (j ≤ i) (fault (number_of TooMuch) (desk.amount < d) fs))
+abbrev pub row_faults : ℕ → ℕ → ℕ → ℕ → Faults → Faults
+row_faults n i j d fs = fault (number_of NoSuchNode) (NoNode n i ⊎ NoNode n j) (fault (number_of NotBelow) (j ≤ i) (fault (number_of TooMuch) (desk.amount < d) fs))
 
 -- start: n outside 2..32, then fibres neither 2 nor 4; else: the place named holds no row; then those of the row; then for adding: all places are taken
 unfoldable pub faults : Plain → Call → Faults
 faults t (start n fibres) = fault (number_of RingSize) ((n < desk.fewest) ⊎ (desk.nodes < n)) (fault (number_of Fibres) (IsFibres fibres → ⊥) no_more)
-faults t (add i j d) = rowFaults t.n i j d (fault (number_of Full) (AllTaken t.places) no_more)
-faults t (change p i j d) = fault (number_of NoPlaceRow) (NoRow t.places p) (rowFaults t.n i j d no_more)
+faults t (add i j d) = row_faults t.n i j d (fault (number_of Full) (AllTaken t.places) no_more)
+faults t (change p i j d) = fault (number_of NoPlaceRow) (NoRow t.places p) (row_faults t.n i j d no_more)
 faults t (remove p) = fault (number_of NoPlaceRow) (NoRow t.places p) no_more
 
 -- ---- the calls that alter a table
 
 -- the place that an accepted call names, and the table that it makes of t
 pub data Makes (t : Plain) : Call → ℕ → Plain → Type 0 where
-  starts : {n fibres : ℕ} → Makes t (start n fibres) 0 (freshPlain n fibres)
-  adds : {i j d p : ℕ} → LowestFree t.places p → Makes t (add i j d) p (withPlace t (p - 1) (holds (row i j d)))
-  changes : {p i j d : ℕ} → Makes t (change p i j d) p (withPlace t (p - 1) (holds (row i j d)))
-  removes : {p : ℕ} → Makes t (remove p) p (withPlace t (p - 1) empty)
+  starts : {n fibres : ℕ} → Makes t (start n fibres) 0 (fresh_plain n fibres)
+  adds : {i j d p : ℕ} → LowestFree t.places p → Makes t (add i j d) p (with_place t (p - 1) (holds (row i j d)))
+  changes : {p i j d : ℕ} → Makes t (change p i j d) p (with_place t (p - 1) (holds (row i j d)))
+  removes : {p : ℕ} → Makes t (remove p) p (with_place t (p - 1) empty)
 
 -- one of the two is the case
 pub data WorkSays (w : Work) (c : Call) (r : WorkReply) (x : Work) : Type 0 where

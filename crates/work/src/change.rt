@@ -1,7 +1,7 @@
 // A row added, changed or removed.
 ghost use Rattle.std.specs.Prelude.{◌≡◌, ◌≤◌, ◌<◌, get_or};
 ghost use Rattle.ring.specs.Limits.{desk};
-ghost use Rattle.work.specs.Changes.{Fitting, put_in, clearedIn, addedIn, changedIn, removedIn};
+ghost use Rattle.work.specs.Changes.{Fitting, put_in, cleared_in, added_in, changed_in, removed_in};
 
 use crate::held::{kept, refused, ring_size};
 use crate::place::{free_place, holds_row};
@@ -30,7 +30,7 @@ fn put(work: Work, k: usize, first: u32, second: u32, amount: u32) -> Work
 fn cleared(work: Work, k: usize) -> Work
     requires k_lt_rows { k < desk.rows }
     requires bound { 1 ≤ get_or work.first k 0 }
-    ensures { result ≡ clearedIn work k }
+    ensures { result ≡ cleared_in work k }
 {
     let mut w = work;
     let n = wide(ring_size(w.n));
@@ -46,7 +46,7 @@ fn cleared(work: Work, k: usize) -> Work
 
 // A row at the lowest free place. It is judged as the first row of a table is.
 pub fn added(work: Work, first: u32, second: u32, amount: u32) -> Changed
-    ensures { result ≡ addedIn work first second amount }
+    ensures { result ≡ added_in work first second amount }
 {
     let verdict = judge_row(ring_size(work.n), 0, 0, 0, first, second, amount);
     match verdict {
@@ -64,7 +64,7 @@ pub fn added(work: Work, first: u32, second: u32, amount: u32) -> Changed
 
 // Another row in place of the one at a place.
 pub fn changed(work: Work, place: u32, first: u32, second: u32, amount: u32) -> Changed
-    ensures { result ≡ changedIn work place first second amount }
+    ensures { result ≡ changed_in work place first second amount }
 {
     let holds = holds_row(&work.first, place);
     if holds {
@@ -85,7 +85,7 @@ pub fn changed(work: Work, place: u32, first: u32, second: u32, amount: u32) -> 
 
 // The row at a place leaves it.
 pub fn removed(work: Work, place: u32) -> Changed
-    ensures { result ≡ removedIn work place }
+    ensures { result ≡ removed_in work place }
 {
     let holds = holds_row(&work.first, place);
     if holds {

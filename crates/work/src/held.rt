@@ -1,6 +1,6 @@
 // What a change keeps and answers.
 ghost use Rattle.std.specs.Prelude.{◌≡◌};
-ghost use Rattle.work.specs.Changes.{ringSize, refusedIn, keptIn};
+ghost use Rattle.work.specs.Changes.{ring_size, refused_in, kept_in};
 
 use crate::Work;
 use across::largest_cut;
@@ -26,7 +26,7 @@ pub struct Changed {
 
 // A ring size that the triangle has room for.
 pub(crate) fn ring_size(n: u32) -> u32
-    ensures { result ≡ ringSize n }
+    ensures { result ≡ ring_size n }
 {
     if n < FEWEST {
         FEWEST
@@ -38,7 +38,7 @@ pub(crate) fn ring_size(n: u32) -> u32
 }
 
 pub(crate) fn refused(work: Work, reason: u32) -> Changed
-    ensures { result ≡ refusedIn work reason }
+    ensures { result ≡ refused_in work reason }
 {
     Changed {
         reply: WorkReply {
@@ -55,7 +55,7 @@ pub(crate) fn refused(work: Work, reason: u32) -> Changed
 
 // The rows have changed: the largest cut is looked for among the kept numbers.
 pub(crate) fn kept(work: Work, place: u32) -> Changed
-    ensures { result ≡ keptIn work place }
+    ensures { result ≡ kept_in work place }
 {
     let mut w = work;
     let n = wide(ring_size(w.n));

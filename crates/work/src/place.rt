@@ -1,6 +1,6 @@
 // Which places hold rows.
 ghost use Rattle.std.specs.Prelude.{◌≡◌};
-ghost use Rattle.work.specs.Changes.{freeIn, holdsIn, row_in};
+ghost use Rattle.work.specs.Changes.{free_in, holds_in, row_in};
 
 use crate::Work;
 use ring::{ROWS, wide};
@@ -8,7 +8,7 @@ use table::Reason;
 
 // How many places stand before the lowest that is free; all of them where none is.
 pub(crate) fn free_place(first: &[u8; ROWS]) -> usize
-    ensures { result ≡ freeIn first.now }
+    ensures { result ≡ free_in first.now }
 {
     let mut k: usize = 0;
     while k < ROWS {
@@ -22,7 +22,7 @@ pub(crate) fn free_place(first: &[u8; ROWS]) -> usize
 
 // Whether a place, counted from 1, holds a row.
 pub(crate) fn holds_row(first: &[u8; ROWS], place: u32) -> bool
-    ensures { result ≡ holdsIn first.now place }
+    ensures { result ≡ holds_in first.now place }
 {
     if place < 1 {
         return false;

@@ -1,6 +1,6 @@
 // An empty table.
 ghost use Rattle.std.specs.Prelude.{◌≡◌};
-ghost use Rattle.work.specs.Changes.{freshIn, startedIn};
+ghost use Rattle.work.specs.Changes.{fresh_in, started_in};
 
 use crate::held::{kept, refused};
 use crate::{Changed, Work};
@@ -9,7 +9,7 @@ use ring::ROWS;
 use table::{Verdict, judge_ring};
 
 fn fresh(n: u32, fibres: u32) -> Work
-    ensures { result ≡ freshIn n fibres }
+    ensures { result ≡ fresh_in n fibres }
 {
     Work {
         triangle: [0u32; PAIRS],
@@ -26,7 +26,7 @@ fn fresh(n: u32, fibres: u32) -> Work
 
 // A ring of n nodes and so many fibres with no row, in place of what the table was.
 pub fn started(work: Work, n: u32, fibres: u32) -> Changed
-    ensures { result ≡ startedIn work n fibres }
+    ensures { result ≡ started_in work n fibres }
 {
     let verdict = judge_ring(n, fibres);
     match verdict {

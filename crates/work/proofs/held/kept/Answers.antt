@@ -1,4 +1,4 @@
--- `kept` is `keptIn`: the largest cut of the kept numbers, in the answer and in the table.
+-- `kept` is `kept_in`: the largest cut of the kept numbers, in the answer and in the table.
 use Rattle.work.proofs.ChangeSteps.{kept-is}
 use Rattle.work.proofs.held.kept.Goals as goal
 
