@@ -25,7 +25,7 @@ use Rattle.table.specs.declared.reason.Reason.{Reason}
 use Rattle.table.specs.declared.reason.Reason.TheVariants.{Misshapen, WrongSum}
 use Rattle.table.specs.declared.judge.Verdict.{Verdict}
 use Rattle.table.specs.declared.judge.Verdict.TheVariants.{Fine, Fault}
-use Rattle.table.proofs.Judged.{RingJudged, wrong_size, wrong-fibres, right-ring, ring-judged}
+use Rattle.table.proofs.Judged.{RingJudged, wrong-size, wrong-fibres, right-ring, ring-judged}
 use Rattle.table.proofs.Against.{AgainstRing, by_size, by-fibres, ring-least}
 use Rattle.table.proofs.LineRead.{RingRead, is-ring, no-ring, ring-read}
 use Rattle.table.proofs.LineNumbers.{line-one}
@@ -77,7 +77,7 @@ ring-first : (limits : Limits) (ring : Ring) → First (AgainstRing limits ring)
 ring-first limits ring = record { holds = go (ring-judged limits ring); least = λ s a. ring-least (ring-judged limits ring) a }
   where
     go : {v : Verdict} → RingJudged limits ring v → HoldsAs (AgainstRing limits ring) v
-    go (wrong_size w) = by_size w
+    go (wrong-size w) = by_size w
     go (wrong-fibres l m w) = by-fibres w
     go (right-ring l m f) = tt
 

@@ -27,7 +27,7 @@ use Rattle.table.specs.declared.judge.Verdict.{Verdict}
 use Rattle.table.specs.declared.judge.Verdict.TheVariants.{Fine, Fault}
 use Rattle.table.proofs.Against.{no-node-there}
 use Rattle.table.proofs.BytesGiven.{one-due as one-due-byte, one-shape-byte, one-ring-field}
-use Rattle.table.proofs.Judged.{RingJudged, wrong_size, wrong-fibres, right-ring, Node, no_node, has-node, node, RowJudged, no-such-node, not-below, out_of_order, too_many, too_much, row_fine, row-judged}
+use Rattle.table.proofs.Judged.{RingJudged, wrong-size, wrong-fibres, right-ring, Node, no_node, has-node, node, RowJudged, no-such-node, not-below, out_of_order, too_many, too_much, row_fine, row-judged}
 use Rattle.sheet.specs.Verdicts.{fault_if, or_else}
 use Rattle.sheet.specs.Judge.{wrong_sum, wrong_way, judge_halves}
 use Rattle.sheet.specs.Check.{when, whole_line, last_of, judge_next}
@@ -51,7 +51,7 @@ only-byte t line judging r A (Fault s) f b = only_then (λ s. ByteIs t s line 1)
 
 pub ring-byte : {limits : Limits} {t : List ℕ} {ring : Ring} {v : Verdict} → RingIs t ring → RingJudged limits ring v → ByteOn t 1 (ring_fault ring) v
 unfolding ByteIs ring_fault
-ring-byte {ring} here (wrong_size w) = record { ring = ring; said = here; is = refl }
+ring-byte {ring} here (wrong-size w) = record { ring = ring; said = here; is = refl }
 ring-byte {ring} here (wrong-fibres l m w) = record { ring = ring; said = here; is = refl }
 ring-byte here (right-ring l m f) = tt
 

@@ -22,7 +22,7 @@ use Rattle.table.specs.declared.reason.Reason.{Reason}
 use Rattle.table.specs.declared.judge.Verdict.{Verdict}
 use Rattle.table.specs.declared.judge.Verdict.TheVariants.{Fine}
 use Rattle.table.proofs.ReasonNumbers.{no-reason-0}
-use Rattle.table.proofs.Judged.{RingJudged, wrong_size, wrong-fibres, right-ring, ring-judged}
+use Rattle.table.proofs.Judged.{RingJudged, wrong-size, wrong-fibres, right-ring, ring-judged}
 use Rattle.work.specs.Places.{empty, holds, Plain}
 use Rattle.work.specs.Calls.{Call, start, add, change, remove, refuses, makes, judge_start, judge_place, judge_room, with_place, outcome, answer, row_said, row_answer}
 use Rattle.work.specs.Made.{place_in, called_in, Made, begun, called, plain_of}
@@ -93,8 +93,8 @@ module _ (w : Work) (n fibres : ℕ) where
       go v e (wrong-fibres l h o) =
           both-refuse 20 (λ z. omega arith) (rw e)
           (rw (le-ltb n desk.fewest l, le-ltb desk.nodes n h, ne_eqb fibres 2 (λ q. o (inl q)), ne_eqb fibres 4 (λ q. o (inr q))))
-      go v e (wrong_size (inl l)) = both-refuse 3 (λ z. omega arith) (rw e) (rw (lt-ltb n desk.fewest l))
-      go v e (wrong_size (inr l)) = both-refuse 3 (λ z. omega arith) (rw e) (rw (lt-ltb desk.nodes n l, or-true (ltb n desk.fewest)))
+      go v e (wrong-size (inl l)) = both-refuse 3 (λ z. omega arith) (rw e) (rw (lt-ltb n desk.fewest l))
+      go v e (wrong-size (inr l)) = both-refuse 3 (λ z. omega arith) (rw e) (rw (lt-ltb desk.nodes n l, or-true (ltb n desk.fewest)))
 
 -- ---- a row added, changed, removed
 

@@ -34,11 +34,12 @@ module _ (first : List ℕ) where
         let now : free_from first (k + 1) (desk.rows - (k + 1)) ≡ free_from first k (desk.rows - k) = rw (e, n) (unfold free_from in rw (ne_eqb (get_or first k 0) 0 z)) in
         record { high = omega arith; left = now ∙ s.left }
 
-    pub seek-none : desk.rows ≤ k → k ≡ free_in first
+    pub seek-none : desk.rows ≤ k → desk.rows ≡ free_in first
     seek-none l =
+        let last : desk.rows ≡ k = omega (arith, s.high) in
         let e : desk.rows - k ≡ 0 = omega arith in
         let now : k ≡ free_from first k (desk.rows - k) = rw e (unfold free_from in refl) in
-        now ∙ s.left
+        last ∙ now ∙ s.left
 
 -- ---- a place that holds a row
 

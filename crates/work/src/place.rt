@@ -10,14 +10,12 @@ use table::Reason;
 pub(crate) fn free_place(first: &[u8; ROWS]) -> usize
     ensures { result ≡ free_in first.now }
 {
-    let mut k: usize = 0;
-    while k < ROWS {
+    for k in 0..ROWS {
         if first[k] == 0 {
             return k;
         }
-        k += 1;
     }
-    k
+    ROWS
 }
 
 // Whether a place, counted from 1, holds a row.

@@ -10,16 +10,16 @@ pub cleared-off-requires-clause-k_lt_rows : goal.cleared-off-requires-clause-k_l
 cleared-off-requires-clause-k_lt_rows c = search place-high
 
 pub cleared-off-requires-clause-bound : goal.cleared-off-requires-clause-bound
-cleared-off-requires-clause-bound c = search (place-low, place-row)
+cleared-off-requires-clause-bound c = search place-row
 
 pub put-w-requires : goal.put-w-requires
 put-w-requires c = search (place-high, fitting)
 
 pub returns-in-Fault : goal.returns-in-Fault
-returns-in-Fault c = search (change-fault, change-done, change-none)
+returns-in-Fault c = search change-fault
 
 pub returns-in-Fine : goal.returns-in-Fine
-returns-in-Fine c = search (change-fault, change-done, change-none)
+returns-in-Fine c = search change-done
 
 pub returns-else-holds : goal.returns-else-holds
-returns-else-holds c = search (change-fault, change-done, change-none)
+returns-else-holds c = search change-none

@@ -10,10 +10,10 @@ pub cleared-w-requires-clause-k_lt_rows : goal.cleared-w-requires-clause-k_lt_ro
 cleared-w-requires-clause-k_lt_rows c = search place-high
 
 pub cleared-w-requires-clause-bound : goal.cleared-w-requires-clause-bound
-cleared-w-requires-clause-bound c = search (place-low, place-row)
+cleared-w-requires-clause-bound c = search place-row
 
 pub returns-then-holds : goal.returns-then-holds
-returns-then-holds c = search (remove-done, remove-none)
+returns-then-holds c = search remove-done
 
 pub returns-else-holds : goal.returns-else-holds
-returns-else-holds c = search (remove-done, remove-none)
+returns-else-holds c = search remove-none

@@ -3,10 +3,10 @@ use Rattle.work.proofs.PlaceSteps.{seek_found, seek-on, seek-none}
 use Rattle.work.proofs.place.free_place.Goals as goal
 
 pub returns-then-first-k-eq0 : goal.returns-then-first-k-eq0
-returns-then-first-k-eq0 c = search (seek_found, seek-none)
+returns-then-first-k-eq0 c = search seek_found
 
 pub loop-k-preserved : goal.loop-k-preserved
 loop-k-preserved c = search seek-on
 
 pub returns : goal.returns
-returns c = search (seek_found, seek-none)
+returns c = search seek-none
