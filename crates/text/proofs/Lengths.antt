@@ -8,7 +8,6 @@ use lib.ListN.{length, get_or, drop, length-append, drop_of_length-le}
 use lib.Dec.{ltb, eqb}
 use mir.Val.{Fits}
 use mir.Syntax.{w64}
-use borrow.Author.Tests.{eq-eqb, ne_eqb}
 use Rattle.text.specs.Bytes.{digit0, number}
 use Rattle.text.specs.Number.{base, limit, digits_in, digits}
 use Rattle.text.specs.Mark.{marks, mark_byte}
@@ -50,9 +49,6 @@ pub record CountingDigits (n left count : ℕ) : Type 0 where
   pub sum : count + length (digits left) ≡ length (digits n) + 1
   pub small : left ≤ n
 
-pub digits-start : (n : ℕ) → CountingDigits n n 1
-digits-start n = record { sum = omega arith; small = omega arith }
-
 module _ (n left count : ℕ) (inv : CountingDigits n left count) where
   pub digits-fit : Fits w64 (count + 1)
   digits-fit = omega (arith, digits-short n)
@@ -66,26 +62,6 @@ module _ (n left count : ℕ) (inv : CountingDigits n left count) where
 -- ---- a field
 
 module _ (f v : ℕ) where
-  pub spell-number : f ≡ number → spell f v ≡ digits v
-  unfolding spell
-  spell-number e = rw (eq-eqb _ _ e)
-
-  pub spell-mark : (f ≡ number → ⊥) → spell f v ≡ mark_byte f v ∷ []
-  unfolding spell
-  spell-mark e = rw (ne_eqb _ _ e)
-
-  pub number-long : (r : ℕ) → f ≡ number → r ≡ length (digits v) → r ≡ length (spell f v)
-  number-long r e h = rw (spell-number e) h
-
-  pub number_fits : (at n : ℕ) → f ≡ number → at + length (spell f v) ≤ n → at + length (digits v) ≤ n
-  number_fits at n e h = rw (spell-number e) at h
-
-  pub mark-long : (f ≡ number → ⊥) → 1 ≡ length (spell f v)
-  mark-long e = rw (spell-mark e)
-
-  pub mark-fits : (at n : ℕ) → (f ≡ number → ⊥) → at + length (spell f v) ≤ n → at < n
-  mark-fits at n e h = omega (arith, mark-long e)
-
   pub spell-short : length (spell f v) ≤ 10
   unfolding spell
   spell-short = go (eqb f number)
@@ -141,24 +117,10 @@ module _ (fs vs : List ℕ) (t : ℕ) where
   unfolding write_line
   none_left h = rw (drop_of_length-le fs h)
 
--- counting: `sum` bytes are counted, and those of the fields from t on are left
-pub record Counting (fs vs : List ℕ) (t sum : ℕ) : Type 0 where
-  pub bytes : sum + length (rest_text fs vs t) ≡ length (write_line fs vs)
-  pub within : t ≤ length fs
+-- counting: the bytes of field t, and those of the fields up to it, fit
+module _ (fs vs : List ℕ) (t w behind : ℕ) (e : w ≡ length (field_text fs vs t)) (b : behind ≤ 1) where
+  pub field-fits : Fits w64 (w + behind)
+  field-fits = omega (arith, spell-short (get_or fs t 0) (get_or vs t 0))
 
-pub counting-start : (fs vs : List ℕ) → Counting fs vs 0 0
-counting-start fs vs = record { bytes = omega arith; within = omega arith }
-
-module _ (fs vs : List ℕ) (t sum : ℕ) (inv : Counting fs vs t sum) where
-  module _ (h : t < length fs) (l : length fs ≤ length vs) (w : ℕ) (e : w ≡ length (field_text fs vs t)) where
-    pub counting-turn : Counting fs vs (t + 1) (sum + w + 1)
-    counting-turn = record { bytes = omega (arith, rest-length fs vs t h l); within = omega arith }
-
-    pub sum_fits : length fs ≤ 1000 → Fits w64 (sum + w)
-    sum_fits k = omega (arith, rest-length fs vs t h l, line-short fs vs)
-
-    pub sum-fits-one : (behind : ℕ) → behind ≤ 1 → length fs ≤ 1000 → Fits w64 (sum + w + behind)
-    sum-fits-one behind b k = omega (arith, rest-length fs vs t h l, line-short fs vs)
-
-  pub counting-done : length fs ≤ t → sum ≡ length (write_line fs vs)
-  counting-done h = omega (arith, ap length (none_left fs vs t h))
+  pub sum_fits : (sum : ℕ) → sum + length (rest_text fs vs t) ≡ length (write_line fs vs) → length fs ≤ 1000 → Fits w64 (sum + (w + behind))
+  sum_fits sum inv k = omega (arith, line-short fs vs, spell-short (get_or fs t 0) (get_or vs t 0))

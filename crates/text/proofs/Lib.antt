@@ -18,9 +18,6 @@ pub mod Local
 pub mod Begun
 -- what the code's steps say
 pub mod Tests
-pub mod NumberSteps
-pub mod MarkSteps
-pub mod Filling
 pub mod Lengths
 pub mod Writing
 pub mod Pieces

@@ -13,19 +13,12 @@ use Rattle.text.specs.FieldByte.{field_byte, row_byte, sent_byte}
 use Rattle.text.proofs.Lengths.{line-short}
 
 -- the code's steps
-module _ (shape values : List ℕ) (k r : ℕ) (is : r ≡ length (write_line (take (k - 0) (drop 0 shape)) values)) where
-  whole : k - 0 ≡ k
-  whole = omega arith
-
+module _ (shape values : List ℕ) (k r : ℕ) (is : r ≡ length (write_line (take k shape) values)) where
   pub before-fits : length shape ≤ 1000 → Fits w32 r
-  before-fits h = omega (arith, line-short (take (k - 0) shape) values, length-take (k - 0) shape)
+  before-fits h = omega (arith, line-short (take k shape) values, length-take k shape)
 
   pub byte_fits : (behind : ℕ) → behind ≤ 2 → length shape ≤ 1000 → Fits w32 (r + behind)
-  byte_fits behind l h = omega (arith, line-short (take (k - 0) shape) values, length-take (k - 0) shape)
-
-  pub byte-is : r + 1 ≡ field_byte shape values k
-  unfolding field_byte
-  byte-is = rw (is, whole)
+  byte_fits behind l h = omega (arith, line-short (take k shape) values, length-take k shape)
 
 -- the first three fields of a sheet's D line
 pub sent-row-byte : (i j d f b w k : ℕ) → k ≤ 3 → row_byte i j d k ≡ sent_byte i j d f b w k

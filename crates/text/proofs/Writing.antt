@@ -7,14 +7,12 @@ use lib.ListN.{length, set, length-append}
 use lib.Seq.{sets, length-sets}
 use mir.Val.{Fits}
 use mir.Syntax.{w64}
-use Rattle.text.specs.Bytes.{digit0, number}
+use Rattle.text.specs.Bytes.{digit0}
 use Rattle.text.specs.Number.{base, digits}
-use Rattle.text.specs.Mark.{mark_byte}
-use Rattle.text.specs.Field.{spell}
 use Rattle.text.specs.WriteLine.{end_of, write_line}
 use Rattle.text.specs.Written.{Written}
 use Rattle.text.proofs.Digits.{u32-limit, digits-one, digits-split}
-use Rattle.text.proofs.Lengths.{one-long, more-long, spell-number, spell-mark, field_text, rest_text, rest-step, rest-length, none_left}
+use Rattle.text.proofs.Lengths.{one-long, more-long, field_text, rest_text, rest-step, rest-length, none_left}
 
 -- one piece behind another is both pieces
 pub sets-append : (p q l : List ℕ) (i : ℕ) → sets (sets l i p) (i + length p) q ≡ sets l i (p ++ q)
@@ -56,9 +54,6 @@ module _ (old : List ℕ) (at : ℕ) where
     pub one-fits : at + length (digits n) ≤ length old → at < length old
     one-fits l = omega (arith, one-long n one)
 
-    pub one-fits-next : at + length (digits n) ≤ length old → Fits w64 (length old) → Fits w64 (at + 1)
-    one-fits-next l f = omega (arith, one-long n one)
-
     pub one-digit : Written old at (digits n) (set old at (digit0 + n)) (at + 1)
     one-digit = rw (digits-one n one) (one_byte (digit0 + n))
 
@@ -77,30 +72,16 @@ module _ (old : List ℕ) (at : ℕ) where
       pub last-digit : Written old at (digits n) (set mid r (digit0 + n % base)) (r + 1)
       last-digit = rw (digits-split n more word) (byte-behind (digits (n / base)) mid r (digit0 + n % base) w)
 
-  -- ---- a field
-
-  module _ (f v : ℕ) where
-    pub number-written : (new : List ℕ) (r : ℕ) → f ≡ number → Written old at (digits v) new r → Written old at (spell f v) new r
-    number-written new r e w = rw (spell-number f v e) w
-
-    pub mark-written : (b : ℕ) → (f ≡ number → ⊥) → b ≡ mark_byte f v → Written old at (spell f v) (set old at b) (at + 1)
-    mark-written b e h = rw (spell-mark f v e, ← h) (one_byte b)
-
 -- ---- a line: the fields from t on are left, and go to the place p of buf
 
 pub record Writing (fs vs old : List ℕ) (start t p : ℕ) (buf : List ℕ) : Type 0 where
   pub place : p + length (rest_text fs vs t) ≡ start + length (write_line fs vs)
   pub text : sets buf p (rest_text fs vs t) ≡ sets old start (write_line fs vs)
-  pub within : t ≤ length fs
-  pub same : length buf ≡ length old
-
-pub writing_start : (fs vs old : List ℕ) (start : ℕ) → Writing fs vs old start 0 start old
-writing_start fs vs old start = record { place = refl; text = refl; within = omega arith; same = refl }
 
 module _ (fs vs old : List ℕ) (start t p : ℕ) (buf : List ℕ) (inv : Writing fs vs old start t p buf) where
   module _ (h : t < length fs) (l : length fs ≤ length vs) where
-    pub field_fits : start + length (write_line fs vs) ≤ length old → p + length (field_text fs vs t) + 1 ≤ length buf
-    field_fits k = omega (arith, rest-length fs vs t h l)
+    pub field_fits : length buf ≡ length old → start + length (write_line fs vs) ≤ length old → p + length (field_text fs vs t) + 1 ≤ length buf
+    field_fits b k = omega (arith, rest-length fs vs t h l)
 
     pub writing-turn : (end q : ℕ) (new : List ℕ) → end ≡ end_of (length fs - t - 1)
         → Written buf p (field_text fs vs t ++ end ∷ []) new q → Writing fs vs old start (t + 1) q new
@@ -111,8 +92,6 @@ module _ (fs vs old : List ℕ) (start t p : ℕ) (buf : List ℕ) (inv : Writin
         record {
           place = omega (arith, w.place, length-append field (end ∷ []), rest-length fs vs t h l);
           text = rw (w.buffer, w.place) (sets-append (field ++ end ∷ []) rest buf p ∙ ap (sets buf p) whole ∙ inv.text);
-          within = omega arith;
-          same = written-length buf new (field ++ end ∷ []) p q w ∙ inv.same;
         }
 
   pub writing-done : length fs ≤ t → Written old start (write_line fs vs) buf p

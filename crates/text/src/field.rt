@@ -20,35 +20,37 @@ pub enum Field {
 }
 
 // Reads the field f at `at` and the byte `end` behind it.
+#[tactic(auto, unfolding(crate::specs::ReadLine::field_at))]
 pub(crate) fn read_field(s: &[u8], at: usize, f: u8, end: u8) -> Field
     ensures { result ≡ field_at f s.now at end }
 {
     if f == NUMBER {
-        return read_number(s, at, end);
+        read_number(s, at, end)
+    } else {
+        read_mark(s, at, f, end)
     }
-    read_mark(s, at, f, end)
 }
 
 // How many bytes the value v of the field f has.
+#[tactic(auto, unfolding(crate::specs::Field::spell))]
 pub(crate) fn value_length(f: u8, v: u32) -> usize
     ensures { result ≡ length (spell f v) }
 {
-    if f == NUMBER {
-        return number_length(v);
-    }
-    1
+    if f == NUMBER { number_length(v) } else { 1 }
 }
 
 // Writes the value v of the field f from `at` on, and answers the place behind it.
+#[tactic(auto, unfolding(crate::specs::Field::spell))]
 fn write_value(buf: &mut [u8], at: usize, f: u8, v: u32) -> usize
     requires { at + length (spell f v) ≤ length buf.old }
     ensures { Written buf.old at (spell f v) buf.new result }
 {
     if f == NUMBER {
-        return write_number(buf, at, v);
+        write_number(buf, at, v)
+    } else {
+        buf[at] = mark_byte(f, v);
+        at + 1
     }
-    buf[at] = mark_byte(f, v);
-    at + 1
 }
 
 // The same, with the byte `end` behind it.

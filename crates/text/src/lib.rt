@@ -78,8 +78,7 @@ pub enum SentRow {
 pub fn read_entry(s: &[u8], at: usize, left: usize) -> Field
     ensures { result ≡ field_at number s.now at (end_of left) }
 {
-    let end = end_of(left);
-    read_field(s, at, NUMBER, end)
+    read_field(s, at, NUMBER, end_of(left))
 }
 
 // ---- R n fibres
@@ -142,12 +141,12 @@ pub fn row_byte(i: u32, j: u32, amount: u32, k: usize) -> u32
 
 // ---- D i j amount front back F-or-B, in a sheet
 
+#[tactic(auto, unfolding(crate::specs::Answers::sent_in, crate::specs::Filled::filled))]
 pub fn read_sent(s: &[u8]) -> SentRow
     ensures { result ≡ sent_in (read_line sent_shape s.now) }
 {
     let mut values = [0u32; 7];
-    let line = read_line(s, &SENT, &mut values);
-    match line {
+    match read_line(s, &SENT, &mut values) {
         Line::Bad(p) => SentRow::Bad(p),
         Line::Good => SentRow::Is {
             first: values[1],

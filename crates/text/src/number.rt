@@ -19,51 +19,45 @@ const FULL: u32 = LIMIT / BASE;
 const ALONE: u32 = 0;
 
 // The value of a digit, BASE for any other byte.
+#[tactic(auto, unfolding(crate::specs::ReadNumber::digit_of))]
 fn digit_of(b: u8) -> u32
     ensures { result ≡ digit_of b }
 {
-    if b < b'0' {
-        return BASE;
+    match b {
+        b'0'..=b'9' => (b - b'0') as u32,
+        _ => BASE,
     }
-    if b <= b'9' {
-        return (b - b'0') as u32;
-    }
-    BASE
 }
 
 // Reads the number at `at` and the byte `end` behind it. The value is limited and not the count of digits, so that one number is
 // kept: after 0, and from FULL on, a further digit is the fault.
+#[tactic(auto, unfolding(crate::specs::ReadNumber::number_at, crate::specs::ReadNumber::number_from, crate::specs::ReadNumber::digits_from))]
 pub(crate) fn read_number(s: &[u8], at: usize, end: u8) -> Field
     ensures { result ≡ number_at s.now at end }
 {
-    if s.len() <= at {
+    if at >= s.len() {
         return Field::Bad(at);
     }
-    let first = digit_of(s[at]);
-    if BASE <= first {
+    let mut v = digit_of(s[at]);
+    if v >= BASE {
         return Field::Bad(at);
     }
-    let mut v = first;
-    let mut p = at + 1;
-    while p < s.len() {
+    for p in at + 1..s.len() {
         let b = s[p];
         let d = digit_of(b);
-        if BASE <= d {
-            if b == end {
-                return Field::Is(v, p + 1);
-            }
-            return Field::Bad(p);
+        if d >= BASE {
+            return if b == end {
+                Field::Is(v, p + 1)
+            } else {
+                Field::Bad(p)
+            };
         }
-        if v == ALONE {
-            return Field::Bad(p);
-        }
-        if FULL <= v {
+        if v == ALONE || v >= FULL {
             return Field::Bad(p);
         }
         v = v * BASE + d;
-        p = p + 1;
     }
-    Field::Bad(p)
+    Field::Bad(s.len())
 }
 
 // How many digits n has.
@@ -72,9 +66,9 @@ pub(crate) fn number_length(n: u32) -> usize
 {
     let mut left = n;
     let mut count: usize = 1;
-    while BASE <= left {
-        left = left / BASE;
-        count = count + 1;
+    while left >= BASE {
+        left /= BASE;
+        count += 1;
     }
     count
 }

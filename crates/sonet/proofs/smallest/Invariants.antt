@@ -1,9 +1,7 @@
-use Rattle.std.proofs.Common.{length, ◌-◌}
-use Rattle.sonet.proofs.Scan.{Stands}
+-- `sonet::smallest` meets its contract. The loop keeps that the answer of the sizes not yet seen is the answer of all.
+use Rattle.std.proofs.Common.{◌≡◌, drop}
+use Rattle.sonet.specs.Size.{smallest_in}
 use Rattle.sonet.proofs.smallest.Given as goal
 
-abbrev pub invariant-loop-k : goal.invariant-loop-k
-invariant-loop-k l = Stands l.sizes l.peak l.k
-
-abbrev pub decreases-loop-k : goal.decreases-loop-k
-decreases-loop-k l = length l.sizes - l.k
+abbrev pub invariant-loop-size : goal.invariant-loop-size
+invariant-loop-size l = smallest_in (drop l.size-index l.sizes) l.peak ≡ smallest_in l.sizes l.peak

@@ -6,7 +6,7 @@ pub write_field-p-requires : goal.write_field-p-requires
 write_field-p-requires c = search field_fits
 
 pub loop-next-preserved : goal.loop-next-preserved
-loop-next-preserved c = let turn = writing-turn _ _ _ _ _ _ _ c.loop-next.invariant in search turn
+loop-next-preserved c = search writing-turn
 
 pub returns : goal.returns
 returns c = search writing-done

@@ -2,11 +2,8 @@
 use lib.ListN.{drop}
 use Rattle.text.specs.Number.{limit}
 use Rattle.text.specs.ReadNumber.{digits_from, number_at}
-use Rattle.std.proofs.Common.{length, ◌-◌, ◌≡◌, ◌≤◌, ◌<◌}
+use Rattle.std.proofs.Common.{◌≡◌, ◌<◌}
 use Rattle.text.proofs.number.read_number.Given as goal
 
 abbrev pub invariant-loop-p : goal.invariant-loop-p
-invariant-loop-p l = (number_at l.s l.at l.end ≡ digits_from l.end l.v l.p (drop l.p l.s)) × (l.v < limit) × (l.p ≤ length l.s)
-
-abbrev pub decreases-loop-p : goal.decreases-loop-p
-decreases-loop-p l = length l.s - l.p
+invariant-loop-p l = (number_at l.s l.at l.end ≡ digits_from l.end l.v l.p (drop l.p l.s)) × (l.v < limit)
