@@ -133,7 +133,7 @@ module _ (add : Bool) (n i j d : ℕ) (old : List ℕ) (size : length old ≡ mo
         kept = λ g k a b c _. refl;
       }
 
-  module _ (now : List ℕ) (h : ℕ) (s : Rowing add n r old now h) (on : h ≤ n) where
+  module _ (now : List ℕ) (h : ℕ) (s : Rowing add n r old now h) (on : h < n + 1) where
     module _ (new : List ℕ) where
       -- the lines before stay as they were changed, those behind as they were; and the line of h is as it is due
       turned : (l m : ℕ) → LineStep op h l m now new → ((g : ℕ) → 1 ≤ g → g < h → at new g h ≡ step add (at old g h) (part r g h)) → Rowing add n r old new (h + 1)
@@ -196,7 +196,7 @@ module _ (add : Bool) (n i j d : ℕ) (old : List ℕ) (size : length old ≡ mo
     pub fits-behind : j ≤ h → LineFits h i j
     fits-behind l = record { first = omega arith; last = omega arith; from = low; to = l }
 
-  pub rows-done : (now : List ℕ) (h : ℕ) → n < h → Rowing add n r old now h → now ≡ step_row add n r old
+  pub rows-done : (now : List ℕ) (h : ℕ) → n + 1 ≤ h → Rowing add n r old now h → now ≡ step_row add n r old
   unfolding step_row
   rows-done now h l s =
       triangle-is (stepped add n r old) most_links now (s.size ∙ size ∙ sym all-pairs) (λ g k a b c. go g k a b c)

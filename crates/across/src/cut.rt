@@ -21,8 +21,7 @@ pub fn largest_cut(triangle: &[u32; PAIRS], n: usize) -> Cut
     let mut best_g: usize = 1;
     let mut best_h: usize = 2;
     let mut best: u32 = get(triangle, 1, 2);
-    let mut g: usize = 1;
-    while g < n {
+    for g in 1..n {
         let mut h: usize = g + 1;
         while h <= n {
             let number = get(triangle, g, h);
@@ -33,7 +32,6 @@ pub fn largest_cut(triangle: &[u32; PAIRS], n: usize) -> Cut
             }
             h += 1;
         }
-        g += 1;
     }
     Cut {
         g: best_g as u32,

@@ -21,9 +21,7 @@ pub(crate) fn fill(
     requires triangle { Triangle n [] triangle.old }
     ensures { Triangle n (rows_in count first.now second.now amount.now) triangle.new }
 {
-    let mut t: usize = count;
-    while 0 < t {
-        t -= 1;
+    for t in (0..count).rev() {
         let i = wide(first[t]);
         let j = wide(second[t]);
         step_row(triangle, true, n, i, j, amount[t]);

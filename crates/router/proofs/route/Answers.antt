@@ -2,8 +2,8 @@
 use Rattle.router.proofs.FourRules.{carried-fits, plan-routes}
 use Rattle.router.proofs.route.Goals as goal
 
-pub must_carry-carried-requires : goal.must_carry-carried-requires
-must_carry-carried-requires c =
+pub must_carry-requires : goal.must_carry-requires
+must_carry-requires c =
     let divided = rw c.wide-links.ensures at c.divide-cut.ensures in
     search carried-fits
 

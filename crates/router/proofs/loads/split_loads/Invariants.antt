@@ -4,6 +4,3 @@ use Rattle.router.proofs.loads.split_loads.Given as goal
 
 abbrev pub invariant-loop-t : goal.invariant-loop-t
 invariant-loop-t l = Splits l.n l.count l.first l.second l.front l.back l.loads l.t
-
-abbrev pub decreases-loop-t : goal.decreases-loop-t
-decreases-loop-t l = l.t

@@ -2,17 +2,17 @@
 use Rattle.router.proofs.MoveCases.{move-apart, move-outer, move-inner, move-crossing, move-whole}
 use Rattle.router.proofs.parallel.moved.Goals as goal
 
-pub returns-then-apart : goal.returns-then-apart
-returns-then-apart c = search move-apart
+pub returns-then-disjoint : goal.returns-then-disjoint
+returns-then-disjoint c = search move-apart
 
-pub returns-then-outer : goal.returns-then-outer
-returns-then-outer c = search move-outer
+pub returns-then-holds : goal.returns-then-holds
+returns-then-holds c = search move-outer
 
-pub returns-then-inner : goal.returns-then-inner
-returns-then-inner c = search move-inner
+pub returns-then-holds-2 : goal.returns-then-holds-2
+returns-then-holds-2 c = search move-inner
 
-pub returns-else-inner : goal.returns-else-inner
-returns-else-inner c = search move-crossing
+pub returns-else-holds-2 : goal.returns-else-holds-2
+returns-else-holds-2 c = search move-crossing
 
-pub returns-else-clash : goal.returns-else-clash
-returns-else-clash c = search move-whole
+pub returns-then-not-both_split : goal.returns-then-not-both_split
+returns-then-not-both_split c = search move-whole

@@ -1,6 +1,5 @@
 -- `untangle` is rule C: where its loops stand, the rows behind them and the pass over what is left make up the pass over all.
 use Rattle.router.proofs.PassSteps.{Firsts, Seconds}
-use Rattle.std.proofs.Common.{◌-◌}
 use Rattle.router.proofs.parallel.untangle.Given as goal
 
 abbrev pub invariant-loop-b : goal.invariant-loop-b
@@ -8,9 +7,3 @@ invariant-loop-b l = Seconds l.count l.first l.second l.initial.front l.initial.
 
 abbrev pub invariant-loop-a : goal.invariant-loop-a
 invariant-loop-a l = Firsts l.count l.first l.second l.initial.front l.initial.back l.front l.back l.a
-
-abbrev pub decreases-loop-b : goal.decreases-loop-b
-decreases-loop-b l = l.count - l.b
-
-abbrev pub decreases-loop-a : goal.decreases-loop-a
-decreases-loop-a l = l.count - l.a

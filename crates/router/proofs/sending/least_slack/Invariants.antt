@@ -7,6 +7,3 @@ use Rattle.router.proofs.sending.least_slack.Given as goal
 
 abbrev pub invariant-loop-h : goal.invariant-loop-h
 invariant-loop-h l = Lowest (λ y. least (λ x. slack (link_at l.room) (pair_at l.triangle) x y) l.i (y - l.i)) l.i (l.j - 1) l.s l.h
-
-abbrev pub decreases-loop-h : goal.decreases-loop-h
-decreases-loop-h l = l.last - l.h

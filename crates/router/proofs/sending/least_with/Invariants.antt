@@ -2,11 +2,7 @@
 use Rattle.ring.specs.RuleB.{slack}
 use Rattle.router.specs.Arrays.{pair_at, link_at}
 use Rattle.router.proofs.SendSteps.{Lowest}
-use Rattle.std.proofs.Common.{◌-◌}
 use Rattle.router.proofs.sending.least_with.Given as goal
 
 abbrev pub invariant-loop-g : goal.invariant-loop-g
 invariant-loop-g l = Lowest (λ x. slack (link_at l.room) (pair_at l.triangle) x l.h) l.i l.h l.s l.g
-
-abbrev pub decreases-loop-g : goal.decreases-loop-g
-decreases-loop-g l = l.h - l.g

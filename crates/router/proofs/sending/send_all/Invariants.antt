@@ -1,10 +1,6 @@
 -- `send_all` is rule B: what is sent so far, and what the rule sends from the rooms and rows that are left, is what it sends of all.
 use Rattle.router.proofs.SendSteps.{Sending}
-use Rattle.std.proofs.Common.{◌-◌}
 use Rattle.router.proofs.sending.send_all.Given as goal
 
 abbrev pub invariant-loop-t : goal.invariant-loop-t
 invariant-loop-t l = Sending l.n l.count l.first l.second l.amount l.initial.room l.triangle l.room l.front l.back l.t
-
-abbrev pub decreases-loop-t : goal.decreases-loop-t
-decreases-loop-t l = l.count - l.t

@@ -4,6 +4,3 @@ use Rattle.router.proofs.triangle.fill.Given as goal
 
 abbrev pub invariant-loop-t : goal.invariant-loop-t
 invariant-loop-t l = Filled l.n l.count l.first l.second l.amount l.triangle l.t
-
-abbrev pub decreases-loop-t : goal.decreases-loop-t
-decreases-loop-t l = l.t

@@ -1,10 +1,6 @@
 -- `choose` is rule D: the ways so far, and those that the rule gives to what is left, are the ways of all.
 use Rattle.router.proofs.WaySteps.{Choosing}
-use Rattle.std.proofs.Common.{◌-◌}
 use Rattle.router.proofs.ways.choose.Given as goal
 
 abbrev pub invariant-loop-t : goal.invariant-loop-t
 invariant-loop-t l = Choosing l.count l.amount l.front l.back l.most l.way l.added l.taken l.t
-
-abbrev pub decreases-loop-t : goal.decreases-loop-t
-decreases-loop-t l = l.count - l.t

@@ -2,8 +2,8 @@
 use Rattle.router.proofs.WaySteps.{larger-yes, larger-no}
 use Rattle.router.proofs.ways.larger_split.Goals as goal
 
-pub returns-then-split : goal.returns-then-split
-returns-then-split c = search larger-yes
+pub returns-then-is_split : goal.returns-then-is_split
+returns-then-is_split c = search larger-yes
 
-pub returns-else-split : goal.returns-else-split
-returns-else-split c = search larger-no
+pub returns-else-is_split : goal.returns-else-is_split
+returns-else-is_split c = search larger-no

@@ -4,6 +4,3 @@ use Rattle.router.proofs.ways.largest_split.Given as goal
 
 abbrev pub invariant-loop-t : goal.invariant-loop-t
 invariant-loop-t l = Topped l.count l.amount l.front l.back l.most l.t
-
-abbrev pub decreases-loop-t : goal.decreases-loop-t
-decreases-loop-t l = l.t
