@@ -16,14 +16,12 @@ module _ (a : ℕ → ℕ → ℕ) (n : ℕ) where
 
   pub record Across (i j : ℕ) : Type 0 where
     pub rest : judge_across a i 1 n ≡ judge_across a i j (n + 1 - j)
-    pub low : 1 ≤ j
-    pub high : j ≤ n + 1
 
   pub across-starts : (i : ℕ) → Across i 1
-  across-starts i = let e : n + 1 - 1 ≡ n = omega arith in record { rest = rw e; low = omega arith; high = omega arith }
+  across-starts i = let e : n + 1 - 1 ≡ n = omega arith in record { rest = rw e }
 
   module _ (i j : ℕ) (across : Across i j) where
-    module _ (l : j ≤ n) (x y : ℕ) (ex : x ≡ a i j) (ey : y ≡ a j i) (v : Verdict) (ev : v ≡ judge_entry i j x y) where
+    module _ (l : j < n + 1) (x y : ℕ) (ex : x ≡ a i j) (ey : y ≡ a j i) (v : Verdict) (ev : v ≡ judge_entry i j x y) where
       across-next : judge_across a i 1 n ≡ or_else v (j - 1) (judge_across a i (j + 1) (n + 1 - (j + 1)))
       unfolding judge_across
       across-next = let e : n + 1 - j ≡ suc (n + 1 - (j + 1)) = omega arith in across.rest ∙ rw (e, ← ex, ← ey, ← ev)
@@ -34,9 +32,9 @@ module _ (a : ℕ → ℕ → ℕ) (n : ℕ) where
 
       pub entry-fine : v ≡ Fine → Across i (j + 1)
       unfolding or_else
-      entry-fine f = record { rest = across-next ∙ rw f; low = omega arith; high = omega arith }
+      entry-fine f = record { rest = across-next ∙ rw f }
 
-    pub across-done : n < j → Nothing ≡ judge_across a i 1 n
+    pub across-done : n + 1 ≤ j → Nothing ≡ judge_across a i 1 n
     unfolding judge_across
     across-done l = let e : n + 1 - j ≡ 0 = omega arith in sym (across.rest ∙ rw e)
 
@@ -44,14 +42,12 @@ module _ (a : ℕ → ℕ → ℕ) (n : ℕ) where
 
   pub record Down (i : ℕ) : Type 0 where
     pub rest : judge_down a n 1 n ≡ judge_down a n i (n + 1 - i)
-    pub low : 1 ≤ i
-    pub high : i ≤ n + 1
 
   pub down-starts : Down 1
-  down-starts = let e : n + 1 - 1 ≡ n = omega arith in record { rest = rw e; low = omega arith; high = omega arith }
+  down-starts = let e : n + 1 - 1 ≡ n = omega arith in record { rest = rw e }
 
   module _ (i : ℕ) (down : Down i) where
-    module _ (l : i ≤ n) (v : Found) (ev : v ≡ judge_across a i 1 n) where
+    module _ (l : i < n + 1) (v : Found) (ev : v ≡ judge_across a i 1 n) where
       down-next : judge_down a n 1 n ≡ on_line v i (entry_byte (line_of a n i)) (judge_down a n (i + 1) (n + 1 - (i + 1)))
       unfolding judge_down
       down-next = let e : n + 1 - i ≡ suc (n + 1 - (i + 1)) = omega arith in down.rest ∙ rw (e, ← ev)
@@ -62,8 +58,8 @@ module _ (a : ℕ → ℕ → ℕ) (n : ℕ) where
 
       pub line-fine : v ≡ Nothing → Down (i + 1)
       unfolding on_line
-      line-fine f = record { rest = down-next ∙ rw f; low = omega arith; high = omega arith }
+      line-fine f = record { rest = down-next ∙ rw f }
 
-    pub down-done : n < i → Read ≡ judge_down a n 1 n
+    pub down-done : n + 1 ≤ i → Read ≡ judge_down a n 1 n
     unfolding judge_down
     down-done l = let e : n + 1 - i ≡ 0 = omega arith in sym (down.rest ∙ rw e)

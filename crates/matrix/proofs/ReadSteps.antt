@@ -230,3 +230,7 @@ module _ (s : List ℕ) (fibres : ℕ) (t : Table) where
         pub then-square : v ≡ Fine → t ≡ table_in (table_from fibres (square_judged (lines_of desk n 1 n [] (lines s)))) → t ≡ matrix_result
         unfolding matrix_of
         then-square g e = e ∙ ap table_in (ap (table_from fibres) (rw (le-ltb desk.bytes (length s) short, first-line, ← ec, told.is, ← en, ← ev, g)))
+
+pub ruleset reads_square = (lines-refused, square-refused, rows_made)
+
+pub ruleset reads_matrix = (fields_fit, ring-few, too_long, no_line, first-place, first-misshapen, ring-fault, then-square)

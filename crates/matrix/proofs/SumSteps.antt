@@ -1,6 +1,6 @@
 -- Sums under their loops: the rows passed are added up, and judged row by row.
 use Prim.Native.Nat.{ℕ, ◌+◌, ◌-◌, ◌*◌, ◌≤◌, ◌<◌}
-use mathlib.Core.Bool.{Bool, true, false, cond}
+use mathlib.Core.Bool.{cond}
 use mathlib.Core.List.{List, [], ◌∷◌, ◌++◌}
 use mathlib.Core.Path.{◌≡◌, refl, ap, ◌∙◌, sym}
 use native.Mathlib.Omega.{arith}
@@ -9,11 +9,11 @@ use mir.Syntax.{w32}
 use mir.Val.{Fits}
 use borrow.Author.Tests.{lt-ltb, le-ltb}
 use Rattle.ring.specs.Limits.{desk}
-use Rattle.ring.specs.Row.{Row, row}
+use Rattle.ring.specs.Row.{Row}
 use Rattle.ring.specs.Columns.{listed, row_at, rows_in}
 use Rattle.ring.proofs.Side.{cond-elim}
 use Rattle.ring.proofs.Listed.{listed-snoc, listed_cons, listed-none}
-use Rattle.matrix.specs.Demands.{same_pair, joins, sum_of}
+use Rattle.matrix.specs.Demands.{joins, sum_of}
 use Rattle.matrix.specs.Judged.{sums_from, judge_sums}
 use Rattle.matrix.specs.Arrays.{Amounts}
 use Rattle.matrix.specs.declared.sums.Sums.TheVariants.{Fit, Pass}
@@ -33,18 +33,6 @@ sum_more rs r i j = omega (arith, sum-append rs (r ∷ []) i j)
 
 pub part_small : (r : Row) (i j : ℕ) → part_of r i j ≤ r.d
 part_small r i j = cond-elim (λ x. x ≤ r.d) (joins r i j) r.d 0 (λ e. omega arith) (λ e. omega arith)
-
--- what a row adds, by the code's two tests
-module _ (a b d i j : ℕ) (x : Bool) (ex : x ≡ same_pair a b i j) where
-  pub part-straight : x ≡ true → d ≡ part_of (row a b d) i j
-  part-straight t = rw (sym ex ∙ t)
-
-  module _ (fx : x ≡ false) (y : Bool) (ey : y ≡ same_pair a b j i) where
-    pub part_turned : y ≡ true → d ≡ part_of (row a b d) i j
-    part_turned t = rw (sym ex ∙ fx, sym ey ∙ t)
-
-    pub part_none : y ≡ false → 0 ≡ part_of (row a b d) i j
-    part_none t = rw (sym ex ∙ fx, sym ey ∙ t)
 
 module _ (first second amount : List ℕ) where
   rows_more : (k : ℕ) → rows_in (k + 1) first second amount ≡ rows_in k first second amount ++ row_at first second amount k ∷ []
@@ -81,33 +69,29 @@ module _ (first second amount : List ℕ) where
 
   -- ---- judged
 
-  pub record JudgingSums (count k line : ℕ) : Type 0 where
-    pub rest : judge_sums desk (rows_in count first second amount) ≡ sums_from desk line (rows_in k first second amount) (listed (row_at first second amount) k (count - k))
+  pub record JudgingSums (count k : ℕ) : Type 0 where
+    pub rest : judge_sums desk (rows_in count first second amount) ≡ sums_from desk (k + 2) (rows_in k first second amount) (listed (row_at first second amount) k (count - k))
     pub within : k ≤ count
-    pub lined : line ≡ k + 2
 
-  pub judging-sums-starts : (count : ℕ) → JudgingSums count 0 2
+  pub judging-sums-starts : (count : ℕ) → JudgingSums count 0
   unfolding judge_sums listed
-  judging-sums-starts count = let e : count - 0 ≡ count = omega arith in record { rest = rw e; within = omega arith; lined = refl }
+  judging-sums-starts count = let e : count - 0 ≡ count = omega arith in record { rest = rw e; within = omega arith }
 
   -- the rows before a row of a table have amounts too
   pub amounts-before : (count k : ℕ) → Amounts count amount → k < count → Amounts (k + 1) amount
   amounts-before count k amounts l = record { room = omega (arith, amounts.room); small = λ m h. amounts.small m (omega arith) }
 
-  module _ (count k line : ℕ) (judging : JudgingSums count k line) where
+  module _ (count k : ℕ) (judging : JudgingSums count k) where
     module _ (l : k < count) (sum : ℕ) (es : sum ≡ sum_of (rows_in (k + 1) first second amount) (get_or first k 0) (get_or second k 0)) where
-      pub sum-passes : desk.amount < sum → Pass line ≡ judge_sums desk (rows_in count first second amount)
+      pub sum-passes : desk.amount < sum → Pass (k + 2) ≡ judge_sums desk (rows_in count first second amount)
       unfolding sums_from
       sum-passes h = sym (judging.rest ∙ rw (listed_cons (row_at first second amount) k count l, ← rows_more k, ← es, lt-ltb _ _ h))
 
-      pub sum-fine : sum ≤ desk.amount → JudgingSums count (k + 1) (line + 1)
+      pub sum-fine : sum ≤ desk.amount → JudgingSums count (k + 1)
       unfolding sums_from
       sum-fine h =
-          record {
-            rest = judging.rest ∙ rw (listed_cons (row_at first second amount) k count l, ← rows_more k, ← es, le-ltb _ _ h);
-            within = omega arith;
-            lined = omega (arith, judging.lined);
-          }
+          let e : k + 1 + 2 ≡ k + 2 + 1 = omega arith in
+          record { rest = judging.rest ∙ rw (listed_cons (row_at first second amount) k count l, ← rows_more k, ← es, le-ltb _ _ h, e); within = omega arith }
 
     pub sums-judged : count ≤ k → Fit ≡ judge_sums desk (rows_in count first second amount)
     unfolding sums_from

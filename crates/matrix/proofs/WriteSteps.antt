@@ -68,24 +68,22 @@ module _ (n : ℕ) (values : List ℕ) (l : n ≤ desk.nodes) (room : length val
 
 -- ---- a line's sums: those before node t + 1 stand in the column
 
-pub record Lining (f : ℕ → ℕ) (n : ℕ) (values : List ℕ) (t j : ℕ) : Type 0 where
+pub record Lining (f : ℕ → ℕ) (n : ℕ) (values : List ℕ) (t : ℕ) : Type 0 where
   pub held : values ≡ values_in (listed f 1 t)
-  pub node : j ≡ t + 1
   pub within : t ≤ n
 
-pub lining-starts : (f : ℕ → ℕ) (n : ℕ) → Lining f n (replicate {A = ℕ} desk.nodes 0) 0 1
+pub lining-starts : (f : ℕ → ℕ) (n : ℕ) → Lining f n (replicate {A = ℕ} desk.nodes 0) 0
 unfolding listed column
-lining-starts f n = record { held = refl; node = refl; within = omega arith }
+lining-starts f n = record { held = refl; within = omega arith }
 
-module _ (f : ℕ → ℕ) (n : ℕ) (values : List ℕ) (t j : ℕ) (lining : Lining f n values t j) where
-  pub lines-sum : t < n → (v : ℕ) → v ≡ f j → Lining f n (set values t v) (t + 1) (j + 1)
+module _ (f : ℕ → ℕ) (n : ℕ) (values : List ℕ) (t : ℕ) (lining : Lining f n values t) where
+  pub lines-sum : t < n → (v : ℕ) → v ≡ f (t + 1) → Lining f n (set values t v) (t + 1)
   lines-sum l v e =
-      let k : 1 + t ≡ j = omega (arith, lining.node) in
+      let k : 1 + t ≡ t + 1 = omega arith in
       record {
         held =
             rw (lining.held, e)
-            (column-more (λ (w : ℕ). w) desk.nodes (listed f 1 t) (f j) t (sym (listed-length f 1 t)) ∙ ap values_in (sym (rw k at (listed-snoc f 1 t))));
-        node = omega (arith, lining.node);
+            (column-more (λ (w : ℕ). w) desk.nodes (listed f 1 t) (f (t + 1)) t (sym (listed-length f 1 t)) ∙ ap values_in (sym (rw k at (listed-snoc f 1 t))));
         within = omega arith;
       }
 

@@ -22,8 +22,7 @@ pub(crate) fn entry_byte(k: usize, values: &[u32; LINKS]) -> u32
     requires { (k ≤ desk.nodes) × (length values.now ≡ desk.nodes) }
     ensures { result ≡ entry_byte values.now k }
 {
-    let before = numbers_length(k, values);
-    before as u32 + 1
+    numbers_length(k, values) as u32 + 1
 }
 
 // Line i of a square of n nodes.
@@ -32,12 +31,8 @@ fn line_at(i: u32, n: usize, square: &[u32; SQUARE]) -> [u32; LINKS]
     ensures { result ≡ values_in (line_of (at square.now) n i) }
 {
     let mut values = [0u32; LINKS];
-    let mut t: usize = 0;
-    let mut j: u32 = 1;
-    while t < n {
-        values[t] = get(square, i, j);
-        t += 1;
-        j += 1;
+    for t in 0..n {
+        values[t] = get(square, i, t as u32 + 1);
     }
     values
 }
@@ -47,7 +42,5 @@ pub(crate) fn square_byte(k: usize, i: u32, n: u32, square: &[u32; SQUARE]) -> u
     requires { (k ≤ n) × (1 ≤ i) × (i ≤ desk.nodes) × (n ≤ desk.nodes) }
     ensures { result ≡ entry_byte (line_of (at square.now) n i) k }
 {
-    let nodes = wide(n);
-    let values = line_at(i, nodes, square);
-    entry_byte(k, &values)
+    entry_byte(k, &line_at(i, wide(n), square))
 }

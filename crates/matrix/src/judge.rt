@@ -10,19 +10,21 @@ use ring::wide;
 use table::{Reason, Verdict};
 
 // The entry x at i, j, whose mirror entry is y.
+#[tactic(auto, unfolding(crate::specs::Read::judge_entry))]
 fn judge_entry(i: u32, j: u32, x: u32, y: u32) -> Verdict
     ensures { result ≡ judge_entry i j x y }
 {
     if i == j {
         if x == 0 {
-            return Verdict::Fine;
+            Verdict::Fine
+        } else {
+            Verdict::Fault(Reason::NotZero)
         }
-        return Verdict::Fault(Reason::NotZero);
+    } else if x == y {
+        Verdict::Fine
+    } else {
+        Verdict::Fault(Reason::NotSymmetric)
     }
-    if x == y {
-        return Verdict::Fine;
-    }
-    Verdict::Fault(Reason::NotSymmetric)
 }
 
 // The entries of line i.
@@ -30,19 +32,9 @@ fn judge_across(n: u32, i: u32, square: &[u32; SQUARE]) -> Found
     requires { (1 ≤ i) × (i ≤ n) × (n ≤ desk.nodes) }
     ensures { result ≡ judge_across (at square.now) i 1 n }
 {
-    let mut j: u32 = 1;
-    while j <= n {
-        let x = get(square, i, j);
-        let y = get(square, j, i);
-        let verdict = judge_entry(i, j, x, y);
-        match verdict {
-            Verdict::Fault(reason) => {
-                let before = wide(j) - 1;
-                return Found::At(reason, before);
-            }
-            Verdict::Fine => {
-                j += 1;
-            }
+    for j in 1..n + 1 {
+        if let Verdict::Fault(reason) = judge_entry(i, j, get(square, i, j), get(square, j, i)) {
+            return Found::At(reason, wide(j) - 1);
         }
     }
     Found::Nothing
@@ -53,17 +45,9 @@ pub(crate) fn judge_square(n: u32, square: &[u32; SQUARE]) -> Lines
     requires { n ≤ desk.nodes }
     ensures { result ≡ judge_down (at square.now) n 1 n }
 {
-    let mut i: u32 = 1;
-    while i <= n {
-        let found = judge_across(n, i, square);
-        match found {
-            Found::At(reason, k) => {
-                let byte = square_byte(k, i, n, square);
-                return Lines::Refused(reason, i, byte);
-            }
-            Found::Nothing => {
-                i += 1;
-            }
+    for i in 1..n + 1 {
+        if let Found::At(reason, k) = judge_across(n, i, square) {
+            return Lines::Refused(reason, i, square_byte(k, i, n, square));
         }
     }
     Lines::Read

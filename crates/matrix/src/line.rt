@@ -31,9 +31,7 @@ pub(crate) fn fields(line: &[u8]) -> usize
     ensures { result ≡ fields_in line.now }
 {
     let mut count: usize = 1;
-    let mut p = line.len();
-    while 0 < p {
-        p -= 1;
+    for p in (0..line.len()).rev() {
         if line[p] == b'\t' {
             count += 1;
         }
@@ -41,6 +39,7 @@ pub(crate) fn fields(line: &[u8]) -> usize
     count
 }
 
+#[tactic(auto, unfolding(crate::specs::Arrays::numbers_in, ring::specs::Columns::column))]
 fn faulty(p: usize) -> Numbers
     ensures { result ≡ numbers_in (bad p) }
 {
@@ -66,17 +65,14 @@ pub(crate) fn read_numbers(line: &[u8], n: usize) -> Numbers
 {
     let mut values = [0u32; LINKS];
     let mut p: usize = 0;
-    let mut t: usize = 0;
-    while t < n {
-        let field = text::read_entry(line, p, n - t - 1);
-        match field {
+    for t in 0..n {
+        match text::read_entry(line, p, n - t - 1) {
             Field::Bad(q) => {
                 return faulty(q);
             }
             Field::Is(v, q) => {
                 put(&mut values, t, v);
                 p = q;
-                t += 1;
             }
         }
     }
@@ -94,12 +90,10 @@ pub(crate) fn judge_amounts(n: usize, values: &[u32; LINKS]) -> Found
     requires { (n ≤ desk.nodes) × (length values.now ≡ desk.nodes) }
     ensures { result ≡ judge_amounts desk 0 (take n values.now) }
 {
-    let mut t: usize = 0;
-    while t < n {
+    for t in 0..n {
         if AMOUNT < values[t] {
             return Found::At(Reason::TooMuch, t);
         }
-        t += 1;
     }
     Found::Nothing
 }

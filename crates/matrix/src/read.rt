@@ -13,6 +13,7 @@ use ring::{BYTES, ROWS};
 use table::{Answer, Reason, Verdict, byte_at, clear, judge_size, line_end, refusal};
 
 // The lines of a matrix of n nodes, then its entries.
+#[tactic(auto, using(crate::proofs::ReadSteps::reads_square))]
 fn read_square(
     s: &[u8],
     n: u32,
@@ -25,12 +26,10 @@ fn read_square(
     ensures { beside result first.new second.new amount.new ≡ table_in (table_from fibres (square_judged (lines_of desk n 1 n [] (lines s.now)))) }
 {
     let mut entries = [0u32; SQUARE];
-    let read = read_lines(s, ring::wide(n), &mut entries);
-    if let Lines::Refused(reason, line, byte) = read {
+    if let Lines::Refused(reason, line, byte) = read_lines(s, ring::wide(n), &mut entries) {
         return refusal(first, second, amount, reason, line, byte);
     }
-    let found = judge_square(n, &entries);
-    if let Lines::Refused(reason, line, byte) = found {
+    if let Lines::Refused(reason, line, byte) = judge_square(n, &entries) {
         return refusal(first, second, amount, reason, line, byte);
     }
     clear(first, second, amount);
@@ -39,6 +38,7 @@ fn read_square(
 
 // The rows of a matrix, on a ring of so many fibres, of which a matrix says nothing. The first line's size is judged by its fields once it is known to be all
 // numbers, so that it may have any number of them.
+#[tactic(auto, using(crate::proofs::ReadSteps::reads_matrix))]
 pub fn read_matrix(
     s: &[u8],
     fibres: u32,
@@ -51,19 +51,16 @@ pub fn read_matrix(
     if BYTES < s.len() {
         return refusal(first, second, amount, Reason::TooLong, 0, 0);
     }
-    if s.len() <= 0 {
+    if s.is_empty() {
         return refusal(first, second, amount, Reason::Misshapen, 1, 1);
     }
     let end = line_end(s, 0);
     let count = fields(&s[0..end]);
-    let numbers = read_numbers(&s[0..end], count);
-    let spelling = numbers.spelling;
-    if let Spelling::Bad(p) = spelling {
+    if let Spelling::Bad(p) = read_numbers(&s[0..end], count).spelling {
         return refusal(first, second, amount, Reason::Misshapen, 1, byte_at(p));
     }
     let n = count as u32;
-    let verdict = judge_size(n);
-    if let Verdict::Fault(reason) = verdict {
+    if let Verdict::Fault(reason) = judge_size(n) {
         return refusal(first, second, amount, reason, 1, 1);
     }
     read_square(s, n, fibres, first, second, amount)

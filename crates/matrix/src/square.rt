@@ -26,10 +26,7 @@ pub(crate) fn get(square: &[u32; SQUARE], i: u32, j: u32) -> u32
     requires { (1 ≤ i) × (i ≤ desk.nodes) × (1 ≤ j) × (j ≤ desk.nodes) }
     ensures { result ≡ entry_at square.now i j }
 {
-    let a = wide(i);
-    let b = wide(j);
-    let p = LINKS * (a - 1) + (b - 1);
-    square[p]
+    square[LINKS * (wide(i) - 1) + (wide(j) - 1)]
 }
 
 // Puts the first n values of a line into the square, from `start` on.
@@ -37,14 +34,13 @@ fn keep(square: &mut [u32; SQUARE], start: usize, n: usize, values: &[u32; LINKS
     requires { (n ≤ desk.nodes) × (start + n ≤ 1024) × (length values.now ≡ desk.nodes) }
     ensures { square.new ≡ sets square.old start (take n values.now) }
 {
-    let mut t: usize = 0;
-    while t < n {
+    for t in 0..n {
         square[start + t] = values[t];
-        t += 1;
     }
 }
 
 // A refusal leaves an empty square.
+#[tactic(auto, unfolding(crate::specs::Arrays::square_in))]
 fn refused(entries: &mut [u32; SQUARE], reason: Reason, line: u32, byte: u32) -> Lines
     ensures { beside_entries result entries.new ≡ square_in (no-matrix reason line byte) }
 {
@@ -67,15 +63,13 @@ pub(crate) fn read_lines(s: &[u8], n: usize, entries: &mut [u32; SQUARE]) -> Lin
         }
         let end = line_end(s, at);
         let numbers = read_numbers(&s[at..end], n);
-        let spelling = numbers.spelling;
-        match spelling {
+        match numbers.spelling {
             Spelling::Bad(p) => {
                 return refused(entries, Reason::Misshapen, line, byte_at(p));
             }
             Spelling::Good => {
                 let values = numbers.values;
-                let found = judge_amounts(n, &values);
-                match found {
+                match judge_amounts(n, &values) {
                     Found::At(reason, k) => {
                         return refused(entries, reason, line, entry_byte(k, &values));
                     }

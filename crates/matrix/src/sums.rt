@@ -17,6 +17,7 @@ pub enum Sums {
 }
 
 // Whether the nodes a, b are i, j.
+#[tactic(auto, unfolding(crate::specs::Demands::same_pair))]
 fn same(a: u32, b: u32, i: u32, j: u32) -> bool
     ensures { result ≡ same_pair a b i j }
 {
@@ -24,18 +25,15 @@ fn same(a: u32, b: u32, i: u32, j: u32) -> bool
 }
 
 // What the row a, b of d adds to the pair i, j, which it may name in either order.
+#[tactic(auto, unfolding(crate::specs::Demands::joins))]
 fn part(a: u32, b: u32, d: u32, i: u32, j: u32) -> u32
     ensures { result ≡ cond (joins (row a b d) i j) d 0 }
 {
-    let straight = same(a, b, i, j);
-    if straight {
-        return d;
+    if same(a, b, i, j) || same(a, b, j, i) {
+        d
+    } else {
+        0
     }
-    let turned = same(a, b, j, i);
-    if turned {
-        return d;
-    }
-    0
 }
 
 // The sum of the pair i, j over the first `count` rows.
@@ -51,10 +49,8 @@ pub(crate) fn sum_of(
     ensures { result ≡ sum_of (rows_in count first.now second.now amount.now) i j }
 {
     let mut sum: u32 = 0;
-    let mut k: usize = 0;
-    while k < count {
+    for k in 0..count {
         sum += part(first[k], second[k], amount[k], i, j);
-        k += 1;
     }
     sum
 }
@@ -69,15 +65,10 @@ pub fn judge_sums<'a>(
     requires { Amounts count amount.now }
     ensures { result ≡ judge_sums desk (rows_in count first.now second.now amount.now) }
 {
-    let mut k: usize = 0;
-    let mut line: u32 = 2;
-    while k < count {
-        let sum = sum_of(first[k], second[k], k + 1, first, second, amount);
-        if AMOUNT < sum {
-            return Sums::Pass(line);
+    for k in 0..count {
+        if AMOUNT < sum_of(first[k], second[k], k + 1, first, second, amount) {
+            return Sums::Pass(k as u32 + 2);
         }
-        k += 1;
-        line += 1;
     }
     Sums::Fit
 }

@@ -26,12 +26,8 @@ fn line_of(
     ensures { result ≡ values_in (listed (sum_of (rows_in count first.now second.now amount.now) i) 1 n) }
 {
     let mut values = [0u32; LINKS];
-    let mut t: usize = 0;
-    let mut j: u32 = 1;
-    while t < n {
-        values[t] = sum_of(i, j, count, first, second, amount);
-        t += 1;
-        j += 1;
+    for t in 0..n {
+        values[t] = sum_of(i, t as u32 + 1, count, first, second, amount);
     }
     values
 }
@@ -57,8 +53,7 @@ pub(crate) fn numbers_length(n: usize, values: &[u32; LINKS]) -> usize
     requires { (n ≤ desk.nodes) × (length values.now ≡ desk.nodes) }
     ensures { result ≡ length (numbers_line (take n values.now)) }
 {
-    let shape = [NUMBER; LINKS];
-    part_length(n, &shape, values)
+    part_length(n, &[NUMBER; LINKS], values)
 }
 
 // Writes it from `at` on, and answers the place behind it.
@@ -66,8 +61,7 @@ fn write_numbers(buf: &mut [u8], at: usize, n: usize, values: &[u32; LINKS]) -> 
     requires { (n ≤ desk.nodes) × (length values.now ≡ desk.nodes) × (at + length (numbers_line (take n values.now)) ≤ length buf.old) }
     ensures { Written buf.old at (numbers_line (take n values.now)) buf.new result }
 {
-    let shape = [NUMBER; LINKS];
-    write_part(buf, at, n, &shape, values)
+    write_part(buf, at, n, &[NUMBER; LINKS], values)
 }
 
 // How many bytes line i of the matrix of a table's rows has.
@@ -82,9 +76,8 @@ fn sums_length(
     requires { (n ≤ desk.nodes) × Amounts count amount.now }
     ensures { result ≡ length (numbers_line (listed (sum_of (rows_in count first.now second.now amount.now) i) 1 n)) }
 {
-    let nodes = wide(n);
-    let values = line_of(i, nodes, count, first, second, amount);
-    numbers_length(nodes, &values)
+    let n = wide(n);
+    numbers_length(n, &line_of(i, n, count, first, second, amount))
 }
 
 // Writes it from `at` on, and answers the place behind it.
@@ -118,10 +111,8 @@ pub fn matrix_length<'a>(
     ensures { result ≡ length (write_matrix (matrix_of_rows n (rows_in count first.now second.now amount.now))) }
 {
     let mut size: usize = 0;
-    let mut k: u32 = 0;
-    while k < n {
+    for k in 0..n {
         size += sums_length(k + 1, n, count, first, second, amount);
-        k += 1;
     }
     size
 }
@@ -139,10 +130,8 @@ pub fn write_matrix<'a>(
     ensures { Written buf.old 0 (write_matrix (matrix_of_rows n (rows_in count first.now second.now amount.now))) buf.new result }
 {
     let mut p: usize = 0;
-    let mut k: u32 = 0;
-    while k < n {
+    for k in 0..n {
         p = write_sums(buf, p, k + 1, n, count, first, second, amount);
-        k += 1;
     }
     p
 }

@@ -60,3 +60,5 @@ line_at s at end l e =
     let k = e.is in
     let m : end - at ≡ line_length (drop at s) = omega arith in
     first-line (drop at s) (omega (arith, length-drop at s)) ∙ rw (drop-drop, ← k, m)
+
+pub ruleset scans = (scan-ends, scan-goes-on, scan-stops)

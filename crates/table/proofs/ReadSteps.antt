@@ -156,3 +156,5 @@ module _ (s : List ℕ) (t : Table) where
       pub then-rows : v ≡ Fine → t ≡ table_in (whole s n fibres end) → t ≡ table_in (table_of desk s)
       unfolding table_of
       then-rows q e = e ∙ ap table_in (rw (le-ltb desk.bytes (length s) short, first-line, ← ex, is, ← ev, q))
+
+pub ruleset reads_table = (too_long, no_line, no-ring, ring-place, ring-fault, then-rows)

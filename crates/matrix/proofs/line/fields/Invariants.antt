@@ -4,6 +4,3 @@ use Rattle.matrix.proofs.line.fields.Given as goal
 
 abbrev pub invariant-loop-p : goal.invariant-loop-p
 invariant-loop-p l = Counted l.line l.p l.count
-
-abbrev pub decreases-loop-p : goal.decreases-loop-p
-decreases-loop-p l = l.p

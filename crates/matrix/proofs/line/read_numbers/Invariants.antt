@@ -1,10 +1,6 @@
 -- A line of numbers: the values of the fields before t stand in the column, and what is left begins at p (`Reading-on`).
 use Rattle.matrix.proofs.LineSteps.{Reading-on}
-use Rattle.std.proofs.Common.{◌-◌}
 use Rattle.matrix.proofs.line.read_numbers.Given as goal
 
 abbrev pub invariant-loop-t : goal.invariant-loop-t
 invariant-loop-t l = Reading-on l.line l.n l.values l.p l.t
-
-abbrev pub decreases-loop-t : goal.decreases-loop-t
-decreases-loop-t l = l.n - l.t

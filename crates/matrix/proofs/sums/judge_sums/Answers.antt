@@ -5,8 +5,8 @@ use Rattle.matrix.proofs.sums.judge_sums.Goals as goal
 pub loop-k-init : goal.loop-k-init
 loop-k-init c = search judging-sums-starts
 
-pub returns-then-sum-gt-AMOUNT : goal.returns-then-sum-gt-AMOUNT
-returns-then-sum-gt-AMOUNT c = search sum-passes
+pub returns-then-sum_of-gt-AMOUNT : goal.returns-then-sum_of-gt-AMOUNT
+returns-then-sum_of-gt-AMOUNT c = search sum-passes
 
 pub loop-k-preserved : goal.loop-k-preserved
 loop-k-preserved c = search sum-fine

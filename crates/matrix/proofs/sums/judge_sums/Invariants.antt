@@ -1,10 +1,6 @@
 -- The sums row by row: those of the rows before k are amounts (`JudgingSums`).
 use Rattle.matrix.proofs.SumSteps.{JudgingSums}
-use Rattle.std.proofs.Common.{◌-◌}
 use Rattle.matrix.proofs.sums.judge_sums.Given as goal
 
 abbrev pub invariant-loop-k : goal.invariant-loop-k
-invariant-loop-k l = JudgingSums l.first l.second l.amount l.count l.k l.line
-
-abbrev pub decreases-loop-k : goal.decreases-loop-k
-decreases-loop-k l = l.count - l.k
+invariant-loop-k l = JudgingSums l.first l.second l.amount l.count l.k

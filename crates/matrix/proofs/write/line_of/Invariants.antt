@@ -2,11 +2,7 @@
 use Rattle.ring.specs.Columns.{rows_in}
 use Rattle.matrix.specs.Demands.{sum_of}
 use Rattle.matrix.proofs.WriteSteps.{Lining}
-use Rattle.std.proofs.Common.{◌-◌}
 use Rattle.matrix.proofs.write.line_of.Given as goal
 
 abbrev pub invariant-loop-t : goal.invariant-loop-t
-invariant-loop-t l = Lining (sum_of (rows_in l.count l.first l.second l.amount) l.i) l.n l.values l.t l.j
-
-abbrev pub decreases-loop-t : goal.decreases-loop-t
-decreases-loop-t l = l.n - l.t
+invariant-loop-t l = Lining (sum_of (rows_in l.count l.first l.second l.amount) l.i) l.n l.values l.t
