@@ -18,10 +18,10 @@ use Rattle.sheet.specs.Arrays.{link_at, links_in, sheet_in}
 same-members : {A : Type 0} (none : A) (l : List A) (f : ℕ → A) → ((k : ℕ) → k < length l → f k ≡ get_or l k none) → listed f 0 (length l) ≡ l
 same-members none l f same = listed_same f (λ k. get_or l k none) 0 (length l) (λ k a b. same k (omega arith)) ∙ listed-members none l
 
-get_d_map : {A B : Type 0} (f : A → B) (l : List A) (a : A) (b : B) (k : ℕ) → k < length l → get_or (map f l) k b ≡ f (get_or l k a)
-get_d_map f [] a b k h = absurd (omega arith)
-get_d_map f (x ∷ l) a b zero h = refl
-get_d_map f (x ∷ l) a b (suc k) h = get_d_map f l a b k (omega arith)
+get_or-map : {A B : Type 0} (f : A → B) (l : List A) (a : A) (b : B) (k : ℕ) → k < length l → get_or (map f l) k b ≡ f (get_or l k a)
+get_or-map f [] a b k h = absurd (omega arith)
+get_or-map f (x ∷ l) a b zero h = refl
+get_or-map f (x ∷ l) a b (suc k) h = get_or-map f l a b k (omega arith)
 
 at_listed : {A : Type 0} (f : ℕ → A) (none : A) (m n k : ℕ) → k < n → get_or (listed f m n) k none ≡ f (m + k)
 unfolding listed
@@ -43,8 +43,8 @@ module _ (rs : List Routed) (first second amount : List ℕ) (few : length rs �
   demand-at k h =
       let e : 0 + k ≡ k = omega arith in
       sym (ap (row_at first second amount) e) ∙ sym (at_listed (row_at first second amount) (row 0 0 0) 0 (length rs) k h) ∙ sym (ap (λ l. get_or l k (row 0 0 0)) same)
-      ∙ get_d_map (λ (s : Sent). s.row) (sents rs) no_row.sent (row 0 0 0) k (omega (arith, length-map rs (λ (r : Routed). r.sent)))
-      ∙ ap (λ (s : Sent). s.row) (get_d_map (λ (r : Routed). r.sent) rs no_row no_row.sent k h)
+      ∙ get_or-map (λ (s : Sent). s.row) (sents rs) no_row.sent (row 0 0 0) k (omega (arith, length-map rs (λ (r : Routed). r.sent)))
+      ∙ ap (λ (s : Sent). s.row) (get_or-map (λ (r : Routed). r.sent) rs no_row no_row.sent k h)
 
   row-at : (k : ℕ) → k < length rs →
       routed_at first second amount (column (λ (r : Routed). r.sent.front) desk.rows rs) (column (λ (r : Routed). r.sent.back) desk.rows rs) (column (λ (r : Routed). way_number r.way) desk.rows rs) k ≡ get_or rs k no_row
@@ -78,7 +78,7 @@ module _ (n : ℕ) (ls : List Link) (few : n ≤ desk.nodes) (same : map (λ (l 
   link-at : (k : ℕ) → k < length ls → link_at (column (λ (l : Link). l.split) desk.nodes ls) (column (λ (l : Link). l.unsplit) desk.nodes ls) k ≡ get_or ls k no-link
   link-at k h =
       let e : k + 1 ≡ (get_or ls k no-link).link =
-      omega (arith, number_at 1 n k (omega (arith, many)), ap (λ l. get_or l k 0) same, get_d_map (λ (l : Link). l.link) ls no-link 0 k h) in
+      omega (arith, number_at 1 n k (omega (arith, many)), ap (λ l. get_or l k 0) same, get_or-map (λ (l : Link). l.link) ls no-link 0 k h) in
       rw (column-at (λ (l : Link). l.split) desk.nodes ls no-link k (omega (arith, many)) h, column-at (λ (l : Link). l.unsplit) desk.nodes ls no-link k (omega (arith, many)) h, e)
 
   pub links-back : links_in n (column (λ (l : Link). l.split) desk.nodes ls) (column (λ (l : Link). l.unsplit) desk.nodes ls) ≡ ls
