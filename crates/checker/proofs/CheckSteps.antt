@@ -10,7 +10,7 @@ use Rattle.sonet.specs.Size.{sonet_size}
 use Rattle.ring.specs.Ring.{Ring, ring_of}
 use Rattle.ring.specs.LineSize.{needed}
 use Rattle.ring.proofs.SizeRules.{size-in-steps}
-use Rattle.ring.specs.Columns.{column, rows_in, routed_at, routed_in}
+use Rattle.ring.specs.Columns.{column, rows_in, routed_at}
 use Rattle.ring.specs.Cut.{across}
 use Rattle.ring.specs.Limits.{desk}
 use Rattle.ring.specs.Routing.{Sent, Routed, split_load, unsplit_load}
@@ -40,20 +40,17 @@ use Rattle.table.specs.declared.judge.Verdict.TheVariants.{Fine, Fault}
 use Rattle.table.proofs.Columns.{column-length, column-behind}
 use Rattle.table.proofs.Judged.{RingJudged, right-ring, ring-judged}
 use Rattle.sheet.specs.Arrays.{link_at, links_in}
-use Rattle.checker.specs.Arrays.{checked_in}
+use Rattle.checker.specs.Arrays.{rows_held, Checked, beside, checked_in}
 use Rattle.sheet.specs.Judge.{judge_cut}
 use Rattle.sheet.specs.Check.{Result, accepted, refused, cut_of, when, unless, ring_turn, cut_turn, turn, after, check_from, check}
 use Rattle.sheet.specs.Says.{start, rows, links}
 use Rattle.sheet.specs.Verdicts.{cut_verdict}
-use Rattle.checker.specs.Parts.{NextEnds, cut_from, Columns, RowsMean, rows_at, rows-refused, RowsRead, Weighed, StepMeans, steps_on, step-refused, TailRead, sheet_with, checked_with, EndMeans, ends_with, end_refused, EndRead, WeighedRead}
+use Rattle.checker.specs.Parts.{NextEnds, cut_from, Columns, RowsMean, rows_at, rows-refused, RowsRead, Weighed, StepMeans, steps_on, step-refused, TailRead, sheet_with, ended, EndMeans, ends_with, end_refused, EndRead, WeighedRead}
 use Rattle.sheet.specs.declared.Figures.{Figures}
-use Rattle.checker.specs.declared.check.Checked.{Checked}
-use Rattle.checker.specs.declared.check.Answer.{Answer}
+use Rattle.checker.specs.declared.values.SheetValues.{SheetValues}
 use Rattle.checker.specs.declared.check.Answer.TheVariants.{Is}
-use Rattle.checker.specs.declared.ending.Ending.{Ending}
 use Rattle.checker.specs.declared.ending.Step.{Step}
 use Rattle.checker.specs.declared.ending.Step.TheVariants.{On, Refused as StepRefused}
-use Rattle.checker.specs.declared.rows.Rows.{Rows}
 use Rattle.checker.specs.declared.rows.RowsEnd.{RowsEnd}
 use Rattle.checker.specs.declared.rows.RowsEnd.TheVariants.{At, Refused as RowsRefused}
 use Rattle.sheet.proofs.Back.{numbers-length}
@@ -83,37 +80,35 @@ module _ (s : List ℕ) (at line n fibres : ℕ) (rs : List Routed) (g h number 
         largests = ap (λ (v : Weight). v.largest) ew;
       }
 
-  abbrev ending : Step → Ending
-  ending t =
-      record { step = t; figures = record { n = n; fibres = fibres; g = g; h = h; across = number; peak = w.peak; size = size }; split = w.split; unsplit = w.unsplit }
-
-  pub weighed-ends : (t : Step) → TailRead s at line n number w.split w.unsplit w.split_peak w.peak size w.largest t →
-      WeighedRead s at line (ring_of n fibres) rs g h number (record { step = t; figures = record { n = n; fibres = fibres; g = g; h = h; across = number; peak = w.peak; size = size }; split = w.split; unsplit = w.unsplit })
-  weighed-ends t tail = go t (tail.means fibres rs g h weights (size-in-steps fibres w.peak carried size en ez))
+  pub weighed-ends : (old : SheetValues) (t : Step) → TailRead s at line n number w.split w.unsplit w.split_peak w.peak size w.largest t →
+      EndMeans (ring_of n fibres) rs (check_from desk true (links (ring_of n fibres) rs (cut_of g h number) []) line (lines (drop at s))) old
+      (ended old (record { n = n; fibres = fibres; g = g; h = h; across = number; peak = w.peak; size = size }) w.split w.unsplit) t
+  weighed-ends old t tail = go t (tail.means fibres rs g h weights (size-in-steps fibres w.peak carried size en ez))
     where
       result : Result
       result = check_from desk true (links (ring_of n fibres) rs (cut_of g h number) []) line (lines (drop at s))
 
-      go : (u : Step) → StepMeans s result (λ p. accepted (sheet_with (ring_of n fibres) rs (cut_of g h number) w.split w.unsplit w.peak size)) u → EndMeans (ring_of n fibres) rs result (ending t) u
+      go : (u : Step) → StepMeans s result (λ p. accepted (sheet_with (ring_of n fibres) rs (cut_of g h number) w.split w.unsplit w.peak size)) u →
+          EndMeans (ring_of n fibres) rs result old (ended old (record { n = n; fibres = fibres; g = g; h = h; across = number; peak = w.peak; size = size }) w.split w.unsplit) u
       go (On p) (steps_on l e) =
-          ends_with {at = p} (cut_of g h number) w.peak size e refl
+          ends_with {at = p} (cut_of g h number) w.peak size w.split w.unsplit e refl
           (loads-column n many (split_load (sents rs)) w.split w.split w.unsplit (λ (l : Link). l.split) weights.splits (λ k. refl))
           (loads-column n many (unsplit_load rs) w.unsplit w.split w.unsplit (λ (l : Link). l.unsplit) weights.unsplits (λ k. refl))
       go (StepRefused reason place byte) (step-refused e) = end_refused {reason = reason} {line = place} {byte = byte} e
 
 -- ---- from the C line on
 
-module _ (count : ℕ) (first second amount front back way : List ℕ) where
+module _ (count : ℕ) (v : SheetValues) where
+  abbrev rs : List Routed
+  rs = rows_held count v
+
   -- the demands of routed rows in columns
-  demands-in : demands (sents (routed_in count first second amount front back way)) ≡ rows_in count first second amount
+  demands-in : demands (sents rs) ≡ rows_in count v.first v.second v.amount
   demands-in =
-      ap demands (listed-map (λ (r : Routed). r.sent) (routed_at first second amount front back way) 0 count)
-      ∙ listed-map (λ (x : Sent). x.row) (λ k. (routed_at first second amount front back way k).sent) 0 count
+      let held = routed_at v.first v.second v.amount v.front v.back v.way in
+      ap demands (listed-map (λ (r : Routed). r.sent) held 0 count) ∙ listed-map (λ (x : Sent). x.row) (λ k. (held k).sent) 0 count
 
   module _ (s : List ℕ) (at line no_row n fibres to : ℕ) (ends : NextEnds s at to) (x : ThreeNumbers) (ex : x ≡ three_in (read_line cut_shape (take (to - at) (drop at s)))) where
-    abbrev rs : List Routed
-    rs = routed_in count first second amount front back way
-
     cut-led : cut_from (ring_of n fibres) rs line no_row (lines (drop at s)) ≡ after (cut_turn true (ring_of n fibres) rs no_row x) line (λ next. check_from desk true next (line + 1) (lines (drop to s)))
     unfolding cut_from
     cut-led =
@@ -121,25 +116,24 @@ module _ (count : ℕ) (first second amount front back way : List ℕ) where
         let b = next-rest s at to ends in
         rw (ex, a, b)
 
-    pub no-cut-line : (p far byte : ℕ) (t : Ending) → x ≡ NotThree p → far ≡ max no_row p → byte ≡ far + 1 → t.step ≡ StepRefused Misshapen line byte → EndRead s at line no_row (ring_of n fibres) (routed_in count first second amount front back way) t
+    pub no-cut-line : (p far byte : ℕ) (new : SheetValues) → x ≡ NotThree p → far ≡ max no_row p → byte ≡ far + 1 → EndRead s at line no_row (ring_of n fibres) count v new (StepRefused Misshapen line byte)
     unfolding cut_turn after
-    no-cut-line p far byte t q f b e = rw e (end_refused {reason = Misshapen} {line = line} {byte = byte} (cut-led ∙ rw (q, b, f)))
+    no-cut-line p far byte new q f b = end_refused {reason = Misshapen} {line = line} {byte = byte} (cut-led ∙ rw (q, b, f))
 
-    module _ (g h number : ℕ) (is : x ≡ AreThree g h number) (v : Verdict) (ev : v ≡ cut_verdict n (across (rows_in count first second amount) g h) g h number) where
-      cut-judged : judge_cut n rs (cut_of g h number) ≡ v
+    module _ (g h number : ℕ) (is : x ≡ AreThree g h number) (found : Verdict) (ef : found ≡ cut_verdict n (across (rows_in count v.first v.second v.amount) g h) g h number) where
+      cut-judged : judge_cut n rs (cut_of g h number) ≡ found
       unfolding judge_cut
-      cut-judged = let d = demands-in in sym (ev ∙ rw (← d))
+      cut-judged = let d = demands-in in sym (ef ∙ rw (← d))
 
-      pub cut-fault : (reason : Reason) (t : Ending) → v ≡ Fault reason → t.step ≡ StepRefused reason line 1 → EndRead s at line no_row (ring_of n fibres) (routed_in count first second amount front back way) t
+      pub cut-fault : (reason : Reason) (new : SheetValues) → found ≡ Fault reason → EndRead s at line no_row (ring_of n fibres) count v new (StepRefused reason line 1)
       unfolding cut_turn unless after when
-      cut-fault reason t q e = rw e (end_refused {reason = reason} {line = line} {byte = 1} (cut-led ∙ rw (is, cut-judged ∙ q)))
+      cut-fault reason new q = end_refused {reason = reason} {line = line} {byte = 1} (cut-led ∙ rw (is, cut-judged ∙ q))
 
-      pub cut-goes : v ≡ Fine → (t : Ending) → WeighedRead s to (line + 1) (ring_of n fibres) (routed_in count first second amount front back way) g h number t
-          → EndRead s at line no_row (ring_of n fibres) (routed_in count first second amount front back way) t
+      pub cut-goes : found ≡ Fine → (new : SheetValues) (t : Step) → WeighedRead s to (line + 1) (ring_of n fibres) count v g h number new t → EndRead s at line no_row (ring_of n fibres) count v new t
       unfolding cut_turn unless after when
-      cut-goes q t read =
+      cut-goes q new t read =
           let e : cut_from (ring_of n fibres) rs line no_row (lines (drop at s)) ≡ check_from desk true (links (ring_of n fibres) rs (cut_of g h number) []) (line + 1) (lines (drop to s)) = cut-led ∙ rw (is, cut-judged ∙ q) in
-          subst (λ z. EndMeans (ring_of n fibres) rs z t t.step) (sym e) read
+          subst (λ z. EndMeans (ring_of n fibres) rs z v new t) (sym e) read
 
 -- ---- from the rows on
 
@@ -147,8 +141,8 @@ module _ (count : ℕ) (first second amount front back way : List ℕ) where
 abbrev from-rows : List ℕ → Ring → ℕ → Result
 from-rows s ring from = check_from desk true (rows ring []) 2 (lines (drop from s))
 
-rows-stopped : {s : List ℕ} {ring : Ring} {result : Result} {first second amount front back way : List ℕ} {end : RowsEnd} {reason : Reason} {line byte : ℕ} →
-    RowsMean s ring result first second amount front back way end → end ≡ RowsRefused reason line byte → result ≡ refused reason line byte
+rows-stopped : {s : List ℕ} {ring : Ring} {result : Result} {v : SheetValues} {end : RowsEnd} {reason : Reason} {line byte : ℕ} →
+    RowsMean s ring result v end → end ≡ RowsRefused reason line byte → result ≡ refused reason line byte
 rows-stopped (rows_at rs c e w o l t h) q = clash (cc)
 rows-stopped {reason = reason} {line = line} {byte = byte} (rows-refused {reason = a} {line = b} {byte = d} e) q =
     let ea : a ≡ reason = cc in
@@ -156,23 +150,19 @@ rows-stopped {reason = reason} {line = line} {byte = byte} (rows-refused {reason
     let ed : d ≡ byte = cc in
     e ∙ rw (ea, eb, ed)
 
-abbrev checked : Answer → Figures → List ℕ → List ℕ → List ℕ → List ℕ → List ℕ → List ℕ → List ℕ → List ℕ → Checked
-checked a f l1 l2 l3 l4 l5 l6 l7 l8 =
-    record { answer = a; figures = f; first = l1; second = l2; amount = l3; front = l4; back = l5; way = l6; split = l7; unsplit = l8 }
-
 -- what is known where the rows end
-record RowsEnded (s : List ℕ) (ring : Ring) (result : Result) (first second amount front back way : List ℕ) (count at line no_row : ℕ) : Type 0 where
+record RowsEnded (s : List ℕ) (ring : Ring) (result : Result) (v : SheetValues) (count at line no_row : ℕ) : Type 0 where
   rs : List Routed
-  columns : Columns rs count first second amount front back way
+  columns : Columns rs count v
   is : result ≡ cut_from ring rs line no_row (lines (drop at s))
   within : at ≤ length s
   inside : no_row ≤ length s
   lined : line ≡ count + 2
-  table : Table ring.n count first second amount
-  halves : Halves count front back
+  table : Table ring.n count v.first v.second v.amount
+  halves : Halves count v.front v.back
 
-rows-ended : {s : List ℕ} {ring : Ring} {result : Result} {first second amount front back way : List ℕ} {end : RowsEnd} {count at line no_row : ℕ} →
-    RowsMean s ring result first second amount front back way end → end ≡ At count at line no_row → RowsEnded s ring result first second amount front back way count at line no_row
+rows-ended : {s : List ℕ} {ring : Ring} {result : Result} {v : SheetValues} {end : RowsEnd} {count at line no_row : ℕ} →
+    RowsMean s ring result v end → end ≡ At count at line no_row → RowsEnded s ring result v count at line no_row
 rows-ended {count = count} {at = at} {line = line} {no_row = no_row} (rows_at {count = a} {at = b} {line = d} {q = k} rs c e w o l t h) q =
     let ea : a ≡ count = cc in
     let eb : b ≡ at = cc in
@@ -190,18 +180,19 @@ rows-ended {count = count} {at = at} {line = line} {no_row = no_row} (rows_at {c
     }
 rows-ended (rows-refused e) q = clash (cc)
 
--- two records with the same fields
-same-checked : {a b : Answer} {f g : Figures} {l1 m1 l2 m2 l3 m3 l4 m4 l5 m5 l6 m6 l7 m7 l8 m8 : List ℕ} → a ≡ b → f ≡ g → l1 ≡ m1 → l2 ≡ m2 → l3 ≡ m3 → l4 ≡ m4 → l5 ≡ m5 → l6 ≡ m6
-    → l7 ≡ m7 → l8 ≡ m8 → checked a f l1 l2 l3 l4 l5 l6 l7 l8 ≡ checked b g m1 m2 m3 m4 m5 m6 m7 m8
-same-checked p q e1 e2 e3 e4 e5 e6 e7 e8 = rw (p, q, e1, e2, e3, e4, e5, e6, e7, e8)
+-- values with the same figures and the same columns
+same-values : {count many : ℕ} {figures : Figures} {l1 m1 l2 m2 l3 m3 l4 m4 l5 m5 l6 m6 l7 m7 l8 m8 : List ℕ} → count ≡ many → l1 ≡ m1 → l2 ≡ m2 → l3 ≡ m3 → l4 ≡ m4 → l5 ≡ m5 → l6 ≡ m6
+    → l7 ≡ m7 → l8 ≡ m8 → beside (Is count) (record { figures = figures; first = l1; second = l2; amount = l3; front = l4; back = l5; way = l6; split = l7; unsplit = l8 })
+    ≡ beside (Is many) (record { figures = figures; first = m1; second = m2; amount = m3; front = m4; back = m5; way = m6; split = m7; unsplit = m8 })
+same-values e e1 e2 e3 e4 e5 e6 e7 e8 = rw (e, e1, e2, e3, e4, e5, e6, e7, e8)
 
-module _ (s : List ℕ) (from n : ℕ) (t : Rows) (read : RowsRead s from n t) where
-  pub rows-stop : (fibres : ℕ) (reason : Reason) (line byte : ℕ) (r : Checked) → t.end ≡ RowsRefused reason line byte → r ≡ checked_in (refused reason line byte) →
+module _ (s : List ℕ) (from n : ℕ) (v : SheetValues) (end : RowsEnd) (read : RowsRead s from n v end) where
+  pub rows-stop : (fibres : ℕ) (reason : Reason) (line byte : ℕ) (r : Checked) → end ≡ RowsRefused reason line byte → r ≡ checked_in (refused reason line byte) →
       r ≡ checked_in (check_from desk true (rows (ring_of n fibres) []) 2 (lines (drop from s)))
   rows-stop fibres reason line byte r q e = e ∙ ap checked_in (sym (rows-stopped (read.means fibres) q))
 
-  module _ (count at line no_row : ℕ) (q : t.end ≡ At count at line no_row) where
-    known : (fibres : ℕ) → RowsEnded s (ring_of n fibres) (from-rows s (ring_of n fibres) from) t.first t.second t.amount t.front t.back t.way count at line no_row
+  module _ (count at line no_row : ℕ) (q : end ≡ At count at line no_row) where
+    known : (fibres : ℕ) → RowsEnded s (ring_of n fibres) (from-rows s (ring_of n fibres) from) v count at line no_row
     known fibres = rows-ended (read.means fibres) q
 
     -- what is known of the columns is known whatever the fibres
@@ -214,46 +205,42 @@ module _ (s : List ℕ) (from n : ℕ) (t : Rows) (read : RowsRead s from n t) w
     pub lines_fit : line + n < desk.bytes
     lines_fit = omega (arith, (known 0).lined, (known 0).table.few, (known 0).table.links)
 
-    pub rows-table : Table n count t.first t.second t.amount
+    pub rows-table : Table n count v.first v.second v.amount
     rows-table = (known 0).table
 
-    pub rows-halves : Halves count t.front t.back
+    pub rows-halves : Halves count v.front v.back
     rows-halves = (known 0).halves
 
-    module _ (fibres : ℕ) (e : Ending) (End-read : EndRead s at line no_row (ring_of n fibres) (routed_in count t.first t.second t.amount t.front t.back t.way) e) where
-      is-result : from-rows s (ring_of n fibres) from ≡ cut_from (ring_of n fibres) (routed_in count t.first t.second t.amount t.front t.back t.way) line no_row (lines (drop at s))
+    module _ (fibres : ℕ) (new : SheetValues) (step : Step) (End-read : EndRead s at line no_row (ring_of n fibres) count v new step) where
+      abbrev rest : Result
+      rest = cut_from (ring_of n fibres) (rows_held count v) line no_row (lines (drop at s))
+
+      is-result : from-rows s (ring_of n fibres) from ≡ rest
       is-result = (known fibres).is ∙ ap (λ rs. cut_from (ring_of n fibres) rs line no_row (lines (drop at s))) (sym (known fibres).columns.is)
 
-      stops : (reason : Reason) (place byte : ℕ) (r : Checked) → e.step ≡ StepRefused reason place byte → r ≡ checked_in (refused reason place byte) →
+      pub end-stops : (reason : Reason) (place byte : ℕ) (r : Checked) → step ≡ StepRefused reason place byte → r ≡ checked_in (refused reason place byte) →
           r ≡ checked_in (check_from desk true (rows (ring_of n fibres) []) 2 (lines (drop from s)))
-      stops reason place byte r f er = er ∙ ap checked_in (sym (is-result ∙ go End-read f))
+      end-stops reason place byte r f er = er ∙ ap checked_in (sym (is-result ∙ go End-read f))
         where
-          go : {step : Step} → EndMeans (ring_of n fibres) (routed_in count t.first t.second t.amount t.front t.back t.way) (cut_from (ring_of n fibres) (routed_in count t.first t.second t.amount t.front t.back t.way) line no_row (lines (drop at s))) e step
-              → step ≡ StepRefused reason place byte → cut_from (ring_of n fibres) (routed_in count t.first t.second t.amount t.front t.back t.way) line no_row (lines (drop at s)) ≡ refused reason place byte
-          go (ends_with c top size a b d u) g = clash (cc)
+          go : {step : Step} → EndMeans (ring_of n fibres) (rows_held count v) rest v new step → step ≡ StepRefused reason place byte → rest ≡ refused reason place byte
+          go (ends_with c top size split unsplit a b d u) g = clash (cc)
           go (end_refused {reason = x} {line = y} {byte = z} a) g =
               let ex : x ≡ reason = cc in
               let ey : y ≡ place = cc in
               let ez : z ≡ byte = cc in
               a ∙ rw (ex, ey, ez)
 
-      pub sheet-ends : (p : ℕ) (r : Checked) → e.step ≡ On p → r ≡ checked_with count t e → r ≡ checked_in (check_from desk true (rows (ring_of n fibres) []) 2 (lines (drop from s)))
+      pub sheet-ends : (p : ℕ) → step ≡ On p → beside (Is count) new ≡ checked_in (check_from desk true (rows (ring_of n fibres) []) 2 (lines (drop from s)))
       unfolding checked_in
-      sheet-ends p r f er = er ∙ go End-read f
+      sheet-ends p f = go End-read f
         where
-          go : {step : Step} → EndMeans (ring_of n fibres) (routed_in count t.first t.second t.amount t.front t.back t.way) (cut_from (ring_of n fibres) (routed_in count t.first t.second t.amount t.front t.back t.way) line no_row (lines (drop at s))) e step
-              → step ≡ On p → checked_with count t e ≡ checked_in (from-rows s (ring_of n fibres) from)
-          go (ends_with c top size a b d u) g =
+          go : {step : Step} → EndMeans (ring_of n fibres) (rows_held count v) rest v new step → step ≡ On p → beside (Is count) new ≡ checked_in (from-rows s (ring_of n fibres) from)
+          go (ends_with c top size split unsplit a b d u) g =
               let k = (known fibres).columns in
-              let whole : from-rows s (ring_of n fibres) from ≡ accepted (sheet_with (ring_of n fibres) (known fibres).rs c e.split e.unsplit top size) =
-              is-result ∙ a ∙ ap (λ rs. accepted (sheet_with (ring_of n fibres) rs c e.split e.unsplit top size)) k.is in
-              rw whole (same-checked (ap Is k.many) b k.firsts k.seconds k.amounts k.fronts k.backs k.ways d u)
+              let whole : from-rows s (ring_of n fibres) from ≡ accepted (sheet_with (ring_of n fibres) (known fibres).rs c split unsplit top size) =
+              is-result ∙ a ∙ ap (λ rs. accepted (sheet_with (ring_of n fibres) rs c split unsplit top size)) k.is in
+              rw (whole, b) (same-values k.many k.firsts k.seconds k.amounts k.fronts k.backs k.ways d u)
           go (end_refused a) g = clash (cc)
-
-  pub end-stops : (count at line no_row fibres : ℕ) (e : Ending) → EndRead s at line no_row (ring_of n fibres) (routed_in count t.first t.second t.amount t.front t.back t.way) e → t.end ≡ At count at line no_row →
-      (reason : Reason) (place byte : ℕ) (r : Checked) → e.step ≡ StepRefused reason place byte → r ≡ checked_in (refused reason place byte) →
-      r ≡ checked_in (check_from desk true (rows (ring_of n fibres) []) 2 (lines (drop from s)))
-  end-stops count at line no_row fibres e End-read q = stops count at line no_row q fibres e End-read
 
 -- ---- the whole sheet
 

@@ -6,8 +6,6 @@ use mathlib.Core.List.{List, [], ◌∷◌, ◌++◌}
 use mathlib.Core.Path.{◌≡◌, refl, ap, ◌∙◌, sym, subst}
 use native.Mathlib.Omega.{arith}
 use lib.ListN.{length, get_or, take, drop, drop_of_length-le, length-drop, length-take}
-use mir.Syntax.{w32}
-use mir.Val.{Fits}
 use borrow.Author.Tests.{lt-ltb, le-ltb}
 use Rattle.sonet.specs.Size.{sonet_sizes}
 use Rattle.ring.specs.Ring.{Ring, ring_of}
@@ -100,9 +98,6 @@ module _ (s : List ℕ) (from n start : ℕ) (split unsplit : List ℕ) where
 
     long : length ks ≡ k
     long = listed-length (link_at split unsplit) 0 k
-
-    pub line-fits : Fits w32 (line + 1)
-    line-fits = omega (arith, reading.lined, reading.upto, reading.many, reading.low)
 
     module _ (m : ℕ) (em : m ≡ n) (below : k < m) (to : ℕ) (ends : NextEnds s at to) (x : ThreeNumbers) (ex : x ≡ three_in (read_line link_shape (take (to - at) (drop at s)))) where
       module _ (fibres : ℕ) (rs : List Routed) (c : Cut) (split-peak top largest : ℕ) (w : Weighed n rs split unsplit split-peak top largest) where
@@ -285,9 +280,6 @@ module _ (s : List ℕ) (at line n number : ℕ) (split unsplit : List ℕ) (spl
   tail-stops reason place byte q = record { means = λ fibres rs g h w ez. step-stops (read.means fibres rs (cut_of g h number) split-peak top largest w) q }
 
   module _ (behind : ℕ) (q : r ≡ On behind) where
-    pub behind-within : behind ≤ length s
-    behind-within = read.within.place behind q
-
     pub tail-goes : (t : Step) → WholeRead s behind (line + n) number split-peak top size largest t → TailRead s at line n number split unsplit split-peak top size largest t
     tail-goes t whole =
         record {

@@ -1,22 +1,20 @@
 -- What the code's tests of a line, in their order, say of the verdict: each way out is one law, by rewriting with the tests that led there. The across
 -- number is summed from the last row down, as it is defined.
 use Prim.Native.Nat.{ℕ, ◌+◌, ◌-◌, ◌*◌, ◌≤◌, ◌<◌}
-use mathlib.Core.Bool.{Bool, true, false, not, cond, xor}
+use mathlib.Core.Bool.{Bool, true, false, not, cond, xor, beq}
 use mathlib.Core.List.{List}
 use mathlib.Core.Path.{◌≡◌, refl, ◌∙◌, sym}
 use native.Mathlib.Omega.{arith}
 use lib.Dec.{eqb}
 use lib.ListN.{get_or}
-use mir.Syntax.{w64}
-use mir.Val.{Fits}
 use borrow.Author.Tests.{eq-eqb, ne_eqb, lt-ltb, le-ltb}
-use Rattle.ring.specs.Columns.{listed, row_at, rows_in}
+use Rattle.ring.specs.Columns.{listed, row_at}
 use Rattle.ring.specs.Routing.{way_number, F, B, sent, is_split}
 use Rattle.ring.specs.Cut.{if_one, part, across}
 use Rattle.ring.specs.Limits.{desk}
 use Rattle.ring.specs.Row.{row, in_front}
 use Rattle.ring.specs.RuleD.{whole_way}
-use Rattle.ring.proofs.Listed.{listed-none, listed_back, listed-all}
+use Rattle.ring.proofs.Listed.{listed-none, listed_back}
 use Rattle.ring.proofs.Totals.{part_small}
 use Rattle.router.specs.Rows.{Table}
 use Rattle.table.specs.Judge.{judge_row}
@@ -88,25 +86,19 @@ module _ (n p a b i j d f k w : ℕ) (v : Verdict) (ev : v ≡ judge_row desk n 
 -- ---- the across number
 
 module _ (i j d g h : ℕ) (x y : Bool) (ex : x ≡ in_front (row i j 0) g) (ey : y ≡ in_front (row i j 0) h) where
-  by-sides : (a b : Bool) → x ≡ a → y ≡ b → cond (xor a b) d 0 ≡ part (row i j d) g h
-  unfolding part if_one
-  by-sides a b p q = rw (← p, ← q, ex, ey)
+  -- exactly where the front holds one of the two links
+  by-sides : (a b : Bool) → in_front (row i j 0) g ≡ a → in_front (row i j 0) h ≡ b → cond (beq a b) 0 d ≡ part (row i j d) g h
+  unfolding part if_one xor
+  by-sides true true p q = rw (p, q)
+  by-sides true false p q = rw (p, q)
+  by-sides false true p q = rw (p, q)
+  by-sides false false p q = rw (p, q)
 
-  pub both-in : x ≡ true → y ≡ true → 0 ≡ part (row i j d) g h
-  unfolding xor
-  both-in = by-sides true true
+  pub same-side : beq x y ≡ true → 0 ≡ part (row i j d) g h
+  same-side t = rw t at (by-sides x y (sym ex) (sym ey))
 
-  pub one_in : x ≡ true → y ≡ false → d ≡ part (row i j d) g h
-  unfolding xor
-  one_in = by-sides true false
-
-  pub other-in : x ≡ false → y ≡ true → d ≡ part (row i j d) g h
-  unfolding xor
-  other-in = by-sides false true
-
-  pub none_in : x ≡ false → y ≡ false → 0 ≡ part (row i j d) g h
-  unfolding xor
-  none_in = by-sides false false
+  pub two-sides : beq x y ≡ false → d ≡ part (row i j d) g h
+  two-sides t = rw t at (by-sides x y (sym ex) (sym ey))
 
 -- the rows from t on are summed
 pub record Summing (n count : ℕ) (first second amount : List ℕ) (g h sum t : ℕ) : Type 0 where
@@ -132,9 +124,6 @@ module _ (n count : ℕ) (first second amount : List ℕ) (g h : ℕ) where
             summing.table.small (t - 1) (omega (arith, summing.within)),
           )
 
-      pub sum_fits : Fits w64 (sum + w)
-      sum_fits = omega (arith, summing.small, summing.table.few, least)
-
       pub sums-row : Summing n count first second amount g h (sum + w) (t - 1)
       unfolding across
       sums-row =
@@ -145,12 +134,6 @@ module _ (n count : ℕ) (first second amount : List ℕ) (g h : ℕ) where
             within = omega (arith, summing.within);
             small = omega (arith, summing.small, summing.within, least);
           }
-
-    pub summed : t ≤ 0 → sum ≡ across (rows_in count first second amount) g h
-    summed z =
-        let e : t ≡ 0 = omega arith in
-        let all = listed-all (row_at first second amount) count in
-        rw (← all) (rw e at summing.is)
 
 -- ---- 10
 

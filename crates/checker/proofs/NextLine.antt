@@ -13,7 +13,7 @@ use Rattle.text.specs.ReadLine.{field_at, field_then, fields_from, read_line}
 use Rattle.text.specs.ReadMark.{mark_from, mark_at}
 use Rattle.text.specs.Answers.{two_in, three_in, sent_in}
 use Rattle.table.specs.Lines.{lines}
-use Rattle.table.specs.LineEnds.{line_length, LineEnds}
+use Rattle.table.specs.LineEnds.{line_length}
 use Rattle.table.specs.declared.reason.Reason.TheVariants.{Misshapen}
 use Rattle.table.proofs.LineSteps.{first-line}
 use Rattle.sheet.specs.Check.{refused, stop, ring_turn, row_turn, cut_turn, link_turn, last_turn, turn, at_end, after, check_from}
@@ -28,9 +28,6 @@ first-split [] = (refl, refl)
 first-split (b ∷ t) = let e = first-line (b ∷ t) (omega arith) in (rw e, rw e)
 
 module _ (s : List ℕ) (at : ℕ) where
-  pub next-there : (to : ℕ) → LineEnds s at to → NextEnds s at to
-  next-there to e = record { is = e.is; within = e.within }
-
   pub none-there : at ≤ length s → length s ≤ at → NextEnds s at at
   unfolding line_length
   none-there w l = record { is = rw (drop_of_length-le s l) (omega arith); within = w }

@@ -2,28 +2,12 @@
 use Prim.Native.Nat.{ℕ}
 use mathlib.Core.Bool.{Bool, true, false, not, xor, beq}
 use mathlib.Core.Path.{◌≡◌, refl, sym, ◌∙◌}
-use lib.Dec.{eqb}
-use borrow.Author.Tests.{eq-eqb, ne_eqb}
 use Rattle.ring.specs.Row.{row}
 use Rattle.ring.specs.Routing.{sent, is_split}
 use Rattle.ring.specs.Crossing.{distinct, between, crosses, parallel}
 use Rattle.ring.specs.RuleC.{clash}
 
 module _ (i j k l : ℕ) where
-  -- ---- four nodes
-
-  pub same-firsts : i ≡ k → false ≡ distinct (row i j 0) (row k l 0)
-  same-firsts e = rw (eq-eqb i k e)
-
-  pub first-is-second : (i ≡ k → ⊥) → i ≡ l → false ≡ distinct (row i j 0) (row k l 0)
-  first-is-second n e = rw (ne_eqb i k n, eq-eqb i l e)
-
-  pub second-is-first : (i ≡ k → ⊥) → (i ≡ l → ⊥) → j ≡ k → false ≡ distinct (row i j 0) (row k l 0)
-  second-is-first n m e = rw (ne_eqb i k n, ne_eqb i l m, eq-eqb j k e)
-
-  pub others-differ : (i ≡ k → ⊥) → (i ≡ l → ⊥) → (j ≡ k → ⊥) → not (eqb j l) ≡ distinct (row i j 0) (row k l 0)
-  others-differ n m o = rw (ne_eqb i k n, ne_eqb i l m, ne_eqb j k o)
-
   -- ---- parallel
 
   module _ (four begins ends : Bool) (f : four ≡ distinct (row i j 0) (row k l 0)) (b : begins ≡ between (row i j 0) k) (e : ends ≡ between (row i j 0) l) where

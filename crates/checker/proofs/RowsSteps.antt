@@ -8,8 +8,6 @@ use native.Mathlib.Decide.{dec_lt}
 use native.Mathlib.Omega.{arith}
 use lib.ListN.{length, get_or, replicate, set, take, drop, length-append, length-take}
 use lib.Seq.{sets}
-use mir.Syntax.{w32}
-use mir.Val.{Fits}
 use Rattle.ring.specs.Columns.{column, routed_in}
 use Rattle.ring.specs.Routing.{way_number, way_of, Routed, sent, routed, F}
 use Rattle.ring.specs.Limits.{desk}
@@ -42,7 +40,8 @@ use Rattle.sheet.specs.Judge.{judge_halves}
 use Rattle.sheet.specs.Check.{Result, routed_of, last_of, when, unless, row_turn, turn, after, check_from}
 use Rattle.checker.specs.Parts.{sent_verdict, NextEnds, first_of, cut_from, rows_at, rows-refused, RowsRead}
 use Rattle.sheet.specs.Says.{rows}
-use Rattle.checker.specs.declared.rows.Rows.{Rows}
+use Rattle.checker.specs.Arrays.{no_values}
+use Rattle.checker.specs.declared.values.SheetValues.{SheetValues}
 use Rattle.checker.specs.declared.rows.RowsEnd.TheVariants.{At, Refused}
 use Rattle.sheet.proofs.Back as back-law
 use Rattle.checker.proofs.NextLine.{next-line, step_from, step-at}
@@ -181,24 +180,20 @@ pub record RowsReading (s : List ℕ) (n from line a b count at : ℕ) (first se
   pub two : desk.fewest ≤ n
   pub size : n ≤ desk.nodes
 
--- arrays that hold no row are zero
-abbrev none_yet : List ℕ
-none_yet = replicate {A = ℕ} desk.rows 0
-
-pub rows_start : (s : List ℕ) (n from : ℕ) → from ≤ length s → desk.fewest ≤ n → n ≤ desk.nodes → RowsReading s n from 2 0 0 0 from none_yet none_yet none_yet none_yet none_yet none_yet
-unfolding column
-rows_start s n from w two size =
+pub rows_start : (s : List ℕ) (n from : ℕ) (v : SheetValues) → v ≡ no_values → from ≤ length s → desk.fewest ≤ n → n ≤ desk.nodes → RowsReading s n from 2 0 0 0 from v.first v.second v.amount v.front v.back v.way
+unfolding no_values
+rows_start s n from v none-held w two size =
     record {
       rs = [];
       rest = λ fibres. refl;
       last = (refl, refl);
       many = refl;
-      firsts = refl;
-      seconds = refl;
-      amounts = refl;
-      fronts = refl;
-      backs = refl;
-      ways = refl;
+      firsts = ap (λ (u : SheetValues). u.first) none-held;
+      seconds = ap (λ (u : SheetValues). u.second) none-held;
+      amounts = ap (λ (u : SheetValues). u.amount) none-held;
+      fronts = ap (λ (u : SheetValues). u.front) none-held;
+      backs = ap (λ (u : SheetValues). u.back) none-held;
+      ways = ap (λ (u : SheetValues). u.way) none-held;
       fine = none;
       lined = refl;
       most = omega arith;
@@ -225,11 +220,10 @@ each_more : {A : Type 0} {P : A → Type 0} {l : List A} {a : A} → Each P l �
 each_more none p = more p none
 each_more (more q e) p = more q (each_more e p)
 
-module _ (s : List ℕ) (n from line a b count at : ℕ) (first second amount front back way : List ℕ) (reading : RowsReading s n from line a b count at first second amount front back way) where
+module _ (s : List ℕ) (n from line a b count at : ℕ) (v : SheetValues) (reading : RowsReading s n from line a b count at v.first v.second v.amount v.front v.back v.way) where
   module _ (to : ℕ) (ends : NextEnds s at to) (x : SentRow) (ex : x ≡ sent_in (read_line sent_shape (take (to - at) (drop at s)))) where
     -- the next line is no D line: the rows end here
-    pub rows_end : (p : ℕ) → x ≡ NotSent p →
-        RowsRead s from n (record { end = At count at line p; first = first; second = second; amount = amount; front = front; back = back; way = way })
+    pub rows_end : (p : ℕ) → x ≡ NotSent p → RowsRead s from n v (At count at line p)
     unfolding cut_from turn row_turn
     rows_end p q =
         let e = reading.many in
@@ -261,20 +255,20 @@ module _ (s : List ℕ) (n from line a b count at : ℕ) (first second amount fr
               (rw (e, c4, c5) (fine-halves n reading.rs few reading.fine));
         }
 
-    module _ (i j d f k w : ℕ) (is : x ≡ IsSent i j d f k w) (v : Verdict) (ev : v ≡ sent_verdict desk n count a b (routed_of i j d f k w)) where
+    module _ (i j d f k w : ℕ) (is : x ≡ IsSent i j d f k w) (found : Verdict) (ef : found ≡ sent_verdict desk n count a b (routed_of i j d f k w)) where
       -- what is found against it decides
-      led : (fibres : ℕ) → whole s n from fibres ≡ after (unless v (row_fault n i j d) (rows (ring_of n fibres) (reading.rs ++ routed_of i j d f k w ∷ []))) line (λ next. check_from desk true next (line + 1) (lines (drop to s)))
+      led : (fibres : ℕ) → whole s n from fibres ≡ after (unless found (row_fault n i j d) (rows (ring_of n fibres) (reading.rs ++ routed_of i j d f k w ∷ []))) line (λ next. check_from desk true next (line + 1) (lines (drop to s)))
       unfolding turn row_turn sent_verdict when
       led fibres =
           let e = reading.many in
           let u = reading.last.0 in
           let w' = reading.last.1 in
-          let found : sent_verdict desk n (length reading.rs) (last_of reading.rs).i (last_of reading.rs).j (routed_of i j d f k w) ≡ v = rw (← e, u, w') (sym ev) in
-          reading.rest fibres ∙ step-at desk true s at to ends (rows (ring_of n fibres) reading.rs) tt line ∙ rw (← ex, is, found)
+          let q : sent_verdict desk n (length reading.rs) (last_of reading.rs).i (last_of reading.rs).j (routed_of i j d f k w) ≡ found = rw (← e, u, w') (sym ef) in
+          reading.rest fibres ∙ step-at desk true s at to ends (rows (ring_of n fibres) reading.rs) tt line ∙ rw (← ex, is, q)
 
-      pub row-stops : (reason : Reason) (byte : ℕ) (t : Rows) → v ≡ Fault reason → byte ≡ row_fault n i j d reason → t.end ≡ Refused reason line byte → RowsRead s from n t
+      pub row-stops : (reason : Reason) (byte : ℕ) → found ≡ Fault reason → byte ≡ row_fault n i j d reason → RowsRead s from n v (Refused reason line byte)
       unfolding unless after
-      row-stops reason byte t q b e = record { means = λ fibres. rw e (rows-refused {reason = reason} {line = line} {byte = byte} (led fibres ∙ rw (q, b))) }
+      row-stops reason byte q b = record { means = λ fibres. rows-refused {reason = reason} {line = line} {byte = byte} (led fibres ∙ rw (q, b)) }
 
       row_here : IsRow (take (to - at) (drop at s)) w
       row_here = go (rw (← ex, is) at (sent-read (take (to - at) (drop at s))))
@@ -288,18 +282,15 @@ module _ (s : List ℕ) (n from line a b count at : ℕ) (first second amount fr
       pub row-less : length s - to < length s - at
       row-less = omega (arith, row_on, ends.within)
 
-      module _ (fine : v ≡ Fine) where
+      module _ (fine : found ≡ Fine) where
         new_row : FineRow n count i j d f k w
-        new_row = fine-row n count a b i j d f k w v ev fine
+        new_row = fine-row n count a b i j d f k w found ef fine
 
         -- there is room for it
         pub row_room : count < desk.rows
         row_room = new_row.room
 
-        pub line-fits : Fits w32 (line + 1)
-        line-fits = omega (arith, reading.lined, reading.most)
-
-        pub reads-row : RowsReading s n from (line + 1) i j (count + 1) to (set first count i) (set second count j) (set amount count d) (set front count f) (set back count k) (set way count w)
+        pub reads-row : RowsReading s n from (line + 1) i j (count + 1) to (set v.first count i) (set v.second count j) (set v.amount count d) (set v.front count f) (set v.back count k) (set v.way count w)
         unfolding unless after
         reads-row =
             let r : Routed = routed_of i j d f k w in

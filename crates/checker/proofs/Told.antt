@@ -14,31 +14,34 @@ use Rattle.text.proofs.Apart.{clash}
 use Rattle.table.specs.declared.reason.Reason.{Reason}
 use Rattle.table.proofs.TableText.{desk-spelled}
 use Rattle.sheet.specs.Arrays.{sheet_in}
-use Rattle.checker.specs.Arrays.{checked_in}
+use Rattle.sheet.specs.WriteSheet.{figures_of}
+use Rattle.checker.specs.Arrays.{values_of, Checked, beside, checked_in}
 use Rattle.sheet.specs.Check.{Result, accepted, refused, check}
-use Rattle.checker.specs.declared.check.Checked.{Checked}
+use Rattle.checker.specs.declared.values.SheetValues.{SheetValues}
+use Rattle.checker.specs.declared.check.Answer.{Answer}
 use Rattle.checker.specs.declared.check.Answer.TheVariants.{Is, Refused}
 use Rattle.sheet.proofs.Back.{links-back}
 use Rattle.sheet.proofs.Demands.{check-text}
 use Rattle.checker.proofs.RowsSteps.{columns-back}
 
-pub record Told (s : List ℕ) (c : Checked) (count : ℕ) : Type 0 where
+pub record Told (s : List ℕ) (v : SheetValues) (count : ℕ) : Type 0 where
   pub x : Sheet
   pub is : check desk s ≡ accepted x
-  pub same : sheet_in c.figures count c.first c.second c.amount c.front c.back c.way c.split c.unsplit ≡ x
-  pub sents-same : sents_in count c.first c.second c.amount c.front c.back ≡ sents x.rows
+  pub same : sheet_in v.figures count v.first v.second v.amount v.front v.back v.way v.split v.unsplit ≡ x
+  pub sents-same : sents_in count v.first v.second v.amount v.front v.back ≡ sents x.rows
   pub room : count ≤ desk.rows
-  pub links : c.figures.n ≤ desk.nodes
+  pub links : v.figures.n ≤ desk.nodes
 
 sents-in : (count : ℕ) (first second amount front back way : List ℕ) → sents_in count first second amount front back ≡ sents (routed_in count first second amount front back way)
 sents-in count first second amount front back way = sym (listed-map (λ (r : Routed). r.sent) (routed_at first second amount front back way) 0 count)
 
-module _ (s : List ℕ) (c : Checked) where
-  a-sheet : (r : Result) → check desk s ≡ r → c ≡ checked_in r → (count : ℕ) → c.answer ≡ Is count → Told s c count
+module _ (s : List ℕ) (answer : Answer) (v : SheetValues) where
+  a-sheet : (r : Result) → check desk s ≡ r → beside answer v ≡ checked_in r → (count : ℕ) → answer ≡ Is count → Told s v count
   unfolding checked_in sheet_in
   a-sheet (accepted x) q e count a =
       let p : Is count ≡ Is (length x.rows) = sym a ∙ ap (λ (y : Checked). y.answer) e in
       let k : count ≡ length x.rows = cc in
+      let ev : v ≡ values_of (figures_of x) x.rows x.links = ap (λ (y : Checked). y.values) e in
       let h = ((check-text desk desk-spelled s x).0 q).1 in
       let few : length x.rows ≤ desk.rows = h.0.count in
       let rows = columns-back x.rows few in
@@ -48,14 +51,14 @@ module _ (s : List ℕ) (c : Checked) where
       record {
         x = x;
         is = q;
-        same = rw (e, k, rows, links);
-        sents-same = rw (e, k) (first ∙ ap sents rows);
+        same = rw (ev, k, rows, links);
+        sents-same = rw (ev, k) (first ∙ ap sents rows);
         room = omega arith;
-        links = rw e h.0.many;
+        links = rw ev h.0.many;
       }
   a-sheet (refused reason line byte) q e count a = clash (let p : Is count ≡ Refused reason line byte = sym a ∙ ap (λ (y : Checked). y.answer) e in cc)
 
-  a-refusal : (r : Result) → check desk s ≡ r → c ≡ checked_in r → (reason : Reason) (line byte : ℕ) → c.answer ≡ Refused reason line byte → check desk s ≡ refused reason line byte
+  a-refusal : (r : Result) → check desk s ≡ r → beside answer v ≡ checked_in r → (reason : Reason) (line byte : ℕ) → answer ≡ Refused reason line byte → check desk s ≡ refused reason line byte
   unfolding checked_in
   a-refusal (accepted x) q e reason line byte a = clash (let p : Refused reason line byte ≡ Is (length x.rows) = sym a ∙ ap (λ (y : Checked). y.answer) e in cc)
   a-refusal (refused why at on) q e reason line byte a =
@@ -65,9 +68,9 @@ module _ (s : List ℕ) (c : Checked) where
       let kb : on ≡ byte = cc in
       q ∙ rw (kw, kl, kb)
 
-  module _ (e : c ≡ checked_in (check desk s)) where
-    pub told-sheet : (count : ℕ) → c.answer ≡ Is count → Told s c count
+  module _ (e : beside answer v ≡ checked_in (check desk s)) where
+    pub told-sheet : (count : ℕ) → answer ≡ Is count → Told s v count
     told-sheet = a-sheet (check desk s) refl e
 
-    pub told-refusal : (reason : Reason) (line byte : ℕ) → c.answer ≡ Refused reason line byte → check desk s ≡ refused reason line byte
+    pub told-refusal : (reason : Reason) (line byte : ℕ) → answer ≡ Refused reason line byte → check desk s ≡ refused reason line byte
     told-refusal = a-refusal (check desk s) refl e

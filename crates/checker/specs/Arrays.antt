@@ -1,13 +1,13 @@
 -- Internal: what checking a text gives: the sheet's values in arrays, zero behind them and zero after a refusal.
-use Rattle.std.specs.Prelude.{List, [], length}
-use Rattle.ring.specs.Columns.{column}
+use Rattle.std.specs.Prelude.{ℕ, List, [], length}
+use Rattle.ring.specs.Columns.{column, routed_in}
 use Rattle.ring.specs.Routing.{way_number, Routed}
 use Rattle.ring.specs.Limits.{desk}
 use Rattle.ring.specs.Sheet.{Link}
 use Rattle.sheet.specs.WriteSheet.{figures_of}
 use Rattle.sheet.specs.Check.{Result, accepted, refused}
 use Rattle.sheet.specs.declared.Figures.{Figures}
-use Rattle.checker.specs.declared.check.Checked.{Checked}
+use Rattle.checker.specs.declared.values.SheetValues.{SheetValues}
 use Rattle.checker.specs.declared.check.Answer.{Answer}
 use Rattle.checker.specs.declared.check.Answer.TheVariants.{Is, Refused}
 
@@ -15,11 +15,10 @@ use Rattle.checker.specs.declared.check.Answer.TheVariants.{Is, Refused}
 abbrev pub no_figures : Figures
 no_figures = record { n = 0; fibres = 0; g = 0; h = 0; across = 0; peak = 0; size = 0 }
 
--- an answer beside the columns of rows and links
-abbrev pub beside : Answer → Figures → List Routed → List Link → Checked
-beside answer figures rs ls =
+-- figures beside the columns of rows and links
+abbrev pub values_of : Figures → List Routed → List Link → SheetValues
+values_of figures rs ls =
     record {
-      answer = answer;
       figures = figures;
       first = column (λ (r : Routed). r.sent.row.i) desk.rows rs;
       second = column (λ (r : Routed). r.sent.row.j) desk.rows rs;
@@ -31,8 +30,25 @@ beside answer figures rs ls =
       unsplit = column (λ (l : Link). l.unsplit) desk.nodes ls;
     }
 
+-- values of no sheet
+unfoldable pub no_values : SheetValues
+unfolding column
+no_values = values_of no_figures [] []
+
+-- the rows that values hold
+abbrev pub rows_held : ℕ → SheetValues → List Routed
+rows_held count v = routed_in count v.first v.second v.amount v.front v.back v.way
+
+-- an answer beside the values that were lent
+pub record Checked : Type 0 where
+  pub answer : Answer
+  pub values : SheetValues
+
+abbrev pub beside : Answer → SheetValues → Checked
+beside answer values = record { answer = answer; values = values }
+
 -- what checking a text gives; a refusal returns only reason, line and byte
 unfoldable pub checked_in : Result → Checked
-unfolding column
-checked_in (accepted x) = beside (Is (length x.rows)) (figures_of x) x.rows x.links
-checked_in (refused reason line byte) = beside (Refused reason line byte) no_figures [] []
+unfolding no_values column
+checked_in (accepted x) = beside (Is (length x.rows)) (values_of (figures_of x) x.rows x.links)
+checked_in (refused reason line byte) = beside (Refused reason line byte) no_values

@@ -3,7 +3,7 @@ use Rattle.std.specs.Prelude.{ℕ, ◌+◌, ◌≤◌, true, List, [], ◌∷◌
 use Rattle.sonet.specs.Size.{sonet_sizes}
 use Rattle.ring.specs.Ring.{Ring, ring_of}
 use Rattle.ring.specs.LineSize.{line_size}
-use Rattle.ring.specs.Columns.{column, routed_in}
+use Rattle.ring.specs.Columns.{column}
 use Rattle.ring.specs.Routing.{way_number, Routed, split_load, unsplit_load, peak}
 use Rattle.ring.specs.Cut.{Cut}
 use Rattle.ring.specs.Limits.{Limits, desk}
@@ -23,14 +23,13 @@ use Rattle.table.specs.Judge.{judge_row}
 use Rattle.table.specs.declared.reason.Reason.{Reason}
 use Rattle.table.specs.declared.judge.Verdict.{Verdict}
 use Rattle.sheet.specs.WriteSheet.{figures_of}
+use Rattle.sheet.specs.declared.Figures.{Figures}
 use Rattle.sheet.specs.Check.{Result, accepted, refused, cut_of, cut_turn, after, whole_result, check_from}
 use Rattle.sheet.specs.Says.{rows, links}
-use Rattle.checker.specs.declared.check.Checked.{Checked}
-use Rattle.checker.specs.declared.check.Answer.TheVariants.{Is}
-use Rattle.checker.specs.declared.rows.Rows.{Rows}
+use Rattle.checker.specs.Arrays.{rows_held}
+use Rattle.checker.specs.declared.values.SheetValues.{SheetValues}
 use Rattle.checker.specs.declared.rows.RowsEnd.{RowsEnd}
 use Rattle.checker.specs.declared.rows.RowsEnd.TheVariants.{At, Refused as RowsRefused}
-use Rattle.checker.specs.declared.ending.Ending.{Ending}
 use Rattle.checker.specs.declared.ending.Step.{Step}
 use Rattle.checker.specs.declared.ending.Step.TheVariants.{On, Refused as StepRefused}
 
@@ -63,26 +62,26 @@ unfolding after cut_turn check_from first_of behind_first
 cut_from ring rs line q ls = after (cut_turn true ring rs q (three_in (read_line cut_shape (first_of ls)))) line λ next. check_from desk true next (line + 1) (behind_first ls)
 
 -- the rows rs stand in columns, from place 0 on, and zeros behind them
-pub record Columns (rs : List Routed) (count : ℕ) (first second amount front back way : List ℕ) : Type 0 where
+pub record Columns (rs : List Routed) (count : ℕ) (v : SheetValues) : Type 0 where
   pub many : count ≡ length rs
-  pub firsts : first ≡ column (λ (r : Routed). r.sent.row.i) desk.rows rs
-  pub seconds : second ≡ column (λ (r : Routed). r.sent.row.j) desk.rows rs
-  pub amounts : amount ≡ column (λ (r : Routed). r.sent.row.d) desk.rows rs
-  pub fronts : front ≡ column (λ (r : Routed). r.sent.front) desk.rows rs
-  pub backs : back ≡ column (λ (r : Routed). r.sent.back) desk.rows rs
-  pub ways : way ≡ column (λ (r : Routed). way_number r.way) desk.rows rs
-  pub is : routed_in count first second amount front back way ≡ rs
+  pub firsts : v.first ≡ column (λ (r : Routed). r.sent.row.i) desk.rows rs
+  pub seconds : v.second ≡ column (λ (r : Routed). r.sent.row.j) desk.rows rs
+  pub amounts : v.amount ≡ column (λ (r : Routed). r.sent.row.d) desk.rows rs
+  pub fronts : v.front ≡ column (λ (r : Routed). r.sent.front) desk.rows rs
+  pub backs : v.back ≡ column (λ (r : Routed). r.sent.back) desk.rows rs
+  pub ways : v.way ≡ column (λ (r : Routed). way_number r.way) desk.rows rs
+  pub is : rows_held count v ≡ rs
 
 -- what the rows that were read lead to, and what is known of their columns
-pub data RowsMean (s : List ℕ) (ring : Ring) (result : Result) (first second amount front back way : List ℕ) : RowsEnd → Type 0 where
-  rows_at : {count at line q : ℕ} (rs : List Routed) → Columns rs count first second amount front back way → result ≡ cut_from ring rs line q (lines (drop at s))
-      → at ≤ length s → q ≤ length s → line ≡ count + 2 → Table ring.n count first second amount → Halves count front back → RowsMean s ring result first second amount front back way (At count at line q)
-  rows-refused : {reason : Reason} {line byte : ℕ} → result ≡ refused reason line byte → RowsMean s ring result first second amount front back way (RowsRefused reason line byte)
+pub data RowsMean (s : List ℕ) (ring : Ring) (result : Result) (v : SheetValues) : RowsEnd → Type 0 where
+  rows_at : {count at line q : ℕ} (rs : List Routed) → Columns rs count v → result ≡ cut_from ring rs line q (lines (drop at s))
+      → at ≤ length s → q ≤ length s → line ≡ count + 2 → Table ring.n count v.first v.second v.amount → Halves count v.front v.back → RowsMean s ring result v (At count at line q)
+  rows-refused : {reason : Reason} {line byte : ℕ} → result ≡ refused reason line byte → RowsMean s ring result v (RowsRefused reason line byte)
 
 -- whatever the fibres: rows are judged by the number of nodes alone
-pub record RowsRead (s : List ℕ) (from n : ℕ) (r : Rows) : Type 0 where
+pub record RowsRead (s : List ℕ) (from n : ℕ) (v : SheetValues) (end : RowsEnd) : Type 0 where
   pub means : (fibres : ℕ) →
-      RowsMean s (ring_of n fibres) (check_from desk true (rows (ring_of n fibres) []) 2 (lines (drop from s))) r.first r.second r.amount r.front r.back r.way r.end
+      RowsMean s (ring_of n fibres) (check_from desk true (rows (ring_of n fibres) []) 2 (lines (drop from s))) v end
 
 -- ---- the lines behind them
 
@@ -134,34 +133,34 @@ pub record TailRead (s : List ℕ) (at line n number : ℕ) (split unsplit : Lis
       StepMeans s (check_from desk true (links (ring_of n fibres) rs (cut_of g h number) []) line (lines (drop at s)))
       (λ p. accepted (sheet_with (ring_of n fibres) rs (cut_of g h number) split unsplit top size)) r
 
--- what a refusal returns beside its step does not count; else the figures and the loads are those of the sheet
-pub data EndMeans (ring : Ring) (rs : List Routed) (result : Result) (r : Ending) : Step → Type 0 where
-  ends_with : {at : ℕ} (c : Cut) (top size : ℕ) → result ≡ accepted (sheet_with ring rs c r.split r.unsplit top size)
-      → r.figures ≡ figures_of (sheet_with ring rs c r.split r.unsplit top size)
-      → r.split ≡ column (λ (l : Link). l.split) desk.nodes (links_in ring.n r.split r.unsplit)
-      → r.unsplit ≡ column (λ (l : Link). l.unsplit) desk.nodes (links_in ring.n r.split r.unsplit) → EndMeans ring rs result r (On at)
-  end_refused : {reason : Reason} {line byte : ℕ} → result ≡ refused reason line byte → EndMeans ring rs result r (StepRefused reason line byte)
+-- rows as they were, beside other figures and loads
+abbrev pub ended : SheetValues → Figures → List ℕ → List ℕ → SheetValues
+ended v figures split unsplit =
+    record {
+      figures = figures;
+      first = v.first;
+      second = v.second;
+      amount = v.amount;
+      front = v.front;
+      back = v.back;
+      way = v.way;
+      split = split;
+      unsplit = unsplit;
+    }
+
+-- what a refusal leaves in the values does not count; else their rows are as they were, and the figures and the loads are those of the sheet
+pub data EndMeans (ring : Ring) (rs : List Routed) (result : Result) (old new : SheetValues) : Step → Type 0 where
+  ends_with : {at : ℕ} (c : Cut) (top size : ℕ) (split unsplit : List ℕ) → result ≡ accepted (sheet_with ring rs c split unsplit top size)
+      → new ≡ ended old (figures_of (sheet_with ring rs c split unsplit top size)) split unsplit
+      → split ≡ column (λ (l : Link). l.split) desk.nodes (links_in ring.n split unsplit)
+      → unsplit ≡ column (λ (l : Link). l.unsplit) desk.nodes (links_in ring.n split unsplit) → EndMeans ring rs result old new (On at)
+  end_refused : {reason : Reason} {line byte : ℕ} → result ≡ refused reason line byte → EndMeans ring rs result old new (StepRefused reason line byte)
 
 -- from the C line on
-abbrev pub EndRead : List ℕ → ℕ → ℕ → ℕ → Ring → List Routed → Ending → Type 0
-EndRead s at line q ring rs r = EndMeans ring rs (cut_from ring rs line q (lines (drop at s))) r r.step
+abbrev pub EndRead : List ℕ → ℕ → ℕ → ℕ → Ring → ℕ → SheetValues → SheetValues → Step → Type 0
+EndRead s at line q ring count old new r = EndMeans ring (rows_held count old) (cut_from ring (rows_held count old) line q (lines (drop at s))) old new r
 
 -- behind the cut g, h
-abbrev pub WeighedRead : List ℕ → ℕ → ℕ → Ring → List Routed → ℕ → ℕ → ℕ → Ending → Type 0
-WeighedRead s at line ring rs g h number r = EndMeans ring rs (check_from desk true (links ring rs (cut_of g h number) []) line (lines (drop at s))) r r.step
-
--- the columns of rows and the figures behind them, side by side
-abbrev pub checked_with : ℕ → Rows → Ending → Checked
-checked_with count t e =
-    record {
-      answer = Is count;
-      figures = e.figures;
-      first = t.first;
-      second = t.second;
-      amount = t.amount;
-      front = t.front;
-      back = t.back;
-      way = t.way;
-      split = e.split;
-      unsplit = e.unsplit;
-    }
+abbrev pub WeighedRead : List ℕ → ℕ → ℕ → Ring → ℕ → SheetValues → ℕ → ℕ → ℕ → SheetValues → Step → Type 0
+WeighedRead s at line ring count old g h number new r =
+    EndMeans ring (rows_held count old) (check_from desk true (links ring (rows_held count old) (cut_of g h number) []) line (lines (drop at s))) old new r

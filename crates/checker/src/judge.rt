@@ -24,8 +24,7 @@ fn wrong_sum(d: u32, front: u32, back: u32) -> bool
 fn wrong_way(front: u32, back: u32, way: u32) -> bool
     ensures { result ≡ wrong_way (routed_of 0 0 0 front back way) }
 {
-    let split = is_split(front, back);
-    if split {
+    if is_split(front, back) {
         return false;
     }
     if back == 0 {
@@ -38,15 +37,13 @@ fn wrong_way(front: u32, back: u32, way: u32) -> bool
 fn judge_halves(d: u32, front: u32, back: u32, way: u32) -> Verdict
     ensures { result ≡ judge_halves (routed_of 0 0 d front back way) }
 {
-    let unequal = wrong_sum(d, front, back);
-    if unequal {
-        return Verdict::Fault(Reason::WrongSum);
+    if wrong_sum(d, front, back) {
+        Verdict::Fault(Reason::WrongSum)
+    } else if wrong_way(front, back, way) {
+        Verdict::Fault(Reason::WrongWay)
+    } else {
+        Verdict::Fine
     }
-    let turned = wrong_way(front, back, way);
-    if turned {
-        return Verdict::Fault(Reason::WrongWay);
-    }
-    Verdict::Fine
 }
 
 // 4 to 9 and 16, of the row i, j on a ring of n nodes, behind k rows of which the last is a, b (0, 0 where there is none).
@@ -64,8 +61,7 @@ pub(crate) fn judge_sent(
 ) -> Verdict
     ensures { result ≡ sent_verdict desk n k a b (routed_of i j d front back way) }
 {
-    let verdict = table::judge_row(n, k, a, b, i, j, d);
-    match verdict {
+    match table::judge_row(n, k, a, b, i, j, d) {
         Verdict::Fault(reason) => Verdict::Fault(reason),
         Verdict::Fine => judge_halves(d, front, back, way),
     }
@@ -84,16 +80,7 @@ fn part_of(i: u32, j: u32, d: u32, g: u32, h: u32) -> u32
 {
     let one = in_front(i, j, g);
     let other = in_front(i, j, h);
-    if one {
-        if other {
-            return 0;
-        }
-        return d;
-    }
-    if other {
-        return d;
-    }
-    0
+    if one == other { 0 } else { d }
 }
 
 // The across number of g and h.
@@ -110,11 +97,8 @@ fn across_of(
     ensures { result ≡ across (rows_in count first.now second.now amount.now) g h }
 {
     let mut sum: usize = 0;
-    let mut t: usize = count;
-    while 0 < t {
-        t -= 1;
-        let more = part_of(first[t], second[t], amount[t], g, h);
-        sum = sum + wide(more);
+    for t in (0..count).rev() {
+        sum += wide(part_of(first[t], second[t], amount[t], g, h));
     }
     sum
 }
@@ -146,8 +130,7 @@ pub(crate) fn judge_cut(
     requires { Table n count first.now second.now amount.now }
     ensures { result ≡ cut_verdict n (across (rows_in count first.now second.now amount.now) g h) g h number }
 {
-    let none = no_cut(n, g, h);
-    if none {
+    if no_cut(n, g, h) {
         return Verdict::Fault(Reason::WrongCut);
     }
     let sum = across_of(n, count, first, second, amount, g, h);
@@ -191,10 +174,10 @@ pub(crate) fn judge_whole(split_peak: u32, number: u32, largest: u32, peak: u32)
     ensures { result ≡ whole_verdict split_peak number largest peak }
 {
     if split_peak != number {
-        return Verdict::Fault(Reason::NotTight);
+        Verdict::Fault(Reason::NotTight)
+    } else if wide(split_peak) + 3 * wide(largest) < 2 * wide(peak) {
+        Verdict::Fault(Reason::OverBound)
+    } else {
+        Verdict::Fine
     }
-    if wide(split_peak) + 3 * wide(largest) < 2 * wide(peak) {
-        return Verdict::Fault(Reason::OverBound);
-    }
-    Verdict::Fine
 }

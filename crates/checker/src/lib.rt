@@ -6,6 +6,8 @@ mod judge; // what is found against a line
 mod next; // where the next line ends
 mod pair; // the first parallel split pair
 mod rows; // the D lines
+mod values; // what a text is read to
 
-pub use check::{Answer, Checked, check_sheet};
+pub use check::{Answer, check_sheet};
 pub use pair::{Pair, first_pair};
+pub use values::{SheetValues, no_values};

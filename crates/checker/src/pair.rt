@@ -23,16 +23,7 @@ pub enum Pair {
 fn distinct(i: u32, j: u32, k: u32, l: u32) -> bool
     ensures { result ≡ distinct_of (row i j 0) (row k l 0) }
 {
-    if i == k {
-        return false;
-    }
-    if i == l {
-        return false;
-    }
-    if j == k {
-        return false;
-    }
-    j != l
+    i != k && i != l && j != k && j != l
 }
 
 // Whether node x lies strictly between the nodes i and j.
@@ -66,7 +57,7 @@ fn clashes(i: u32, j: u32, front: u32, back: u32, k: u32, l: u32, front2: u32, b
 
 // ---- all rows
 
-// By first and then by second; both scans are left at the first pair. Amounts do not matter, so none are asked for.
+// By first and then by second. Amounts do not matter, so none are asked for.
 pub fn first_pair<'a>(
     count: usize,
     first: &'a [u32; ROWS],
@@ -77,17 +68,15 @@ pub fn first_pair<'a>(
     requires { count ≤ desk.rows }
     ensures { (amount : List ℕ) → result ≡ first_pair (sents_in count first.now second.now amount front.now back.now) }
 {
-    let mut found = Pair::None;
-    'search: for a in 0..count {
+    for a in 0..count {
         for b in a + 1..count {
             let clash = clashes(
                 first[a], second[a], front[a], back[a], first[b], second[b], front[b], back[b],
             );
             if clash {
-                found = Pair::Are(a + 1, b + 1);
-                break 'search;
+                return Pair::Are(a + 1, b + 1);
             }
         }
     }
-    found
+    Pair::None
 }

@@ -1,11 +1,12 @@
-// The D lines of a sheet, judged one by one and put into arrays.
-ghost use Rattle.std.specs.Prelude.{◌≤◌, length};
+// The D lines of a sheet, judged one by one and put into the columns of lent values.
+ghost use Rattle.std.specs.Prelude.{◌≤◌, ◌≡◌, length};
 ghost use Rattle.ring.specs.Limits.{desk};
+ghost use Rattle.checker.specs.Arrays.{no_values};
 ghost use Rattle.checker.specs.Parts.{RowsRead};
 
 use crate::judge::judge_sent;
 use crate::next::next_end;
-use ring::ROWS;
+use crate::values::SheetValues;
 use table::{Reason, Verdict, row_fault};
 use text::SentRow;
 
@@ -17,29 +18,12 @@ pub(crate) enum RowsEnd {
     Refused(Reason, u32, u32),
 }
 
-// Behind a refusal the arrays hold the rows before it.
-#[derive(Drop)]
-pub(crate) struct Rows {
-    pub end: RowsEnd,
-    pub first: [u32; ROWS],
-    pub second: [u32; ROWS],
-    pub amount: [u32; ROWS],
-    pub front: [u32; ROWS],
-    pub back: [u32; ROWS],
-    pub way: [u32; ROWS],
-}
-
-// The rows of a ring of n nodes, from the place `from` on: up to a line that is no D line, or to a fault.
-pub(crate) fn read_rows(s: &[u8], from: usize, n: u32) -> Rows
-    requires { (from ≤ length s.now) × ((desk.fewest ≤ n) × (n ≤ desk.nodes)) }
-    ensures { RowsRead s.now from n result }
+// The rows of a ring of n nodes, from the place `from` on: up to a line that is no D line, or to a fault, behind which the columns hold the rows before it.
+pub(crate) fn read_rows(s: &[u8], from: usize, n: u32, values: &mut SheetValues) -> RowsEnd
+    requires from_in_bounds { (from ≤ length s.now) × ((desk.fewest ≤ n) × (n ≤ desk.nodes)) }
+    requires blank { values.old ≡ no_values }
+    ensures { RowsRead s.now from n values.new result }
 {
-    let mut first = [0u32; ROWS];
-    let mut second = [0u32; ROWS];
-    let mut amount = [0u32; ROWS];
-    let mut front = [0u32; ROWS];
-    let mut back = [0u32; ROWS];
-    let mut way = [0u32; ROWS];
     let mut count: usize = 0;
     let mut line: u32 = 2;
     let mut at = from;
@@ -47,18 +31,9 @@ pub(crate) fn read_rows(s: &[u8], from: usize, n: u32) -> Rows
     let mut b: u32 = 0;
     loop {
         let end = next_end(s, at);
-        let row = text::read_sent(&s[at..end]);
-        match row {
+        match text::read_sent(&s[at..end]) {
             SentRow::Bad(p) => {
-                return Rows {
-                    end: RowsEnd::At(count, at, line, p),
-                    first,
-                    second,
-                    amount,
-                    front,
-                    back,
-                    way,
-                };
+                return RowsEnd::At(count, at, line, p);
             }
             SentRow::Is {
                 first: i,
@@ -68,25 +43,15 @@ pub(crate) fn read_rows(s: &[u8], from: usize, n: u32) -> Rows
                 back: k,
                 way: w,
             } => {
-                let verdict = judge_sent(n, count, a, b, i, j, d, f, k, w);
-                if let Verdict::Fault(reason) = verdict {
-                    let byte = row_fault(n, i, j, d, reason);
-                    return Rows {
-                        end: RowsEnd::Refused(reason, line, byte),
-                        first,
-                        second,
-                        amount,
-                        front,
-                        back,
-                        way,
-                    };
+                if let Verdict::Fault(reason) = judge_sent(n, count, a, b, i, j, d, f, k, w) {
+                    return RowsEnd::Refused(reason, line, row_fault(n, i, j, d, reason));
                 }
-                first[count] = i;
-                second[count] = j;
-                amount[count] = d;
-                front[count] = f;
-                back[count] = k;
-                way[count] = w;
+                values.first[count] = i;
+                values.second[count] = j;
+                values.amount[count] = d;
+                values.front[count] = f;
+                values.back[count] = k;
+                values.way[count] = w;
                 count += 1;
                 line += 1;
                 at = end;

@@ -7,11 +7,12 @@ use Rattle.ring.specs.Limits.{desk}
 use Rattle.table.specs.Reasons.{number_of}
 use Rattle.table.specs.declared.reason.Reason.{Reason}
 use Rattle.sheet.specs.Arrays.{sheet_in}
-use Rattle.checker.specs.Arrays.{checked_in}
+use Rattle.checker.specs.Arrays.{beside, checked_in}
 use Rattle.sheet.specs.Check.{check}
 use Rattle.checker.specs.FindPair.{first_pair}
 use Rattle.sheet.specs.WriteSheet.{write_sheet}
-use Rattle.checker.specs.declared.check.Checked.{Checked}
+use Rattle.checker.specs.declared.values.SheetValues.{SheetValues}
+use Rattle.checker.specs.declared.check.Answer.{Answer}
 use Rattle.checker.specs.declared.check.Answer.TheVariants.{Is, Refused}
 use Rattle.checker.specs.declared.pair.Pair.{Pair}
 use Rattle.checker.specs.declared.pair.Pair.TheVariants.{Are, None}
@@ -21,23 +22,23 @@ use Rattle.ringkit.specs.SheetCalls.{verdict_reply, sheet_checked, pair_reply, q
 use Rattle.ringkit.specs.declared.Reply.{Reply}
 use Rattle.ringkit.proofs.FillSteps.{refuses}
 
-module _ (s : List ℕ) (c : Checked) (e : c ≡ checked_in (check desk s)) where
-  module _ (reason : Reason) (line byte : ℕ) (a : c.answer ≡ Refused reason line byte) where
+module _ (s : List ℕ) (answer : Answer) (v : SheetValues) (e : beside answer v ≡ checked_in (check desk s)) where
+  module _ (reason : Reason) (line byte : ℕ) (a : answer ≡ Refused reason line byte) where
     pub check-refused : (r : Reply) → r ≡ reply_of (refuse reason line byte) → r ≡ sheet_checked s
     unfolding sheet_checked
-    check-refused r q = q ∙ sym (ap verdict_reply (told-refusal s c e reason line byte a))
+    check-refused r q = q ∙ sym (ap verdict_reply (told-refusal s answer v e reason line byte a))
 
     pub pair-refused : (m : ℕ) → m ≡ number_of reason → record { reason = m; line = line; byte = byte; first = 0; second = 0 } ≡ sheet_parallel s
     unfolding sheet_parallel question_reply
-    pair-refused m q = rw q (sym (ap question_reply (told-refusal s c e reason line byte a)))
+    pair-refused m q = rw q (sym (ap question_reply (told-refusal s answer v e reason line byte a)))
 
     pub sheet-refused : (old : List ℕ) (r : Reply) → r ≡ reply_of (refuse reason line byte) → Fills (sheet_afresh s) old old r
     unfolding sheet_afresh of_sheet
-    sheet-refused old r = refuses (sheet_afresh s) old reason line byte r (ap of_sheet (told-refusal s c e reason line byte a))
+    sheet-refused old r = refuses (sheet_afresh s) old reason line byte r (ap of_sheet (told-refusal s answer v e reason line byte a))
 
-  module _ (count : ℕ) (a : c.answer ≡ Is count) where
-    told : Told s c count
-    told = told-sheet s c e count a
+  module _ (count : ℕ) (a : answer ≡ Is count) where
+    told : Told s v count
+    told = told-sheet s answer v e count a
 
     pub check-accepted : record { reason = 0; line = 0; byte = 0; length = 0 } ≡ sheet_checked s
     unfolding sheet_checked
@@ -46,13 +47,13 @@ module _ (s : List ℕ) (c : Checked) (e : c ≡ checked_in (check desk s)) wher
     pub rows-have-room : count ≤ desk.rows
     rows-have-room = told.room
 
-    pub links-have-room : c.figures.n ≤ desk.nodes
+    pub links-have-room : v.figures.n ≤ desk.nodes
     links-have-room = told.links
 
-    module _ (pair : Pair) (is : (amount : List ℕ) → pair ≡ first_pair (sents_in count c.first c.second amount c.front c.back)) where
+    module _ (pair : Pair) (is : (amount : List ℕ) → pair ≡ first_pair (sents_in count v.first v.second amount v.front v.back)) where
       found : sheet_parallel s ≡ pair_reply pair
       unfolding sheet_parallel question_reply
-      found = ap question_reply told.is ∙ ap (λ ss. pair_reply (first_pair ss)) (sym told.sents-same) ∙ ap pair_reply (sym (is c.amount))
+      found = ap question_reply told.is ∙ ap (λ ss. pair_reply (first_pair ss)) (sym told.sents-same) ∙ ap pair_reply (sym (is v.amount))
 
       pub pair_found : (p q : ℕ) → pair ≡ Are p q → record { reason = 0; line = 0; byte = 0; first = p; second = q } ≡ sheet_parallel s
       unfolding pair_reply
@@ -63,9 +64,9 @@ module _ (s : List ℕ) (c : Checked) (e : c ≡ checked_in (check desk s)) wher
       no-pair-found f = sym (found ∙ rw f)
 
     pub sheet-fills : (old new : List ℕ) (r : Reply) →
-        Fills (write (write_sheet (sheet_in c.figures count c.first c.second c.amount c.front c.back c.way c.split c.unsplit))) old new r → Fills (sheet_afresh s) old new r
+        Fills (write (write_sheet (sheet_in v.figures count v.first v.second v.amount v.front v.back v.way v.split v.unsplit))) old new r → Fills (sheet_afresh s) old new r
     unfolding sheet_afresh of_sheet
     sheet-fills old new r f =
-        let is-text : sheet_afresh s ≡ write (write_sheet (sheet_in c.figures count c.first c.second c.amount c.front c.back c.way c.split c.unsplit)) =
+        let is-text : sheet_afresh s ≡ write (write_sheet (sheet_in v.figures count v.first v.second v.amount v.front v.back v.way v.split v.unsplit)) =
         ap of_sheet told.is ∙ ap (λ x. write (write_sheet x)) (sym told.same) in
         rw is-text f

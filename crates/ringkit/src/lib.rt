@@ -274,8 +274,8 @@ pub fn ringkit_route(table: &[u8], buffer: &mut [u8]) -> Reply
 pub fn ringkit_check(sheet: &[u8]) -> Reply
     ensures { result ≡ sheet_checked sheet.now }
 {
-    let c = checker::check_sheet(sheet);
-    let answer = c.answer;
+    let mut values = checker::no_values();
+    let answer = checker::check_sheet(sheet, &mut values);
     match answer {
         Judged::Refused(why, at, byte) => refusal(why, at, byte),
         Judged::Is(_) => Reply {
@@ -302,8 +302,8 @@ pub struct PairReply {
 pub fn ringkit_parallel(sheet: &[u8]) -> PairReply
     ensures { result ≡ sheet_parallel sheet.now }
 {
-    let c = checker::check_sheet(sheet);
-    let answer = c.answer;
+    let mut values = checker::no_values();
+    let answer = checker::check_sheet(sheet, &mut values);
     match answer {
         Judged::Refused(reason, line, byte) => PairReply {
             reason: reason.number(),
@@ -313,7 +313,13 @@ pub fn ringkit_parallel(sheet: &[u8]) -> PairReply
             second: 0,
         },
         Judged::Is(count) => {
-            let pair = checker::first_pair(count, &c.first, &c.second, &c.front, &c.back);
+            let pair = checker::first_pair(
+                count,
+                &values.first,
+                &values.second,
+                &values.front,
+                &values.back,
+            );
             let Pair::Are(first, second) = pair else {
                 return PairReply {
                     reason: 0,
@@ -338,15 +344,24 @@ pub fn ringkit_parallel(sheet: &[u8]) -> PairReply
 pub fn ringkit_rewrite_sheet(sheet: &[u8], buffer: &mut [u8]) -> Reply
     ensures { Fills (sheet_afresh sheet.now) buffer.old buffer.new result }
 {
-    let c = checker::check_sheet(sheet);
-    let answer = c.answer;
+    let mut values = checker::no_values();
+    let answer = checker::check_sheet(sheet, &mut values);
     match answer {
         Judged::Refused(reason, line, byte) => refusal(reason, line, byte),
         Judged::Is(count) => {
-            let x = c.figures;
+            let x = values.figures;
             put_sheet(
-                buffer, x, count, &c.first, &c.second, &c.amount, &c.front, &c.back, &c.way,
-                &c.split, &c.unsplit,
+                buffer,
+                x,
+                count,
+                &values.first,
+                &values.second,
+                &values.amount,
+                &values.front,
+                &values.back,
+                &values.way,
+                &values.split,
+                &values.unsplit,
             )
         }
     }

@@ -2,17 +2,20 @@
 use Rattle.checker.proofs.CheckSteps.{rows-stop, place-within, no-row-within, lines_fit, rows-table, rows-halves, end-stops, sheet-ends}
 use Rattle.checker.proofs.check.check_rows.Goals as goal
 
-pub finish-e-requires-clause-at_in_bounds : goal.finish-e-requires-clause-at_in_bounds
-finish-e-requires-clause-at_in_bounds c = search (place-within, no-row-within, lines_fit)
+pub finish-requires-clause-at_in_bounds : goal.finish-requires-clause-at_in_bounds
+finish-requires-clause-at_in_bounds c = search (place-within, no-row-within, lines_fit)
 
-pub finish-e-requires-clause-table : goal.finish-e-requires-clause-table
-finish-e-requires-clause-table c = search rows-table
+pub finish-requires-clause-table : goal.finish-requires-clause-table
+finish-requires-clause-table c = search rows-table
 
-pub finish-e-requires-clause-halves : goal.finish-e-requires-clause-halves
-finish-e-requires-clause-halves c = search rows-halves
+pub finish-requires-clause-halves : goal.finish-requires-clause-halves
+finish-requires-clause-halves c = search rows-halves
 
 pub returns-in-Refused : goal.returns-in-Refused
-returns-in-Refused c = search (rows-stop, end-stops, sheet-ends)
+returns-in-Refused c = search rows-stop
 
-pub returns-in_default : goal.returns-in_default
-returns-in_default c = search (rows-stop, end-stops, sheet-ends)
+pub returns-in-Refused-finish : goal.returns-in-Refused-finish
+returns-in-Refused-finish c = search end-stops
+
+pub returns-in-On : goal.returns-in-On
+returns-in-On c = search sheet-ends

@@ -1,23 +1,21 @@
 -- The L lines: those read so far were the links' own, and checking the rest behind them is checking from the first on (`LinksReading`).
-use Rattle.checker.proofs.NextLine.{next_place}
 use Rattle.checker.proofs.EndSteps.{links-start, link-place, no-link, link-fault, link-read, links-done}
-use Rattle.std.proofs.Common.{rules}
 use Rattle.checker.proofs.ending.check_links.Goals as goal
 
 pub loop-k-init : goal.loop-k-init
-loop-k-init c = search (rules, next_place, links-start)
+loop-k-init c = search links-start
 
 pub byte_at-requires : goal.byte_at-requires
-byte_at-requires c = search (rules, next_place, link-place)
+byte_at-requires c = search link-place
 
 pub returns-in-Bad : goal.returns-in-Bad
-returns-in-Bad c = search (rules, no-link)
+returns-in-Bad c = search no-link
 
 pub returns-in-Fault : goal.returns-in-Fault
-returns-in-Fault c = search (rules, link-fault)
+returns-in-Fault c = search link-fault
 
 pub loop-k-preserved : goal.loop-k-preserved
-loop-k-preserved c = search (rules, link-read)
+loop-k-preserved c = search link-read
 
 pub returns : goal.returns
-returns c = search (rules, links-done)
+returns c = search links-done

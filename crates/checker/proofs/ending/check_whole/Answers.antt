@@ -6,7 +6,7 @@ pub returns-in-Refused : goal.returns-in-Refused
 returns-in-Refused c = search whole-stops
 
 pub returns-in-Fault : goal.returns-in-Fault
-returns-in-Fault c = search (whole-stops, whole-fault)
+returns-in-Fault c = search whole-fault
 
 pub returns-in-Fine : goal.returns-in-Fine
 returns-in-Fine c = search whole-fine

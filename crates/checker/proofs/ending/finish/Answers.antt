@@ -1,17 +1,15 @@
 -- The C line, and what follows it.
-use Rattle.checker.proofs.NextLine.{next_place}
 use Rattle.checker.proofs.CheckSteps.{far-place, no-cut-line, cut-fault, cut-goes}
-use Rattle.std.proofs.Common.{rules}
 use Rattle.checker.proofs.ending.finish.Goals as goal
 
+pub returns-in-Bad : goal.returns-in-Bad
+returns-in-Bad c = search no-cut-line
+
 pub byte_at-requires : goal.byte_at-requires
-byte_at-requires c = search (rules, next_place, far-place, no-cut-line, cut-fault, cut-goes)
+byte_at-requires c = search far-place
 
 pub returns-in-Fault : goal.returns-in-Fault
-returns-in-Fault c = search (rules, no-cut-line, cut-fault, cut-goes)
-
-pub returns-in-Bad : goal.returns-in-Bad
-returns-in-Bad c = search (rules, no-cut-line, cut-fault, cut-goes)
+returns-in-Fault c = search cut-fault
 
 pub returns-in_default : goal.returns-in_default
-returns-in_default c = search (rules, no-cut-line, cut-fault, cut-goes)
+returns-in_default c = search cut-goes

@@ -4,6 +4,3 @@ use Rattle.checker.proofs.judge.across_of.Given as goal
 
 abbrev pub invariant-loop-t : goal.invariant-loop-t
 invariant-loop-t l = Summing l.n l.count l.first l.second l.amount l.g l.h l.sum l.t
-
-abbrev pub decreases-loop-t : goal.decreases-loop-t
-decreases-loop-t l = l.t

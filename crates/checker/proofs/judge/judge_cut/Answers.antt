@@ -2,11 +2,11 @@
 use Rattle.checker.proofs.JudgeSteps.{not-a-cut, number-false, number-true}
 use Rattle.checker.proofs.judge.judge_cut.Goals as goal
 
-pub returns-then-none : goal.returns-then-none
-returns-then-none c = search (not-a-cut, number-false)
+pub returns-then-no_cut : goal.returns-then-no_cut
+returns-then-no_cut c = search not-a-cut
 
 pub returns-then-wide-sum : goal.returns-then-wide-sum
-returns-then-wide-sum c = search (not-a-cut, number-false)
+returns-then-wide-sum c = search number-false
 
 pub returns : goal.returns
 returns c = search number-true

@@ -3,7 +3,7 @@ use Rattle.checker.proofs.JudgeSteps.{row-fault, then-halves}
 use Rattle.checker.proofs.judge.judge_sent.Goals as goal
 
 pub returns-in-Fault : goal.returns-in-Fault
-returns-in-Fault c = search (row-fault, then-halves)
+returns-in-Fault c = search row-fault
 
 pub returns-in-Fine : goal.returns-in-Fine
 returns-in-Fine c = search then-halves

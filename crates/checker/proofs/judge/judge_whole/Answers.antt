@@ -8,5 +8,5 @@ returns-then-split_peak-number c = search not-tight
 pub returns-then-wide : goal.returns-then-wide
 returns-then-wide c = search over-bound
 
-pub returns : goal.returns
-returns c = search within-bound
+pub returns-else-wide : goal.returns-else-wide
+returns-else-wide c = search within-bound

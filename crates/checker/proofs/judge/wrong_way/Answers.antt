@@ -2,8 +2,8 @@
 use Rattle.checker.proofs.JudgeSteps.{split-row, goes-front, goes_back}
 use Rattle.checker.proofs.judge.wrong_way.Goals as goal
 
-pub returns-then-split : goal.returns-then-split
-returns-then-split c = search split-row
+pub returns-then-is_split : goal.returns-then-is_split
+returns-then-is_split c = search split-row
 
 pub returns-then-back-eq0 : goal.returns-then-back-eq0
 returns-then-back-eq0 c = search goes-front

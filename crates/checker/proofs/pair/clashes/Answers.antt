@@ -6,7 +6,7 @@ pub returns-then-is_split-2 : goal.returns-then-is_split-2
 returns-then-is_split-2 c = search both-split
 
 pub returns-else-is_split-2 : goal.returns-else-is_split-2
-returns-else-is_split-2 c = search (both-split, second-whole, first-whole)
+returns-else-is_split-2 c = search second-whole
 
 pub returns-else-is_split : goal.returns-else-is_split
-returns-else-is_split c = search (both-split, second-whole, first-whole)
+returns-else-is_split c = search first-whole

@@ -1,38 +1,36 @@
 -- The D lines: the rows read so far stand in the columns, and checking the rest behind them is checking the whole (`RowsReading`).
-use Rattle.checker.proofs.NextLine.{next_place}
 use Rattle.checker.proofs.RowsSteps.{rows_start, rows_end, row-stops, row-less, row_room, reads-row}
-use Rattle.std.proofs.Common.{rules}
 use Rattle.checker.proofs.rows.read_rows.Goals as goal
 
 pub loop-p-init : goal.loop-p-init
-loop-p-init c = search (rules, next_place, rows_start)
+loop-p-init c = search rows_start
 
 pub returns-in-Bad : goal.returns-in-Bad
-returns-in-Bad c = search (rules, rows_end, row-stops)
+returns-in-Bad c = search rows_end
 
 pub returns-in-Fault : goal.returns-in-Fault
-returns-in-Fault c = search (rules, row-stops)
+returns-in-Fault c = search row-stops
 
-pub bounds-first-count : goal.bounds-first-count
-bounds-first-count c = search (rules, next_place, row_room)
+pub bounds-values-count : goal.bounds-values-count
+bounds-values-count c = search row_room
 
-pub bounds-second-count : goal.bounds-second-count
-bounds-second-count c = search (rules, next_place, row_room)
+pub bounds-values-count-in-Is : goal.bounds-values-count-in-Is
+bounds-values-count-in-Is c = search row_room
 
-pub bounds-amount-count : goal.bounds-amount-count
-bounds-amount-count c = search (rules, next_place, row_room)
+pub bounds-values-count-in-Is-2 : goal.bounds-values-count-in-Is-2
+bounds-values-count-in-Is-2 c = search row_room
 
-pub bounds-front-count : goal.bounds-front-count
-bounds-front-count c = search (rules, next_place, row_room)
+pub bounds-values-count-in-Is-3 : goal.bounds-values-count-in-Is-3
+bounds-values-count-in-Is-3 c = search row_room
 
-pub bounds-back-count : goal.bounds-back-count
-bounds-back-count c = search (rules, next_place, row_room)
+pub bounds-values-count-in-Is-4 : goal.bounds-values-count-in-Is-4
+bounds-values-count-in-Is-4 c = search row_room
 
-pub bounds-way-count : goal.bounds-way-count
-bounds-way-count c = search (rules, next_place, row_room)
+pub bounds-values-count-in-Is-5 : goal.bounds-values-count-in-Is-5
+bounds-values-count-in-Is-5 c = search row_room
 
 pub loop-p-smaller : goal.loop-p-smaller
-loop-p-smaller c = search (rules, next_place, row-less)
+loop-p-smaller c = search row-less
 
 pub loop-p-preserved : goal.loop-p-preserved
-loop-p-preserved c = search (rules, reads-row)
+loop-p-preserved c = search reads-row
