@@ -67,7 +67,7 @@ extern "C" {
 #define RINGKIT_MATRIX_BYTES 5120
 
 /* Enough stack for each call, with some to spare for binding memcpy and memset when they are first called. */
-#define RINGKIT_STACK_BYTES 57344
+#define RINGKIT_STACK_BYTES 28672
 
 /* Why a text is refused. Each is given exactly when it holds and nothing before it in this order does: the fibres that a matrix is read with; RINGKIT_TOO_LONG; then line by line,
  * and in a line by rising number, but RINGKIT_FIBRES behind 3 and RINGKIT_TOO_MANY_ROWS between 6 and 7; then, when all lines have passed, 13 and 14 of a sheet, the first
