@@ -24,14 +24,6 @@ pub record Lining (op : ℕ → ℕ) (h low high : ℕ) (old now : List ℕ) (g 
   pub so_far : LineStep op h low g old now
 
 module _ (op : ℕ → ℕ) (h low high : ℕ) (old : List ℕ) (fits : LineFits h low high) (size : length old ≡ most_pairs) where
-  pub line-start : Lining op h low high old old low
-  line-start =
-      record {
-        past = omega arith;
-        left = λ l. omega arith;
-        so_far = record { size = refl; within = λ g a b. absurd (omega arith); outside = λ g k a b c _. refl };
-      }
-
   module _ (now : List ℕ) (g : ℕ) (s : Lining op h low high old now g) where
     turn : (p z : ℕ) → g < high → p ≡ place_of g h → z ≡ op (get_or now p 0) → Lining op h low high old (set now p z) (g + 1)
     turn p z l ep e =
@@ -75,17 +67,6 @@ module _ (op : ℕ → ℕ) (h low high : ℕ) (old : List ℕ) (fits : LineFits
 
       pub line-turn : (z : ℕ) → z ≡ op (get_or now (line + (g - 1)) 0) → Lining op h low high old (set now (line + (g - 1)) z) (g + 1)
       line-turn z e = turn (line + (g - 1)) z l (ap (λ x. x + (g - 1)) el) e
-
-    pub line-done : high ≤ g → LineStep op h low high old now
-    line-done l =
-        record {
-          size = s.so_far.size;
-          within = λ x a b. s.so_far.within x a (omega arith);
-          outside = λ x k a b c out. s.so_far.outside x k a b c (λ q. out (q.0, q.1, below q.1 q.2));
-        }
-      where
-        below : {x : ℕ} → low ≤ x → x < g → x < high
-        below {x} a b = omega (arith, s.left (omega arith))
 
 -- ---- a row's lines
 
@@ -186,15 +167,6 @@ module _ (add : Bool) (n i j d : ℕ) (old : List ℕ) (size : length old ≡ mo
               go (before z p) = same i j t g a b (λ y. omega arith) ∙ none g h false p here
               go (within z y p) = rw (part_of r g h true false p here) (moved i j t g a b z y)
               go (after z p) = same i j t g a b (λ y. omega arith) ∙ none g h false p here
-
-    pub size-then : length now ≡ most_pairs
-    size-then = s.size ∙ size
-
-    pub fits_in : h < j → LineFits h 1 i
-    fits_in l = record { first = omega arith; last = omega arith; from = omega arith; to = s.past }
-
-    pub fits-behind : j ≤ h → LineFits h i j
-    fits-behind l = record { first = omega arith; last = omega arith; from = low; to = l }
 
   pub rows-done : (now : List ℕ) (h : ℕ) → n + 1 ≤ h → Rowing add n r old now h → now ≡ step_row add n r old
   unfolding step_row

@@ -45,25 +45,30 @@ fn sum_of(s: &[u8]) -> u64 {
     sum
 }
 
-// What a case asks for.
+// What a case asks for: a call that fills a buffer, or one that is lent none.
 #[derive(Clone, Copy)]
 enum Call {
+    Filling(Filling),
+    Check,
+    Parallel,
+}
+
+#[derive(Clone, Copy)]
+enum Filling {
     RewriteTable,
     Route,
     RewriteSheet,
     WriteMatrix,
     ReadMatrix(u32),
-    Check,
-    Parallel,
 }
 
 fn call_of(letter: u8) -> Option<Call> {
     match letter {
-        b'T' => Some(Call::RewriteTable),
-        b'R' => Some(Call::Route),
-        b'S' => Some(Call::RewriteSheet),
-        b'W' => Some(Call::WriteMatrix),
-        b'0'..=b'9' => Some(Call::ReadMatrix((letter - b'0') as u32)),
+        b'T' => Some(Call::Filling(Filling::RewriteTable)),
+        b'R' => Some(Call::Filling(Filling::Route)),
+        b'S' => Some(Call::Filling(Filling::RewriteSheet)),
+        b'W' => Some(Call::Filling(Filling::WriteMatrix)),
+        b'0'..=b'9' => Some(Call::Filling(Filling::ReadMatrix((letter - b'0') as u32))),
         b'C' => Some(Call::Check),
         b'P' => Some(Call::Parallel),
         _ => None,
@@ -77,14 +82,14 @@ fn next_bytes<R: Read>(alloc: Global, input: &mut R, size: usize) -> io::Result<
     Ok(bytes)
 }
 
-// The reply of a call that lends a buffer.
-fn filled(call: Call, text: &[u8], buffer: &mut [u8]) -> Reply {
+// The reply of a call that fills a buffer.
+fn filled(call: Filling, text: &[u8], buffer: &mut [u8]) -> Reply {
     match call {
-        Call::Route => ringkit::ringkit_route(text, buffer),
-        Call::RewriteSheet => ringkit::ringkit_rewrite_sheet(text, buffer),
-        Call::WriteMatrix => ringkit::ringkit_write_matrix(text, buffer),
-        Call::ReadMatrix(fibres) => ringkit::ringkit_read_matrix(text, fibres, buffer),
-        _ => ringkit::ringkit_rewrite_table(text, buffer),
+        Filling::RewriteTable => ringkit::ringkit_rewrite_table(text, buffer),
+        Filling::Route => ringkit::ringkit_route(text, buffer),
+        Filling::RewriteSheet => ringkit::ringkit_rewrite_sheet(text, buffer),
+        Filling::WriteMatrix => ringkit::ringkit_write_matrix(text, buffer),
+        Filling::ReadMatrix(fibres) => ringkit::ringkit_read_matrix(text, fibres, buffer),
     }
 }
 
@@ -105,7 +110,7 @@ fn answer_parallel<W: Write>(output: &mut W, text: &[u8]) -> io::Result<()> {
 fn answer_filled<W: Write>(
     alloc: Global,
     output: &mut W,
-    call: Call,
+    call: Filling,
     text: &[u8],
     room: usize,
 ) -> io::Result<()> {
@@ -134,7 +139,9 @@ fn one_case<R: Read, W: Write>(alloc: Global, input: &mut R, output: &mut W) -> 
     match call {
         Call::Check => answer_check(output, &text)?,
         Call::Parallel => answer_parallel(output, &text)?,
-        _ => answer_filled(alloc, output, call, &text, number(&[*f, *g, *h, *i, *j]))?,
+        Call::Filling(call) => {
+            answer_filled(alloc, output, call, &text, number(&[*f, *g, *h, *i, *j]))?
+        }
     }
     Ok(true)
 }

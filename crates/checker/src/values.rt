@@ -1,6 +1,6 @@
 // A sheet's values in arrays, which a caller makes and lends.
 ghost use Rattle.std.specs.Prelude.{◌≡◌};
-ghost use Rattle.checker.specs.Arrays.{no_values as none};
+ghost use Rattle.checker.specs.Arrays.{no_values as blank};
 
 use ring::{LINKS, ROWS};
 use sheet::Figures;
@@ -31,7 +31,7 @@ const NO_FIGURES: Figures = Figures {
 
 // Values of no sheet.
 pub fn no_values() -> SheetValues
-    ensures { result ≡ none }
+    ensures { result ≡ blank }
 {
     SheetValues {
         figures: NO_FIGURES,
@@ -48,7 +48,7 @@ pub fn no_values() -> SheetValues
 
 // The same in values that are lent: column by column, so that no second set of them is made.
 pub(crate) fn clear(values: &mut SheetValues)
-    ensures { values.new ≡ none }
+    ensures { values.new ≡ blank }
 {
     values.figures = NO_FIGURES;
     values.first = [0u32; ROWS];

@@ -17,9 +17,6 @@ module _ (a : ℕ → ℕ → ℕ) (n : ℕ) where
   pub record Across (i j : ℕ) : Type 0 where
     pub rest : judge_across a i 1 n ≡ judge_across a i j (n + 1 - j)
 
-  pub across-starts : (i : ℕ) → Across i 1
-  across-starts i = let e : n + 1 - 1 ≡ n = omega arith in record { rest = rw e }
-
   module _ (i j : ℕ) (across : Across i j) where
     module _ (l : j < n + 1) (x y : ℕ) (ex : x ≡ a i j) (ey : y ≡ a j i) (v : Verdict) (ev : v ≡ judge_entry i j x y) where
       across-next : judge_across a i 1 n ≡ or_else v (j - 1) (judge_across a i (j + 1) (n + 1 - (j + 1)))
@@ -42,9 +39,6 @@ module _ (a : ℕ → ℕ → ℕ) (n : ℕ) where
 
   pub record Down (i : ℕ) : Type 0 where
     pub rest : judge_down a n 1 n ≡ judge_down a n i (n + 1 - i)
-
-  pub down-starts : Down 1
-  down-starts = let e : n + 1 - 1 ≡ n = omega arith in record { rest = rw e }
 
   module _ (i : ℕ) (down : Down i) where
     module _ (l : i < n + 1) (v : Found) (ev : v ≡ judge_across a i 1 n) where

@@ -42,9 +42,6 @@ module _ (s : List ℕ) (p count : ℕ) (counted : Counted s p count) where
   behind : 0 < p → drop (p - 1) s ≡ get_or s (p - 1) 0 ∷ drop p s
   behind l = let e : (p - 1) + 1 ≡ p = omega arith in rw e at (here s (p - 1) (omega (arith, counted.within)))
 
-  pub count_fits : length s ≤ desk.bytes → 0 < p → Fits w64 (count + 1)
-  count_fits f l = omega (arith, counted.small)
-
   pub counts-tab : 0 < p → get_or s (p - 1) 0 ≡ tab → Counted s (p - 1) (count + 1)
   unfolding fields_in
   counts-tab l e = record { is = rw (behind l, eq-eqb _ _ e) (omega (arith, counted.is)); within = omega (arith, counted.within); small = omega (arith, counted.small) }
@@ -53,13 +50,7 @@ module _ (s : List ℕ) (p count : ℕ) (counted : Counted s p count) where
   unfolding fields_in
   counts-none l e = record { is = rw (behind l, ne_eqb _ _ e) (omega (arith, counted.is)); within = omega (arith, counted.within); small = omega (arith, counted.small) }
 
-  pub counted-all : p ≤ 0 → count ≡ fields_in s
-  counted-all l = let e : p ≡ 0 = omega arith in rw e at counted.is
-
 -- ---- values: those of the fields before t are read, and the next begins at p
-
-pub put-none : (values : List ℕ) (t v : ℕ) → length values ≡ desk.nodes → desk.nodes ≤ t → values ≡ set values t v
-put-none values t v e l = sym (set_out values t v (omega arith))
 
 pub record Reading-on (s : List ℕ) (n : ℕ) (values : List ℕ) (p t : ℕ) : Type 0 where
   pub vs : List ℕ
@@ -119,9 +110,6 @@ pub record Judging (n : ℕ) (values : List ℕ) (t : ℕ) : Type 0 where
   pub rest : judge_amounts desk 0 (take n values) ≡ judge_amounts desk t (drop t (take n values))
   pub within : t ≤ n
   pub room : n ≤ length values
-
-pub judging-starts : (n : ℕ) (values : List ℕ) → n ≤ length values → Judging n values 0
-judging-starts n values l = record { rest = refl; within = omega arith; room = l }
 
 module _ (n : ℕ) (values : List ℕ) (t : ℕ) (judging : Judging n values t) where
   module _ (l : t < n) where
@@ -192,6 +180,3 @@ module _ (l : List ℕ) (n : ℕ) (x : Numbers) where
 
     pub told-good : x.spelling ≡ Good → ToldGood (read_line (numbers n) l) n x.values
     told-good = good-case (read_line (numbers n) l) refl e
-
-  pub numbers-long : x ≡ numbers_in (read_line (numbers n) l) → length x.values ≡ desk.nodes
-  numbers-long e = ap (λ (z : Numbers). length z.values) e ∙ reading-long (read_line (numbers n) l)

@@ -33,9 +33,6 @@ pub record Keeping (old : List ℕ) (start n : ℕ) (values square : List ℕ) (
   pub is : square ≡ sets old start (take t values)
   pub within : t ≤ n
 
-pub keeping-starts : (old : List ℕ) (start n : ℕ) (values : List ℕ) → Keeping old start n values old 0
-keeping-starts old start n values = record { is = refl; within = omega arith }
-
 module _ (old : List ℕ) (start n : ℕ) (values square : List ℕ) (t : ℕ) (keeping : Keeping old start n values square t) where
   pub keeps : t < n → n ≤ desk.nodes → length values ≡ desk.nodes → Keeping old start n values (set square (start + t) (get_or values t 0)) (t + 1)
   keeps l few room =
@@ -152,6 +149,3 @@ module _ (s : List ℕ) (n : ℕ) (entries : List ℕ) (start count line at : �
             most = omega arith;
             within = ends.within;
           }
-
-  pub line-room : n ≤ desk.nodes → count < n → start + n ≤ 1024
-  line-room few l = omega (arith, on.placed)

@@ -77,10 +77,6 @@ module _ (first second amount : List ℕ) where
   unfolding judge_sums listed
   judging-sums-starts count = let e : count - 0 ≡ count = omega arith in record { rest = rw e; within = omega arith }
 
-  -- the rows before a row of a table have amounts too
-  pub amounts-before : (count k : ℕ) → Amounts count amount → k < count → Amounts (k + 1) amount
-  amounts-before count k amounts l = record { room = omega (arith, amounts.room); small = λ m h. amounts.small m (omega arith) }
-
   module _ (count k : ℕ) (judging : JudgingSums count k) where
     module _ (l : k < count) (sum : ℕ) (es : sum ≡ sum_of (rows_in (k + 1) first second amount) (get_or first k 0) (get_or second k 0)) where
       pub sum-passes : desk.amount < sum → Pass (k + 2) ≡ judge_sums desk (rows_in count first second amount)

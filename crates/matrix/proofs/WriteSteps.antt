@@ -39,18 +39,6 @@ module _ (n : ℕ) (shape values : List ℕ) where
   part-text : part_text ≡ write_line (take n shape) (take n values)
   part-text = rw (part-is n shape, part-is n values)
 
-  pub part-measured : (r : ℕ) → r ≡ length part_text → r ≡ length (write_line (take n shape) (take n values))
-  part-measured r e = e ∙ ap length part-text
-
-  pub part-fits : n ≤ length shape → n ≤ length values → length (take (n - 0) (drop 0 shape)) ≤ length (take (n - 0) (drop 0 values))
-  part-fits l m = rw (part-is n shape, part-is n values) (omega (arith, length-take-le n shape l, length-take-le n values m))
-
-  pub part_room : (at room : ℕ) → at + length (write_line (take n shape) (take n values)) ≤ room → at + length part_text ≤ room
-  part_room at room l = omega (arith, ap length part-text)
-
-  pub part-written : (old new : List ℕ) (at r : ℕ) → Written old at part_text new r → Written old at (write_line (take n shape) (take n values)) new r
-  part-written old new at r w = rw part-text at w
-
 module _ (n : ℕ) (values : List ℕ) (l : n ≤ desk.nodes) (room : length values ≡ desk.nodes) where
   line-is : write_line (take n (numbers desk.nodes)) (take n values) ≡ numbers_line (take n values)
   line-is =

@@ -43,9 +43,6 @@ module _ (old t : List ℕ) (size : ℕ) (is : size ≡ length t) where
   pub text-too-short : (r : Reply) → length old < size → r ≡ reply_of (refuse NoRoom 0 0) → Fills (write t) old old r
   text-too-short = too_short (write t) old t refl size is
 
-  pub text-has-room : size ≤ length old → length t ≤ length old
-  text-has-room l = omega arith
-
   pub text-fills : (new : List ℕ) (n : ℕ) → size ≤ length old → Written old 0 t new n → Fills (write t) old new (record { reason = 0; line = 0; byte = 0; length = n })
   text-fills = fills (write t) old t refl size is
 

@@ -1,5 +1,5 @@
 #![tactic(auto)]
-// The public calls, as C sees them: byte slices and numbers in, a reply by value out. No call has a `requires`.
+// The public calls: byte slices and numbers in, a reply by value out. No call has a `requires`. `ringkit_c` gives them to C.
 mod working; // the calls of the working table
 
 ghost use Rattle.std.specs.Prelude.{◌≡◌, ◌≤◌};

@@ -1,4 +1,4 @@
-// The calls of the working table: it is lent by `&mut`, and altered by functions by value. Each body has exactly the shape that a law of `walk` is about.
+// The calls of the working table: it is lent by `&mut`, and altered by functions by value.
 ghost use Rattle.std.specs.Prelude.{◌≡◌};
 ghost use Rattle.work.specs.Changes.{started_in, added_in, changed_in, removed_in, row_in};
 ghost use Rattle.ringkit.specs.Outcome.{Fills};

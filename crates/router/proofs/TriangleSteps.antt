@@ -63,18 +63,10 @@ module _ (n count : ℕ) (first second amount : List ℕ) (table : Table n count
   pub fill_start : (triangle : List ℕ) → Triangle n [] triangle → Filled n count first second amount triangle count
   fill_start triangle s = record { high = omega arith; so_far = rw (listed-none (row_at first second amount) count count (omega arith)) s }
 
-  pub fill_done : (triangle : List ℕ) (t : ℕ) → t ≤ 0 → Filled n count first second amount triangle t → Triangle n (rows_in count first second amount) triangle
-  fill_done triangle t l f =
-      let e : t ≡ 0 = omega arith in
-      rw (e, listed-all (row_at first second amount) count) at f.so_far
-
   pub rows_fit : (triangle : List ℕ) (t : ℕ) → Triangle n (rows_from t) triangle → Pairwise n (λ g h. at triangle g h ≤ most_amount * (count - t))
   rows_fit triangle t s g h a b c =
       omega
       (arith, s.is g h a b c, total-small (across-total g h) (row_at first second amount) most_amount t (count - t) (λ x p q. omega (arith, part_small (row_at first second amount x) g h, table.small x (omega arith))))
-
-  pub fill-fits : (triangle : List ℕ) (t i : ℕ) → 0 < t → Filled n count first second amount triangle t → i ≡ get_or first (t - 1) 0 → 1 ≤ i
-  fill-fits triangle t i l f e = omega (arith, (table.nodes (t - 1) (omega (arith, f.high))).low)
 
   pub fill-turn : (old new : List ℕ) (t i j : ℕ) → 0 < t → Filled n count first second amount old t → i ≡ get_or first (t - 1) 0 → j ≡ get_or second (t - 1) 0 →
       new ≡ step_row true n (row i j (get_or amount (t - 1) 0)) old → Filled n count first second amount new (t - 1)

@@ -47,20 +47,8 @@ module _ (line text : ℕ → List ℕ) (start count k size : ℕ) (measuring : 
     pub measure-fits : start ≤ 100 → count ≤ 100000 → Fits w64 (size + r)
     measure-fits h m = omega (arith, measuring.small, measuring.pieces.short k)
 
-    pub measures-line : Measuring line text start count (k + 1) (size + r)
-    measures-line =
-        record {
-          pieces = measuring.pieces;
-          is = omega (arith, measuring.is, more-long line text measuring.pieces k);
-          within = omega arith;
-          small = omega (arith, measuring.small, measuring.pieces.short k);
-        }
-
   pub measured : count ≤ k → size ≡ start + length (text count)
   measured h = let e : count ≡ k = omega (arith, measuring.within) in rw e measuring.is
-
-pub measured-all : (line text : ℕ → List ℕ) (count k size : ℕ) → Measuring line text 0 count k size → count ≤ k → size ≡ length (text count)
-measured-all line text count k size measuring h = omega (arith, measured line text 0 count k size measuring h)
 
 -- so many lines have at most so many bytes
 pub text-short : (line text : ℕ → List ℕ) → Pieces line text → (count : ℕ) → length (text count) ≤ 1000 * count
@@ -85,9 +73,6 @@ writing-lines-start line text pieces count at old room =
 module _ (line text : ℕ → List ℕ) (count at : ℕ) (old buf : List ℕ) (k p : ℕ) (writing : WritingLines line text count at old buf k p) where
   pub lines-keep-length : length buf ≡ length old
   lines-keep-length = written-length old buf (text k) at p writing.written
-
-  pub lines-written : count ≤ k → Written old at (text count) buf p
-  lines-written h = let e : count ≡ k = omega (arith, writing.within) in rw e writing.written
 
   module _ (l : k < count) where
     pub line-has-room : p + length (line k) ≤ length buf

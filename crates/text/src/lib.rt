@@ -39,7 +39,7 @@ const LINK: [u8; 4] = *b"Lnnn";
 
 const LAST: [u8; 3] = *b"Znn";
 
-// A way is a number, and no enum: callers keep ways in arrays and compare them by ==, which an enum does not let them do.
+// A way is a number, and no enum: it is a line's value like any other, and stands with these in lists and columns of numbers.
 pub(crate) const WAY_F: u32 = 0;
 
 pub(crate) const WAY_B: u32 = 1;

@@ -17,9 +17,6 @@ pub record Seeking (first : List ℕ) (k : ℕ) : Type 0 where
   pub left : free_from first k (desk.rows - k) ≡ free_in first
 
 module _ (first : List ℕ) where
-  pub seek-start : Seeking first 0
-  seek-start = record { high = omega arith; left = refl }
-
   module _ (k : ℕ) (s : Seeking first k) where
     pub seek_found : k < desk.rows → get_or first k 0 ≡ 0 → k ≡ free_in first
     seek_found l z =

@@ -18,10 +18,6 @@ abbrev pub share : Place → ℕ → ℕ → ℕ
 share empty g h = 0
 share (holds r) g h = part r g h
 
-held_none : (ps : List Place) → rows_held (empty ∷ ps) ≡ rows_held ps
-unfolding rows_held
-held_none ps = refl
-
 pub across-place : (x : Place) (ps : List Place) (g h : ℕ) → across (rows_held (x ∷ ps)) g h ≡ share x g h + across (rows_held ps) g h
 unfolding rows_held across
 across-place empty ps g h = omega arith
