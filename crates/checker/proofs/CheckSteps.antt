@@ -38,14 +38,14 @@ use Rattle.table.specs.declared.reason.Reason.TheVariants.{TooLong, Misshapen}
 use Rattle.table.specs.declared.judge.Verdict.{Verdict}
 use Rattle.table.specs.declared.judge.Verdict.TheVariants.{Fine, Fault}
 use Rattle.table.proofs.Columns.{column-length, column-behind}
-use Rattle.table.proofs.Judged.{RingJudged, right-ring, ring-judged}
+use Rattle.table.proofs.Judged.{RingJudged, right_ring, ring-judged}
 use Rattle.sheet.specs.Arrays.{link_at, links_in}
 use Rattle.checker.specs.Arrays.{rows_held, Checked, beside, checked_in}
 use Rattle.sheet.specs.Judge.{judge_cut}
 use Rattle.sheet.specs.Check.{Result, accepted, refused, cut_of, when, unless, ring_turn, cut_turn, turn, after, check_from, check}
 use Rattle.sheet.specs.Says.{start, rows, links}
 use Rattle.sheet.specs.Verdicts.{cut_verdict}
-use Rattle.checker.specs.Parts.{NextEnds, cut_from, Columns, RowsMean, rows_at, rows-refused, RowsRead, Weighed, StepMeans, steps_on, step-refused, TailRead, sheet_with, ended, EndMeans, ends_with, end_refused, EndRead, WeighedRead}
+use Rattle.checker.specs.Parts.{NextEnds, cut_from, Columns, RowsMean, rows_at, rows_refused, RowsRead, Weighed, StepMeans, steps_on, step_refused, TailRead, sheet_with, ended, EndMeans, ends_with, end_refused, EndRead, WeighedRead}
 use Rattle.sheet.specs.declared.Figures.{Figures}
 use Rattle.checker.specs.declared.values.SheetValues.{SheetValues}
 use Rattle.checker.specs.declared.check.Answer.TheVariants.{Is}
@@ -75,7 +75,7 @@ module _ (s : List ℕ) (at line n fibres : ℕ) (rs : List Routed) (g h number 
       record {
         splits = ap (λ (v : Weight). v.split) ew;
         unsplits = ap (λ (v : Weight). v.unsplit) ew;
-        split-peaks = ap (λ (v : Weight). v.split_peak) ew;
+        split_peaks = ap (λ (v : Weight). v.split_peak) ew;
         tops = ap (λ (v : Weight). v.peak) ew;
         largests = ap (λ (v : Weight). v.largest) ew;
       }
@@ -94,7 +94,7 @@ module _ (s : List ℕ) (at line n fibres : ℕ) (rs : List Routed) (g h number 
           ends_with {at = p} (cut_of g h number) w.peak size w.split w.unsplit e refl
           (loads-column n many (split_load (sents rs)) w.split w.split w.unsplit (λ (l : Link). l.split) weights.splits (λ k. refl))
           (loads-column n many (unsplit_load rs) w.unsplit w.split w.unsplit (λ (l : Link). l.unsplit) weights.unsplits (λ k. refl))
-      go (StepRefused reason place byte) (step-refused e) = end_refused {reason = reason} {line = place} {byte = byte} e
+      go (StepRefused reason place byte) (step_refused e) = end_refused {reason = reason} {line = place} {byte = byte} e
 
 -- ---- from the C line on
 
@@ -121,18 +121,18 @@ module _ (count : ℕ) (v : SheetValues) where
     no-cut-line p far byte new q f b = end_refused {reason = Misshapen} {line = line} {byte = byte} (cut-led ∙ rw (q, b, f))
 
     module _ (g h number : ℕ) (is : x ≡ AreThree g h number) (found : Verdict) (ef : found ≡ cut_verdict n (across (rows_in count v.first v.second v.amount) g h) g h number) where
-      cut-judged : judge_cut n rs (cut_of g h number) ≡ found
+      cut_judged : judge_cut n rs (cut_of g h number) ≡ found
       unfolding judge_cut
-      cut-judged = let d = demands-in in sym (ef ∙ rw (← d))
+      cut_judged = let d = demands-in in sym (ef ∙ rw (← d))
 
       pub cut-fault : (reason : Reason) (new : SheetValues) → found ≡ Fault reason → EndRead s at line no_row (ring_of n fibres) count v new (StepRefused reason line 1)
       unfolding cut_turn unless after when
-      cut-fault reason new q = end_refused {reason = reason} {line = line} {byte = 1} (cut-led ∙ rw (is, cut-judged ∙ q))
+      cut-fault reason new q = end_refused {reason = reason} {line = line} {byte = 1} (cut-led ∙ rw (is, cut_judged ∙ q))
 
       pub cut-goes : found ≡ Fine → (new : SheetValues) (t : Step) → WeighedRead s to (line + 1) (ring_of n fibres) count v g h number new t → EndRead s at line no_row (ring_of n fibres) count v new t
       unfolding cut_turn unless after when
       cut-goes q new t read =
-          let e : cut_from (ring_of n fibres) rs line no_row (lines (drop at s)) ≡ check_from desk true (links (ring_of n fibres) rs (cut_of g h number) []) (line + 1) (lines (drop to s)) = cut-led ∙ rw (is, cut-judged ∙ q) in
+          let e : cut_from (ring_of n fibres) rs line no_row (lines (drop at s)) ≡ check_from desk true (links (ring_of n fibres) rs (cut_of g h number) []) (line + 1) (lines (drop to s)) = cut-led ∙ rw (is, cut_judged ∙ q) in
           subst (λ z. EndMeans (ring_of n fibres) rs z v new t) (sym e) read
 
 -- ---- from the rows on
@@ -144,7 +144,7 @@ from-rows s ring from = check_from desk true (rows ring []) 2 (lines (drop from 
 rows-stopped : {s : List ℕ} {ring : Ring} {result : Result} {v : SheetValues} {end : RowsEnd} {reason : Reason} {line byte : ℕ} →
     RowsMean s ring result v end → end ≡ RowsRefused reason line byte → result ≡ refused reason line byte
 rows-stopped (rows_at rs c e w o l t h) q = clash (cc)
-rows-stopped {reason = reason} {line = line} {byte = byte} (rows-refused {reason = a} {line = b} {byte = d} e) q =
+rows-stopped {reason = reason} {line = line} {byte = byte} (rows_refused {reason = a} {line = b} {byte = d} e) q =
     let ea : a ≡ reason = cc in
     let eb : b ≡ line = cc in
     let ed : d ≡ byte = cc in
@@ -178,7 +178,7 @@ rows-ended {count = count} {at = at} {line = line} {no_row = no_row} (rows_at {c
       table = rw (← ea) t;
       halves = rw (← ea) h;
     }
-rows-ended (rows-refused e) q = clash (cc)
+rows-ended (rows_refused e) q = clash (cc)
 
 -- values with the same figures and the same columns
 same-values : {count many : ℕ} {figures : Figures} {l1 m1 l2 m2 l3 m3 l4 m4 l5 m5 l6 m6 l7 m7 l8 m8 : List ℕ} → count ≡ many → l1 ≡ m1 → l2 ≡ m2 → l3 ≡ m3 → l4 ≡ m4 → l5 ≡ m5 → l6 ≡ m6
@@ -264,9 +264,9 @@ module _ (s : List ℕ) (t : Checked) where
     unfolding check turn
     ring-led = rw (le-ltb desk.bytes (length s) short) (step-at desk true s 0 to ends start tt 1 ∙ rw (← ex))
 
-    pub no-ring : (p byte : ℕ) → x ≡ NotTwo p → byte ≡ p + 1 → t ≡ checked_in (refused Misshapen 1 byte) → t ≡ checked_in (check desk s)
+    pub no_ring : (p byte : ℕ) → x ≡ NotTwo p → byte ≡ p + 1 → t ≡ checked_in (refused Misshapen 1 byte) → t ≡ checked_in (check desk s)
     unfolding ring_turn after
-    no-ring p byte q b e = e ∙ ap checked_in (sym (ring-led ∙ rw (q, b)))
+    no_ring p byte q b e = e ∙ ap checked_in (sym (ring-led ∙ rw (q, b)))
 
     module _ (n fibres : ℕ) (is : x ≡ AreTwo n fibres) (v : Verdict) (ev : v ≡ judge_ring desk (ring_of n fibres)) where
       pub ring-fault : (reason : Reason) (byte : ℕ) → v ≡ Fault reason → byte ≡ ring_fault (ring_of n fibres) reason → t ≡ checked_in (refused reason 1 byte) → t ≡ checked_in (check desk s)
@@ -286,10 +286,10 @@ module _ (n fibres : ℕ) (v : Verdict) (ev : v ≡ judge_ring desk (ring_of n f
   ring-two = go right
     where
       go : RingJudged desk (ring_of n fibres) Fine → desk.fewest ≤ n
-      go (right-ring few many fibred) = few
+      go (right_ring few many fibred) = few
 
   pub ring-fits : n ≤ desk.nodes
   ring-fits = go right
     where
       go : RingJudged desk (ring_of n fibres) Fine → n ≤ desk.nodes
-      go (right-ring few many fibred) = many
+      go (right_ring few many fibred) = many

@@ -38,7 +38,7 @@ use Rattle.sheet.specs.Judge.{judge_link, judge_last, judge_whole}
 use Rattle.sheet.specs.Check.{Result, accepted, refused, cut_of, link_of, when, unless, link_turn, last_turn, turn, after, at_end, whole_result, check_from}
 use Rattle.sheet.specs.Says.{links, end}
 use Rattle.sheet.specs.Verdicts.{link_verdict, last_verdict, whole_verdict}
-use Rattle.checker.specs.Parts.{NextEnds, Weighed, StepMeans, steps_on, step-refused, Within, LinksRead, LastRead, WholeRead, TailRead, sheet_with}
+use Rattle.checker.specs.Parts.{NextEnds, Weighed, StepMeans, steps_on, step_refused, Within, LinksRead, LastRead, WholeRead, TailRead, sheet_with}
 use Rattle.checker.specs.declared.ending.Step.{Step}
 use Rattle.checker.specs.declared.ending.Step.TheVariants.{On, Refused}
 use Rattle.sheet.proofs.Back.{numbers-length, number_at}
@@ -110,12 +110,12 @@ module _ (s : List ℕ) (from n start : ℕ) (split unsplit : List ℕ) where
       pub link-place : (p : ℕ) → x ≡ NotThree p → length s ≤ desk.bytes → p ≤ desk.bytes
       link-place p q short = omega (arith, three-within link_shape (take (to - at) (drop at s)) p (sym ex ∙ q), length-take (to - at) (drop at s), ends.within)
 
-      pub no-link : (p byte : ℕ) → x ≡ NotThree p → byte ≡ p + 1 → LinksRead s from n start split unsplit (Refused Misshapen line byte)
+      pub no_link : (p byte : ℕ) → x ≡ NotThree p → byte ≡ p + 1 → LinksRead s from n start split unsplit (Refused Misshapen line byte)
       unfolding link_turn after
-      no-link p byte q b =
+      no_link p byte q b =
           record {
             within = not_on;
-            means = λ fibres rs c split-peak top largest w. step-refused {reason = Misshapen} {line = line} {byte = byte} (led fibres rs c split-peak top largest w ∙ rw (q, b));
+            means = λ fibres rs c split-peak top largest w. step_refused {reason = Misshapen} {line = line} {byte = byte} (led fibres rs c split-peak top largest w ∙ rw (q, b));
           }
 
       module _ (a b d due : ℕ) (is : x ≡ AreThree a b d) (edue : due ≡ k + 1) (v : Verdict) (ev : v ≡ link_verdict due (get_or split k 0) (get_or unsplit k 0) a b d) where
@@ -132,7 +132,7 @@ module _ (s : List ℕ) (from n start : ℕ) (split unsplit : List ℕ) where
         link-fault reason q =
             record {
               within = not_on;
-              means = λ fibres rs c split-peak top largest w. step-refused {reason = reason} {line = line} {byte = 1} (led fibres rs c split-peak top largest w ∙ rw (is, judged rs split-peak top largest w ∙ q));
+              means = λ fibres rs c split-peak top largest w. step_refused {reason = reason} {line = line} {byte = 1} (led fibres rs c split-peak top largest w ∙ rw (is, judged rs split-peak top largest w ∙ q));
             }
 
         same-link : (rs : List Routed) (split-peak top largest : ℕ) → Weighed n rs split unsplit split-peak top largest → v ≡ Fine → link_of a b d ≡ link_at split unsplit k
@@ -185,19 +185,19 @@ module _ (s : List ℕ) (at line top size : ℕ) (to : ℕ) (ends : NextEnds s a
 
   pub no_last : (p byte : ℕ) → x ≡ NotTwo p → byte ≡ p + 1 → LastRead s at line top size (Refused Misshapen line byte)
   unfolding last_turn after
-  no_last p byte q b = record { within = not_on; means = λ ring rs c ks all et ez. step-refused {reason = Misshapen} {line = line} {byte = byte} (last-led ring rs c ks all ∙ rw (q, b)) }
+  no_last p byte q b = record { within = not_on; means = λ ring rs c ks all et ez. step_refused {reason = Misshapen} {line = line} {byte = byte} (last-led ring rs c ks all ∙ rw (q, b)) }
 
   module _ (p z : ℕ) (is : x ≡ AreTwo p z) (v : Verdict) (ev : v ≡ last_verdict top size p z) where
-    last-judged : (ring : Ring) (rs : List Routed) → top ≡ peak (unsplit_load rs) ring.n → size ≡ line_size sonet_sizes ring.fibres top → judge_last ring rs p z ≡ v
+    last_judged : (ring : Ring) (rs : List Routed) → top ≡ peak (unsplit_load rs) ring.n → size ≡ line_size sonet_sizes ring.fibres top → judge_last ring rs p z ≡ v
     unfolding judge_last
-    last-judged ring rs et ez = sym (ev ∙ rw (ez, et))
+    last_judged ring rs et ez = sym (ev ∙ rw (ez, et))
 
     pub last-fault : (reason : Reason) → v ≡ Fault reason → LastRead s at line top size (Refused reason line 1)
     unfolding last_turn unless after when
     last-fault reason q =
         record {
           within = not_on;
-          means = λ ring rs c ks all et ez. step-refused {reason = reason} {line = line} {byte = 1} (last-led ring rs c ks all ∙ rw (is, last-judged ring rs et ez ∙ q));
+          means = λ ring rs c ks all et ez. step_refused {reason = reason} {line = line} {byte = 1} (last-led ring rs c ks all ∙ rw (is, last_judged ring rs et ez ∙ q));
         }
 
     module _ (q : v ≡ Fine) where
@@ -206,19 +206,19 @@ module _ (s : List ℕ) (at line top size : ℕ) (to : ℕ) (ends : NextEnds s a
           ≡ check_from desk true (end (record { ring = ring; rows = rs; cut = c; links = ks; peak = top; size = size })) (line + 1) (lines (drop to s))
       unfolding last_turn unless after when
       ended ring rs c ks all et ez =
-          let t = last-true ring rs p z (last-judged ring rs et ez ∙ q) in
+          let t = last-true ring rs p z (last_judged ring rs et ez ∙ q) in
           let ep : p ≡ top = t.0 ∙ sym et in
           let es : z ≡ size = t.1 ∙ ap (line_size sonet_sizes ring.fibres) (sym et) ∙ sym ez in
           let turned : after (last_turn true ring rs c ks x) line (λ next. check_from desk true next (line + 1) (lines (drop to s)))
           ≡ check_from desk true (end (record { ring = ring; rows = rs; cut = c; links = ks; peak = p; size = z })) (line + 1) (lines (drop to s)) =
-          rw (is, last-judged ring rs et ez ∙ q) in
+          rw (is, last_judged ring rs et ez ∙ q) in
           last-led ring rs c ks all ∙ turned ∙ rw (ep, es)
 
       pub left_over : to < length s → LastRead s at line top size (Refused Misshapen (line + 1) 1)
       left_over h =
           record {
             within = not_on;
-            means = λ ring rs c ks all et ez. step-refused {reason = Misshapen} {line = line + 1} {byte = 1} (ended ring rs c ks all et ez ∙ some-line s to h (record { ring = ring; rows = rs; cut = c; links = ks; peak = top; size = size }) (line + 1));
+            means = λ ring rs c ks all et ez. step_refused {reason = Misshapen} {line = line + 1} {byte = 1} (ended ring rs c ks all et ez ∙ some-line s to h (record { ring = ring; rows = rs; cut = c; links = ks; peak = top; size = size }) (line + 1));
           }
 
       pub last_done : length s ≤ to → LastRead s at line top size (On to)
@@ -232,15 +232,15 @@ module _ (s : List ℕ) (at line top size : ℕ) (to : ℕ) (ends : NextEnds s a
 
 step-stops : {s : List ℕ} {result : Result} {goes other : ℕ → Result} {r : Step} {reason : Reason} {line byte : ℕ} → StepMeans s result goes r → r ≡ Refused reason line byte → StepMeans s result other (Refused reason line byte)
 step-stops (steps_on w e) q = clash (cc)
-step-stops {reason = reason} {line = line} {byte = byte} (step-refused {reason = a} {line = b} {byte = c} e) q =
+step-stops {reason = reason} {line = line} {byte = byte} (step_refused {reason = a} {line = b} {byte = c} e) q =
     let ea : a ≡ reason = cc in
     let eb : b ≡ line = cc in
     let ec : c ≡ byte = cc in
-    step-refused {reason = reason} {line = line} {byte = byte} (e ∙ rw (ea, eb, ec))
+    step_refused {reason = reason} {line = line} {byte = byte} (e ∙ rw (ea, eb, ec))
 
 step-goes : {s : List ℕ} {result : Result} {goes : ℕ → Result} {r : Step} {at : ℕ} → StepMeans s result goes r → r ≡ On at → result ≡ goes at
 step-goes {goes = goes} {at = at} (steps_on {at = b} w e) q = let eb : b ≡ at = cc in e ∙ ap goes eb
-step-goes (step-refused e) q = clash (cc)
+step-goes (step_refused e) q = clash (cc)
 
 -- ---- the whole
 
@@ -264,7 +264,7 @@ module _ (s : List ℕ) (at line number split-peak top size largest : ℕ) (r : 
     pub whole-fault : (reason : Reason) → v ≡ Fault reason → WholeRead s at line number split-peak top size largest (Refused reason 0 0)
     unfolding whole_result
     whole-fault reason f =
-        record { means = λ ring rs g h ks all es et el ez. step-refused {reason = reason} {line = 0} {byte = 0} (result ring rs g h ks all es et el ez ∙ ap (whole_result (x ring rs g h ks all es et el ez)) f) }
+        record { means = λ ring rs g h ks all es et el ez. step_refused {reason = reason} {line = 0} {byte = 0} (result ring rs g h ks all es et el ez ∙ ap (whole_result (x ring rs g h ks all es et el ez)) f) }
 
     pub whole-fine : v ≡ Fine → WholeRead s at line number split-peak top size largest (On to)
     unfolding whole_result
@@ -287,5 +287,5 @@ module _ (s : List ℕ) (at line n number : ℕ) (split unsplit : List ℕ) (spl
               let all : n ≤ length (links_in n split unsplit) = omega (arith, listed-length (link_at split unsplit) 0 n) in
               let e = step-goes (read.means fibres rs (cut_of g h number) split-peak top largest w) q in
               subst (λ z. StepMeans s z (λ p. accepted (sheet_with (ring_of n fibres) rs (cut_of g h number) split unsplit top size)) t) (sym e)
-              (whole.means (ring_of n fibres) rs g h (links_in n split unsplit) all w.split-peaks w.tops w.largests ez);
+              (whole.means (ring_of n fibres) rs g h (links_in n split unsplit) all w.split_peaks w.tops w.largests ez);
         }

@@ -154,9 +154,9 @@ module _ (n due g h m : ℕ) (x : Bool) (ex : x ≡ no_cut n g h) where
 -- ---- 13 and 14
 
 module _ (split number largest peak : ℕ) where
-  pub not-tight : (split ≡ number → ⊥) → Fault NotTight ≡ whole_verdict split number largest peak
+  pub not_tight : (split ≡ number → ⊥) → Fault NotTight ≡ whole_verdict split number largest peak
   unfolding whole_verdict
-  not-tight n = rw (ne_eqb split number n)
+  not_tight n = rw (ne_eqb split number n)
 
   module _ (tight : split ≡ number) (a b c : ℕ) (ea : a ≡ split) (eb : b ≡ largest) (ec : c ≡ peak) where
     pub over-bound : a + 3 * b < 2 * c → Fault OverBound ≡ whole_verdict split number largest peak

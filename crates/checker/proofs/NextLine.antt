@@ -28,9 +28,9 @@ first-split [] = (refl, refl)
 first-split (b ∷ t) = let e = first-line (b ∷ t) (omega arith) in (rw e, rw e)
 
 module _ (s : List ℕ) (at : ℕ) where
-  pub none-there : at ≤ length s → length s ≤ at → NextEnds s at at
+  pub none_there : at ≤ length s → length s ≤ at → NextEnds s at at
   unfolding line_length
-  none-there w l = record { is = rw (drop_of_length-le s l) (omega arith); within = w }
+  none_there w l = record { is = rw (drop_of_length-le s l) (omega arith); within = w }
 
   module _ (end : ℕ) (ends : NextEnds s at end) where
     pub next_place : at ≤ end

@@ -4,7 +4,7 @@ use Prim.Native.Nat.{ℕ, ◌+◌, ◌≤◌}
 use mathlib.Core.Bool.{true≢false}
 use mathlib.Core.List.{List}
 use mathlib.Core.Path.{◌≡◌, sym, ◌∙◌, subst}
-use Rattle.ring.specs.Lists.{Each, more, Pairs, no-pair, and-pairs, none}
+use Rattle.ring.specs.Lists.{Each, more, Pairs, no_pair, and_pairs, none}
 use Rattle.ring.specs.Ring.{Ring}
 use Rattle.ring.specs.Row.{Row, TableRows}
 use Rattle.ring.specs.Routing.{Sent}
@@ -14,7 +14,7 @@ use Rattle.ring.proofs.OurPlan.{untangled, directed, table-order}
 use Rattle.checker.specs.Pair.{RowFrom, at_first, behind, ParallelSplit, PairAt, NoneFrom, NoPair}
 use Rattle.checker.specs.FindPair.{first_pair}
 use Rattle.checker.specs.declared.pair.Pair.TheVariants.{None}
-use Rattle.checker.proofs.PairLaws.{PairIn, with-head, in_tail, no_row, pair-in, no-pair-is}
+use Rattle.checker.proofs.PairLaws.{PairIn, with_head, in_tail, no_row, pair-in, no-pair-is}
 
 each_at : {P : Sent → Type 0} {k p : ℕ} {ss : List Sent} {s : Sent} → Each P ss → RowFrom k ss p s → P s
 each_at none r = elim r [ ]
@@ -25,11 +25,11 @@ not-both : {a b : Sent} → Quiet a b → ParallelSplit a b → ⊥
 not-both q c = true≢false (sym c.parallel ∙ q c.one c.two)
 
 quiet_none : (k : ℕ) {ss : List Sent} → Pairs Quiet ss → NoneFrom k ss
-quiet_none k no-pair p q x = no_row x.first
-quiet_none k (and-pairs {a = s} {l = ss} e h) p q x = go (quiet_none (k + 1) h p q) (pair-in x)
+quiet_none k no_pair p q x = no_row x.first
+quiet_none k (and_pairs {a = s} {l = ss} e h) p q x = go (quiet_none (k + 1) h p q) (pair-in x)
   where
     go : (PairAt (k + 1) ss p q → ⊥) → PairIn k s ss p q → ⊥
-    go m (with-head i r c) = not-both (each_at e r) c
+    go m (with_head i r c) = not-both (each_at e r) c
     go m (in_tail y) = m y
 
 pub plan-no-pair : (ring : Ring) (rs : List Row) → 2 ≤ ring.n → TableRows ring.n rs → first_pair (sents (plan ring rs).rows) ≡ None

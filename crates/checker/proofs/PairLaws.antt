@@ -46,7 +46,7 @@ low (behind r) = let l = low r in omega arith
 
 -- a pair has the head, or it is one of the tail
 pub data PairIn (k : ℕ) (s : Sent) (ss : List Sent) (p q : ℕ) : Type 0 where
-  with-head : {t : Sent} → p ≡ k → RowFrom (k + 1) ss q t → ParallelSplit s t → PairIn k s ss p q
+  with_head : {t : Sent} → p ≡ k → RowFrom (k + 1) ss q t → ParallelSplit s t → PairIn k s ss p q
   in_tail : PairAt (k + 1) ss p q → PairIn k s ss p q
 
 pub pair-in : {k p q : ℕ} {s : Sent} {ss : List Sent} → PairAt k (s ∷ ss) p q → PairIn k s ss p q
@@ -54,7 +54,7 @@ pair-in {k} {s = s} {ss = ss} x = go x.s x.t x.first x.second x.order x.both
   where
     go : {p q : ℕ} (a b : Sent) → RowFrom k (s ∷ ss) p a → RowFrom k (s ∷ ss) q b → p < q → ParallelSplit a b → PairIn k s ss p q
     go a b at_first at_first l c = absurd (omega arith)
-    go a b at_first (behind r) l c = with-head refl r c
+    go a b at_first (behind r) l c = with_head refl r c
     go a b (behind r) at_first l c = let h = low r in absurd (omega arith)
     go a b (behind r) (behind r') l c = in_tail (record { s = a; t = b; first = r; second = r'; order = l; both = c })
 
@@ -97,14 +97,14 @@ scan-firsts k (s ∷ ss) = go (scan-seconds s k (k + 1) ss) (scan-firsts (k + 1)
   where
     -- no pair is before the head with its first partner
     before_head : {a b r : ℕ} → ((c : ℕ) (u : Sent) → c < r → RowFrom (k + 1) ss c u → ParallelSplit s u → ⊥) → PairBefore a b k r → PairIn k s ss a b → ⊥
-    before_head f (inl l) (with-head e m c) = omega arith
-    before_head {b = b} f (inr l) (with-head {t = u} e m c) = f b u l.1 m c
+    before_head f (inl l) (with_head e m c) = omega arith
+    before_head {b = b} f (inr l) (with_head {t = u} e m c) = f b u l.1 m c
     before_head f (inl l) (in_tail x) = let h = low x.first in omega arith
     before_head f (inr l) (in_tail x) = let h = low x.first in omega arith
 
     -- nor is there one where the head has no partner and the tail no such pair
     nor : {a b : ℕ} → ((c : ℕ) (u : Sent) → RowFrom (k + 1) ss c u → ParallelSplit s u → ⊥) → (PairAt (k + 1) ss a b → ⊥) → PairIn k s ss a b → ⊥
-    nor {b = b} f m (with-head {t = u} e r c) = f b u r c
+    nor {b = b} f m (with_head {t = u} e r c) = f b u r c
     nor f m (in_tail x) = m x
 
     later : {p q : ℕ} → PairAt (k + 1) ss p q → PairAt k (s ∷ ss) p q

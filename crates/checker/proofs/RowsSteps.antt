@@ -38,7 +38,7 @@ use Rattle.table.proofs.Judged.{RowJudged, row_fine, row-judged}
 use Rattle.table.proofs.Columns.{column-length, column-more, column-at, column-behind, rows_back}
 use Rattle.sheet.specs.Judge.{judge_halves}
 use Rattle.sheet.specs.Check.{Result, routed_of, last_of, when, unless, row_turn, turn, after, check_from}
-use Rattle.checker.specs.Parts.{sent_verdict, NextEnds, first_of, cut_from, rows_at, rows-refused, RowsRead}
+use Rattle.checker.specs.Parts.{sent_verdict, NextEnds, first_of, cut_from, rows_at, rows_refused, RowsRead}
 use Rattle.sheet.specs.Says.{rows}
 use Rattle.checker.specs.Arrays.{no_values}
 use Rattle.checker.specs.declared.values.SheetValues.{SheetValues}
@@ -47,7 +47,7 @@ use Rattle.sheet.proofs.Back as back-law
 use Rattle.checker.proofs.NextLine.{next-line, step_from, step-at}
 use Rattle.sheet.proofs.Last.{last_more}
 use Rattle.sheet.proofs.Rest.{or-fine}
-use Rattle.sheet.proofs.SheetLines.{SentRead, is-sent, sent-read}
+use Rattle.sheet.proofs.SheetLines.{SentRead, is_sent, sent-read}
 use Rattle.sheet.proofs.Truth.{row-true}
 
 -- ---- what holds of a row that nothing is found against
@@ -62,9 +62,9 @@ record FineRow (n count i j d f k w : ℕ) : Type 0 where
   fine : FineSent n (routed_of i j d f k w)
   room : count < desk.rows
 
-fine-row : (n count a b i j d f k w : ℕ) (v : Verdict) → v ≡ sent_verdict desk n count a b (routed_of i j d f k w) → v ≡ Fine → FineRow n count i j d f k w
+fine_row : (n count a b i j d f k w : ℕ) (v : Verdict) → v ≡ sent_verdict desk n count a b (routed_of i j d f k w) → v ≡ Fine → FineRow n count i j d f k w
 unfolding sent_verdict
-fine-row n count a b i j d f k w v e q =
+fine_row n count a b i j d f k w v e q =
     let both = or-fine (judge_row desk n count a b i j d) (judge_halves (routed_of i j d f k w)) (sym e ∙ q) in
     let one = both.0 in
     go (rw one at (row-judged desk n count a b i j d)) (row-true (routed_of i j d f k w) both.1).0
@@ -152,7 +152,7 @@ module _ (n : ℕ) (rs : List Routed) (few : length rs ≤ desk.rows) (fine : Ea
         backs = column-length (λ (r : Routed). r.sent.back) desk.rows rs;
         small = halves_small;
         no_front = λ k h. column-behind (λ (r : Routed). r.sent.front) desk.rows rs k few h;
-        no-back = λ k h. column-behind (λ (r : Routed). r.sent.back) desk.rows rs k few h;
+        no_back = λ k h. column-behind (λ (r : Routed). r.sent.back) desk.rows rs k few h;
       }
 
 -- ---- the loop
@@ -268,13 +268,13 @@ module _ (s : List ℕ) (n from line a b count at : ℕ) (v : SheetValues) (read
 
       pub row-stops : (reason : Reason) (byte : ℕ) → found ≡ Fault reason → byte ≡ row_fault n i j d reason → RowsRead s from n v (Refused reason line byte)
       unfolding unless after
-      row-stops reason byte q b = record { means = λ fibres. rows-refused {reason = reason} {line = line} {byte = byte} (led fibres ∙ rw (q, b)) }
+      row-stops reason byte q b = record { means = λ fibres. rows_refused {reason = reason} {line = line} {byte = byte} (led fibres ∙ rw (q, b)) }
 
       row_here : IsRow (take (to - at) (drop at s)) w
       row_here = go (rw (← ex, is) at (sent-read (take (to - at) (drop at s))))
         where
           go : SentRead (take (to - at) (drop at s)) (IsSent i j d f k w) → IsRow (take (to - at) (drop at s)) w
-          go (is-sent e spelled) = record { some = let q = e in rw q (line-some i j d f k w); way = spelled.way }
+          go (is_sent e spelled) = record { some = let q = e in rw q (line-some i j d f k w); way = spelled.way }
 
       row_on : at < to
       row_on = omega (arith, row_here.some, length-take (to - at) (drop at s))
@@ -284,7 +284,7 @@ module _ (s : List ℕ) (n from line a b count at : ℕ) (v : SheetValues) (read
 
       module _ (fine : found ≡ Fine) where
         new_row : FineRow n count i j d f k w
-        new_row = fine-row n count a b i j d f k w found ef fine
+        new_row = fine_row n count a b i j d f k w found ef fine
 
         -- there is room for it
         pub row_room : count < desk.rows

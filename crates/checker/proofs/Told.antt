@@ -28,7 +28,7 @@ pub record Told (s : List ℕ) (v : SheetValues) (count : ℕ) : Type 0 where
   pub x : Sheet
   pub is : check desk s ≡ accepted x
   pub same : sheet_in v.figures count v.first v.second v.amount v.front v.back v.way v.split v.unsplit ≡ x
-  pub sents-same : sents_in count v.first v.second v.amount v.front v.back ≡ sents x.rows
+  pub sents_same : sents_in count v.first v.second v.amount v.front v.back ≡ sents x.rows
   pub room : count ≤ desk.rows
   pub links : v.figures.n ≤ desk.nodes
 
@@ -52,7 +52,7 @@ module _ (s : List ℕ) (answer : Answer) (v : SheetValues) where
         x = x;
         is = q;
         same = rw (ev, k, rows, links);
-        sents-same = rw (ev, k) (first ∙ ap sents rows);
+        sents_same = rw (ev, k) (first ∙ ap sents rows);
         room = omega arith;
         links = rw ev h.0.many;
       }

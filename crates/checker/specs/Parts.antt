@@ -76,7 +76,7 @@ pub record Columns (rs : List Routed) (count : ℕ) (v : SheetValues) : Type 0 w
 pub data RowsMean (s : List ℕ) (ring : Ring) (result : Result) (v : SheetValues) : RowsEnd → Type 0 where
   rows_at : {count at line q : ℕ} (rs : List Routed) → Columns rs count v → result ≡ cut_from ring rs line q (lines (drop at s))
       → at ≤ length s → q ≤ length s → line ≡ count + 2 → Table ring.n count v.first v.second v.amount → Halves count v.front v.back → RowsMean s ring result v (At count at line q)
-  rows-refused : {reason : Reason} {line byte : ℕ} → result ≡ refused reason line byte → RowsMean s ring result v (RowsRefused reason line byte)
+  rows_refused : {reason : Reason} {line byte : ℕ} → result ≡ refused reason line byte → RowsMean s ring result v (RowsRefused reason line byte)
 
 -- whatever the fibres: rows are judged by the number of nodes alone
 pub record RowsRead (s : List ℕ) (from n : ℕ) (v : SheetValues) (end : RowsEnd) : Type 0 where
@@ -89,14 +89,14 @@ pub record RowsRead (s : List ℕ) (from n : ℕ) (v : SheetValues) (end : RowsE
 pub record Weighed (n : ℕ) (rs : List Routed) (split unsplit : List ℕ) (split-peak top largest : ℕ) : Type 0 where
   pub splits : split ≡ column (λ k. split_load (sents rs) k) desk.nodes (numbers_from 1 n)
   pub unsplits : unsplit ≡ column (λ k. unsplit_load rs k) desk.nodes (numbers_from 1 n)
-  pub split-peaks : split-peak ≡ peak (split_load (sents rs)) n
+  pub split_peaks : split-peak ≡ peak (split_load (sents rs)) n
   pub tops : top ≡ peak (unsplit_load rs) n
   pub largests : largest ≡ largest_split (sents rs)
 
 -- a step leads on from a place of the text, or is refused
 pub data StepMeans (s : List ℕ) (result : Result) (goes_on : ℕ → Result) : Step → Type 0 where
   steps_on : {at : ℕ} → at ≤ length s → result ≡ goes_on at → StepMeans s result goes_on (On at)
-  step-refused : {reason : Reason} {line byte : ℕ} → result ≡ refused reason line byte → StepMeans s result goes_on (StepRefused reason line byte)
+  step_refused : {reason : Reason} {line byte : ℕ} → result ≡ refused reason line byte → StepMeans s result goes_on (StepRefused reason line byte)
 
 -- where a step leads on, it is within the text
 pub record Within (s : List ℕ) (r : Step) : Type 0 where

@@ -21,8 +21,8 @@ use Rattle.matrix.specs.Arrays.{values_in}
 use Rattle.matrix.specs.declared.byte.Found.{Found}
 use Rattle.matrix.specs.declared.byte.Found.TheVariants.{At}
 use Rattle.matrix.proofs.LineSteps.{take-values}
-use Rattle.matrix.proofs.LinesText.{AmountsJudged, amount-over, amounts-within, amounts-judged}
-use Rattle.matrix.proofs.Entries.{AcrossJudged, across-wrong, across-right, across-judged}
+use Rattle.matrix.proofs.LinesText.{AmountsJudged, amount_over, amounts_within, amounts-judged}
+use Rattle.matrix.proofs.Entries.{AcrossJudged, across_wrong, across_right, across-judged}
 
 -- ---- the byte of an entry
 
@@ -48,15 +48,15 @@ module _ (n k : ℕ) where
   amount-few values v reason e f = go (amounts-judged desk 0 (take n values)) (sym e ∙ f)
     where
       go : {w : Found} → AmountsJudged desk 0 (take n values) w → w ≡ At reason k → k ≤ n
-      go (amount-over {at} x p f) q = let r : at ≡ k = cc in omega (arith, f.within, length-take n values)
-      go (amounts-within h) q = clash (cc)
+      go (amount_over {at} x p f) q = let r : at ≡ k = cc in omega (arith, f.within, length-take n values)
+      go (amounts_within h) q = clash (cc)
 
   pub across-few : (a : ℕ → ℕ → ℕ) (i : ℕ) (v : Found) (reason : Reason) → v ≡ judge_across a i 1 n → v ≡ At reason k → k ≤ n
   across-few a i v reason e f = go (across-judged a i 1 n) (sym e ∙ f)
     where
       go : {w : Found} → AcrossJudged a i 1 n w → w ≡ At reason k → k ≤ n
-      go (across-wrong at l m h first) q = let r : at - 1 ≡ k = cc in omega arith
-      go (across-right all) q = clash (cc)
+      go (across_wrong at l m h first) q = let r : at - 1 ≡ k = cc in omega arith
+      go (across_right all) q = clash (cc)
 
 -- ---- a line of the square
 

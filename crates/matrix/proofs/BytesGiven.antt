@@ -18,7 +18,7 @@ use Rattle.table.proofs.BytesGiven.{one-due}
 use Rattle.table.proofs.LineNumbers.{line-one}
 use Rattle.matrix.specs.Matrix.{entry_byte}
 use Rattle.matrix.specs.Read.{fields_in}
-use Rattle.matrix.specs.Says.{NumbersAre, EntryIs, LineByte, first-due, later-due, none-due, EntryStarts, AmountByte, FirstFaulty, FaultyByte, ByteIs}
+use Rattle.matrix.specs.Says.{NumbersAre, EntryIs, LineByte, first_due, later_due, none_due, EntryStarts, AmountByte, FirstFaulty, FaultyByte, ByteIs}
 use Rattle.matrix.proofs.LinesText.{numbers-line-read, FirstOver}
 use Rattle.matrix.proofs.MatrixText.{fields-are}
 use Rattle.matrix.proofs.AnyFields.{one-any-fault}
@@ -55,17 +55,17 @@ amount-byte {limits} {t} {line} {vs} x here f =
 -- ---- one byte
 
 one-line-byte : {t : List ℕ} {line b c : ℕ} → LineByte t line b → LineByte t line c → b ≡ c
-one-line-byte (first-due e x) (first-due f y) = one-due one-any-fault x y
-one-line-byte (first-due e x) (later-due l is m y) = absurd (omega arith)
-one-line-byte (first-due e x) (none-due is l y) = absurd (omega (arith, is.some))
-one-line-byte (later-due l is m x) (first-due f y) = absurd (omega arith)
-one-line-byte {t} {line} {b} {c} (later-due {us} l is m x) (later-due {us = vs} k it o y) =
+one-line-byte (first_due e x) (first_due f y) = one-due one-any-fault x y
+one-line-byte (first_due e x) (later_due l is m y) = absurd (omega arith)
+one-line-byte (first_due e x) (none_due is l y) = absurd (omega (arith, is.some))
+one-line-byte (later_due l is m x) (first_due f y) = absurd (omega arith)
+one-line-byte {t} {line} {b} {c} (later_due {us} l is m x) (later_due {us = vs} k it o y) =
     let e : length vs ≡ length us = ap length (numbers-one it is refl) in
     one-due (λ s p q f g. one-fault f g) x (subst (λ n. DueByte t line (FirstFault (numbers n)) c) e y)
-one-line-byte (later-due l is m x) (none-due it k y) = absurd (omega (arith, ap length (numbers-one is it refl)))
-one-line-byte (none-due is l x) (first-due f y) = absurd (omega (arith, is.some))
-one-line-byte (none-due is l x) (later-due k it m y) = absurd (omega (arith, ap length (numbers-one is it refl)))
-one-line-byte (none-due is l x) (none-due it k y) = x ∙ sym y
+one-line-byte (later_due l is m x) (none_due it k y) = absurd (omega (arith, ap length (numbers-one is it refl)))
+one-line-byte (none_due is l x) (first_due f y) = absurd (omega (arith, is.some))
+one-line-byte (none_due is l x) (later_due k it m y) = absurd (omega (arith, ap length (numbers-one is it refl)))
+one-line-byte (none_due is l x) (none_due it k y) = x ∙ sym y
 
 one-start : {t : List ℕ} {line j i b c : ℕ} → j ≡ i → EntryStarts t line j b → EntryStarts t line i c → b ≡ c
 one-start {j = j} {i = i} e x y = x.at ∙ ap (λ vs. entry_byte vs (j - 1)) (numbers-one x.is y.is refl) ∙ ap (λ k. entry_byte y.vs (k - 1)) e ∙ sym y.at

@@ -20,12 +20,12 @@ use Rattle.matrix.specs.declared.square.Lines.TheVariants.{Read, Refused}
 
 -- what is wrong with an entry
 pub data WrongEntry (a : ℕ → ℕ → ℕ) (i j : ℕ) : Reason → Type 0 where
-  not-zero : i ≡ j → (a i j ≡ 0 → ⊥) → WrongEntry a i j NotZero
-  not-mirror : (i ≡ j → ⊥) → (a i j ≡ a j i → ⊥) → WrongEntry a i j NotSymmetric
+  not_zero : i ≡ j → (a i j ≡ 0 → ⊥) → WrongEntry a i j NotZero
+  not_mirror : (i ≡ j → ⊥) → (a i j ≡ a j i → ⊥) → WrongEntry a i j NotSymmetric
 
 pub data EntryJudged (a : ℕ → ℕ → ℕ) (i j : ℕ) : Verdict → Type 0 where
-  entry-wrong : {r : Reason} → WrongEntry a i j r → EntryJudged a i j (Fault r)
-  entry-right : ((r : Reason) → WrongEntry a i j r → ⊥) → EntryJudged a i j Fine
+  entry_wrong : {r : Reason} → WrongEntry a i j r → EntryJudged a i j (Fault r)
+  entry_right : ((r : Reason) → WrongEntry a i j r → ⊥) → EntryJudged a i j Fine
 
 module _ (a : ℕ → ℕ → ℕ) where
   pub entry-judged : (i j : ℕ) → EntryJudged a i j (judge_entry i j (a i j) (a j i))
@@ -33,32 +33,32 @@ module _ (a : ℕ → ℕ → ℕ) where
   entry-judged i j =
       elim (ℕ_discrete i j) [
         | yes e ↦ elim (ℕ_discrete (a i j) 0) [
-          | yes z ↦ rw (eq-eqb i j e, eq-eqb (a i j) 0 z) (entry-right (λ r w. zero_right e z w))
-          | no z ↦ rw (eq-eqb i j e, ne_eqb (a i j) 0 z) (entry-wrong (not-zero e z))
+          | yes z ↦ rw (eq-eqb i j e, eq-eqb (a i j) 0 z) (entry_right (λ r w. zero_right e z w))
+          | no z ↦ rw (eq-eqb i j e, ne_eqb (a i j) 0 z) (entry_wrong (not_zero e z))
         ]
         | no e ↦ elim (ℕ_discrete (a i j) (a j i)) [
-          | yes z ↦ rw (ne_eqb i j e, eq-eqb (a i j) (a j i) z) (entry-right (λ r w. mirror-right e z w))
-          | no z ↦ rw (ne_eqb i j e, ne_eqb (a i j) (a j i) z) (entry-wrong (not-mirror e z))
+          | yes z ↦ rw (ne_eqb i j e, eq-eqb (a i j) (a j i) z) (entry_right (λ r w. mirror-right e z w))
+          | no z ↦ rw (ne_eqb i j e, ne_eqb (a i j) (a j i) z) (entry_wrong (not_mirror e z))
         ]
       ]
     where
       zero_right : {r : Reason} → i ≡ j → a i j ≡ 0 → WrongEntry a i j r → ⊥
-      zero_right e z (not-zero f w) = w z
-      zero_right e z (not-mirror f w) = f e
+      zero_right e z (not_zero f w) = w z
+      zero_right e z (not_mirror f w) = f e
 
       mirror-right : {r : Reason} → (i ≡ j → ⊥) → a i j ≡ a j i → WrongEntry a i j r → ⊥
-      mirror-right e z (not-zero f w) = e f
-      mirror-right e z (not-mirror f w) = w z
+      mirror-right e z (not_zero f w) = e f
+      mirror-right e z (not_mirror f w) = w z
 
   -- the entries j and on of line i, k of them
   pub data AcrossJudged (i j k : ℕ) : Found → Type 0 where
-    across-wrong : {r : Reason} (at : ℕ) → j ≤ at → at < j + k → WrongEntry a i at r → ((x : ℕ) (s : Reason) → j ≤ x → x < at → WrongEntry a i x s → ⊥)
+    across_wrong : {r : Reason} (at : ℕ) → j ≤ at → at < j + k → WrongEntry a i at r → ((x : ℕ) (s : Reason) → j ≤ x → x < at → WrongEntry a i x s → ⊥)
         → AcrossJudged i j k (At r (at - 1))
-    across-right : ((x : ℕ) (s : Reason) → j ≤ x → x < j + k → WrongEntry a i x s → ⊥) → AcrossJudged i j k Nothing
+    across_right : ((x : ℕ) (s : Reason) → j ≤ x → x < j + k → WrongEntry a i x s → ⊥) → AcrossJudged i j k Nothing
 
   pub across-judged : (i j k : ℕ) → AcrossJudged i j k (judge_across a i j k)
   unfolding judge_across or_else
-  across-judged i j zero = across-right (λ x s l h w. omega arith)
+  across-judged i j zero = across_right (λ x s l h w. omega arith)
   across-judged i j (suc k) = go (entry-judged i j) (across-judged i (j + 1) k)
     where
       first-right : ((r : Reason) → WrongEntry a i j r → ⊥) → (x : ℕ) (s : Reason) → ((j + 1 ≤ x) → WrongEntry a i x s → ⊥) → j ≤ x → WrongEntry a i x s → ⊥
@@ -69,9 +69,9 @@ module _ (a : ℕ → ℕ → ℕ) where
           ]
 
       go : {v : Verdict} {w : Found} → EntryJudged a i j v → AcrossJudged i (j + 1) k w → AcrossJudged i j (suc k) (or_else v (j - 1) w)
-      go (entry-wrong h) rest = across-wrong j (omega arith) (omega arith) h (λ x s l m w. omega arith)
-      go (entry-right none) (across-wrong at l m h first) = across-wrong at (omega arith) (omega arith) h (λ x s p q. first-right none x s (λ u. first x s u q) p)
-      go (entry-right none) (across-right all) = across-right (λ x s p q. first-right none x s (λ u. all x s u (omega arith)) p)
+      go (entry_wrong h) rest = across_wrong j (omega arith) (omega arith) h (λ x s l m w. omega arith)
+      go (entry_right none) (across_wrong at l m h first) = across_wrong at (omega arith) (omega arith) h (λ x s p q. first-right none x s (λ u. first x s u q) p)
+      go (entry_right none) (across_right all) = across_right (λ x s p q. first-right none x s (λ u. all x s u (omega arith)) p)
 
   -- the lines i and on, k of them, each of n entries: the first wrong entry is i, j
   pub record FirstWrong (n i j : ℕ) (r : Reason) : Type 0 where
@@ -81,19 +81,19 @@ module _ (a : ℕ → ℕ → ℕ) where
     pub first : (x y : ℕ) (s : Reason) → Node n x → Node n y → PairBefore x y i j → WrongEntry a x y s → ⊥
 
   pub data DownJudged (n i k : ℕ) : Lines → Type 0 where
-    down-wrong : {r : Reason} {line : ℕ} (at : ℕ) → i ≤ line → line < i + k → Node n at → WrongEntry a line at r
+    down_wrong : {r : Reason} {line : ℕ} (at : ℕ) → i ≤ line → line < i + k → Node n at → WrongEntry a line at r
         → ((x y : ℕ) (s : Reason) → i ≤ x → Node n y → PairBefore x y line at → WrongEntry a x y s → ⊥)
         → DownJudged n i k (Refused r line (entry_byte (line_of a n line) (at - 1)))
-    down-right : ((x y : ℕ) (s : Reason) → i ≤ x → x < i + k → Node n y → WrongEntry a x y s → ⊥) → DownJudged n i k Read
+    down_right : ((x y : ℕ) (s : Reason) → i ≤ x → x < i + k → Node n y → WrongEntry a x y s → ⊥) → DownJudged n i k Read
 
   pub down-judged : (n i k : ℕ) → DownJudged n i k (judge_down a n i k)
   unfolding judge_down on_line
-  down-judged n i zero = down-right (λ x y s l h m w. omega arith)
+  down-judged n i zero = down_right (λ x y s l h m w. omega arith)
   down-judged n i (suc k) = go (across-judged i 1 n) (down-judged n (i + 1) k)
     where
-      on-first : {x y at : ℕ} → i ≤ x → PairBefore x y i at → (x ≡ i) × (y < at)
-      on-first l (inl m) = absurd (omega arith)
-      on-first l (inr m) = m
+      on_first : {x y at : ℕ} → i ≤ x → PairBefore x y i at → (x ≡ i) × (y < at)
+      on_first l (inl m) = absurd (omega arith)
+      on_first l (inr m) = m
 
       line-right : ((y : ℕ) (s : Reason) → 1 ≤ y → y < 1 + n → WrongEntry a i y s → ⊥) → (x y : ℕ) (s : Reason) → (i + 1 ≤ x → ⊥) → i ≤ x → Node n y → WrongEntry a x y s → ⊥
       line-right all x y s not-later l m w =
@@ -101,18 +101,18 @@ module _ (a : ℕ → ℕ → ℕ) where
           all y s m.0 (omega (arith, m.1)) (rw e at w)
 
       go : {v : Found} {w : Lines} → AcrossJudged i 1 n v → DownJudged n (i + 1) k w → DownJudged n i (suc k) (on_line v i (entry_byte (line_of a n i)) w)
-      go (across-wrong at l m h first) rest =
-          down-wrong {line = i} at (omega arith) (omega arith) (l, omega arith) h
-          (λ x y s p q b w. let o = on-first p b in first y s q.0 o.1 (let e = o.0 in rw e at w))
-      go (across-right all) (down-wrong {line = line} at l m q h first) =
-          down-wrong {line = line} at (omega arith) (omega arith) q h
+      go (across_wrong at l m h first) rest =
+          down_wrong {line = i} at (omega arith) (omega arith) (l, omega arith) h
+          (λ x y s p q b w. let o = on_first p b in first y s q.0 o.1 (let e = o.0 in rw e at w))
+      go (across_right all) (down_wrong {line = line} at l m q h first) =
+          down_wrong {line = line} at (omega arith) (omega arith) q h
           (λ x y s p u b w.
           elim (dec_lt i x) [
             | yes o ↦ first x y s (omega arith) u b w
             | no o ↦ line-right all x y s (λ z. omega arith) p u w
           ])
-      go (across-right all) (down-right rest) =
-          down-right (λ x y s p q u w.
+      go (across_right all) (down_right rest) =
+          down_right (λ x y s p q u w.
           elim (dec_lt i x) [
             | yes o ↦ rest x y s (omega arith) (omega arith) u w
             | no o ↦ line-right all x y s (λ z. omega arith) p u w

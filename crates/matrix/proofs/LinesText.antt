@@ -22,7 +22,7 @@ use Rattle.table.specs.declared.reason.Reason.{Reason}
 use Rattle.table.specs.declared.reason.Reason.TheVariants.{TooMuch}
 use Rattle.table.proofs.LinesOf.{NoLf, FirstLine, written-first}
 use Rattle.matrix.specs.Matrix.{write_matrix, entry_byte}
-use Rattle.matrix.specs.Read.{Matrix, matrix, no-matrix, numbers_or, unless_at, judge_amounts, lines_of}
+use Rattle.matrix.specs.Read.{Matrix, matrix, no_matrix, numbers_or, unless_at, judge_amounts, lines_of}
 use Rattle.matrix.specs.declared.byte.Found.{Found}
 use Rattle.matrix.specs.declared.byte.Found.TheVariants.{Nothing, At}
 use Rattle.matrix.proofs.LineSteps.{in-range-long}
@@ -47,8 +47,8 @@ spelled-in (suc n) (v ∷ vs) r = more r.0 (spelled-in n vs r.1)
 
 -- what a line is read to
 pub data NumbersRead (n : ℕ) (l : List ℕ) : Reading → Type 0 where
-  are-numbers : {vs : List ℕ} → l ≡ numbers_line vs → length vs ≡ n → Spelled vs → NumbersRead n l (good vs)
-  no-numbers : {p : ℕ} → ((vs : List ℕ) → l ≡ numbers_line vs → length vs ≡ n → Spelled vs → ⊥) → FirstFault (numbers n) l p → NumbersRead n l (bad p)
+  are_numbers : {vs : List ℕ} → l ≡ numbers_line vs → length vs ≡ n → Spelled vs → NumbersRead n l (good vs)
+  no_numbers : {p : ℕ} → ((vs : List ℕ) → l ≡ numbers_line vs → length vs ≡ n → Spelled vs → ⊥) → FirstFault (numbers n) l p → NumbersRead n l (bad p)
 
 pub numbers-line-read : (n : ℕ) (vs : List ℕ) → length vs ≡ n → Spelled vs → read_line (numbers n) (numbers_line vs) ≡ good vs
 numbers-line-read n vs e h = rw (← e) ((line-good (numbers (length vs)) (numbers_line vs) vs).1 (refl, in-range vs h))
@@ -60,8 +60,8 @@ numbers-read n l = go (read_line (numbers n) l) refl
     go (good vs) e =
         let w = (line-good (numbers n) l vs).0 e in
         let k : length vs ≡ n = in-range-long n vs w.1 in
-        are-numbers {vs = vs} (w.0 ∙ ap (λ x. write_line (numbers x) vs) (sym k)) k (spelled-in n vs w.1)
-    go (bad p) e = no-numbers (λ vs w k h. clash (cc (numbers-line-read n vs k h))) ((line-bad (numbers n) l p).0 e)
+        are_numbers {vs = vs} (w.0 ∙ ap (λ x. write_line (numbers x) vs) (sym k)) k (spelled-in n vs w.1)
+    go (bad p) e = no_numbers (λ vs w k h. clash (cc (numbers-line-read n vs k h))) ((line-bad (numbers n) l p).0 e)
 
 -- a line of numbers in front of a text is its first line
 no-lf : (n : ℕ) → Each NoLf (numbers n)
@@ -82,8 +82,8 @@ pub record FirstOver (limits : Limits) (vs : List ℕ) (x : ℕ) : Type 0 where
   pub first : (y : ℕ) → y < x → get_or vs y 0 ≤ limits.amount
 
 pub data AmountsJudged (limits : Limits) (k : ℕ) (vs : List ℕ) : Found → Type 0 where
-  amount-over : {at : ℕ} (x : ℕ) → at ≡ k + x → FirstOver limits vs x → AmountsJudged limits k vs (At TooMuch at)
-  amounts-within : Each (λ v. v ≤ limits.amount) vs → AmountsJudged limits k vs Nothing
+  amount_over : {at : ℕ} (x : ℕ) → at ≡ k + x → FirstOver limits vs x → AmountsJudged limits k vs (At TooMuch at)
+  amounts_within : Each (λ v. v ≤ limits.amount) vs → AmountsJudged limits k vs Nothing
 
 over-next : {limits : Limits} {vs : List ℕ} {x : ℕ} (v : ℕ) → v ≤ limits.amount → FirstOver limits vs x → FirstOver limits (v ∷ vs) (suc x)
 over-next {limits} {vs} {x} v k f = record { some = there f.some; within = omega (arith, f.within); over = f.over; first = go }
@@ -94,16 +94,16 @@ over-next {limits} {vs} {x} v k f = record { some = there f.some; within = omega
 
 pub amounts-judged : (limits : Limits) (k : ℕ) (vs : List ℕ) → AmountsJudged limits k vs (judge_amounts limits k vs)
 unfolding judge_amounts
-amounts-judged limits k [] = amounts-within none
+amounts-judged limits k [] = amounts_within none
 amounts-judged limits k (v ∷ vs) =
     elim (dec_lt limits.amount v) [
-      | yes l ↦ rw (lt-ltb limits.amount v l) (amount-over {at = k} 0 (omega arith) (record { some = here l; within = omega arith; over = l; first = λ y h. omega arith }))
+      | yes l ↦ rw (lt-ltb limits.amount v l) (amount_over {at = k} 0 (omega arith) (record { some = here l; within = omega arith; over = l; first = λ y h. omega arith }))
       | no l ↦ let h : v ≤ limits.amount = omega arith in rw (le-ltb limits.amount v h) (go h (amounts-judged limits (k + 1) vs))
     ]
   where
     go : {x : Found} → v ≤ limits.amount → AmountsJudged limits (k + 1) vs x → AmountsJudged limits k (v ∷ vs) x
-    go h (amount-over {at} x e f) = amount-over {at = at} (suc x) (omega arith) (over-next v h f)
-    go h (amounts-within e) = amounts-within (more h e)
+    go h (amount_over {at} x e f) = amount_over {at = at} (suc x) (omega arith) (over-next v h f)
+    go h (amounts_within e) = amounts_within (more h e)
 
 pub fine-amounts : (limits : Limits) (k : ℕ) (vs : List ℕ) → Each (λ v. v ≤ limits.amount) vs → judge_amounts limits k vs ≡ Nothing
 unfolding judge_amounts
@@ -121,22 +121,22 @@ pub record FineLine (limits : Limits) (n : ℕ) (vs : List ℕ) : Type 0 where
 pub data LinesRead (limits : Limits) (n left : ℕ) (m ls : List (List ℕ)) : Matrix → Type 0 where
   lines_are : {all : List (List ℕ)} (rest : List (List ℕ)) → all ≡ m ++ rest → flatten ls ≡ write_matrix rest → length rest ≡ left
       → Each (FineLine limits n) rest → LinesRead limits n left m ls (matrix n all)
-  lines-refused : {r : Reason} {line byte : ℕ} → LinesRead limits n left m ls (no-matrix r line byte)
+  lines_refused : {r : Reason} {line byte : ℕ} → LinesRead limits n left m ls (no_matrix r line byte)
 
 module _ {limits : Limits} {n : ℕ} where
   line-more : (line : ℕ) (byte : ℕ → ℕ) {left : ℕ} {m ls : List (List ℕ)} {l vs : List ℕ} {v : Found} {x : Matrix} → l ≡ numbers_line vs → length vs ≡ n
       → AmountsJudged limits 0 vs v → LinesRead limits n left (m ++ vs ∷ []) ls x → LinesRead limits n (suc left) m (l ∷ ls) (unless_at v line byte x)
   unfolding unless_at write_matrix flatten
-  line-more line byte e k (amount-over x at f) rest = lines-refused
-  line-more line byte {m = m} {vs = vs} e k (amounts-within a) (lines_are rest whole text many fine) =
+  line-more line byte e k (amount_over x at f) rest = lines_refused
+  line-more line byte {m = m} {vs = vs} e k (amounts_within a) (lines_are rest whole text many fine) =
       lines_are (vs ∷ rest) (whole ∙ append_assoc m (vs ∷ []) rest) (rw (e, text)) (ap suc many) (more (record { wide = k; amounts = a }) fine)
-  line-more line byte e k (amounts-within a) lines-refused = lines-refused
+  line-more line byte e k (amounts_within a) lines_refused = lines_refused
 
   pub lines-read : (ls : List (List ℕ)) (line left : ℕ) (m : List (List ℕ)) → LinesRead limits n left m ls (lines_of limits n line left m ls)
   unfolding lines_of numbers_or write_matrix flatten
   lines-read [] line zero m = lines_are [] (sym (append-nil m)) refl refl none
-  lines-read (l ∷ ls) line zero m = lines-refused
-  lines-read [] line (suc left) m = lines-refused
+  lines-read (l ∷ ls) line zero m = lines_refused
+  lines-read [] line (suc left) m = lines_refused
   lines-read (l ∷ ls) line (suc left) m = go (numbers-read n l) (λ vs. lines-read ls (line + 1) left (m ++ vs ∷ []))
     where
       next : List ℕ → Matrix
@@ -144,8 +144,8 @@ module _ {limits : Limits} {n : ℕ} where
 
       go : {x : Reading} → NumbersRead n l x → ((vs : List ℕ) → LinesRead limits n left (m ++ vs ∷ []) ls (next vs))
           → LinesRead limits n (suc left) m (l ∷ ls) (numbers_or x line λ vs. unless_at (judge_amounts limits 0 vs) line (entry_byte vs) (next vs))
-      go (are-numbers {vs} e k s) rest = line-more line (entry_byte vs) e k (amounts-judged limits 0 vs) (rest vs)
-      go (no-numbers h fault) rest = lines-refused
+      go (are_numbers {vs} e k s) rest = line-more line (entry_byte vs) e k (amounts-judged limits 0 vs) (rest vs)
+      go (no_numbers h fault) rest = lines_refused
 
   -- and back
   pub written-lines-read : limits.amount < limit → 1 ≤ n → (line : ℕ) (m rest : List (List ℕ)) → Each (FineLine limits n) rest

@@ -21,14 +21,14 @@ use Rattle.text.proofs.Digits.{by_digits, digits-one, digits_more}
 use Rattle.table.specs.Lines.{lines}
 use Rattle.table.specs.declared.reason.Reason.{Reason}
 use Rattle.table.specs.declared.judge.Verdict.{Verdict}
-use Rattle.table.proofs.Judged.{SizeJudged, not-so-many, right-size, size-judged, fine-size}
+use Rattle.table.proofs.Judged.{SizeJudged, not_so_many, right_size, size-judged, fine-size}
 use Rattle.table.proofs.LinesOf.{join-lines}
 use Rattle.matrix.specs.Matrix.{entry, write_matrix, Node, InRange}
-use Rattle.matrix.specs.Read.{Matrix, matrix, no-matrix, fields_in, numbers_or, unless, lines_of, judge_down, after_square, square_judged, matrix_lines, matrix_of}
+use Rattle.matrix.specs.Read.{Matrix, matrix, no_matrix, fields_in, numbers_or, unless, lines_of, judge_down, after_square, square_judged, matrix_lines, matrix_of}
 use Rattle.matrix.specs.declared.square.Lines.{Lines}
 use Rattle.matrix.specs.declared.square.Lines.TheVariants.{Read}
-use Rattle.matrix.proofs.LinesText.{Spelled, NumbersRead, are-numbers, no-numbers, numbers-read, numbers-line-read, numbers-first, FineLine, LinesRead, lines_are, lines-refused, lines-read, written-lines-read}
-use Rattle.matrix.proofs.Entries.{WrongEntry, not-zero, not-mirror, DownJudged, down-wrong, down-right, down-judged}
+use Rattle.matrix.proofs.LinesText.{Spelled, NumbersRead, are_numbers, no_numbers, numbers-read, numbers-line-read, numbers-first, FineLine, LinesRead, lines_are, lines_refused, lines-read, written-lines-read}
+use Rattle.matrix.proofs.Entries.{WrongEntry, not_zero, not_mirror, DownJudged, down_wrong, down_right, down-judged}
 
 -- ---- the fields of a line of numbers are its values
 
@@ -69,54 +69,54 @@ fine-amounts none = none
 fine-amounts (more h hs) = more h.amounts (fine-amounts hs)
 
 data MatrixRead (limits : Limits) (t : List ℕ) : Matrix → Type 0 where
-  matrix-is : {n : ℕ} {m : List (List ℕ)} → t ≡ write_matrix m → InRange limits n m → MatrixRead limits t (matrix n m)
-  matrix-refused : {r : Reason} {line byte : ℕ} → MatrixRead limits t (no-matrix r line byte)
+  matrix_is : {n : ℕ} {m : List (List ℕ)} → t ≡ write_matrix m → InRange limits n m → MatrixRead limits t (matrix n m)
+  matrix_refused : {r : Reason} {line byte : ℕ} → MatrixRead limits t (no_matrix r line byte)
 
 module _ {limits : Limits} {t : List ℕ} (short : length t ≤ limits.bytes) where
   square-read : {n : ℕ} {ls : List (List ℕ)} {x : Matrix} → limits.fewest ≤ n → n ≤ limits.nodes → t ≡ flatten ls → LinesRead limits n n [] ls x
       → MatrixRead limits t (square_judged x)
   unfolding square_judged after_square
-  square-read few many whole lines-refused = matrix-refused
+  square-read few many whole lines_refused = matrix_refused
   square-read {n} few many whole (lines_are {all = m} rest is text tall fine) = go (down-judged (entry m) n 1 n)
     where
       go : {z : Lines} → DownJudged (entry m) n 1 n z → MatrixRead limits t (after_square z (matrix n m))
-      go (down-wrong at a b c d e) = matrix-refused
-      go (down-right right) =
+      go (down_wrong at a b c d e) = matrix_refused
+      go (down_right right) =
           let written : t ≡ write_matrix m = whole ∙ text ∙ ap write_matrix (sym is) in
-          matrix-is written (record {
+          matrix_is written (record {
             few = few;
             many = many;
             square = record { tall = ap length is ∙ tall; wide = subst (Each (λ vs. length vs ≡ n)) (sym is) (fine-square fine) };
             amounts = subst (Each (Each (λ v. v ≤ limits.amount))) (sym is) (fine-amounts fine);
-            zeros = λ i p. elim (ℕ_discrete (entry m i i) 0) [ yes z ↦ z | no z ↦ absurd (right i i _ p.0 (omega (arith, p.1)) p (not-zero refl z)) ];
+            zeros = λ i p. elim (ℕ_discrete (entry m i i) 0) [ yes z ↦ z | no z ↦ absurd (right i i _ p.0 (omega (arith, p.1)) p (not_zero refl z)) ];
             symmetric = λ i j p q.
                 elim (ℕ_discrete i j) [
                   | yes e ↦ rw e
-                  | no e ↦ elim (ℕ_discrete (entry m i j) (entry m j i)) [ yes z ↦ z | no z ↦ absurd (right i j _ p.0 (omega (arith, p.1)) q (not-mirror e z)) ]
+                  | no e ↦ elim (ℕ_discrete (entry m i j) (entry m j i)) [ yes z ↦ z | no z ↦ absurd (right i j _ p.0 (omega (arith, p.1)) q (not_mirror e z)) ]
                 ];
             short = omega (arith, ap length written);
           })
 
   lines-matrix : (ls : List (List ℕ)) → t ≡ flatten ls → MatrixRead limits t (matrix_lines limits ls)
   unfolding matrix_lines numbers_or unless
-  lines-matrix [] whole = matrix-refused
+  lines-matrix [] whole = matrix_refused
   lines-matrix (l ∷ ls) whole = go (numbers-read (fields_in l) l) (size-judged limits (fields_in l))
     where
       next : Matrix
       next = square_judged (lines_of limits (fields_in l) 1 (fields_in l) [] (l ∷ ls))
 
       ring : {v : Verdict} → SizeJudged limits (fields_in l) v → MatrixRead limits t (unless v 1 next)
-      ring (not-so-many w) = matrix-refused
-      ring (right-size few many) = square-read few many whole (lines-read (l ∷ ls) 1 (fields_in l) [])
+      ring (not_so_many w) = matrix_refused
+      ring (right_size few many) = square-read few many whole (lines-read (l ∷ ls) 1 (fields_in l) [])
 
       go : {x : Reading} {v : Verdict} → NumbersRead (fields_in l) l x → SizeJudged limits (fields_in l) v → MatrixRead limits t (numbers_or x 1 λ vs. unless v 1 next)
-      go (are-numbers e k s) judged = ring judged
-      go (no-numbers h fault) judged = matrix-refused
+      go (are_numbers e k s) judged = ring judged
+      go (no_numbers h fault) judged = matrix_refused
 
 matrix-read : (limits : Limits) (t : List ℕ) → MatrixRead limits t (matrix_of limits t)
 unfolding matrix_of
 matrix-read limits t =
-    cond-elim (MatrixRead limits t) _ _ _ (λ e. matrix-refused) (λ e. lines-matrix (ltb-false limits.bytes (length t) e) (lines t) (sym (join-lines t)))
+    cond-elim (MatrixRead limits t) _ _ _ (λ e. matrix_refused) (λ e. lines-matrix (ltb-false limits.bytes (length t) e) (lines t) (sym (join-lines t)))
 
 -- ---- written, so read
 
@@ -133,12 +133,12 @@ right-square : (limits : Limits) (n : ℕ) (m : List (List ℕ)) → InRange lim
 right-square limits n m range = go (down-judged (entry m) n 1 n)
   where
     right : {i j : ℕ} {r : Reason} → Node n i → Node n j → WrongEntry (entry m) i j r → ⊥
-    right {i} p q (not-zero e w) = w (rw (← e) (range.zeros i p))
-    right {i} {j} p q (not-mirror e w) = w (range.symmetric i j p q)
+    right {i} p q (not_zero e w) = w (rw (← e) (range.zeros i p))
+    right {i} {j} p q (not_mirror e w) = w (range.symmetric i j p q)
 
     go : {z : Lines} → DownJudged (entry m) n 1 n z → z ≡ Read
-    go (down-wrong at a b c d e) = absurd (right (a, omega arith) c d)
-    go (down-right all) = refl
+    go (down_wrong at a b c d e) = absurd (right (a, omega arith) c d)
+    go (down_right all) = refl
 
 module _ (limits : Limits) (possible : Possible limits) where
   first-written : (n : ℕ) (m : List (List ℕ)) → InRange limits n m → (l : List (List ℕ)) → lines (write_matrix m) ≡ l → matrix_lines limits l ≡ matrix n m
@@ -170,4 +170,4 @@ module _ (limits : Limits) (possible : Possible limits) where
   matrix-text t n m = (λ e. go (subst (MatrixRead limits t) e (matrix-read limits t)), λ h. rw h.0 (written_read n m h.1))
     where
       go : MatrixRead limits t (matrix n m) → (t ≡ write_matrix m) × InRange limits n m
-      go (matrix-is text range) = (text, range)
+      go (matrix_is text range) = (text, range)

@@ -29,11 +29,11 @@ use Rattle.table.specs.declared.reason.Reason.{Reason}
 use Rattle.table.specs.declared.reason.Reason.TheVariants.{TooLong, Misshapen}
 use Rattle.table.specs.declared.judge.Verdict.{Verdict}
 use Rattle.table.specs.declared.judge.Verdict.TheVariants.{Fine, Fault}
-use Rattle.table.proofs.Judged.{SizeJudged, right-size, size-judged}
+use Rattle.table.proofs.Judged.{SizeJudged, right_size, size-judged}
 use Rattle.table.proofs.LineSteps.{line_at}
 use Rattle.matrix.specs.Matrix.{entry, Node}
 use Rattle.matrix.specs.Demands.{pairs_from, rows_by}
-use Rattle.matrix.specs.Read.{Matrix, matrix, no-matrix, fields_in, lines_of, judge_down, square_judged, matrix_of, table_from}
+use Rattle.matrix.specs.Read.{Matrix, matrix, no_matrix, fields_in, lines_of, judge_down, square_judged, matrix_of, table_from}
 use Rattle.matrix.specs.Arrays.{numbers_in, at, lay_from, empty, laid, Square, square_in}
 use Rattle.matrix.specs.declared.line.Numbers.{Numbers}
 use Rattle.matrix.specs.declared.line.Spelling.TheVariants.{Good, Bad as BadSpelling}
@@ -121,10 +121,10 @@ module _ (s : List ℕ) (n fibres : ℕ) (few : n ≤ desk.nodes) where
   result = table_in (table_from fibres (square_judged whole))
 
   module _ (x : Square) where
-    refused-case : (y : Matrix) → x ≡ square_in y → (reason : Reason) (line byte : ℕ) → x.lines ≡ Refused reason line byte → y ≡ no-matrix reason line byte
+    refused-case : (y : Matrix) → x ≡ square_in y → (reason : Reason) (line byte : ℕ) → x.lines ≡ Refused reason line byte → y ≡ no_matrix reason line byte
     unfolding square_in
     refused-case (matrix k m) e reason line byte f = clash (let g : Refused reason line byte ≡ Read = sym f ∙ ap (λ (z : Square). z.lines) e in cc)
-    refused-case (no-matrix why at on) e reason line byte f =
+    refused-case (no_matrix why at on) e reason line byte f =
         let g : Refused reason line byte ≡ Refused why at on = sym f ∙ ap (λ (z : Square). z.lines) e in
         let p : why ≡ reason = cc in
         let q : at ≡ line = cc in
@@ -133,7 +133,7 @@ module _ (s : List ℕ) (n fibres : ℕ) (few : n ≤ desk.nodes) where
 
     holds-case : (y : Matrix) → whole ≡ y → x ≡ square_in y → x.lines ≡ Read → Holds s n x.entries
     unfolding square_in
-    holds-case (no-matrix why at on) w e f = clash (let g : Read ≡ Refused why at on = sym f ∙ ap (λ (z : Square). z.lines) e in cc)
+    holds-case (no_matrix why at on) w e f = clash (let g : Read ≡ Refused why at on = sym f ∙ ap (λ (z : Square). z.lines) e in cc)
     holds-case (matrix k m) w e f = go k w (subst (LinesRead desk n n [] (lines s)) w (lines-read (lines s) 1 n []))
       where
         go : (k : ℕ) → whole ≡ matrix k m → LinesRead desk n n [] (lines s) (matrix k m) → Holds s n x.entries
@@ -149,9 +149,9 @@ module _ (s : List ℕ) (n fibres : ℕ) (few : n ≤ desk.nodes) where
       ex : x ≡ square_in whole
       ex = rw en at given
 
-      pub lines-refused : (reason : Reason) (line byte : ℕ) (t : Table) → x.lines ≡ Refused reason line byte → t ≡ table_in (refused reason line byte) → t ≡ result
+      pub lines_refused : (reason : Reason) (line byte : ℕ) (t : Table) → x.lines ≡ Refused reason line byte → t ≡ table_in (refused reason line byte) → t ≡ result
       unfolding square_judged table_from
-      lines-refused reason line byte t f e = e ∙ ap table_in (sym (rw (refused-case whole ex reason line byte f)))
+      lines_refused reason line byte t f e = e ∙ ap table_in (sym (rw (refused-case whole ex reason line byte f)))
 
       module _ (f : x.lines ≡ Read) (found : Lines) (ef : found ≡ judge_down (at x.entries) n 1 n) where
         abbrev holds : Holds s n x.entries
@@ -187,7 +187,7 @@ pub ring-few : (n : ℕ) (v : Verdict) → v ≡ judge_size desk n → v ≡ Fin
 ring-few n v e f = let q = sym e ∙ f in go (rw q at (size-judged desk n))
   where
     go : SizeJudged desk n Fine → n ≤ desk.nodes
-    go (right-size few many) = many
+    go (right_size few many) = many
 
 -- the first line's faulty byte is within the text
 pub first-place : (s : List ℕ) (end : ℕ) → length s ≤ desk.bytes → LineEnds s 0 end → (count : ℕ) (x : Numbers) → x ≡ numbers_in (read_line (numbers count) (take (end - 0) (drop 0 s)))
@@ -231,6 +231,6 @@ module _ (s : List ℕ) (fibres : ℕ) (t : Table) where
         unfolding matrix_of
         then-square g e = e ∙ ap table_in (ap (table_from fibres) (rw (le-ltb desk.bytes (length s) short, first-line, ← ec, told.is, ← en, ← ev, g)))
 
-pub ruleset reads_square = (lines-refused, square-refused, rows_made)
+pub ruleset reads_square = (lines_refused, square-refused, rows_made)
 
 pub ruleset reads_matrix = (fields_fit, ring-few, too_long, no_line, first-place, first-misshapen, ring-fault, then-square)

@@ -18,22 +18,22 @@ use Rattle.text.specs.Shapes.{numbers, numbers_line}
 use Rattle.text.specs.FirstFault.{FirstFault}
 use Rattle.table.specs.Lines.{lines}
 use Rattle.table.specs.Reasons.{rank_of}
-use Rattle.table.specs.Says.{LineIs, at_first, behind, DueByte, line-missing, line-faulty}
+use Rattle.table.specs.Says.{LineIs, at_first, behind, DueByte, line_missing, line_faulty}
 use Rattle.table.specs.declared.reason.Reason.{Reason}
 use Rattle.table.specs.declared.reason.Reason.TheVariants.{TooLong, Misshapen, RingSize, Fibres, NoRow, NoSuchNode, NotBelow, OutOfOrder, TooMany, TooMuch, Full, WrongSum, WrongWay, WrongCut, WrongLink, WrongLast, NotTight, OverBound, NotZero, NotSymmetric, SumTooMuch, NoRoom}
 use Rattle.table.specs.declared.judge.Verdict.{Verdict}
-use Rattle.table.proofs.Judged.{SizeJudged, not-so-many, right-size, size-judged}
+use Rattle.table.proofs.Judged.{SizeJudged, not_so_many, right_size, size-judged}
 use Rattle.table.proofs.LineNumbers.{line-one, LinesFrom, from_first, from_next, line-here, no-line-left}
 use Rattle.table.proofs.ReasonNumbers.{same_rank, no-rank-0}
 use Rattle.matrix.specs.Matrix.{entry, entry_byte, Node}
-use Rattle.matrix.specs.Read.{Matrix, matrix, no-matrix, fields_in, numbers_or, unless, unless_at, lines_of, line_of, after_square, square_judged, matrix_lines, matrix_of, judge_amounts}
-use Rattle.matrix.specs.Says.{NumbersAre, EntryIs, NoFirstLine, NoLaterLine, LeftOver, WrongSize, WrongAmount, WrongEntry, not-zero, not-mirror, FirstFaulty, Says, LineByte, first-due, later-due, none-due, EntryStarts, FaultyByte, ByteIs, stage, Earlier, Given, Accepted}
+use Rattle.matrix.specs.Read.{Matrix, matrix, no_matrix, fields_in, numbers_or, unless, unless_at, lines_of, line_of, after_square, square_judged, matrix_lines, matrix_of, judge_amounts}
+use Rattle.matrix.specs.Says.{NumbersAre, EntryIs, NoFirstLine, NoLaterLine, LeftOver, WrongSize, WrongAmount, WrongEntry, not_zero, not_mirror, FirstFaulty, Says, LineByte, first_due, later_due, none_due, EntryStarts, FaultyByte, ByteIs, stage, Earlier, Given, Accepted}
 use Rattle.matrix.specs.Back.{Reads}
 use Rattle.matrix.specs.declared.byte.Found.{Found}
 use Rattle.matrix.specs.declared.square.Lines.{Lines}
-use Rattle.matrix.proofs.LinesText.{NumbersRead, are-numbers, no-numbers, numbers-read, FirstOver, AmountsJudged, amount-over, amounts-within, amounts-judged}
+use Rattle.matrix.proofs.LinesText.{NumbersRead, are_numbers, no_numbers, numbers-read, FirstOver, AmountsJudged, amount_over, amounts_within, amounts-judged}
 use Rattle.matrix.proofs.MatrixText.{fields-are}
-use Rattle.matrix.proofs.Entries.{WrongEntry as Wrong, not-zero as zero-wrong, not-mirror as mirror-wrong, DownJudged, down-wrong, down-right, down-judged}
+use Rattle.matrix.proofs.Entries.{WrongEntry as Wrong, not_zero as zero-wrong, not_mirror as mirror-wrong, DownJudged, down_wrong, down_right, down-judged}
 use Rattle.matrix.proofs.RoundTrip.{from_one}
 use Rattle.matrix.proofs.AnyFields.{lines-ended, line-ended, fields-some, any-fault}
 use Rattle.matrix.proofs.BytesGiven.{numbers-one, amount-byte, one_byte}
@@ -42,27 +42,27 @@ use Rattle.matrix.proofs.BytesGiven.{numbers-one, amount-byte, one_byte}
 
 data Said (limits : Limits) (t : List ℕ) (line : ℕ) : Reason → Type 0 where
   too_long : line ≡ 0 → limits.bytes < length t → Said limits t line TooLong
-  no-first : NoFirstLine t line → Said limits t line Misshapen
-  no-later : NoLaterLine t line → Said limits t line Misshapen
+  no_first : NoFirstLine t line → Said limits t line Misshapen
+  no_later : NoLaterLine t line → Said limits t line Misshapen
   left_over : LeftOver t line → Said limits t line Misshapen
-  wrong-n : WrongSize limits t line → Said limits t line RingSize
-  wrong-amount : WrongAmount limits t line → Said limits t line TooMuch
+  wrong_n : WrongSize limits t line → Said limits t line RingSize
+  wrong_amount : WrongAmount limits t line → Said limits t line TooMuch
 
 -- it is said of a line, or of the whole square
 data Told (limits : Limits) (t : List ℕ) (line : ℕ) (r : Reason) : Type 0 where
-  of-line : stage r ≡ 0 → Said limits t line r → Told limits t line r
-  of-square : stage r ≡ 1 → FirstFaulty t r line → Told limits t line r
+  of_line : stage r ≡ 0 → Said limits t line r → Told limits t line r
+  of_square : stage r ≡ 1 → FirstFaulty t r line → Told limits t line r
 
 told : {limits : Limits} {t : List ℕ} {line : ℕ} (r : Reason) → Says limits t r line → Told limits t line r
 unfolding Says
-told TooLong h = of-line refl (too_long h.0 h.1)
-told Misshapen (inl h) = of-line refl (no-first h)
-told Misshapen (inr (inl h)) = of-line refl (no-later h)
-told Misshapen (inr (inr h)) = of-line refl (left_over h)
-told RingSize h = of-line refl (wrong-n h)
-told TooMuch h = of-line refl (wrong-amount h)
-told NotZero h = of-square refl h
-told NotSymmetric h = of-square refl h
+told TooLong h = of_line refl (too_long h.0 h.1)
+told Misshapen (inl h) = of_line refl (no_first h)
+told Misshapen (inr (inl h)) = of_line refl (no_later h)
+told Misshapen (inr (inr h)) = of_line refl (left_over h)
+told RingSize h = of_line refl (wrong_n h)
+told TooMuch h = of_line refl (wrong_amount h)
+told NotZero h = of_square refl h
+told NotSymmetric h = of_square refl h
 told Fibres h = absurd h
 told NoSuchNode h = absurd h
 told NotBelow h = absurd h
@@ -87,8 +87,8 @@ line_low (behind p) = omega arith
 -- ---- a result that is right by what the reasons say
 
 data Right (limits : Limits) (t : List ℕ) : Matrix → Type 0 where
-  none-holds : {n : ℕ} {m : List (List ℕ)} → Accepted limits t → Right limits t (matrix n m)
-  first_holds : {r : Reason} {line byte : ℕ} → Given limits t r line byte → Right limits t (no-matrix r line byte)
+  none_holds : {n : ℕ} {m : List (List ℕ)} → Accepted limits t → Right limits t (matrix n m)
+  first_holds : {r : Reason} {line byte : ℕ} → Given limits t r line byte → Right limits t (no_matrix r line byte)
 
 -- nothing is said of the lines before this one
 record Clean (limits : Limits) (t : List ℕ) (line : ℕ) : Type 0 where
@@ -98,23 +98,23 @@ module _ {limits : Limits} {t : List ℕ} where
   -- a reason of a line is given where nothing is said of the lines before, and nothing of a lower rank of it
   given-here : {line byte : ℕ} (r : Reason) → stage r ≡ 0 → Clean limits t line → Says limits t r line → ((s : Reason) → rank_of s < rank_of r → Said limits t line s → ⊥)
       → ByteIs limits t r line byte → Given limits t r line byte
-  given-here {line} r z clean holds least b = record { holds = holds; first = λ s other e h. go s other e (told s h); byte-is = b }
+  given-here {line} r z clean holds least b = record { holds = holds; first = λ s other e h. go s other e (told s h); byte_is = b }
     where
       go : (s : Reason) (other : ℕ) → Earlier s other r line → Told limits t other s → ⊥
       go s other (inl l) h = omega arith
-      go s other (inr e) (of-square q h) = omega (arith, e.0)
-      go s other (inr e) (of-line q h) = ⊎_elim (λ l. clean.nothing s other l h) (λ l. least s l.1 (subst (λ x. Said limits t x s) l.0 h)) e.1
+      go s other (inr e) (of_square q h) = omega (arith, e.0)
+      go s other (inr e) (of_line q h) = ⊎_elim (λ l. clean.nothing s other l h) (λ l. least s l.1 (subst (λ x. Said limits t x s) l.0 h)) e.1
 
   clean-start : length t ≤ limits.bytes → Clean limits t 1
   clean-start short = record { nothing = λ s other l h. go l h }
     where
       go : {s : Reason} {other : ℕ} → other < 1 → Said limits t other s → ⊥
       go l (too_long e long) = omega arith
-      go l (no-first h) = omega (arith, h.at)
-      go l (no-later h) = omega (arith, h.next)
+      go l (no_first h) = omega (arith, h.at)
+      go l (no_later h) = omega (arith, h.next)
       go l (left_over h) = omega (arith, line_low h.is)
-      go l (wrong-n h) = omega (arith, h.at)
-      go l (wrong-amount h) = omega (arith, line_low h.is.text)
+      go l (wrong_n h) = omega (arith, h.at)
+      go l (wrong_amount h) = omega (arith, line_low h.is.text)
 
   clean-next : {line : ℕ} → Clean limits t line → ((s : Reason) → Said limits t line s → ⊥) → Clean limits t (line + 1)
   clean-next {line} clean out = record { nothing = go }
@@ -129,11 +129,11 @@ module _ {limits : Limits} {t : List ℕ} where
   -- 2 is the first reason of a line
   below_two : {line : ℕ} {s : Reason} → 1 ≤ line → rank_of s < rank_of Misshapen → Said limits t line s → ⊥
   below_two low l (too_long e long) = omega arith
-  below_two low l (no-first h) = omega arith
-  below_two low l (no-later h) = omega arith
+  below_two low l (no_first h) = omega arith
+  below_two low l (no_later h) = omega arith
   below_two low l (left_over h) = omega arith
-  below_two low l (wrong-n h) = omega arith
-  below_two low l (wrong-amount h) = omega arith
+  below_two low l (wrong_n h) = omega arith
+  below_two low l (wrong_amount h) = omega arith
 
   misshapen-here : {line byte : ℕ} → 1 ≤ line → Clean limits t line → Says limits t Misshapen line → LineByte t line byte → Given limits t Misshapen line byte
   unfolding ByteIs
@@ -153,11 +153,11 @@ module _ (limits : Limits) (t : List ℕ) (us : List ℕ) (first : NumbersAre t 
   -- its size alone can be wrong on line 1 before its amounts
   size-first : {s : Reason} → rank_of s < rank_of RingSize → Said limits t 1 s → ⊥
   size-first l (too_long e long) = omega arith
-  size-first l (no-first h) = h.none us first
-  size-first l (no-later h) = omega (arith, h.next, line_low h.there)
+  size-first l (no_first h) = h.none us first
+  size-first l (no_later h) = omega (arith, h.next, line_low h.there)
   size-first l (left_over h) = omega (arith, h.wrong, h.first.some)
-  size-first l (wrong-n h) = omega arith
-  size-first l (wrong-amount h) = omega arith
+  size-first l (wrong_n h) = omega arith
+  size-first l (wrong_amount h) = omega arith
 
   module _ (few : limits.fewest ≤ length us) (many : length us ≤ limits.nodes) where
     abbrev n : ℕ
@@ -170,15 +170,15 @@ module _ (limits : Limits) (t : List ℕ) (us : List ℕ) (first : NumbersAre t 
     module _ (line : ℕ) (low : 1 ≤ line) (due : line ≤ n) (vs : List ℕ) (is : NumbersAre t line vs) (wide : length vs ≡ n) where
       only-amount : {s : Reason} → Said limits t line s → (s ≡ TooMuch) × WrongAmount limits t line
       only-amount (too_long e long) = absurd (omega arith)
-      only-amount (no-first h) = absurd (h.none us first)
-      only-amount (no-later h) =
+      only-amount (no_first h) = absurd (h.none us first)
+      only-amount (no_later h) =
           let e : length h.us ≡ n = ap length (numbers-one h.first first refl) in
           absurd (h.none vs (wide ∙ sym e) is)
       only-amount (left_over h) =
           let e : length h.us ≡ n = ap length (numbers-one h.first first refl) in
           absurd (omega (arith, h.wrong))
-      only-amount (wrong-n h) = absurd (wrong-n-not h)
-      only-amount (wrong-amount h) = (refl, h)
+      only-amount (wrong_n h) = absurd (wrong-n-not h)
+      only-amount (wrong_amount h) = (refl, h)
 
       amount-first : (s : Reason) → rank_of s < rank_of TooMuch → Said limits t line s → ⊥
       amount-first s l h = let e = (only-amount h).0 in omega (arith, ap rank_of e)
@@ -221,13 +221,13 @@ module _ (limits : Limits) (t : List ℕ) (us : List ℕ) (first : NumbersAre t 
         where
           go : {s : Reason} {other : ℕ} → line ≤ other → Said limits t other s → ⊥
           go l (too_long e long) = omega (arith, held.count)
-          go l (no-first h) = h.none us first
-          go l (no-later h) =
+          go l (no_first h) = h.none us first
+          go l (no_later h) =
               let e : length h.us ≡ n = ap length (numbers-one h.first first refl) in
               omega (arith, h.due, held.count)
           go l (left_over h) = omega (arith, no-line-left from h.is)
-          go l (wrong-n h) = wrong-n-not h
-          go l (wrong-amount h) = omega (arith, no-line-left from h.is.text)
+          go l (wrong_n h) = wrong-n-not h
+          go l (wrong_amount h) = omega (arith, no-line-left from h.is.text)
 
       -- entries by the lines, and by the square
       record InSquare (i j v : ℕ) : Type 0 where
@@ -257,12 +257,12 @@ module _ (limits : Limits) (t : List ℕ) (us : List ℕ) (first : NumbersAre t 
           }
 
       wrong-in : {i j : ℕ} {r : Reason} → WrongEntry t i j r → (Node n i) × (Node n j) × Wrong (entry m) i j r
-      wrong-in (not-zero e h w) = let s = entry_in h in (s.row, s.column, zero-wrong e (λ z. w (s.is ∙ z)))
-      wrong-in (not-mirror e h k w) = let s = entry_in h in let u = entry_in k in (s.row, s.column, mirror-wrong e (λ z. w (s.is ∙ z ∙ sym u.is)))
+      wrong-in (not_zero e h w) = let s = entry_in h in (s.row, s.column, zero-wrong e (λ z. w (s.is ∙ z)))
+      wrong-in (not_mirror e h k w) = let s = entry_in h in let u = entry_in k in (s.row, s.column, mirror-wrong e (λ z. w (s.is ∙ z ∙ sym u.is)))
 
       wrong-of : {i j : ℕ} {r : Reason} → Node n i → Node n j → Wrong (entry m) i j r → WrongEntry t i j r
-      wrong-of {i} {j} p q (zero-wrong e w) = not-zero e (entry_of i j p q) w
-      wrong-of {i} {j} p q (mirror-wrong e w) = not-mirror e (entry_of i j p q) (entry_of j i q p) w
+      wrong-of {i} {j} p q (zero-wrong e w) = not_zero e (entry_of i j p q) w
+      wrong-of {i} {j} p q (mirror-wrong e w) = not_mirror e (entry_of i j p q) (entry_of j i q p) w
 
       one-wrong : {i j : ℕ} {r s : Reason} → Wrong (entry m) i j r → Wrong (entry m) i j s → r ≡ s
       one-wrong (zero-wrong e w) (zero-wrong f u) = refl
@@ -289,13 +289,13 @@ module _ (limits : Limits) (t : List ℕ) (us : List ℕ) (first : NumbersAre t 
 
       square-right : {z : Lines} → DownJudged (entry m) n 1 n z → Right limits t (after_square z (matrix n m))
       unfolding after_square
-      square-right (down-right all) = none-holds (λ r other h. go (told r h))
+      square-right (down_right all) = none_holds (λ r other h. go (told r h))
         where
           go : {r : Reason} {other : ℕ} → Told limits t other r → ⊥
-          go (of-line z h) = no_line h
-          go {r} {other} (of-square z h) = let w = wrong-in h.wrong in all other h.j r w.0.0 (omega (arith, w.0.1)) w.1 w.2
-      square-right (down-wrong {r} {line = i} j low high q wrong before) =
-          first_holds (record { holds = says.1; first = λ s other e h. go s other e (told s h); byte-is = faulty-byte wrong (record { faulty = found; starts = starts-at i j p }) })
+          go (of_line z h) = no_line h
+          go {r} {other} (of_square z h) = let w = wrong-in h.wrong in all other h.j r w.0.0 (omega (arith, w.0.1)) w.1 w.2
+      square-right (down_wrong {r} {line = i} j low high q wrong before) =
+          first_holds (record { holds = says.1; first = λ s other e h. go s other e (told s h); byte_is = faulty-byte wrong (record { faulty = found; starts = starts-at i j p }) })
         where
           p : Node n i
           p = (low, omega arith)
@@ -323,31 +323,31 @@ module _ (limits : Limits) (t : List ℕ) (us : List ℕ) (first : NumbersAre t 
               ]
 
           go : (s : Reason) (other : ℕ) → Earlier s other r i → Told limits t other s → ⊥
-          go s other e (of-line z h) = no_line h
-          go s other (inl l) (of-square z h) = omega (arith, says.0)
-          go s other (inr e) (of-square z h) =
+          go s other e (of_line z h) = no_line h
+          go s other (inl l) (of_square z h) = omega (arith, says.0)
+          go s other (inr e) (of_square z h) =
               ⊎_elim (λ l. none_before other h.j s (inl l) h.wrong) (λ l. same_line s l.1 (subst (FirstFaulty t s) l.0 h)) e.1
 
     -- ---- line by line
 
     data Prev (line : ℕ) : Type 0 where
-      is-first : line ≡ 1 → Prev line
+      is_first : line ≡ 1 → Prev line
       is_later : {before : ℕ} {l : List ℕ} → LineIs (lines t) before l → line ≡ before + 1 → Prev line
 
     no-line-here : {line : ℕ} → Prev line → 1 ≤ line → line ≤ n → ((vs : List ℕ) → length vs ≡ n → NumbersAre t line vs → ⊥) → Says limits t Misshapen line
     unfolding Says
-    no-line-here (is-first e) low due out = absurd (out us refl (subst (λ x. NumbersAre t x us) (sym e) first))
+    no-line-here (is_first e) low due out = absurd (out us refl (subst (λ x. NumbersAre t x us) (sym e) first))
     no-line-here (is_later {before} {l} stands next) low due out =
         inr (inl (record { us = us; first = first; before = before; next = next; l = l; there = stands; due = due; none = out }))
 
     no-line-byte : {line byte : ℕ} → Prev line → line ≤ n → ((vs : List ℕ) → length vs ≡ n → NumbersAre t line vs → ⊥) → DueByte t line (FirstFault (numbers n)) byte
         → LineByte t line byte
-    no-line-byte (is-first e) due out b = absurd (out us refl (subst (λ x. NumbersAre t x us) (sym e) first))
-    no-line-byte (is_later stands next) due out b = later-due (omega (arith, line_low stands)) first due b
+    no-line-byte (is_first e) due out b = absurd (out us refl (subst (λ x. NumbersAre t x us) (sym e) first))
+    no-line-byte (is_later stands next) due out b = later_due (omega (arith, line_low stands)) first due b
 
     -- a line that is due is missing, or is not n numbers
     not-numbers : {line byte : ℕ} → Prev line → 1 ≤ line → line ≤ n → Clean limits t line → ((vs : List ℕ) → length vs ≡ n → NumbersAre t line vs → ⊥)
-        → DueByte t line (FirstFault (numbers n)) byte → Right limits t (no-matrix Misshapen line byte)
+        → DueByte t line (FirstFault (numbers n)) byte → Right limits t (no_matrix Misshapen line byte)
     not-numbers prev low due clean out b = first_holds (misshapen-here low clean (no-line-here prev low due out) (no-line-byte prev due out b))
 
     left-over-here : {line : ℕ} {l : List ℕ} → LineIs (lines t) line l → n < line → Says limits t Misshapen line
@@ -366,9 +366,9 @@ module _ (limits : Limits) (t : List ℕ) (us : List ℕ) (first : NumbersAre t 
     lines-right [] line zero m low due from prev clean held =
         square-right m line held (omega (arith, held.count)) clean from (down-judged (entry m) n 1 n)
     lines-right (l ∷ ls) line zero m low due from prev clean held =
-        first_holds (misshapen-here low clean (left-over-here (line-here from) (omega arith)) (none-due first (omega arith) refl))
+        first_holds (misshapen-here low clean (left-over-here (line-here from) (omega arith)) (none_due first (omega arith) refl))
     lines-right [] line (suc left) m low due from prev clean held =
-        not-numbers prev low (omega arith) clean (λ vs k is. omega (arith, no-line-left from is.text)) (line-missing (λ l is. omega (arith, no-line-left from is)))
+        not-numbers prev low (omega arith) clean (λ vs k is. omega (arith, no-line-left from is.text)) (line_missing (λ l is. omega (arith, no-line-left from is)))
     lines-right (l ∷ ls) line (suc left) m low due from prev clean held =
         go (numbers-read n l) (λ vs clean held. lines-right ls (line + 1) left (m ++ vs ∷ []) (omega arith) (omega arith) (from_next from) (is_later (line-here from) refl) clean held)
       where
@@ -378,20 +378,20 @@ module _ (limits : Limits) (t : List ℕ) (us : List ℕ) (first : NumbersAre t 
         amounts : {vs : List ℕ} {v : Found} → NumbersAre t line vs → length vs ≡ n → AmountsJudged limits 0 vs v
             → ((vs : List ℕ) → Clean limits t (line + 1) → Held (m ++ vs ∷ []) (line + 1) → Right limits t (square_judged (next vs)))
             → Right limits t (square_judged (unless_at v line (entry_byte vs) (next vs)))
-        amounts {vs} is wide (amount-over {at} x e f) rest =
+        amounts {vs} is wide (amount_over {at} x e f) rest =
             let k : x ≡ at = omega arith in
             first_holds (subst (λ y. Given limits t TooMuch line (entry_byte vs y)) k (amount-given x low (omega arith) clean is wide f))
-        amounts {vs} is wide (amounts-within within) rest =
+        amounts {vs} is wide (amounts_within within) rest =
             rest vs (clean-next clean (line-fine line low (omega arith) vs is wide within)) (held_next m line vs held is wide)
 
         go : {x : Reading} → NumbersRead n l x
             → ((vs : List ℕ) → Clean limits t (line + 1) → Held (m ++ vs ∷ []) (line + 1) → Right limits t (square_judged (next vs)))
             → Right limits t (square_judged (numbers_or x line λ vs. unless_at (judge_amounts limits 0 vs) line (entry_byte vs) (next vs)))
-        go (are-numbers {vs} e wide spelled) rest =
+        go (are_numbers {vs} e wide spelled) rest =
             let is : NumbersAre t line vs = record { text = subst (LineIs (lines t) line) e (line-here from); some = omega (arith, first.some); spelled = spelled } in
             amounts is wide (amounts-judged limits 0 vs) rest
-        go (no-numbers out fault) rest =
-            not-numbers prev low (omega arith) clean (λ vs k is. out vs (line-one (line-here from) is.text refl) k is.spelled) (line-faulty (line-here from) fault)
+        go (no_numbers out fault) rest =
+            not-numbers prev low (omega arith) clean (λ vs k is. out vs (line-one (line-here from) is.text refl) k is.spelled) (line_faulty (line-here from) fault)
 
 -- ---- the whole
 
@@ -409,32 +409,32 @@ module _ (limits : Limits) (t : List ℕ) where
   unfolding matrix_lines numbers_or unless square_judged
   all_right short [] from =
       first_holds (misshapen-here (omega arith) (clean-start short) (first_says (λ vs is. omega (arith, no-line-left from is.text)))
-      (first-due refl (line-missing (λ l is. omega (arith, no-line-left from is)))))
+      (first_due refl (line_missing (λ l is. omega (arith, no-line-left from is)))))
   all_right short (l ∷ ls) from = go (numbers-read (fields_in l) l) (size-judged limits (fields_in l))
     where
       next : Matrix
       next = square_judged (lines_of limits (fields_in l) 1 (fields_in l) [] (l ∷ ls))
 
       ring : (us : List ℕ) {v : Verdict} → NumbersAre t 1 us → length us ≡ fields_in l → SizeJudged limits (fields_in l) v → Right limits t (unless v 1 next)
-      ring us first k (not-so-many w) =
+      ring us first k (not_so_many w) =
           first_holds (size-given short first (subst (λ x. (x < limits.fewest) ⊎ (limits.nodes < x)) (sym k) w))
-      ring us first k (right-size few many) =
+      ring us first k (right_size few many) =
           subst (λ x. Right limits t (square_judged (lines_of limits x 1 x [] (l ∷ ls)))) k
-          (lines-right limits t us first (omega arith) (omega arith) (l ∷ ls) 1 (length us) [] (omega arith) (omega arith) from (is-first refl) (clean-start short)
+          (lines-right limits t us first (omega arith) (omega arith) (l ∷ ls) 1 (length us) [] (omega arith) (omega arith) from (is_first refl) (clean-start short)
           (record { count = refl; at = λ i p q. absurd (omega arith); wide = λ i p q. absurd (omega arith) }))
 
       go : {x : Reading} {v : Verdict} → NumbersRead (fields_in l) l x → SizeJudged limits (fields_in l) v → Right limits t (numbers_or x 1 λ vs. unless v 1 next)
-      go (are-numbers {vs = us} e k s) judged =
+      go (are_numbers {vs = us} e k s) judged =
           ring us (record { text = subst (LineIs (lines t) 1) e (line-here from); some = omega (arith, fields-some l); spelled = s }) k judged
-      go (no-numbers {p} out fault) judged =
+      go (no_numbers {p} out fault) judged =
           first_holds (misshapen-here (omega arith) (clean-start short) (first_says (λ vs is.
           let e : l ≡ numbers_line vs = line-one (line-here from) is.text refl in
           out vs e (sym (ap fields_in e ∙ fields-are vs is.some is.spelled)) is.spelled))
-          (first-due refl (line-faulty (line-here from) (any-fault l p (line-ended (lines-ended t) (line-here from)) fault))))
+          (first_due refl (line_faulty (line-here from) (any-fault l p (line-ended (lines-ended t) (line-here from)) fault))))
 
   too-long-given : limits.bytes < length t → Given limits t TooLong 0 0
   unfolding Says ByteIs
-  too-long-given long = record { holds = (refl, long); first = λ s other e h. go s other e; byte-is = refl }
+  too-long-given long = record { holds = (refl, long); first = λ s other e h. go s other e; byte_is = refl }
     where
       go : (s : Reason) (other : ℕ) → Earlier s other TooLong 0 → ⊥
       go s other (inl l) = omega arith
@@ -461,24 +461,24 @@ one-given {limits} {t} {r} {s} {line} {other} {byte} {on} f g =
     let c : rank_of r < rank_of s → ⊥ = λ l. g.first r line (inr (z, inr (e, l))) f.holds in
     let d : rank_of s < rank_of r → ⊥ = λ l. f.first s other (inr (sym z, inr (sym e, l))) g.holds in
     let k : r ≡ s = same_rank r s (omega arith) in
-    (k, e, one_byte limits t other byte on s (rw (k, e) at f.byte-is) g.byte-is)
+    (k, e, one_byte limits t other byte on s (rw (k, e) at f.byte_is) g.byte_is)
 
-pub given : (limits : Limits) (t : List ℕ) (r : Reason) (line byte : ℕ) → (matrix_of limits t ≡ no-matrix r line byte) ↔ Given limits t r line byte
+pub given : (limits : Limits) (t : List ℕ) (r : Reason) (line byte : ℕ) → (matrix_of limits t ≡ no_matrix r line byte) ↔ Given limits t r line byte
 given limits t r line byte = (λ e. there (subst (Right limits t) e (right limits t)), λ g. back g (right limits t))
   where
-    there : Right limits t (no-matrix r line byte) → Given limits t r line byte
+    there : Right limits t (no_matrix r line byte) → Given limits t r line byte
     there (first_holds g) = g
 
-    back : Given limits t r line byte → {x : Matrix} → Right limits t x → x ≡ no-matrix r line byte
-    back g (none-holds out) = absurd (out r line g.holds)
+    back : Given limits t r line byte → {x : Matrix} → Right limits t x → x ≡ no_matrix r line byte
+    back g (none_holds out) = absurd (out r line g.holds)
     back g (first_holds f) = let o = one-given f g in rw (o.0, o.1, o.2)
 
 pub accepted-is : (limits : Limits) (t : List ℕ) → Reads limits t ↔ Accepted limits t
 accepted-is limits t = (λ h. there (subst (Right limits t) h.is (right limits t)), λ out. back out (matrix_of limits t) refl)
   where
     there : {n : ℕ} {m : List (List ℕ)} → Right limits t (matrix n m) → Accepted limits t
-    there (none-holds out) = out
+    there (none_holds out) = out
 
     back : Accepted limits t → (x : Matrix) → matrix_of limits t ≡ x → Reads limits t
     back out (matrix n m) e = record { n = n; m = m; is = e }
-    back out (no-matrix r line byte) e = absurd (out r line ((given limits t r line byte).0 e).holds)
+    back out (no_matrix r line byte) e = absurd (out r line ((given limits t r line byte).0 e).holds)

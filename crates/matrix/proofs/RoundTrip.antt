@@ -10,7 +10,7 @@ use lib.ListN.{length, get_or}
 use Rattle.ring.specs.LineSize.{IsFibres}
 use Rattle.ring.specs.Ring.{ring_of}
 use Rattle.ring.specs.Limits.{Limits, desk}
-use Rattle.ring.specs.Lists.{Each, none, more, Steps, no_member, one-member, step, Pairs, no-pair, and-pairs}
+use Rattle.ring.specs.Lists.{Each, none, more, Steps, no_member, one_member, step, Pairs, no_pair, and_pairs}
 use Rattle.ring.specs.Row.{Row, OnRing, PairBefore, PairUpTo, InTableOrder, TableRows}
 use Rattle.ring.specs.Columns.{listed}
 use Rattle.ring.proofs.Listed.{listed_same, listed-shift}
@@ -94,7 +94,7 @@ module _ (limits : Limits) (n : ℕ) (m : List (List ℕ)) (range : InRange limi
 
 pub rising-steps : {a b : ℕ} {rs : List Row} → Rising a b rs → Steps InTableOrder rs
 rising-steps no_row = no_member
-rising-steps (next_row p no_row) = one-member
+rising-steps (next_row p no_row) = one_member
 rising-steps (next_row p (next_row q rest)) = step (up_to q) (rising-steps (next_row q rest))
   where
     up_to : {a b c d : ℕ} → PairBefore a b c d → PairUpTo a b c d
@@ -119,8 +119,8 @@ rising-apart r u (next_row {r = s} p rest) = more (λ e. not_same u p e) (rising
     further (inr l) (inr m) = inr (l.0 ∙ m.0, omega (arith, l.1, m.1))
 
 pub rising-pairs : {a b : ℕ} {rs : List Row} → Rising a b rs → Pairs (λ r s. (r.i ≡ s.i) × (r.j ≡ s.j) → ⊥) rs
-rising-pairs no_row = no-pair
-rising-pairs (next_row {r = r} p rest) = and-pairs (rising-apart r (inr (refl, omega arith)) rest) (rising-pairs rest)
+rising-pairs no_row = no_pair
+rising-pairs (next_row {r = r} p rest) = and_pairs (rising-apart r (inr (refl, omega arith)) rest) (rising-pairs rest)
 
 pub rising-rows : {n : ℕ} {rs : List Row} → Each (OnRing n) rs → Steps InTableOrder rs → Pairs (λ r s. (r.i ≡ s.i) × (r.j ≡ s.j) → ⊥) rs → Rising 0 0 rs
 rising-rows none ups apart = no_row
@@ -131,8 +131,8 @@ rising-rows (more o os) ups apart = next_row (inl o.low) (behind ups apart)
     strictly {b = b} {d = d} (inr l) n = elim (ℕ_discrete b d) [ yes e ↦ absurd (n (l.0, e)) | no e ↦ inr (l.0, omega (arith, l.1)) ]
 
     behind : {r : Row} {rs : List Row} → Steps InTableOrder (r ∷ rs) → Pairs (λ r s. (r.i ≡ s.i) × (r.j ≡ s.j) → ⊥) (r ∷ rs) → Rising r.i r.j rs
-    behind one-member apart = no_row
-    behind (step up ups) (and-pairs (more x xs) rest) = next_row (strictly up x) (behind ups rest)
+    behind one_member apart = no_row
+    behind (step up ups) (and_pairs (more x xs) rest) = next_row (strictly up x) (behind ups rest)
 
 -- ---- from a table
 
@@ -168,20 +168,20 @@ table-back n rs table each =
 
 -- room for the table of every matrix
 pub table-room : (n fibres : ℕ) (m : List (List ℕ)) → IsFibres fibres → InRange desk n m → length (write_table (ring_of n fibres) (rows_of_matrix n m)) ≤ table_room desk
-table-room n fibres m two-or-four range =
-    table-short desk desk-spelled (ring_of n fibres) (rows_of_matrix n m) range.many two-or-four (rows_on (entry m) n) (rows_few (entry m) n range.many) (rows-small desk n m range)
+table-room n fibres m two_or_four range =
+    table-short desk desk-spelled (ring_of n fibres) (rows_of_matrix n m) range.many two_or_four (rows_on (entry m) n) (rows_few (entry m) n range.many) (rows-small desk n m range)
 
 -- so it is accepted: at most one row for a pair, none of amount 0
 pub rows-in-range : (n fibres : ℕ) (m : List (List ℕ)) → IsFibres fibres → InRange desk n m → TableInRange desk (ring_of n fibres) (rows_of_matrix n m)
-rows-in-range n fibres m two-or-four range =
+rows-in-range n fibres m two_or_four range =
     record {
       few = range.few;
       many = range.many;
-      fibres = two-or-four;
+      fibres = two_or_four;
       rows = record { nodes = rows_on (entry m) n; order = rising-steps (rows-rising (entry m) n) };
       count = rows_few (entry m) n range.many;
       amounts = rows-small desk n m range;
-      short = omega (arith, table-room n fibres m two-or-four range);
+      short = omega (arith, table-room n fibres m two_or_four range);
     }
 
 pub rows-one-each : (n : ℕ) (m : List (List ℕ)) → OneEach (rows_of_matrix n m)

@@ -16,7 +16,7 @@ use Rattle.table.specs.declared.reason.Reason.{Reason}
 use Rattle.table.specs.declared.reason.Reason.TheVariants.{Misshapen}
 use Rattle.table.proofs.LineSteps.{first-line, line_at}
 use Rattle.matrix.specs.Matrix.{entry_byte}
-use Rattle.matrix.specs.Read.{Matrix, no-matrix, numbers_or, unless_at, judge_amounts, lines_of}
+use Rattle.matrix.specs.Read.{Matrix, no_matrix, numbers_or, unless_at, judge_amounts, lines_of}
 use Rattle.matrix.specs.Arrays.{numbers_in, lay_from, empty, laid, Square, beside_entries, square_in}
 use Rattle.matrix.specs.declared.byte.Found.{Found}
 use Rattle.matrix.specs.declared.byte.Found.TheVariants.{Nothing, At}
@@ -79,14 +79,14 @@ module _ (s : List ℕ) (n : ℕ) (entries : List ℕ) (start count line at : �
   whole = lines_of desk n 1 n [] (lines s)
 
   -- a line behind the n-th
-  pub left_over : (r : Square) → at < length s → n ≤ count → r ≡ square_in (no-matrix Misshapen line 1) → r ≡ square_in whole
+  pub left_over : (r : Square) → at < length s → n ≤ count → r ≡ square_in (no_matrix Misshapen line 1) → r ≡ square_in whole
   unfolding lines_of
   left_over r there l e =
       let z : n - count ≡ 0 = omega arith in
       e ∙ ap square_in (sym (on.rest ∙ rw (z, first-line (drop at s) (omega (arith, length-drop at s)))))
 
   -- no line is left, and one is missing
-  pub missing : (r : Square) → length s ≤ at → count < n → r ≡ square_in (no-matrix Misshapen line 1) → r ≡ square_in whole
+  pub missing : (r : Square) → length s ≤ at → count < n → r ≡ square_in (no_matrix Misshapen line 1) → r ≡ square_in whole
   unfolding lines_of lines
   missing r none l e =
       let z : n - count ≡ suc (n - count - 1) = omega arith in
@@ -108,7 +108,7 @@ module _ (s : List ℕ) (n : ℕ) (entries : List ℕ) (start count line at : �
         let z : n - count ≡ suc (n - count - 1) = omega arith in
         on.rest ∙ ap (λ k. lines_of desk n line k on.m (lines (drop at s))) z ∙ rw (line_at s at end there ends)
 
-    pub line-misshapen : (p byte : ℕ) (r : Square) → x.spelling ≡ BadSpelling p → byte ≡ p + 1 → r ≡ square_in (no-matrix Misshapen line byte) → r ≡ square_in whole
+    pub line-misshapen : (p byte : ℕ) (r : Square) → x.spelling ≡ BadSpelling p → byte ≡ p + 1 → r ≡ square_in (no_matrix Misshapen line byte) → r ≡ square_in whole
     unfolding numbers_or
     line-misshapen p byte r f b e = e ∙ ap square_in (sym (next-line ∙ rw (told-bad text n x ex p f, b)))
 
@@ -128,7 +128,7 @@ module _ (s : List ℕ) (n : ℕ) (entries : List ℕ) (start count line at : �
       pub amount-place : (reason : Reason) (k : ℕ) → v ≡ At reason k → k ≤ desk.nodes
       amount-place reason k g = omega (arith, amount-few n k x.values v reason ev g)
 
-      pub line-too-much : (reason : Reason) (k byte : ℕ) (r : Square) → v ≡ At reason k → byte ≡ entry_byte x.values k → r ≡ square_in (no-matrix reason line byte) → r ≡ square_in whole
+      pub line-too-much : (reason : Reason) (k byte : ℕ) (r : Square) → v ≡ At reason k → byte ≡ entry_byte x.values k → r ≡ square_in (no_matrix reason line byte) → r ≡ square_in whole
       unfolding unless_at
       line-too-much reason k byte r g b e =
           let q : byte ≡ entry_byte told.vs k = b ∙ part-byte n k x.values told.vs (told.held few) (amount-few n k x.values v reason ev g) in

@@ -85,19 +85,19 @@ sum-none {i = i} {j = j} l (more {a = r} o os) (next_row p rest) =
 -- ---- rows that rise and have amounts are told by their sums
 
 data Order (a b c d : ℕ) : Type 0 where
-  first-before : PairBefore a b c d → Order a b c d
+  first_before : PairBefore a b c d → Order a b c d
   the_same : a ≡ c → b ≡ d → Order a b c d
-  second-before : PairBefore c d a b → Order a b c d
+  second_before : PairBefore c d a b → Order a b c d
 
 order : (a b c d : ℕ) → Order a b c d
 order a b c d =
     elim (dec_lt a c) [
-      | yes l ↦ first-before (inl l)
+      | yes l ↦ first_before (inl l)
       | no l ↦ elim (dec_lt c a) [
-        | yes m ↦ second-before (inl m)
+        | yes m ↦ second_before (inl m)
         | no m ↦ elim (dec_lt b d) [
-          | yes p ↦ first-before (inr (omega arith, p))
-          | no p ↦ elim (dec_lt d b) [ yes q ↦ second-before (inr (omega arith, q)) | no q ↦ the_same (omega arith) (omega arith) ]
+          | yes p ↦ first_before (inr (omega arith, p))
+          | no p ↦ elim (dec_lt d b) [ yes q ↦ second_before (inr (omega arith, q)) | no q ↦ the_same (omega arith) (omega arith) ]
         ]
       ]
     ]
@@ -117,9 +117,9 @@ same-sums (r ∷ rs) (s ∷ ss) (more o os) (more q qs) (more d ds) (more e es) 
     go (order r.i r.j s.i s.j) (λ rising. same-sums rs ss os qs ds es ps rising)
   where
     go : Order r.i r.j s.i s.j → (Rising r.i r.j ss → ((i j : ℕ) → i < j → sum_of rs i j ≡ sum_of ss i j) → rs ≡ ss) → r ∷ rs ≡ s ∷ ss
-    go (first-before l) ih =
+    go (first_before l) ih =
         absurd (omega (arith, h r.i r.j o.order, part-own r r.i r.j refl refl, sum-none o.order (more q qs) (next_row l us)))
-    go (second-before l) ih =
+    go (second_before l) ih =
         absurd (omega (arith, h s.i s.j q.order, part-own s s.i s.j refl refl, sum-none q.order (more o os) (next_row l ps)))
     go (the_same x y) ih =
         let rising : Rising r.i r.j ss = subst (λ k. Rising k r.j ss) (sym x) (subst (λ k. Rising s.i k ss) (sym y) us) in

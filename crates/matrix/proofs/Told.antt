@@ -15,7 +15,7 @@ use Rattle.table.specs.declared.read.Answer.TheVariants.{Is, Refused}
 use Rattle.table.proofs.Columns.{rows_back}
 use Rattle.matrix.specs.Demands.{rows_of_matrix}
 use Rattle.matrix.specs.Matrix.{entry}
-use Rattle.matrix.specs.Read.{Matrix, matrix, no-matrix, matrix_of, table_from}
+use Rattle.matrix.specs.Read.{Matrix, matrix, no_matrix, matrix_of, table_from}
 use Rattle.matrix.specs.Arrays.{Amounts}
 use Rattle.matrix.proofs.MatrixText.{desk-possible, matrix-text}
 use Rattle.matrix.proofs.RowLaws.{rows_few}
@@ -39,13 +39,13 @@ module _ (s : List ℕ) (fibres : ℕ) (t : Table) where
       let es : t.second ≡ column (λ (r : Row). r.j) desk.rows rs = ap (λ (x : Table). x.second) e in
       let ea : t.amount ≡ column (λ (r : Row). r.d) desk.rows rs = ap (λ (x : Table). x.amount) e in
       record { m = m; is = rw kn q; rows = rw (kn, kc, ef, es, ea) (rows_back desk.rows rs h); room = omega arith }
-  a-matrix (no-matrix reason line byte) q e n same count a = clash (let p : Is n same count ≡ Refused reason line byte = sym a ∙ ap (λ (x : Table). x.answer) e in cc)
+  a-matrix (no_matrix reason line byte) q e n same count a = clash (let p : Is n same count ≡ Refused reason line byte = sym a ∙ ap (λ (x : Table). x.answer) e in cc)
 
   a-refusal : (r : Matrix) → matrix_of desk s ≡ r → t ≡ table_in (table_from fibres r) → (reason : Reason) (line byte : ℕ) → t.answer ≡ Refused reason line byte
-      → matrix_of desk s ≡ no-matrix reason line byte
+      → matrix_of desk s ≡ no_matrix reason line byte
   unfolding table_in table_from
   a-refusal (matrix k m) q e reason line byte a = clash (let p : Refused reason line byte ≡ Is k fibres (length (rows_of_matrix k m)) = sym a ∙ ap (λ (x : Table). x.answer) e in cc)
-  a-refusal (no-matrix why at on) q e reason line byte a =
+  a-refusal (no_matrix why at on) q e reason line byte a =
       let p : Refused reason line byte ≡ Refused why at on = sym a ∙ ap (λ (x : Table). x.answer) e in
       let kw : why ≡ reason = cc in
       let kl : at ≡ line = cc in
@@ -56,7 +56,7 @@ module _ (s : List ℕ) (fibres : ℕ) (t : Table) where
     pub told-matrix : (n same count : ℕ) → t.answer ≡ Is n same count → Told s n count t.first t.second t.amount
     told-matrix = a-matrix (matrix_of desk s) refl e
 
-    pub told-refusal : (reason : Reason) (line byte : ℕ) → t.answer ≡ Refused reason line byte → matrix_of desk s ≡ no-matrix reason line byte
+    pub told-refusal : (reason : Reason) (line byte : ℕ) → t.answer ≡ Refused reason line byte → matrix_of desk s ≡ no_matrix reason line byte
     told-refusal = a-refusal (matrix_of desk s) refl e
 
 -- rows whose amounts are within the limit, as their arrays have them

@@ -4,7 +4,7 @@ use Rattle.std.proofs.lemmas.List.Edits.{sets}
 use Rattle.ring.specs.Limits.{desk}
 use Rattle.ring.specs.Columns.{column}
 use Rattle.text.specs.ReadLine.{Reading, good, bad}
-use Rattle.matrix.specs.Read.{Matrix, matrix, no-matrix}
+use Rattle.matrix.specs.Read.{Matrix, matrix, no_matrix}
 use Rattle.matrix.specs.declared.line.Numbers.{Numbers}
 use Rattle.matrix.specs.declared.line.Spelling.TheVariants.{Good, Bad}
 use Rattle.matrix.specs.declared.square.Lines.{Lines}
@@ -52,7 +52,7 @@ beside_entries lines entries = record { lines = lines; entries = entries }
 unfoldable pub square_in : Matrix → Square
 unfolding laid
 square_in (matrix n m) = beside_entries Read (laid m)
-square_in (no-matrix reason line byte) = beside_entries (Refused reason line byte) empty
+square_in (no_matrix reason line byte) = beside_entries (Refused reason line byte) empty
 
 -- rows in columns whose amounts are within 9,999, so that sums fit
 pub record Amounts (count : ℕ) (amount : List ℕ) : Type 0 where

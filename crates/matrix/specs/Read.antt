@@ -23,7 +23,7 @@ use Rattle.matrix.specs.declared.square.Lines.TheVariants.{Read, Refused}
 -- a ring of n nodes and the lines; or a reason, a line and a byte of it
 pub data Matrix : Type 0 where
   matrix : ℕ → List (List ℕ) → Matrix
-  no-matrix : Reason → ℕ → ℕ → Matrix
+  no_matrix : Reason → ℕ → ℕ → Matrix
 
 -- ---- one line
 
@@ -34,17 +34,17 @@ fields_in (b ∷ t) = cond (eqb b tab) 1 0 + fields_in t
 
 unfoldable pub numbers_or : Reading → ℕ → (List ℕ → Matrix) → Matrix
 numbers_or (good vs) line next = next vs
-numbers_or (bad p) line next = no-matrix Misshapen line (p + 1)
+numbers_or (bad p) line next = no_matrix Misshapen line (p + 1)
 
 -- what is found against a line as a whole
 unfoldable pub unless : Verdict → ℕ → Matrix → Matrix
 unless Fine line next = next
-unless (Fault reason) line next = no-matrix reason line 1
+unless (Fault reason) line next = no_matrix reason line 1
 
 -- what is found against one of its entries, each of which starts at its byte
 unfoldable pub unless_at : Found → ℕ → (ℕ → ℕ) → Matrix → Matrix
 unless_at Nothing line byte next = next
-unless_at (At reason k) line byte next = no-matrix reason line (byte k)
+unless_at (At reason k) line byte next = no_matrix reason line (byte k)
 
 -- 7: the first entry over 9,999 of the entries vs, behind k others
 unfoldable pub judge_amounts : Limits → ℕ → List ℕ → Found
@@ -57,8 +57,8 @@ judge_amounts limits k (v ∷ vs) = cond (ltb limits.amount v) (At TooMuch k) (j
 unfoldable pub lines_of : Limits → ℕ → ℕ → ℕ → List (List ℕ) → List (List ℕ) → Matrix
 unfolding numbers_or unless_at judge_amounts
 lines_of limits n line zero m [] = matrix n m
-lines_of limits n line zero m (l ∷ ls) = no-matrix Misshapen line 1
-lines_of limits n line (suc left) m [] = no-matrix Misshapen line 1
+lines_of limits n line zero m (l ∷ ls) = no_matrix Misshapen line 1
+lines_of limits n line (suc left) m [] = no_matrix Misshapen line 1
 lines_of limits n line (suc left) m (l ∷ ls) =
     numbers_or (read_line (numbers n) l) line λ vs.
     unless_at (judge_amounts limits 0 vs) line (entry_byte vs)
@@ -97,19 +97,19 @@ judge_down a n i (suc k) = on_line (judge_across a i 1 n) i (entry_byte (line_of
 
 unfoldable pub after_square : Lines → Matrix → Matrix
 after_square Read x = x
-after_square (Refused reason line byte) x = no-matrix reason line byte
+after_square (Refused reason line byte) x = no_matrix reason line byte
 
 unfoldable pub square_judged : Matrix → Matrix
 unfolding judge_down after_square
 square_judged (matrix n m) = after_square (judge_down (entry m) n 1 n) (matrix n m)
-square_judged (no-matrix reason line byte) = no-matrix reason line byte
+square_judged (no_matrix reason line byte) = no_matrix reason line byte
 
 -- ---- the whole
 
 -- n is the number of fields of the first line
 unfoldable pub matrix_lines : Limits → List (List ℕ) → Matrix
 unfolding numbers_or unless lines_of square_judged fields_in
-matrix_lines limits [] = no-matrix Misshapen 1 1
+matrix_lines limits [] = no_matrix Misshapen 1 1
 matrix_lines limits (l ∷ ls) =
     numbers_or (read_line (numbers (fields_in l)) l) 1 λ vs.
     unless (judge_size limits (fields_in l)) 1
@@ -117,9 +117,9 @@ matrix_lines limits (l ∷ ls) =
 
 unfoldable pub matrix_of : Limits → List ℕ → Matrix
 unfolding matrix_lines
-matrix_of limits t = cond (ltb limits.bytes (length t)) (no-matrix TooLong 0 0) (matrix_lines limits (lines t))
+matrix_of limits t = cond (ltb limits.bytes (length t)) (no_matrix TooLong 0 0) (matrix_lines limits (lines t))
 
 -- as a table, on so many fibres
 unfoldable pub table_from : ℕ → Matrix → Result
 table_from fibres (matrix n m) = accepted (ring_of n fibres) (rows_of_matrix n m)
-table_from fibres (no-matrix reason line byte) = refused reason line byte
+table_from fibres (no_matrix reason line byte) = refused reason line byte

@@ -70,8 +70,8 @@ pub record WrongAmount (limits : Limits) (t : List ℕ) (line : ℕ) : Type 0 wh
 
 -- 17: a diagonal entry not 0; 18: an entry that differs from its mirror entry
 pub data WrongEntry (t : List ℕ) (i j : ℕ) : Reason → Type 0 where
-  not-zero : {v : ℕ} → i ≡ j → EntryIs t i j v → (v ≡ 0 → ⊥) → WrongEntry t i j NotZero
-  not-mirror : {v w : ℕ} → (i ≡ j → ⊥) → EntryIs t i j v → EntryIs t j i w → (v ≡ w → ⊥) → WrongEntry t i j NotSymmetric
+  not_zero : {v : ℕ} → i ≡ j → EntryIs t i j v → (v ≡ 0 → ⊥) → WrongEntry t i j NotZero
+  not_mirror : {v w : ℕ} → (i ≡ j → ⊥) → EntryIs t i j v → EntryIs t j i w → (v ≡ w → ⊥) → WrongEntry t i j NotSymmetric
 
 -- at the first faulty entry in reading order, which is on this line
 pub record FirstFaulty (t : List ℕ) (r : Reason) (line : ℕ) : Type 0 where
@@ -117,9 +117,9 @@ pub record NumbersFault (l : List ℕ) (p : ℕ) : Type 0 where
 
 -- 2: any number of fields is due in the first line, and as many in a later one; a line is left over as a whole
 pub data LineByte (t : List ℕ) (line byte : ℕ) : Type 0 where
-  first-due : line ≡ 1 → DueByte t line NumbersFault byte → LineByte t line byte
-  later-due : {us : List ℕ} → 2 ≤ line → NumbersAre t 1 us → line ≤ length us → DueByte t line (FirstFault (numbers (length us))) byte → LineByte t line byte
-  none-due : {us : List ℕ} → NumbersAre t 1 us → length us < line → byte ≡ 1 → LineByte t line byte
+  first_due : line ≡ 1 → DueByte t line NumbersFault byte → LineByte t line byte
+  later_due : {us : List ℕ} → 2 ≤ line → NumbersAre t 1 us → line ≤ length us → DueByte t line (FirstFault (numbers (length us))) byte → LineByte t line byte
+  none_due : {us : List ℕ} → NumbersAre t 1 us → length us < line → byte ≡ 1 → LineByte t line byte
 
 -- where entry j of a line starts
 pub record EntryStarts (t : List ℕ) (line j byte : ℕ) : Type 0 where
@@ -206,7 +206,7 @@ Earlier r line s other =
 pub record Given (limits : Limits) (t : List ℕ) (r : Reason) (line byte : ℕ) : Type 0 where
   pub holds : Says limits t r line
   pub first : (s : Reason) (other : ℕ) → Earlier s other r line → Says limits t s other → ⊥
-  pub byte-is : ByteIs limits t r line byte
+  pub byte_is : ByteIs limits t r line byte
 
 -- a matrix is accepted when no reason that judges its own length or lines holds of it
 abbrev pub Accepted : Limits → List ℕ → Type 0

@@ -3,7 +3,7 @@ ghost use Rattle.std.specs.Prelude.{◌≡◌, [], ◌+◌, ◌≤◌, length, t
 ghost use Rattle.std.proofs.lemmas.List.Edits.{sets};
 ghost use Rattle.ring.specs.Limits.{desk};
 ghost use Rattle.table.specs.Lines.{lines as lines_in};
-ghost use Rattle.matrix.specs.Read.{no-matrix, lines_of};
+ghost use Rattle.matrix.specs.Read.{no_matrix, lines_of};
 ghost use Rattle.matrix.specs.Arrays.{at as entry_at, empty, beside_entries, square_in};
 
 use crate::byte::{Found, entry_byte};
@@ -42,7 +42,7 @@ fn keep(square: &mut [u32; SQUARE], start: usize, n: usize, values: &[u32; LINKS
 // A refusal leaves an empty square.
 #[tactic(auto, unfolding(crate::specs::Arrays::square_in))]
 fn refused(entries: &mut [u32; SQUARE], reason: Reason, line: u32, byte: u32) -> Lines
-    ensures { beside_entries result entries.new ≡ square_in (no-matrix reason line byte) }
+    ensures { beside_entries result entries.new ≡ square_in (no_matrix reason line byte) }
 {
     *entries = [0u32; SQUARE];
     Lines::Refused(reason, line, byte)

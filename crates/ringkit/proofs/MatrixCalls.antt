@@ -24,7 +24,7 @@ use Rattle.table.proofs.Said.{not-15 as table-not-15}
 use Rattle.table.proofs.TableText.{desk-spelled}
 use Rattle.matrix.specs.Matrix.{write_matrix}
 use Rattle.matrix.specs.Demands.{rows_of_matrix, matrix_of_rows, Passes, OneEach}
-use Rattle.matrix.specs.Read.{Matrix, matrix, no-matrix, matrix_of, table_from}
+use Rattle.matrix.specs.Read.{Matrix, matrix, no_matrix, matrix_of, table_from}
 use Rattle.matrix.specs.Judged.{judge_sums}
 use Rattle.matrix.specs.Room.{matrix_room}
 use Rattle.matrix.specs.Says.{Says, Accepted}
@@ -40,17 +40,17 @@ use Rattle.ringkit.specs.Outcome.{write, Fills}
 use Rattle.ringkit.specs.TableCalls.{of_table}
 use Rattle.ringkit.specs.MatrixCalls.{matrix_read, unless_pass, of_rows, matrix_written}
 use Rattle.ringkit.specs.Says.{Success, CallPromise}
-use Rattle.ringkit.specs.Texts.{TableOf, MatrixOf, SomeMatrix, MatrixDue, MatrixGiven, of-fibres, of-matrix, SumsDue, SumsGiven, of-table, of-sums}
+use Rattle.ringkit.specs.Texts.{TableOf, MatrixOf, SomeMatrix, MatrixDue, MatrixGiven, of_fibres, of_matrix, SumsDue, SumsGiven, of_the_table, of_sums}
 use Rattle.ringkit.specs.declared.Reply.{Reply}
-use Rattle.ringkit.proofs.Calls.{Decided, is-due, is-given, One, call-promise}
+use Rattle.ringkit.proofs.Calls.{Decided, is_due, is_given, One, call-promise}
 use Rattle.ringkit.proofs.TableCalls.{read_is, due-accepted}
 
 -- ---- reading
 
 module _ (t : List ℕ) where
   -- a matrix is read to the lines that it is the matrix of
-  matrix-is : (n : ℕ) (m : List (List ℕ)) → (matrix_of desk t ≡ matrix n m) ↔ MatrixOf t n m
-  matrix-is n m = (
+  matrix_is : (n : ℕ) (m : List (List ℕ)) → (matrix_of desk t ≡ matrix n m) ↔ MatrixOf t n m
+  matrix_is n m = (
     λ e. let w = (matrix-text desk desk-possible t n m).0 e in record { text = w.0; range = w.1 },
     λ h. (matrix-text desk desk-possible t n m).1 (h.text, h.range),
   )
@@ -58,51 +58,51 @@ module _ (t : List ℕ) where
   -- a text is accepted exactly when it is the matrix, written, of some lines in range
   pub matrix-accepted : Accepted desk t ↔ SomeMatrix t
   matrix-accepted = (
-    λ a. let r = (accepted-is desk t).1 a in record { n = r.n; m = r.m; of = (matrix-is r.n r.m).0 r.is },
-    λ h. (accepted-is desk t).0 (record { n = h.n; m = h.m; is = (matrix-is h.n h.m).1 h.of }),
+    λ a. let r = (accepted-is desk t).1 a in record { n = r.n; m = r.m; of = (matrix_is r.n r.m).0 r.is },
+    λ h. (accepted-is desk t).0 (record { n = h.n; m = h.m; is = (matrix_is h.n h.m).1 h.of }),
   )
 
 -- the rows of a matrix on 2 or 4 fibres
 module _ (fibres : ℕ) (t : List ℕ) where
   decided : IsFibres fibres → (x : Matrix) → matrix_of desk t ≡ x → Decided (MatrixDue fibres t) (MatrixGiven fibres t) (of_table write_table (table_from fibres x))
   unfolding of_table table_from
-  decided f (matrix n m) e = is-due (record { two-or-four = f; n = n; m = m; of = (matrix-is t n m).0 e; is = refl })
-  decided f (no-matrix reason line byte) e = is-given (of-matrix f ((given desk t reason line byte).0 e))
+  decided f (matrix n m) e = is_due (record { two_or_four = f; n = n; m = m; of = (matrix_is t n m).0 e; is = refl })
+  decided f (no_matrix reason line byte) e = is_given (of_matrix f ((given desk t reason line byte).0 e))
 
   all-decided : Decided (MatrixDue fibres t) (MatrixGiven fibres t) (matrix_read fibres t)
   unfolding matrix_read
   all-decided = go (fibred fibres)
     where
       go : Fibred fibres → Decided (MatrixDue fibres t) (MatrixGiven fibres t) (matrix_read fibres t)
-      go (not-fibres f e) = rw e (is-given (of-fibres f))
+      go (not-fibres f e) = rw e (is_given (of_fibres f))
       go (are-fibres f e) = rw e (decided f (matrix_of desk t) refl)
 
   due-accepted-matrix : (text : List ℕ) → MatrixDue fibres t text → Accepted desk t
-  due-accepted-matrix text d = (accepted-is desk t).0 (record { n = d.n; m = d.m; is = (matrix-is t d.n d.m).1 d.of })
+  due-accepted-matrix text d = (accepted-is desk t).0 (record { n = d.n; m = d.m; is = (matrix_is t d.n d.m).1 d.of })
 
   not-15 : (reason : Reason) (line : ℕ) → Says desk t reason line → number_of reason ≡ number_of NoRoom → ⊥
   unfolding Says
   not-15 reason line h e = subst (λ s. Says desk t s line) (same-reason reason NoRoom e) h
 
   one-given-matrix : {r s : Reason} {line other byte on : ℕ} → MatrixGiven fibres t r line byte → MatrixGiven fibres t s other on → (r ≡ s) × (line ≡ other) × (byte ≡ on)
-  one-given-matrix (of-fibres f) (of-fibres g) = (refl, refl, refl)
-  one-given-matrix (of-fibres f) (of-matrix g h) = absurd (f g)
-  one-given-matrix (of-matrix f h) (of-fibres g) = absurd (g f)
-  one-given-matrix (of-matrix f h) (of-matrix g k) = one-given h k
+  one-given-matrix (of_fibres f) (of_fibres g) = (refl, refl, refl)
+  one-given-matrix (of_fibres f) (of_matrix g h) = absurd (f g)
+  one-given-matrix (of_matrix f h) (of_fibres g) = absurd (g f)
+  one-given-matrix (of_matrix f h) (of_matrix g k) = one-given h k
 
   due-not-given : {text : List ℕ} {r : Reason} {line byte : ℕ} → MatrixDue fibres t text → MatrixGiven fibres t r line byte → ⊥
-  due-not-given d (of-fibres f) = f d.two-or-four
-  due-not-given {text} d (of-matrix {reason} {line} {byte} f g) = due-accepted-matrix text d reason line g.holds
+  due-not-given d (of_fibres f) = f d.two_or_four
+  due-not-given {text} d (of_matrix {reason} {line} {byte} f g) = due-accepted-matrix text d reason line g.holds
 
   given-not-15 : {r : Reason} {line byte : ℕ} → MatrixGiven fibres t r line byte → number_of r ≡ number_of NoRoom → ⊥
-  given-not-15 (of-fibres f) e = omega arith
-  given-not-15 (of-matrix {reason} {line} {byte} f g) e = not-15 reason line g.holds e
+  given-not-15 (of_fibres f) e = omega arith
+  given-not-15 (of_matrix {reason} {line} {byte} f g) e = not-15 reason line g.holds e
 
   one-due : One (MatrixDue fibres t) (MatrixGiven fibres t)
   one-due =
       record {
         text = λ a b.
-            let e : matrix a.n a.m ≡ matrix b.n b.m = sym ((matrix-is t a.n a.m).1 a.of) ∙ (matrix-is t b.n b.m).1 b.of in
+            let e : matrix a.n a.m ≡ matrix b.n b.m = sym ((matrix_is t a.n a.m).1 a.of) ∙ (matrix_is t b.n b.m).1 b.of in
             let en : a.n ≡ b.n = cc in
             let em : a.m ≡ b.m = cc in
             let d : write_table (ring_of a.n fibres) (rows_of_matrix a.n a.m) ≡ write_table (ring_of b.n fibres) (rows_of_matrix b.n b.m) = rw (en, em) in
@@ -119,21 +119,21 @@ read-matrix-promise fibres t old new r f = call-promise (one-due fibres t) (all-
 module _ (fibres : ℕ) (t text : List ℕ) (d : MatrixDue fibres t text) where
   -- the table that is due is a table in range, so that it is accepted and can be routed
   due-table : TableOf text (ring_of d.n fibres) (rows_of_matrix d.n d.m)
-  due-table = record { text = d.is; range = rows-in-range d.n fibres d.m d.two-or-four d.of.range }
+  due-table = record { text = d.is; range = rows-in-range d.n fibres d.m d.two_or_four d.of.range }
 
   pub matrix-table-accepted : table.Accepted desk text
   matrix-table-accepted = (due-accepted text write_table).1 (record { text = text; is = record { ring = ring_of d.n fibres; rs = rows_of_matrix d.n d.m; of = due-table; is = d.is } })
 
   -- and no longer than `table_room`
   pub matrix-table-short : length text ≤ table_room desk
-  matrix-table-short = omega (arith, ap length d.is, table-room d.n fibres d.m d.two-or-four d.of.range)
+  matrix-table-short = omega (arith, ap length d.is, table-room d.n fibres d.m d.two_or_four d.of.range)
 
 -- so with that room every accepted matrix is read
 pub always-read : (fibres : ℕ) (t old new : List ℕ) (r : Reply) → Fills (matrix_read fibres t) old new r → IsFibres fibres → Accepted desk t → table_room desk ≤ length old → r.reason ≡ 0
 always-read fibres t old new r call f a room =
     let h = (matrix-accepted t).0 a in
     let text = write_table (ring_of h.n fibres) (rows_of_matrix h.n h.m) in
-    let d : MatrixDue fibres t text = record { two-or-four = f; n = h.n; m = h.m; of = h.of; is = refl } in
+    let d : MatrixDue fibres t text = record { two_or_four = f; n = h.n; m = h.m; of = h.of; is = refl } in
     (((read-matrix-promise fibres t old new r call).succeeds text).1 (d, omega (arith, matrix-table-short fibres t text d))).reason
 
 -- ---- writing
@@ -152,26 +152,26 @@ module _ (t : List ℕ) where
   sums-decided (accepted ring rs) e = go (judge_sums desk rs) refl
     where
       go : (x : Sums) → judge_sums desk rs ≡ x → Decided (SumsDue t) (SumsGiven t) (unless_pass x (write (write_matrix (matrix_of_rows ring.n rs))))
-      go Fit f = is-due (record { ring = ring; rs = rs; of = (read_is t ring rs).0 e; fit = (sums-fit desk rs).0 f; is = refl })
-      go (Pass line) f = is-given (of-sums ((read_is t ring rs).0 e) ((sums-given desk rs line).0 f))
-  sums-decided (refused reason line byte) e = is-given (of-table ((table-given.given desk t reason line byte).0 e))
+      go Fit f = is_due (record { ring = ring; rs = rs; of = (read_is t ring rs).0 e; fit = (sums-fit desk rs).0 f; is = refl })
+      go (Pass line) f = is_given (of_sums ((read_is t ring rs).0 e) ((sums-given desk rs line).0 f))
+  sums-decided (refused reason line byte) e = is_given (of_the_table ((table-given.given desk t reason line byte).0 e))
 
   one-refusal : {r s : Reason} {line other byte on : ℕ} → SumsGiven t r line byte → SumsGiven t s other on → (r ≡ s) × (line ≡ other) × (byte ≡ on)
-  one-refusal (of-table a) (of-table b) = table-given.one-given a b
-  one-refusal (of-table a) (of-sums of p) = absurd (no-reason of a)
-  one-refusal (of-sums of p) (of-table b) = absurd (no-reason of b)
-  one-refusal (of-sums {rs} {line} of p) (of-sums {rs = qs} {line = other} of' q) =
+  one-refusal (of_the_table a) (of_the_table b) = table-given.one-given a b
+  one-refusal (of_the_table a) (of_sums of p) = absurd (no-reason of a)
+  one-refusal (of_sums of p) (of_the_table b) = absurd (no-reason of b)
+  one-refusal (of_sums {rs} {line} of p) (of_sums {rs = qs} {line = other} of' q) =
       let e = (same-values of of').1 in
       let f : Pass line ≡ Pass other = sym ((sums-given desk rs line).1 p) ∙ (sums-given desk rs other).1 (rw e q) in
       (refl, cc, refl)
 
   due-or-given : {text : List ℕ} {r : Reason} {line byte : ℕ} → SumsDue t text → SumsGiven t r line byte → ⊥
-  due-or-given d (of-table a) = no-reason d.of a
-  due-or-given d (of-sums of p) = let e = (same-values of d.of).1 in d.fit p.k (rw e at p.holds)
+  due-or-given d (of_the_table a) = no-reason d.of a
+  due-or-given d (of_sums of p) = let e = (same-values of d.of).1 in d.fit p.k (rw e at p.holds)
 
   not_full : {r : Reason} {line byte : ℕ} → SumsGiven t r line byte → number_of r ≡ number_of NoRoom → ⊥
-  not_full (of-table {reason} {line} {byte} a) e = table-not-15 desk t line reason a.holds e
-  not_full (of-sums of p) e = omega arith
+  not_full (of_the_table {reason} {line} {byte} a) e = table-not-15 desk t line reason a.holds e
+  not_full (of_sums of p) e = omega arith
 
   one-sums : One (SumsDue t) (SumsGiven t)
   one-sums =
@@ -202,7 +202,7 @@ module _ (t text : List ℕ) (d : SumsDue t text) where
 
   pub written-matrix-accepted : Accepted desk text
   written-matrix-accepted =
-      (accepted-is desk text).0 (record { n = d.ring.n; m = matrix_of_rows d.ring.n d.rs; is = (matrix-is text d.ring.n (matrix_of_rows d.ring.n d.rs)).1 due-matrix })
+      (accepted-is desk text).0 (record { n = d.ring.n; m = matrix_of_rows d.ring.n d.rs; is = (matrix_is text d.ring.n (matrix_of_rows d.ring.n d.rs)).1 due-matrix })
 
   -- and no longer than `matrix_room`
   pub written-matrix-short : length text ≤ matrix_room desk
@@ -251,7 +251,7 @@ table-there-and-back t ring rs of each text old new r written done other after q
     let fibres : d.ring.fibres ≡ ring.fibres = ap (λ (x : Ring). x.fibres) (sym er) in
     let due : MatrixDue d.ring.fibres text t =
     record {
-      two-or-four = d.of.range.fibres;
+      two_or_four = d.of.range.fibres;
       n = d.ring.n;
       m = matrix_of_rows d.ring.n d.rs;
       of = due-matrix t text d;

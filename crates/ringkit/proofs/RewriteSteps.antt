@@ -26,9 +26,9 @@ use Rattle.ringkit.proofs.FillSteps.{refuses, same-fills}
 -- ---- from its own text
 
 module _ (s old : List ℕ) (answer : Answer) (first second amount : List ℕ) (e : beside answer first second amount ≡ table_in (table_of desk s)) where
-  pub table-refused : (reason : Reason) (line byte : ℕ) (r : Reply) → answer ≡ Refused reason line byte → r ≡ reply_of (refuse reason line byte) → Fills (table_afresh s) old old r
+  pub table_refused : (reason : Reason) (line byte : ℕ) (r : Reply) → answer ≡ Refused reason line byte → r ≡ reply_of (refuse reason line byte) → Fills (table_afresh s) old old r
   unfolding table_afresh of_table
-  table-refused reason line byte r a = refuses (table_afresh s) old reason line byte r (rw (table-told.told-refusal s _ e reason line byte a))
+  table_refused reason line byte r a = refuses (table_afresh s) old reason line byte r (rw (table-told.told-refusal s _ e reason line byte a))
 
   module _ (n fibres count : ℕ) (a : answer ≡ Is n fibres count) where
     pub rows-have-room : count ≤ desk.rows
@@ -49,9 +49,9 @@ module _ (s old : List ℕ) (fibres : ℕ) (other : Bool) (eo : other ≡ other_
     known : other_fibres fibres ≡ false
     known = sym eo ∙ o
 
-    pub matrix-refused : (reason : Reason) (line byte : ℕ) (r : Reply) → answer ≡ Refused reason line byte → r ≡ reply_of (refuse reason line byte) → Fills (matrix_read fibres s) old old r
+    pub matrix_refused : (reason : Reason) (line byte : ℕ) (r : Reply) → answer ≡ Refused reason line byte → r ≡ reply_of (refuse reason line byte) → Fills (matrix_read fibres s) old old r
     unfolding matrix_read of_table table_from
-    matrix-refused reason line byte r a = refuses (matrix_read fibres s) old reason line byte r (rw (known, matrix-told.told-refusal s fibres _ e reason line byte a))
+    matrix_refused reason line byte r a = refuses (matrix_read fibres s) old reason line byte r (rw (known, matrix-told.told-refusal s fibres _ e reason line byte a))
 
     module _ (n same count : ℕ) (a : answer ≡ Is n same count) where
       pub matrix-rows-have-room : count ≤ desk.rows

@@ -31,11 +31,11 @@ use Rattle.ringkit.specs.TableCalls.{table_routed}
 use Rattle.ringkit.specs.SheetCalls.{verdict_reply, sheet_checked, pair_reply, question_reply, sheet_parallel, of_sheet, sheet_afresh}
 use Rattle.ringkit.specs.Says.{CallPromise}
 use Rattle.ringkit.specs.Texts.{SheetOf, SomeSheet, SomeForm, TableDue, sheet_due, Itself}
-use Rattle.ringkit.specs.Answers.{yes, no, CheckSays, says-yes, says-no, CheckPromise, paired, not-asked, PairOf, NoPairOf, PairSays, a_pair, no-pair, refused as pair-refused, PairPromise}
+use Rattle.ringkit.specs.Answers.{yes, no, CheckSays, says_yes, says_no, CheckPromise, paired, not_asked, PairOf, NoPairOf, PairSays, a_pair, no_pair, refused as pair-refused, PairPromise}
 use Rattle.ringkit.specs.Demands.{FormedSheet, BestSheet, RoutedWell}
 use Rattle.ringkit.specs.declared.Reply.{Reply}
 use Rattle.ringkit.specs.declared.PairReply.{PairReply}
-use Rattle.ringkit.proofs.Calls.{Decided, is-due, is-given, One, call-promise}
+use Rattle.ringkit.proofs.Calls.{Decided, is_due, is_given, One, call-promise}
 use Rattle.ringkit.proofs.TableCalls.{due-accepted, route-promise}
 
 -- ---- what a sheet is read to
@@ -49,8 +49,8 @@ module _ (t : List ℕ) where
   -- a sheet is accepted as the values that it is the sheet of
   checked-is : (x : Sheet) → (check desk t ≡ accepted x) ↔ SheetOf t x
   checked-is x = (
-    λ e. let w = (check-text desk desk-spelled t x).0 e in record { text = w.0; range = w.1.0; true-sheet = w.1.1 },
-    λ h. (check-text desk desk-spelled t x).1 (h.text, (h.range, h.true-sheet)),
+    λ e. let w = (check-text desk desk-spelled t x).0 e in record { text = w.0; range = w.1.0; true_sheet = w.1.1 },
+    λ h. (check-text desk desk-spelled t x).1 (h.text, (h.range, h.true_sheet)),
   )
 
   accepted-as : (x : Sheet) → check desk t ≡ accepted x → Accepted desk t
@@ -60,8 +60,8 @@ module _ (t : List ℕ) where
 
 afresh : (t : List ℕ) (x : Result) → check desk t ≡ x → Decided (Itself (Accepted desk t) t) (Given desk t) (of_sheet x)
 unfolding of_sheet
-afresh t (accepted x) e = is-due (record { accepted = accepted-as t x e; same = sym ((checked-is t x).0 e).text })
-afresh t (refused reason line byte) e = is-given ((given desk t reason line byte).0 e)
+afresh t (accepted x) e = is_due (record { accepted = accepted-as t x e; same = sym ((checked-is t x).0 e).text })
+afresh t (refused reason line byte) e = is_given ((given desk t reason line byte).0 e)
 
 one-itself : (t : List ℕ) → One (Itself (Accepted desk t) t) (Given desk t)
 one-itself t =
@@ -84,8 +84,8 @@ unfolding sheet_checked verdict_reply
 checked t = go (check desk t) refl
   where
     go : (x : Result) → check desk t ≡ x → CheckSays t (verdict_reply x)
-    go (accepted x) e = says-yes (accepted-as t x e)
-    go (refused reason line byte) e = says-no ((given desk t reason line byte).0 e)
+    go (accepted x) e = says_yes (accepted-as t x e)
+    go (refused reason line byte) e = says_no ((given desk t reason line byte).0 e)
 
 -- two refusals that reply alike are one, and none replies as yes does
 yes-not-no : (reason : Reason) (line byte : ℕ) → yes ≡ no reason line byte → ⊥
@@ -103,16 +103,16 @@ module _ {t : List ℕ} where
   some-sheet = (λ a. let r = (accepted-is desk t).1 a in record { x = r.x; of = (checked-is t r.x).0 r.is }, λ h. accepted-as t h.x ((checked-is t h.x).1 h.of))
 
   check-laws : {r : Reply} → CheckSays t r → CheckPromise t r
-  check-laws (says-yes a) =
+  check-laws (says_yes a) =
       record {
-        cases = says-yes a;
+        cases = says_yes a;
         accepts = (λ e. a, λ b. refl);
         sheet = (λ e. some-sheet.0 a, λ h. refl);
         refuses = λ reason line byte. (λ e. absurd (yes-not-no reason line byte e), λ g. absurd (a reason line tt g.holds));
       }
-  check-laws (says-no {reason = why} {line = at} {byte = on} g) =
+  check-laws (says_no {reason = why} {line = at} {byte = on} g) =
       record {
-        cases = says-no g;
+        cases = says_no g;
         accepts = (λ e. absurd (yes-not-no why at on (sym e)), λ a. absurd (a why at tt g.holds));
         sheet = (λ e. absurd (yes-not-no why at on (sym e)), λ h. absurd (some-sheet.1 h why at tt g.holds));
         refuses = λ reason line byte. (λ e. same-no reason line byte e g, λ h. let o = one-given g h in rw (o.0, o.1, o.2));
@@ -137,7 +137,7 @@ formed-checked t r e w =
     let f = (well-formed-is desk t).1 w in
     let s = (form-text desk desk-spelled t f.x).0 f.is in
     let law = accepted-true desk desk-spelled t f.x f.is in
-    record { x = f.x; text = s.0; range = s.1; says-yes = (λ y. law.0 (same-x f.x f.is y), λ true-sheet. e ∙ ap verdict_reply (law.1 true-sheet)) }
+    record { x = f.x; text = s.0; range = s.1; says_yes = (λ y. law.0 (same-x f.x f.is y), λ true_sheet. e ∙ ap verdict_reply (law.1 true_sheet)) }
   where
     same-x : (x : Sheet) → form desk t ≡ accepted x → r ≡ yes → check desk t ≡ accepted x
     same-x x f y =
@@ -148,7 +148,7 @@ formed-checked t r e w =
 
 -- the sheet of some values is the best there is
 best_of : (t : List ℕ) (x : Sheet) → SheetOf t x → BestSheet t
-best_of t x of = record { x = x; of = of; figures = paper-figures x of.true-sheet; no_lower = no_lower x of.true-sheet }
+best_of t x of = record { x = x; of = of; figures = paper-figures x of.true_sheet; no_lower = no_lower x of.true_sheet }
 
 pub yes-best : (t : List ℕ) (r : Reply) → r ≡ sheet_checked t → r ≡ yes → BestSheet t
 yes-best t r e y = let a = (accepted-is desk t).1 ((check-promise t r e).accepts.0 y) in best_of t a.x ((checked-is t a.x).0 a.is)
@@ -161,7 +161,7 @@ asked t = go (check desk t) refl
   where
     pair_of : (x : Sheet) → SheetOf t x → (f : Pair) → first_pair (sents x.rows) ≡ f → PairSays t (pair_reply f)
     pair_of x of (Are p r) e = let are = (first-pair-is (sents x.rows) p r).0 e in a_pair (record { x = x; of = of; pair = are }) (low are.are.first)
-    pair_of x of None e = no-pair (record { x = x; of = of; none = (no-pair-is (sents x.rows)).0 e })
+    pair_of x of None e = no_pair (record { x = x; of = of; none = (no-pair-is (sents x.rows)).0 e })
 
     go : (y : Result) → check desk t ≡ y → PairSays t (question_reply y)
     go (accepted x) q = pair_of x ((checked-is t x).0 q) (first_pair (sents x.rows)) refl
@@ -176,7 +176,7 @@ module _ (t : List ℕ) where
   unfolding sheet_parallel question_reply pair_reply
   said-none h = ap question_reply ((checked-is t h.x).1 h.of) ∙ ap pair_reply ((no-pair-is (sents h.x.rows)).1 h.none)
 
-  said-refusal : (reason : Reason) (line byte : ℕ) → Given desk t reason line byte → sheet_parallel t ≡ not-asked reason line byte
+  said-refusal : (reason : Reason) (line byte : ℕ) → Given desk t reason line byte → sheet_parallel t ≡ not_asked reason line byte
   unfolding sheet_parallel question_reply
   said-refusal reason line byte g = ap question_reply ((given desk t reason line byte).1 g)
 
@@ -186,18 +186,18 @@ module _ (t : List ℕ) where
       let ea : a ≡ p = ap (λ (r : PairReply). r.first) e in
       let eb : b ≡ q = ap (λ (r : PairReply). r.second) e in
       rw (← ea, ← eb) x
-  is-pair p q (no-pair x) e some = let z : 0 ≡ p = ap (λ (r : PairReply). r.first) e in absurd (omega arith)
+  is-pair p q (no_pair x) e some = let z : 0 ≡ p = ap (λ (r : PairReply). r.first) e in absurd (omega arith)
   is-pair p q (pair-refused g) e some = let z : 0 ≡ p = ap (λ (r : PairReply). r.first) e in absurd (omega arith)
 
   -- 0 and 0, without a reason
   is_none : {r : PairReply} → PairSays t r → r ≡ paired 0 0 → NoPairOf t
   is_none (a_pair {p = a} x l) e = let ea : a ≡ 0 = ap (λ (r : PairReply). r.first) e in absurd (omega arith)
-  is_none (no-pair x) e = x
+  is_none (no_pair x) e = x
   is_none (pair-refused {reason} g) e = let z : number_of reason ≡ 0 = ap (λ (r : PairReply). r.reason) e in absurd (omega (arith, no-reason-0 reason))
 
-  is-refusal : (reason : Reason) (line byte : ℕ) {r : PairReply} → PairSays t r → r ≡ not-asked reason line byte → Given desk t reason line byte
+  is-refusal : (reason : Reason) (line byte : ℕ) {r : PairReply} → PairSays t r → r ≡ not_asked reason line byte → Given desk t reason line byte
   is-refusal reason line byte (a_pair x l) e = let z : 0 ≡ number_of reason = ap (λ (r : PairReply). r.reason) e in absurd (omega (arith, no-reason-0 reason))
-  is-refusal reason line byte (no-pair x) e = let z : 0 ≡ number_of reason = ap (λ (r : PairReply). r.reason) e in absurd (omega (arith, no-reason-0 reason))
+  is-refusal reason line byte (no_pair x) e = let z : 0 ≡ number_of reason = ap (λ (r : PairReply). r.reason) e in absurd (omega (arith, no-reason-0 reason))
   is-refusal reason line byte (pair-refused {reason = why} {line = at} {byte = on} g) e =
       let ew : why ≡ reason = same-reason why reason (ap (λ (r : PairReply). r.reason) e) in
       let ea : at ≡ line = ap (λ (r : PairReply). r.line) e in
@@ -223,7 +223,7 @@ module _ (t text : List ℕ) (due : TableDue sheet_due t text) where
       record {
         text = due.is;
         range = plan-in-range due.ring due.rs due.of.range;
-        true-sheet = plan-true due.ring due.rs due.of.range.few due.of.range.rows;
+        true_sheet = plan-true due.ring due.rs due.of.range.few due.of.range.rows;
       }
 
   accepted-sheet : check desk text ≡ accepted (plan due.ring due.rs)
@@ -254,5 +254,5 @@ demand-3 t old new r call a =
       best = best_of s.text (plan d.ring d.rs) (routed-of t s.text d);
       demands = plan-demands d.ring d.rs d.of.range.few d.of.range.rows;
       checked = due-accepted-sheet t s.text d;
-      no-pair = due-no-pair t s.text d;
+      no_pair = due-no-pair t s.text d;
     }

@@ -53,7 +53,7 @@ module _ (s : List ℕ) (answer : Answer) (v : SheetValues) (e : beside answer v
     module _ (pair : Pair) (is : (amount : List ℕ) → pair ≡ first_pair (sents_in count v.first v.second amount v.front v.back)) where
       found : sheet_parallel s ≡ pair_reply pair
       unfolding sheet_parallel question_reply
-      found = ap question_reply told.is ∙ ap (λ ss. pair_reply (first_pair ss)) (sym told.sents-same) ∙ ap pair_reply (sym (is v.amount))
+      found = ap question_reply told.is ∙ ap (λ ss. pair_reply (first_pair ss)) (sym told.sents_same) ∙ ap pair_reply (sym (is v.amount))
 
       pub pair_found : (p q : ℕ) → pair ≡ Are p q → record { reason = 0; line = 0; byte = 0; first = p; second = q } ≡ sheet_parallel s
       unfolding pair_reply
@@ -67,6 +67,6 @@ module _ (s : List ℕ) (answer : Answer) (v : SheetValues) (e : beside answer v
         Fills (write (write_sheet (sheet_in v.figures count v.first v.second v.amount v.front v.back v.way v.split v.unsplit))) old new r → Fills (sheet_afresh s) old new r
     unfolding sheet_afresh of_sheet
     sheet-fills old new r f =
-        let is-text : sheet_afresh s ≡ write (write_sheet (sheet_in v.figures count v.first v.second v.amount v.front v.back v.way v.split v.unsplit)) =
+        let is_text : sheet_afresh s ≡ write (write_sheet (sheet_in v.figures count v.first v.second v.amount v.front v.back v.way v.split v.unsplit)) =
         ap of_sheet told.is ∙ ap (λ x. write (write_sheet x)) (sym told.same) in
-        rw is-text f
+        rw is_text f

@@ -23,7 +23,7 @@ use Rattle.ringkit.specs.TableCalls.{of_table, table_afresh, table_routed}
 use Rattle.ringkit.specs.Says.{CallPromise}
 use Rattle.ringkit.specs.Texts.{TableOf, TableDue, SomeDue, sheet_due, Itself}
 use Rattle.ringkit.specs.declared.Reply.{Reply}
-use Rattle.ringkit.proofs.Calls.{Decided, is-due, is-given, One, call-promise}
+use Rattle.ringkit.proofs.Calls.{Decided, is_due, is_given, One, call-promise}
 
 module _ (t : List ℕ) where
   -- a table is read to the values that it is the table of
@@ -43,8 +43,8 @@ module _ (t : List ℕ) where
 
     pub decided : (x : Result) → table_of desk t ≡ x → Decided (TableDue due t) (Given desk t) (of_table due x)
     unfolding of_table
-    decided (accepted ring rs) e = is-due (record { ring = ring; rs = rs; of = (read_is ring rs).0 e; is = refl })
-    decided (refused reason line byte) e = is-given ((given desk t reason line byte).0 e)
+    decided (accepted ring rs) e = is_due (record { ring = ring; rs = rs; of = (read_is ring rs).0 e; is = refl })
+    decided (refused reason line byte) e = is_given ((given desk t reason line byte).0 e)
 
     pub one-due : One (TableDue due t) (Given desk t)
     one-due =
@@ -63,8 +63,8 @@ module _ (t : List ℕ) where
 afresh : (t : List ℕ) (x : Result) → table_of desk t ≡ x → Decided (Itself (Accepted desk t) t) (Given desk t) (of_table write_table x)
 unfolding of_table
 afresh t (accepted ring rs) e =
-    is-due (record { accepted = (accepted-is desk t).0 (record { ring = ring; rs = rs; is = e }); same = sym ((read_is t ring rs).0 e).text })
-afresh t (refused reason line byte) e = is-given ((given desk t reason line byte).0 e)
+    is_due (record { accepted = (accepted-is desk t).0 (record { ring = ring; rs = rs; is = e }); same = sym ((read_is t ring rs).0 e).text })
+afresh t (refused reason line byte) e = is_given ((given desk t reason line byte).0 e)
 
 one-itself : (t : List ℕ) → One (Itself (Accepted desk t) t) (Given desk t)
 one-itself t =

@@ -23,7 +23,7 @@ use Rattle.ringkit.specs.TableCalls.{table_routed, work_written}
 use Rattle.ringkit.specs.Texts.{TableOf, TableDue, sheet_due}
 use Rattle.ringkit.specs.WorkCalls.{WorkDue, NoRefusal, RoutedCut}
 use Rattle.ringkit.specs.declared.Reply.{Reply}
-use Rattle.ringkit.proofs.Calls.{is-due, One, call-promise}
+use Rattle.ringkit.proofs.Calls.{is_due, One, call-promise}
 use Rattle.ringkit.proofs.TableCalls.{due-accepted, route-promise}
 
 module _ {cs : List Call} {w : Work} (m : Made cs w) where
@@ -42,7 +42,7 @@ module _ {cs : List Call} {w : Work} (m : Made cs w) where
 
   -- it is written, with room for it; else 15
   pub work-write-promise : (old new : List ℕ) (r : Reply) → Fills (work_written w) old new r → CallPromise (WorkDue w) NoRefusal old new r
-  work-write-promise old new r f = call-promise one-due (is-due work-due) f
+  work-write-promise old new r f = call-promise one-due (is_due work-due) f
 
   module _ (text : List ℕ) (d : WorkDue w text) where
     -- it is the table of its rows

@@ -21,8 +21,8 @@ no reason line byte = record { reason = number_of reason; line = line; byte = by
 
 -- yes, or the reason that is given
 pub data CheckSays (t : List ℕ) : Reply → Type 0 where
-  says-yes : Accepted desk t → CheckSays t yes
-  says-no : {reason : Reason} {line byte : ℕ} → Given desk t reason line byte → CheckSays t (no reason line byte)
+  says_yes : Accepted desk t → CheckSays t yes
+  says_no : {reason : Reason} {line byte : ℕ} → Given desk t reason line byte → CheckSays t (no reason line byte)
 
 -- all that checking promises
 pub record CheckPromise (t : List ℕ) (r : Reply) : Type 0 where
@@ -37,8 +37,8 @@ pub record CheckPromise (t : List ℕ) (r : Reply) : Type 0 where
 abbrev pub paired : ℕ → ℕ → PairReply
 paired p q = record { reason = 0; line = 0; byte = 0; first = p; second = q }
 
-abbrev pub not-asked : Reason → ℕ → ℕ → PairReply
-not-asked reason line byte = record { reason = number_of reason; line = line; byte = byte; first = 0; second = 0 }
+abbrev pub not_asked : Reason → ℕ → ℕ → PairReply
+not_asked reason line byte = record { reason = number_of reason; line = line; byte = byte; first = 0; second = 0 }
 
 -- the first pair of an accepted sheet
 pub record PairOf (t : List ℕ) (p q : ℕ) : Type 0 where
@@ -55,12 +55,12 @@ pub record NoPairOf (t : List ℕ) : Type 0 where
 -- a pair, none, or the reason that is given
 pub data PairSays (t : List ℕ) : PairReply → Type 0 where
   a_pair : {p q : ℕ} → PairOf t p q → 1 ≤ p → PairSays t (paired p q)
-  no-pair : NoPairOf t → PairSays t (paired 0 0)
-  refused : {reason : Reason} {line byte : ℕ} → Given desk t reason line byte → PairSays t (not-asked reason line byte)
+  no_pair : NoPairOf t → PairSays t (paired 0 0)
+  refused : {reason : Reason} {line byte : ℕ} → Given desk t reason line byte → PairSays t (not_asked reason line byte)
 
 -- all that the question promises
 pub record PairPromise (t : List ℕ) (r : PairReply) : Type 0 where
   pub cases : PairSays t r
   pub pair : (p q : ℕ) → ((r ≡ paired p q) × (1 ≤ p)) ↔ PairOf t p q
   pub none : (r ≡ paired 0 0) ↔ NoPairOf t
-  pub refuses : (reason : Reason) (line byte : ℕ) → (r ≡ not-asked reason line byte) ↔ Given desk t reason line byte
+  pub refuses : (reason : Reason) (line byte : ℕ) → (r ≡ not_asked reason line byte) ↔ Given desk t reason line byte

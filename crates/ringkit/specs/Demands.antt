@@ -6,7 +6,7 @@ use Rattle.ring.specs.Paper.{PaperFigures}
 use Rattle.ring.specs.Routing.{Sent, split_load, peak}
 use Rattle.ring.specs.Sheet.{Sheet, sents, demands}
 use Rattle.ring.specs.True.{TrueSheet}
-use Rattle.sheet.specs.Range as sheet-range
+use Rattle.sheet.specs.Range as sheet_range
 use Rattle.sheet.specs.Says.{Accepted}
 use Rattle.sheet.specs.WriteSheet.{write_sheet}
 use Rattle.ringkit.specs.Answers.{yes, NoPairOf}
@@ -18,8 +18,8 @@ use Rattle.ringkit.specs.declared.Reply.{Reply}
 pub record FormedSheet (t : List ℕ) (r : Reply) : Type 0 where
   pub x : Sheet
   pub text : t ≡ write_sheet x
-  pub range : sheet-range.InRange desk x
-  pub says-yes : (r ≡ yes) ↔ TrueSheet x
+  pub range : sheet_range.InRange desk x
+  pub says_yes : (r ≡ yes) ↔ TrueSheet x
 
 -- an accepted sheet: its figures are the paper's, and no division of its demands, however fine, has a lower peak
 pub record BestSheet (t : List ℕ) : Type 0 where
@@ -37,4 +37,4 @@ pub record RoutedWell (t old new : List ℕ) (r : Reply) : Type 0 where
   pub best : BestSheet sheet
   pub demands : demands (sents best.x.rows) ≡ due.rs
   pub checked : Accepted desk sheet
-  pub no-pair : NoPairOf sheet
+  pub no_pair : NoPairOf sheet

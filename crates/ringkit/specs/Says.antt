@@ -23,9 +23,9 @@ pub record Refusal (reason : Reason) (line byte : ℕ) (old new : List ℕ) (r :
 
 -- the three cases of 01, by which text is due and which refusal is given
 pub data CallSays (Due : List ℕ → Type 0) (Given : Reason → ℕ → ℕ → Type 0) (old new : List ℕ) (r : Reply) : Type 0 where
-  with-room : {text : List ℕ} → Due text → length text ≤ length old → Success text old new r → CallSays Due Given old new r
-  without-room : {text : List ℕ} → Due text → length old < length text → Refusal NoRoom 0 0 old new r → CallSays Due Given old new r
-  none-due : {reason : Reason} {line byte : ℕ} → Given reason line byte → Refusal reason line byte old new r → CallSays Due Given old new r
+  with_room : {text : List ℕ} → Due text → length text ≤ length old → Success text old new r → CallSays Due Given old new r
+  without_room : {text : List ℕ} → Due text → length old < length text → Refusal NoRoom 0 0 old new r → CallSays Due Given old new r
+  none_due : {reason : Reason} {line byte : ℕ} → Given reason line byte → Refusal reason line byte old new r → CallSays Due Given old new r
 
 -- a text is due that does not fit into the buffer
 pub record TooLarge (Due : List ℕ → Type 0) (old : List ℕ) : Type 0 where

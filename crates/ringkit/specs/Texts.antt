@@ -6,14 +6,14 @@ use Rattle.ring.specs.Ring.{Ring, ring_of}
 use Rattle.ring.specs.Row.{Row}
 use Rattle.ring.specs.Sheet.{Sheet, plan}
 use Rattle.ring.specs.True.{TrueSheet}
-use Rattle.sheet.specs.Range as sheet-range
+use Rattle.sheet.specs.Range as sheet_range
 use Rattle.sheet.specs.WriteSheet.{write_sheet}
 use Rattle.table.specs.Says.{Given}
 use Rattle.table.specs.Table.{write_table, InRange}
 use Rattle.table.specs.declared.reason.Reason.{Reason}
 use Rattle.table.specs.declared.reason.Reason.TheVariants.{Fibres, SumTooMuch}
 use Rattle.matrix.specs.Matrix as matrix
-use Rattle.matrix.specs.Says as matrix-says
+use Rattle.matrix.specs.Says as matrix_says
 use Rattle.matrix.specs.Matrix.{write_matrix}
 use Rattle.matrix.specs.Demands.{rows_of_matrix, matrix_of_rows, Passes, PassesAt}
 
@@ -25,8 +25,8 @@ pub record TableOf (t : List ℕ) (ring : Ring) (rs : List Row) : Type 0 where
 -- t is the sheet of these values, they are in the desk's range, and the sheet is true
 pub record SheetOf (t : List ℕ) (x : Sheet) : Type 0 where
   pub text : t ≡ write_sheet x
-  pub range : sheet-range.InRange desk x
-  pub true-sheet : TrueSheet x
+  pub range : sheet_range.InRange desk x
+  pub true_sheet : TrueSheet x
 
 -- it is one of some values
 pub record SomeSheet (t : List ℕ) : Type 0 where
@@ -37,7 +37,7 @@ pub record SomeSheet (t : List ℕ) : Type 0 where
 pub record SomeForm (t : List ℕ) : Type 0 where
   pub x : Sheet
   pub text : t ≡ write_sheet x
-  pub range : sheet-range.InRange desk x
+  pub range : sheet_range.InRange desk x
 
 -- t is the matrix of these lines, and they are in the desk's range: n lines of n numbers, symmetric, with 0 on the diagonal
 pub record MatrixOf (t : List ℕ) (n : ℕ) (m : List (List ℕ)) : Type 0 where
@@ -75,7 +75,7 @@ pub record Itself (Accepted : Type 0) (t text : List ℕ) : Type 0 where
 
 -- the text that is due to a matrix that is read on 2 or 4 fibres: the table with one row for each pair whose entry is above 0
 pub record MatrixDue (fibres : ℕ) (t text : List ℕ) : Type 0 where
-  pub two-or-four : IsFibres fibres
+  pub two_or_four : IsFibres fibres
   pub n : ℕ
   pub m : List (List ℕ)
   pub of : MatrixOf t n m
@@ -83,8 +83,8 @@ pub record MatrixDue (fibres : ℕ) (t text : List ℕ) : Type 0 where
 
 -- what is given to a matrix that is read: 20 first of all, with line 0 and byte 0; then the matrix's own reasons
 pub data MatrixGiven (fibres : ℕ) (t : List ℕ) : Reason → ℕ → ℕ → Type 0 where
-  of-fibres : (IsFibres fibres → ⊥) → MatrixGiven fibres t Fibres 0 0
-  of-matrix : {reason : Reason} {line byte : ℕ} → IsFibres fibres → matrix-says.Given desk t reason line byte → MatrixGiven fibres t reason line byte
+  of_fibres : (IsFibres fibres → ⊥) → MatrixGiven fibres t Fibres 0 0
+  of_matrix : {reason : Reason} {line byte : ℕ} → IsFibres fibres → matrix_says.Given desk t reason line byte → MatrixGiven fibres t reason line byte
 
 -- the text that is due to a table of which a matrix is written: rows of one pair add up, and no sum passes the limit
 pub record SumsDue (t text : List ℕ) : Type 0 where
@@ -96,5 +96,5 @@ pub record SumsDue (t text : List ℕ) : Type 0 where
 
 -- what is given to a table of which a matrix is written: the table's own reasons; then 19, on the line of the first row at which a pair's sum passes 9,999, with byte 1
 pub data SumsGiven (t : List ℕ) : Reason → ℕ → ℕ → Type 0 where
-  of-table : {reason : Reason} {line byte : ℕ} → Given desk t reason line byte → SumsGiven t reason line byte
-  of-sums : {ring : Ring} {rs : List Row} {line : ℕ} → TableOf t ring rs → PassesAt desk rs line → SumsGiven t SumTooMuch line 1
+  of_the_table : {reason : Reason} {line byte : ℕ} → Given desk t reason line byte → SumsGiven t reason line byte
+  of_sums : {ring : Ring} {rs : List Row} {line : ℕ} → TableOf t ring rs → PassesAt desk rs line → SumsGiven t SumTooMuch line 1

@@ -57,8 +57,8 @@ module _ (rs : List Routed) (first second amount : List ℕ) (few : length rs �
 
 -- ---- links
 
-no-link : Link
-no-link = record { link = 0; split = 0; unsplit = 0 }
+no_link : Link
+no_link = record { link = 0; split = 0; unsplit = 0 }
 
 pub numbers-length : (k m : ℕ) → length (numbers_from k m) ≡ m
 unfolding numbers_from
@@ -75,14 +75,14 @@ module _ (n : ℕ) (ls : List Link) (few : n ≤ desk.nodes) (same : map (λ (l 
   many : length ls ≡ n
   many = sym (length-map ls (λ (l : Link). l.link)) ∙ ap length same ∙ numbers-length 1 n
 
-  link-at : (k : ℕ) → k < length ls → link_at (column (λ (l : Link). l.split) desk.nodes ls) (column (λ (l : Link). l.unsplit) desk.nodes ls) k ≡ get_or ls k no-link
+  link-at : (k : ℕ) → k < length ls → link_at (column (λ (l : Link). l.split) desk.nodes ls) (column (λ (l : Link). l.unsplit) desk.nodes ls) k ≡ get_or ls k no_link
   link-at k h =
-      let e : k + 1 ≡ (get_or ls k no-link).link =
-      omega (arith, number_at 1 n k (omega (arith, many)), ap (λ l. get_or l k 0) same, get_or-map (λ (l : Link). l.link) ls no-link 0 k h) in
-      rw (column-at (λ (l : Link). l.split) desk.nodes ls no-link k (omega (arith, many)) h, column-at (λ (l : Link). l.unsplit) desk.nodes ls no-link k (omega (arith, many)) h, e)
+      let e : k + 1 ≡ (get_or ls k no_link).link =
+      omega (arith, number_at 1 n k (omega (arith, many)), ap (λ l. get_or l k 0) same, get_or-map (λ (l : Link). l.link) ls no_link 0 k h) in
+      rw (column-at (λ (l : Link). l.split) desk.nodes ls no_link k (omega (arith, many)) h, column-at (λ (l : Link). l.unsplit) desk.nodes ls no_link k (omega (arith, many)) h, e)
 
   pub links-back : links_in n (column (λ (l : Link). l.split) desk.nodes ls) (column (λ (l : Link). l.unsplit) desk.nodes ls) ≡ ls
-  links-back = let e = many in rw (← e) (same-members no-link ls _ link-at)
+  links-back = let e = many in rw (← e) (same-members no_link ls _ link-at)
 
 -- ---- the sheet
 

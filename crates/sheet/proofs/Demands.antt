@@ -22,7 +22,7 @@ use Rattle.sheet.specs.Range.{InRange}
 use Rattle.sheet.specs.Judge.{judge_halves}
 use Rattle.sheet.specs.Check.{accepted, when, check, form}
 use Rattle.sheet.proofs.Short.{plan-in-range}
-use Rattle.sheet.proofs.Read.{LinksJudged, no-links, and-link, Judged}
+use Rattle.sheet.proofs.Read.{LinksJudged, no_links, and_link, Judged}
 use Rattle.sheet.proofs.SheetText.{sheet-text}
 use Rattle.sheet.proofs.Truth.{judged-true}
 
@@ -35,8 +35,8 @@ rows-free (r ∷ rs) = more refl (rows-free rs)
 
 links-free : (rs : List Routed) (k : ℕ) (ls : List Link) → LinksJudged false rs k ls
 unfolding when
-links-free rs k [] = no-links
-links-free rs k (l ∷ ls) = and-link refl (links-free rs (k + 1) ls)
+links-free rs k [] = no_links
+links-free rs k (l ∷ ls) = and_link refl (links-free rs (k + 1) ls)
 
 free : (x : Sheet) → Judged false x
 unfolding when
@@ -59,7 +59,7 @@ module _ (limits : Limits) (limited : table.LimitsSpelled limits) (t : List ℕ)
 
   -- demand 3: a well-formed sheet is accepted exactly when it is a true sheet
   pub accepted-true : form limits t ≡ accepted x → (check limits t ≡ accepted x) ↔ TrueSheet x
-  accepted-true f = (λ e. (check-text.0 e).1.1, λ true-sheet. let w = form-text.0 f in check-text.1 (w.0, (w.1, true-sheet)))
+  accepted-true f = (λ e. (check-text.0 e).1.1, λ true_sheet. let w = form-text.0 f in check-text.1 (w.0, (w.1, true_sheet)))
 
   -- and every accepted sheet is well-formed
   pub accepted-formed : check limits t ≡ accepted x → form limits t ≡ accepted x
@@ -77,7 +77,7 @@ module _ (limits : Limits) (limited : table.LimitsSpelled limits) (t : List ℕ)
 module _ (limits : Limits) (limited : table.LimitsSpelled limits) where
   -- demand 2: read again, a sheet that was written has the same values
   pub read-written : (x : Sheet) → InRange limits x → TrueSheet x → check limits (write_sheet x) ≡ accepted x
-  read-written x range true-sheet = (check-text limits limited (write_sheet x) x).1 (refl, (range, true-sheet))
+  read-written x range true_sheet = (check-text limits limited (write_sheet x) x).1 (refl, (range, true_sheet))
 
   -- two sheets written the same are the same sheet
   pub same-sheet : (x y : Sheet) → InRange limits x → InRange limits y → write_sheet x ≡ write_sheet y → x ≡ y

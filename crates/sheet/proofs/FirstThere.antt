@@ -20,23 +20,23 @@ use Rattle.text.specs.declared.SentRow.{SentRow}
 use Rattle.table.specs.Lines.{lines}
 use Rattle.table.specs.Judge.{judge_ring}
 use Rattle.table.specs.Reasons.{rank_of}
-use Rattle.table.specs.Says.{LineIs, RingIs, line-faulty}
+use Rattle.table.specs.Says.{LineIs, RingIs, line_faulty}
 use Rattle.table.specs.declared.reason.Reason.{Reason}
 use Rattle.table.specs.declared.reason.Reason.TheVariants.{Misshapen, WrongSum}
 use Rattle.table.specs.declared.judge.Verdict.{Verdict}
 use Rattle.table.specs.declared.judge.Verdict.TheVariants.{Fine, Fault}
-use Rattle.table.proofs.Judged.{RingJudged, wrong-size, wrong-fibres, right-ring, ring-judged}
-use Rattle.table.proofs.Against.{AgainstRing, by_size, by-fibres, ring-least}
-use Rattle.table.proofs.LineRead.{RingRead, is-ring, no-ring, ring-read}
+use Rattle.table.proofs.Judged.{RingJudged, size_wrong, wrong_fibres, right_ring, ring-judged}
+use Rattle.table.proofs.Against.{AgainstRing, by_size, by_fibres, ring-least}
+use Rattle.table.proofs.LineRead.{RingRead, is_a_ring, no_ring, ring-read}
 use Rattle.table.proofs.LineNumbers.{line-one}
 use Rattle.text.specs.FirstFault.{FirstFault}
 use Rattle.text.specs.Shapes.{sent_shape}
 use Rattle.table.specs.Fields.{ring_fault, row_fault}
 use Rattle.sheet.proofs.SheetBytes.{ByteOn, only-byte, ring-byte, neither, sent-row-bytes}
 use Rattle.sheet.specs.Check.{whole_line, Turn, on, stop, unless, cut_of, routed_of, link_of, ring_turn, cut_turn, row_turn, link_turn, last_turn, turn}
-use Rattle.sheet.specs.Says.{State, start, rows, links, end, SentIs, CutIs, LinkIs, LastIs, At, at-start, behind-ring, behind-row, behind-cut, behind-link, behind-last, Says, ring-due, row-or-cut-due, link-due, last-due, none-due, ByteIs}
+use Rattle.sheet.specs.Says.{State, start, rows, links, end, SentIs, CutIs, LinkIs, LastIs, At, at_start, behind_ring, behind_row, behind_cut, behind_link, behind_last, Says, ring_due, row_or_cut_due, link_due, last_due, none_due, ByteIs}
 use Rattle.sheet.proofs.LineAt.{way-spelled}
-use Rattle.sheet.proofs.SheetLines.{SentRead, is-sent, no-sent, sent-read, CutRead, is_cut, no_cut, cut-read, LinkRead, is-link, no-link, link-read, LastRead, is_last, no_last, last-read}
+use Rattle.sheet.proofs.SheetLines.{SentRead, is_sent, no_sent, sent-read, CutRead, is_cut, no_cut, cut-read, LinkRead, is_link, no_link, link-read, LastRead, is_last, no_last, last-read}
 use Rattle.sheet.proofs.Places.{sent-spelled}
 use Rattle.sheet.proofs.FirstReason.{HoldsAs, First, first-as, Only, only-rank, only_then, Counts, counts-form, form-first, when-first}
 use Rattle.sheet.proofs.SheetJudged.{cut-first, link-first, last-first}
@@ -77,18 +77,18 @@ ring-first : (limits : Limits) (ring : Ring) → First (AgainstRing limits ring)
 ring-first limits ring = record { holds = go (ring-judged limits ring); least = λ s a. ring-least (ring-judged limits ring) a }
   where
     go : {v : Verdict} → RingJudged limits ring v → HoldsAs (AgainstRing limits ring) v
-    go (wrong-size w) = by_size w
-    go (wrong-fibres l m w) = by-fibres w
-    go (right-ring l m f) = tt
+    go (size_wrong w) = by_size w
+    go (wrong_fibres l m w) = by_fibres w
+    go (right_ring l m f) = tt
 
 ring-early : {limits : Limits} {ring : Ring} {s : Reason} → AgainstRing limits ring s → rank_of s < rank_of WrongSum
 ring-early (by_size w) = omega arith
-ring-early (by-fibres w) = omega arith
+ring-early (by_fibres w) = omega arith
 
 ring-said : {limits : Limits} {ring : Ring} {t : List ℕ} → RingIs t ring → (s : Reason) → AgainstRing limits ring s → Says limits t s 1
 unfolding Says
 ring-said {ring} here s (by_size w) = record { at = refl; ring = ring; said = here; wrong = w }
-ring-said {ring} here s (by-fibres w) = record { at = refl; ring = ring; said = here; wrong = w }
+ring-said {ring} here s (by_fibres w) = record { at = refl; ring = ring; said = here; wrong = w }
 
 -- ---- the turn of each line
 
@@ -96,15 +96,15 @@ module _ (limits : Limits) (judging : Bool) {t l : List ℕ} where
   -- R n fibres
   ring-turned : {x : TwoNumbers} {line : ℕ} → At t line start → LineIs (lines t) line l → RingRead l x → Turned limits judging t line (ring_turn limits x)
   unfolding ring_turn ByteIs
-  ring-turned at-start here (is-ring {n} {fibres} e w) =
+  ring-turned at_start here (is_a_ring {n} {fibres} e w) =
       let ring : RingIs t (ring_of n fibres) = record { text = subst (LineIs (lines t) 1) e here; spelled = w } in
       unless-turned limits judging (ring_fault (ring_of n fibres))
-      (first-as (λ s p. (p.0, ring-said ring s p.1)) (λ s c. (c.0, said-of-ring ring (said_here at-start (said s c.1))))
+      (first-as (λ s p. (p.0, ring-said ring s p.1)) (λ s c. (c.0, said-of-ring ring (said_here at_start (said s c.1))))
       (form-first judging (λ s. ring-early) (ring-first limits (ring_of n fibres))))
       (ring-byte ring (ring-judged limits (ring_of n fibres)))
-      (behind-ring ring)
-  ring-turned at-start here (no-ring none fault) =
-      stops (unfit-first limits judging at-start (λ ring r. none ring.n ring.fibres (line-one here r.text refl) r.spelled)) (ring-due at-start (line-faulty here fault))
+      (behind_ring ring)
+  ring-turned at_start here (no_ring none fault) =
+      stops (unfit-first limits judging at_start (λ ring r. none ring.n ring.fibres (line-one here r.text refl) r.spelled)) (ring_due at_start (line_faulty here fault))
 
   module _ {line : ℕ} (here : LineIs (lines t) line l) where
     -- C g h across, where the line is no D line
@@ -116,16 +116,16 @@ module _ (limits : Limits) (judging : Bool) {t l : List ℕ} where
         values-turned limits judging (when-first judging (λ s o. omega (arith, only-rank o)) (cut-first ring.n rs (cut_of g h m))) at (λ s. said-of-cut is)
         (λ w. record { ring = ring; rs = rs; due = at; c = cut_of g h m; is = is; wrong = w })
         refl
-        (behind-cut at is)
+        (behind_cut at is)
     cut-turned at none fault (no_cut none' fault') =
         stops (unfit-first limits judging at (none, λ c k. none' c.g c.h c.number (line-one here k.text refl) k.pair.0 k.pair.1 k.number))
-        (row-or-cut-due at (line-faulty here (neither fault fault')))
+        (row_or_cut_due at (line_faulty here (neither fault fault')))
 
     -- D i j amount front back F-or-B, else C
     row-turned : {ring : Ring} {rs : List Routed} {x : SentRow} {y : ThreeNumbers} → At t line (rows ring rs) → SentRead l x → CutRead l y
         → Turned limits judging t line (row_turn limits judging ring rs x y)
     unfolding row_turn
-    row-turned {ring} at (is-sent {i} {j} {d} {f} {b = k} {w} e h) c =
+    row-turned {ring} at (is_sent {i} {j} {d} {f} {b = k} {w} e h) c =
         let is : SentIs t line (routed_of i j d f k w) =
         record {
           text = subst (LineIs (lines t) line) (e ∙ sym (way-spelled i j d f k w)) here;
@@ -133,24 +133,24 @@ module _ (limits : Limits) (judging : Bool) {t l : List ℕ} where
           amount = h.amount;
           halves = (h.front, h.back);
         } in
-        unless-turned limits judging (row_fault ring.n i j d) (sent-first limits at is judging) (sent-row-bytes at is limits judging) (behind-row at is)
-    row-turned at (no-sent none fault) c =
+        unless-turned limits judging (row_fault ring.n i j d) (sent-first limits at is judging) (sent-row-bytes at is limits judging) (behind_row at is)
+    row-turned at (no_sent none fault) c =
         cut-turned at (λ r s. none _ _ _ _ _ _ (line-one here s.text refl) (sent-spelled s)) fault c
 
     module _ {ring : Ring} {rs : List Routed} {c : Cut} {ks : List Link} (at : At t line (links ring rs c ks)) where
       -- L link split-load unsplit-load
       link-turned : {x : ThreeNumbers} → length ks < ring.n → LinkRead l x → Turned limits judging t line (link_turn judging ring rs c ks x)
       unfolding link_turn Says ByteIs
-      link-turned few (is-link {k} {s} {u} e p q o) =
+      link-turned few (is_link {k} {s} {u} e p q o) =
           let is : LinkIs t line (link_of k s u) = record { text = subst (LineIs (lines t) line) e here; link = p; loads = (q, o) } in
           values-turned limits judging (when-first judging (λ s o. omega (arith, only-rank o)) (link-first rs (length ks + 1) (link_of k s u))) at
           (λ s. said-of-link few is)
           (λ w. record { ring = ring; rs = rs; c = c; ks = ks; due = at; few = few; l = link_of k s u; is = is; wrong = w })
           refl
-          (behind-link at few is)
-      link-turned few (no-link none fault) =
+          (behind_link at few is)
+      link-turned few (no_link none fault) =
           stops (unfit-first limits judging at (inl (few, λ k m. none k.link k.split k.unsplit (line-one here m.text refl) m.link m.loads.0 m.loads.1)))
-          (link-due at few (line-faulty here fault))
+          (link_due at few (line_faulty here fault))
 
       -- Z unsplit-peak size
       last-turned : {x : TwoNumbers} → ring.n ≤ length ks → LastRead l x → Turned limits judging t line (last_turn judging ring rs c ks x)
@@ -160,10 +160,10 @@ module _ (limits : Limits) (judging : Bool) {t l : List ℕ} where
           values-turned limits judging (when-first judging (λ s o. omega (arith, only-rank o)) (last-first ring rs p z)) at (λ s. said-of-last all is)
           (λ w. record { ring = ring; rs = rs; c = c; ks = ks; due = at; all = all; p = p; z = z; is = is; wrong = w })
           refl
-          (behind-last at all is)
+          (behind_last at all is)
       last-turned all (no_last none fault) =
           stops (unfit-first limits judging at (inr (all, λ p z m. none p z (line-one here m.text refl) m.spelled.0 m.spelled.1)))
-          (last-due at all (line-faulty here fault))
+          (last_due at all (line_faulty here fault))
 
   -- by what is due
   pub turned : {state : State} {line : ℕ} → At t line state → LineIs (lines t) line l → Turned limits judging t line (turn limits judging state l)
@@ -174,4 +174,4 @@ module _ (limits : Limits) (judging : Bool) {t l : List ℕ} where
       cond-elim (Turned limits judging t line) _ _ _
       (λ e. link-turned here at (ltb-true (length ks) ring.n e) (link-read l))
       (λ e. last-turned here at (ltb-false (length ks) ring.n e) (last-read l))
-  turned {state = end x} at here = stops (unfit-first limits judging at (l, here)) (none-due at refl)
+  turned {state = end x} at here = stops (unfit-first limits judging at (l, here)) (none_due at refl)

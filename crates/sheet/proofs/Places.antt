@@ -24,20 +24,20 @@ use Rattle.table.specs.Lines.{lines}
 use Rattle.table.specs.Says.{LineIs, RingIs}
 use Rattle.table.proofs.LineNumbers.{line-one, ring-one}
 use Rattle.sheet.specs.Check.{cut_of, routed_of, link_of}
-use Rattle.sheet.specs.Says.{State, start, rows, links, end, SentIs, CutIs, LinkIs, LastIs, At, at-start, behind-ring, behind-row, behind-cut, behind-link, behind-last, WholeIs}
+use Rattle.sheet.specs.Says.{State, start, rows, links, end, SentIs, CutIs, LinkIs, LastIs, At, at_start, behind_ring, behind_row, behind_cut, behind_link, behind_last, WholeIs}
 use Rattle.sheet.proofs.Back.{way_back}
 use Rattle.sheet.proofs.SheetLines.{SentSpelled, sent-line-read, cut-line-read, link-line-read, last-line-read}
 
 -- ---- one reading
 
-way-small : (w : Way) → way_number w < 2
-way-small F = omega arith
-way-small B = omega arith
+way_small : (w : Way) → way_number w < 2
+way_small F = omega arith
+way_small B = omega arith
 
 pub sent-spelled : {t : List ℕ} {line : ℕ} {r : Routed} → SentIs t line r
     → SentSpelled r.sent.row.i r.sent.row.j r.sent.row.d r.sent.front r.sent.back (way_number r.way)
 sent-spelled {r} s =
-    record { first = s.nodes.0; second = s.nodes.1; amount = s.amount; front = s.halves.0; back = s.halves.1; way = way-small r.way }
+    record { first = s.nodes.0; second = s.nodes.1; amount = s.amount; front = s.halves.0; back = s.halves.1; way = way_small r.way }
 
 -- the values of an answer
 abbrev routed_from : SentRow → Routed
@@ -93,23 +93,23 @@ module _ {t : List ℕ} {line : ℕ} where
 
 -- the line leads from one place to the next
 data Leads (t : List ℕ) (line : ℕ) : State → State → Type 0 where
-  by-ring : {ring : Ring} → RingIs t ring → Leads t line start (rows ring [])
+  by_ring : {ring : Ring} → RingIs t ring → Leads t line start (rows ring [])
   by_row : {ring : Ring} {rs : List Routed} {r : Routed} → SentIs t line r → Leads t line (rows ring rs) (rows ring (rs ++ r ∷ []))
-  by-cut : {ring : Ring} {rs : List Routed} {c : Cut} → CutIs t line c → Leads t line (rows ring rs) (links ring rs c [])
-  by-link : {ring : Ring} {rs : List Routed} {c : Cut} {ks : List Link} {l : Link} → length ks < ring.n → LinkIs t line l
+  by_cut : {ring : Ring} {rs : List Routed} {c : Cut} → CutIs t line c → Leads t line (rows ring rs) (links ring rs c [])
+  by_link : {ring : Ring} {rs : List Routed} {c : Cut} {ks : List Link} {l : Link} → length ks < ring.n → LinkIs t line l
       → Leads t line (links ring rs c ks) (links ring rs c (ks ++ l ∷ []))
   by_last : {ring : Ring} {rs : List Routed} {c : Cut} {ks : List Link} {p z : ℕ} → ring.n ≤ length ks → LastIs t line p z
       → Leads t line (links ring rs c ks) (end (record { ring = ring; rows = rs; cut = c; links = ks; peak = p; size = z }))
 
 leads_one : {t : List ℕ} {line : ℕ} {q x y : State} → Leads t line q x → Leads t line q y → x ≡ y
-leads_one (by-ring a) (by-ring b) = ap (λ ring. rows ring []) (ring-one a b)
+leads_one (by_ring a) (by_ring b) = ap (λ ring. rows ring []) (ring-one a b)
 leads_one (by_row {ring} {rs} a) (by_row b) = ap (λ (r : Routed). rows ring (rs ++ r ∷ [])) (sent-one a b)
-leads_one (by_row a) (by-cut b) = absurd (sent-or-cut a b)
-leads_one (by-cut a) (by_row b) = absurd (sent-or-cut b a)
-leads_one (by-cut {ring} {rs} a) (by-cut b) = ap (λ c. links ring rs c []) (cut-one a b)
-leads_one (by-link {ring} {rs} {c} {ks} few a) (by-link few' b) = ap (λ l. links ring rs c (ks ++ l ∷ [])) (link-one a b)
-leads_one (by-link few a) (by_last all b) = absurd (omega arith)
-leads_one (by_last all a) (by-link few b) = absurd (omega arith)
+leads_one (by_row a) (by_cut b) = absurd (sent-or-cut a b)
+leads_one (by_cut a) (by_row b) = absurd (sent-or-cut b a)
+leads_one (by_cut {ring} {rs} a) (by_cut b) = ap (λ c. links ring rs c []) (cut-one a b)
+leads_one (by_link {ring} {rs} {c} {ks} few a) (by_link few' b) = ap (λ l. links ring rs c (ks ++ l ∷ [])) (link-one a b)
+leads_one (by_link few a) (by_last all b) = absurd (omega arith)
+leads_one (by_last all a) (by_link few b) = absurd (omega arith)
 leads_one (by_last {ring} {rs} {c} {ks} all a) (by_last all' b) =
     let e = last_one a b in
     ap₂ (λ p z. end (record { ring = ring; rows = rs; cut = c; links = ks; peak = p; size = z })) e.0 e.1
@@ -119,32 +119,32 @@ leads_one (by_last {ring} {rs} {c} {ks} all a) (by_last all' b) =
 -- from line to line
 data Walked (t : List ℕ) : ℕ → State → Type 0 where
   at_first : Walked t 1 start
-  on-from : {line : ℕ} {q s : State} {l : List ℕ} → Walked t line q → LineIs (lines t) line l → Leads t line q s → Walked t (line + 1) s
+  on_from : {line : ℕ} {q s : State} {l : List ℕ} → Walked t line q → LineIs (lines t) line l → Leads t line q s → Walked t (line + 1) s
 
 module _ {t : List ℕ} where
   walked : {line : ℕ} {s : State} → At t line s → Walked t line s
-  walked at-start = at_first
-  walked (behind-ring r) = on-from at_first r.text (by-ring r)
-  walked (behind-row at r) = on-from (walked at) r.text (by_row r)
-  walked (behind-cut at c) = on-from (walked at) c.text (by-cut c)
-  walked (behind-link at few l) = on-from (walked at) l.text (by-link few l)
-  walked (behind-last at all l) = on-from (walked at) l.text (by_last all l)
+  walked at_start = at_first
+  walked (behind_ring r) = on_from at_first r.text (by_ring r)
+  walked (behind_row at r) = on_from (walked at) r.text (by_row r)
+  walked (behind_cut at c) = on_from (walked at) c.text (by_cut c)
+  walked (behind_link at few l) = on_from (walked at) l.text (by_link few l)
+  walked (behind_last at all l) = on_from (walked at) l.text (by_last all l)
 
   walked_low : {line : ℕ} {s : State} → Walked t line s → 1 ≤ line
   walked_low at_first = omega arith
-  walked_low (on-from w is k) = omega arith
+  walked_low (on_from w is k) = omega arith
 
   walked_one : {line other : ℕ} {s q : State} → Walked t line s → Walked t other q → line ≡ other → s ≡ q
   walked_one at_first at_first e = refl
-  walked_one at_first (on-from w is k) e = absurd (omega (arith, walked_low w))
-  walked_one (on-from w is k) at_first e = absurd (omega (arith, walked_low w))
-  walked_one {q} (on-from {line} w is k) (on-from {line = other} w' is' k') e =
+  walked_one at_first (on_from w is k) e = absurd (omega (arith, walked_low w))
+  walked_one (on_from w is k) at_first e = absurd (omega (arith, walked_low w))
+  walked_one {q} (on_from {line} w is k) (on_from {line = other} w' is' k') e =
       let f : line ≡ other = omega arith in
       leads_one k (subst₂ (λ x y. Leads t x y q) (sym f) (sym (walked_one w w' f)) k')
 
   walked-within : {line k : ℕ} {s : State} → 1 ≤ line → ((l : List ℕ) → LineIs (lines t) line l → ⊥) → Walked t k s → k ≤ line
   walked-within low none at_first = low
-  walked-within {line} low none (on-from {line = k} {l} w is to) =
+  walked-within {line} low none (on_from {line = k} {l} w is to) =
       let e : k ≡ line → ⊥ = λ e. none l (subst (λ m. LineIs (lines t) m l) e is) in
       omega (arith, walked-within low none w)
 

@@ -15,8 +15,8 @@ use Rattle.ring.specs.Sheet.{Link, Sheet, sents, demands}
 use Rattle.text.specs.Number.{limit}
 use Rattle.text.specs.Shapes.{ring_line, sent_line, cut_line, link_line, last_line}
 use Rattle.table.specs.declared.judge.Verdict.TheVariants.{Fine}
-use Rattle.table.proofs.Judged.{RingJudged, right-ring, ring-judged, RowJudged, row_fine, row-judged}
-use Rattle.table.proofs.FineRows.{FineRows, no_row, fine-row}
+use Rattle.table.proofs.Judged.{RingJudged, right_ring, ring-judged, RowJudged, row_fine, row-judged}
+use Rattle.table.proofs.FineRows.{FineRows, no_row, fine_row}
 use Rattle.sheet.specs.WriteSheet.{routed_line, load_line, lines_of, figures_of, end_text, write_sheet}
 use Rattle.sheet.specs.Range.{RowSpelled, LinkSpelled, Spelled}
 use Rattle.sheet.specs.Judge.{judge_halves, judge_cut, judge_link, judge_last, judge_whole}
@@ -25,14 +25,14 @@ use Rattle.sheet.specs.Says.{start, rows, links, end}
 use Rattle.sheet.proofs.LineAt.{way-spelled}
 use Rattle.sheet.proofs.SheetLines.{SentSpelled}
 use Rattle.sheet.proofs.Last.{last_more}
-use Rattle.sheet.proofs.Rest.{Rest, rest_end, rest-last, rest-link, rest-cut, rest-row, rest-ring}
+use Rattle.sheet.proofs.Rest.{Rest, rest_end, rest_last, rest_link, rest_cut, rest_row, rest_ring}
 
 -- ---- what `judging` asks
 
 -- nothing is found against the links behind k others
 pub data LinksJudged (judging : Bool) (rs : List Routed) : ℕ → List Link → Type 0 where
-  no-links : {k : ℕ} → LinksJudged judging rs k []
-  and-link : {k : ℕ} {l : Link} {ls : List Link} → when judging (judge_link rs (k + 1) l) ≡ Fine → LinksJudged judging rs (k + 1) ls
+  no_links : {k : ℕ} → LinksJudged judging rs k []
+  and_link : {k : ℕ} {l : Link} {ls : List Link} → when judging (judge_link rs (k + 1) l) ≡ Fine → LinksJudged judging rs (k + 1) ls
       → LinksJudged judging rs k (l ∷ ls)
 
 -- nor against the rest of a sheet
@@ -58,12 +58,12 @@ module _ (judging : Bool) (x : Sheet) where
   record FromLinks (ring : Ring) (rs : List Routed) (c : Cut) (ks : List Link) (text : List ℕ) : Type 0 where
     later : List Link
     same : x ≡ record { ring = ring; rows = rs; cut = c; links = ks ++ later; peak = x.peak; size = x.size }
-    is-text : text ≡ lines_of load_line later ++ last_line x.peak x.size
+    is_text : text ≡ lines_of load_line later ++ last_line x.peak x.size
     many : length ks + length later ≡ ring.n
     spelled : Each LinkSpelled later
     last : (x.peak < limit) × (x.size < limit)
     judged : LinksJudged judging rs (length ks) later
-    last-judged : when judging (judge_last ring rs x.peak x.size) ≡ Fine
+    last_judged : when judging (judge_last ring rs x.peak x.size) ≡ Fine
     whole : when judging (judge_whole x) ≡ Fine
 
   last-from : {ring : Ring} {rs : List Routed} {c : Cut} {ks : List Link} {p z : ℕ} {text : List ℕ} → length ks ≤ ring.n → ring.n ≤ length ks → p < limit → z < limit
@@ -77,12 +77,12 @@ module _ (judging : Bool) (x : Sheet) where
       record {
         later = [];
         same = sym e.same ∙ rw (append-nil ks, ep, ez);
-        is-text = rw (q, append-nil (last_line p z), ep, ez);
+        is_text = rw (q, append-nil (last_line p z), ep, ez);
         many = omega arith;
         spelled = none;
         last = (rw (← ep) a, rw (← ez) b);
-        judged = no-links;
-        last-judged = rw (← ep, ← ez) v;
+        judged = no_links;
+        last_judged = rw (← ep, ← ez) v;
         whole = e.whole;
       }
 
@@ -95,19 +95,19 @@ module _ (judging : Bool) (x : Sheet) where
       record {
         later = link_of k s u ∷ f.later;
         same = rw (append_assoc ks (link_of k s u ∷ []) f.later) at f.same;
-        is-text = ap (λ (t : List ℕ). link_line k s u ++ t) f.is-text ∙ sym (append_assoc (link_line k s u) (lines_of load_line f.later) (last_line x.peak x.size));
+        is_text = ap (λ (t : List ℕ). link_line k s u ++ t) f.is_text ∙ sym (append_assoc (link_line k s u) (lines_of load_line f.later) (last_line x.peak x.size));
         many = omega (arith, f.many);
         spelled = more (record { link = a; split = b; unsplit = d }) f.spelled;
         last = f.last;
-        judged = and-link v (subst (λ m. LinksJudged judging rs m f.later) long f.judged);
-        last-judged = f.last-judged;
+        judged = and_link v (subst (λ m. LinksJudged judging rs m f.later) long f.judged);
+        last_judged = f.last_judged;
         whole = f.whole;
       }
 
   from-links : {limits : Limits} {ring : Ring} {rs : List Routed} {c : Cut} {ks : List Link} {text : List ℕ} → length ks ≤ ring.n → Rest limits judging x (links ring rs c ks) text
       → FromLinks ring rs c ks text
-  from-links within (rest-last all a b v rest) = last-from within all a b v (at-end rest)
-  from-links {ks = ks} within (rest-link {k = k} {s = s} {u = u} few a b d v rest) =
+  from-links within (rest_last all a b v rest) = last-from within all a b v (at-end rest)
+  from-links {ks = ks} within (rest_link {k = k} {s = s} {u = u} few a b d v rest) =
       link-from a b d v (from-links (omega (arith, length-append ks (link_of k s u ∷ []))) rest)
 
   -- ---- behind the R line
@@ -116,12 +116,12 @@ module _ (judging : Bool) (x : Sheet) where
   record FromRows (limits : Limits) (ring : Ring) (rs : List Routed) (text : List ℕ) : Type 0 where
     later : List Routed
     same : x.rows ≡ rs ++ later
-    is-text : text ≡ lines_of routed_line later ++ end_text (figures_of x) x.links
+    is_text : text ≡ lines_of routed_line later ++ end_text (figures_of x) x.links
     fine : FineRows limits ring.n (length rs) (last_of rs).i (last_of rs).j (demands (sents later))
     halves : Each RowSpelled later
     judged : Each (λ r. when judging (judge_halves r) ≡ Fine) later
     cut : (x.cut.g < limit) × ((x.cut.h < limit) × (x.cut.number < limit))
-    cut-judged : when judging (judge_cut ring.n x.rows x.cut) ≡ Fine
+    cut_judged : when judging (judge_cut ring.n x.rows x.cut) ≡ Fine
     behind : FromLinks ring x.rows x.cut [] (lines_of load_line x.links ++ last_line x.peak x.size)
 
   cut-from : {limits : Limits} {ring : Ring} {rs : List Routed} {g h m : ℕ} {text : List ℕ} → g < limit → h < limit → m < limit
@@ -131,16 +131,16 @@ module _ (judging : Bool) (x : Sheet) where
       let er : x.rows ≡ rs = ap (λ (y : Sheet). y.rows) f.same in
       let ec : x.cut ≡ cut_of g h m = ap (λ (y : Sheet). y.cut) f.same in
       let el : x.links ≡ f.later = ap (λ (y : Sheet). y.links) f.same in
-      let et : text ≡ lines_of load_line x.links ++ last_line x.peak x.size = rw el f.is-text in
+      let et : text ≡ lines_of load_line x.links ++ last_line x.peak x.size = rw el f.is_text in
       record {
         later = [];
         same = er ∙ sym (append-nil rs);
-        is-text = rw (ec, et);
+        is_text = rw (ec, et);
         fine = no_row;
         halves = none;
         judged = none;
         cut = rw ec (p, (q, r));
-        cut-judged = rw (er, ec) v;
+        cut_judged = rw (er, ec) v;
         behind =
             subst (λ t. FromLinks ring x.rows x.cut [] t) et
             (subst (λ c. FromLinks ring x.rows c [] text) (sym ec) (subst (λ l. FromLinks ring l (cut_of g h m) [] text) (sym er) f));
@@ -155,14 +155,14 @@ module _ (judging : Bool) (x : Sheet) where
       record {
         later = r ∷ from.later;
         same = from.same ∙ append_assoc rs (r ∷ []) from.later;
-        is-text =
-            ap (λ (t : List ℕ). sent_line i j d f k w ++ t) from.is-text ∙ ap (λ (t : List ℕ). t ++ (lines_of routed_line from.later ++ end_text (figures_of x) x.links)) (sym (way-spelled i j d f k w))
+        is_text =
+            ap (λ (t : List ℕ). sent_line i j d f k w ++ t) from.is_text ∙ ap (λ (t : List ℕ). t ++ (lines_of routed_line from.later ++ end_text (figures_of x) x.links)) (sym (way-spelled i j d f k w))
             ∙ sym (append_assoc (routed_line r) (lines_of routed_line from.later) (end_text (figures_of x) x.links));
         fine = fine (rw v at (row-judged limits ring.n (length rs) (last_of rs).i (last_of rs).j i j d));
         halves = more (record { front = spelled.front; back = spelled.back }) from.halves;
         judged = more u from.judged;
         cut = from.cut;
-        cut-judged = from.cut-judged;
+        cut_judged = from.cut_judged;
         behind = from.behind;
       }
     where
@@ -171,11 +171,11 @@ module _ (judging : Bool) (x : Sheet) where
 
       fine : RowJudged limits ring.n (length rs) (last_of rs).i (last_of rs).j i j d Fine → FineRows limits ring.n (length rs) (last_of rs).i (last_of rs).j (demands (sents (r ∷ from.later)))
       fine (row_fine on up room most) =
-          fine-row on up room most (subst (λ m. FineRows limits ring.n m i j (demands (sents from.later))) (length-append rs (r ∷ [])) (rw (last_more rs r) at from.fine))
+          fine_row on up room most (subst (λ m. FineRows limits ring.n m i j (demands (sents from.later))) (length-append rs (r ∷ [])) (rw (last_more rs r) at from.fine))
 
   from-rows : {limits : Limits} {ring : Ring} {rs : List Routed} {text : List ℕ} → Rest limits judging x (rows ring rs) text → FromRows limits ring rs text
-  from-rows (rest-cut p q r v rest) = cut-from p q r v (from-links (omega arith) rest)
-  from-rows (rest-row spelled v u rest) = row_from spelled v u (from-rows rest)
+  from-rows (rest_cut p q r v rest) = cut-from p q r v (from-links (omega arith) rest)
+  from-rows (rest_row spelled v u rest) = row_from spelled v u (from-rows rest)
 
 -- ---- the whole sheet
 
@@ -193,13 +193,13 @@ pub record IsSheet (limits : Limits) (judging : Bool) (t : List ℕ) (x : Sheet)
 sheet-from : (limits : Limits) (judging : Bool) (t : List ℕ) (x : Sheet) (ring : Ring) → RingJudged limits ring Fine → FromRows judging x limits ring [] t
     → IsSheet limits judging (ring_line ring.n ring.fibres ++ t) x
 unfolding write_sheet
-sheet-from limits judging t x ring (right-ring few many fibres) f =
+sheet-from limits judging t x ring (right_ring few many fibres) f =
     let b = f.behind in
     let en : x.ring ≡ ring = ap (λ (y : Sheet). y.ring) b.same in
     let el : x.links ≡ b.later = ap (λ (y : Sheet). y.links) b.same in
     let er : x.rows ≡ f.later = f.same in
     record {
-      text = rw (en, er) (ap (λ (s : List ℕ). ring_line ring.n ring.fibres ++ s) f.is-text);
+      text = rw (en, er) (ap (λ (s : List ℕ). ring_line ring.n ring.fibres ++ s) f.is_text);
       few = rw en few;
       many = rw en many;
       fibres = rw en fibres;
@@ -209,12 +209,12 @@ sheet-from limits judging t x ring (right-ring few many fibres) f =
       judged =
           record {
             halves = rw er f.judged;
-            cut = rw en f.cut-judged;
+            cut = rw en f.cut_judged;
             links = rw el b.judged;
-            last = rw en b.last-judged;
+            last = rw en b.last_judged;
             whole = b.whole;
           };
     }
 
 pub from_start : (limits : Limits) (judging : Bool) (t : List ℕ) (x : Sheet) → Rest limits judging x start t → IsSheet limits judging t x
-from_start limits judging t x (rest-ring {ring} {text} w v rest) = sheet-from limits judging text x ring (rw v at (ring-judged limits ring)) (from-rows judging x rest)
+from_start limits judging t x (rest_ring {ring} {text} w v rest) = sheet-from limits judging text x ring (rw v at (ring-judged limits ring)) (from-rows judging x rest)

@@ -30,7 +30,7 @@ use Rattle.table.specs.Lines.{lines}
 use Rattle.table.specs.Judge.{judge_ring}
 use Rattle.table.specs.declared.judge.Verdict.{Verdict}
 use Rattle.table.specs.declared.judge.Verdict.TheVariants.{Fine, Fault}
-use Rattle.table.proofs.LineRead.{RingSpelled, RingRead, is-ring, no-ring, ring-read, ring-line-read}
+use Rattle.table.proofs.LineRead.{RingSpelled, RingRead, is_a_ring, no_ring, ring-read, ring-line-read}
 use Rattle.table.proofs.LinesOf.{FirstLine, NoLf, written-first, ring-first}
 use Rattle.sheet.specs.Verdicts.{or_else}
 use Rattle.sheet.specs.Judge.{judge_halves, judge_cut, judge_link, judge_last, judge_whole}
@@ -38,24 +38,24 @@ use Rattle.table.specs.Fields.{ring_fault, row_fault}
 use Rattle.table.specs.declared.reason.Reason.{Reason}
 use Rattle.sheet.specs.Check.{whole_line, accepted, judge_next, Turn, on, stop, unless, when, cut_of, routed_of, link_of, ring_turn, cut_turn, row_turn, link_turn, last_turn, turn, whole_result, at_end, after, check_from}
 use Rattle.sheet.specs.Says.{State, start, rows, links, end}
-use Rattle.sheet.proofs.SheetLines.{SentSpelled, SentRead, is-sent, no-sent, sent-read, CutRead, is_cut, no_cut, cut-read, LinkRead, is-link, no-link, link-read, LastRead, is_last, no_last, last-read, sent-line-read, cut-line-read, link-line-read, last-line-read, sent-in-range, cut-in-range, link-in-range, last-in-range}
+use Rattle.sheet.proofs.SheetLines.{SentSpelled, SentRead, is_sent, no_sent, sent-read, CutRead, is_cut, no_cut, cut-read, LinkRead, is_link, no_link, link-read, LastRead, is_last, no_last, last-read, sent-line-read, cut-line-read, link-line-read, last-line-read, sent-in-range, cut-in-range, link-in-range, last-in-range}
 
 -- the rest `text` leads from a state to the sheet x; where `judging`, nothing is found against it
 pub data Rest (limits : Limits) (judging : Bool) (x : Sheet) : State → List ℕ → Type 0 where
   rest_end : when judging (judge_whole x) ≡ Fine → Rest limits judging x (end x) []
-  rest-last : {ring : Ring} {rs : List Routed} {c : Cut} {ks : List Link} {p z : ℕ} {text : List ℕ} → ring.n ≤ length ks → p < limit → z < limit
+  rest_last : {ring : Ring} {rs : List Routed} {c : Cut} {ks : List Link} {p z : ℕ} {text : List ℕ} → ring.n ≤ length ks → p < limit → z < limit
       → when judging (judge_last ring rs p z) ≡ Fine → Rest limits judging x (end (record { ring = ring; rows = rs; cut = c; links = ks; peak = p; size = z })) text
       → Rest limits judging x (links ring rs c ks) (last_line p z ++ text)
-  rest-link : {ring : Ring} {rs : List Routed} {c : Cut} {ks : List Link} {k s u : ℕ} {text : List ℕ} → length ks < ring.n → k < limit → s < limit → u < limit
+  rest_link : {ring : Ring} {rs : List Routed} {c : Cut} {ks : List Link} {k s u : ℕ} {text : List ℕ} → length ks < ring.n → k < limit → s < limit → u < limit
       → when judging (judge_link rs (length ks + 1) (link_of k s u)) ≡ Fine → Rest limits judging x (links ring rs c (ks ++ link_of k s u ∷ [])) text
       → Rest limits judging x (links ring rs c ks) (link_line k s u ++ text)
-  rest-cut : {ring : Ring} {rs : List Routed} {g h m : ℕ} {text : List ℕ} → g < limit → h < limit → m < limit
+  rest_cut : {ring : Ring} {rs : List Routed} {g h m : ℕ} {text : List ℕ} → g < limit → h < limit → m < limit
       → when judging (judge_cut ring.n rs (cut_of g h m)) ≡ Fine → Rest limits judging x (links ring rs (cut_of g h m) []) text
       → Rest limits judging x (rows ring rs) (cut_line g h m ++ text)
-  rest-row : {ring : Ring} {rs : List Routed} {i j d f k w : ℕ} {text : List ℕ} → SentSpelled i j d f k w → judge_next limits ring.n rs i j d ≡ Fine
+  rest_row : {ring : Ring} {rs : List Routed} {i j d f k w : ℕ} {text : List ℕ} → SentSpelled i j d f k w → judge_next limits ring.n rs i j d ≡ Fine
       → when judging (judge_halves (routed_of i j d f k w)) ≡ Fine → Rest limits judging x (rows ring (rs ++ routed_of i j d f k w ∷ [])) text
       → Rest limits judging x (rows ring rs) (sent_line i j d f k w ++ text)
-  rest-ring : {ring : Ring} {text : List ℕ} → RingSpelled ring.n ring.fibres → judge_ring limits ring ≡ Fine → Rest limits judging x (rows ring []) text
+  rest_ring : {ring : Ring} {text : List ℕ} → RingSpelled ring.n ring.fibres → judge_ring limits ring ≡ Fine → Rest limits judging x (rows ring []) text
       → Rest limits judging x start (ring_line ring.n ring.fibres ++ text)
 
 -- ---- a line that leads on
@@ -77,40 +77,40 @@ module _ (limits : Limits) (judging : Bool) (x : Sheet) where
 
   ring-leads : (l : List ℕ) {y : TwoNumbers} → RingRead l y → Leads start l (ring_turn limits y)
   unfolding ring_turn
-  ring-leads l (is-ring {n} {fibres} e w) next q text rest =
+  ring-leads l (is_a_ring {n} {fibres} e w) next q text rest =
       let u = unless-on (judge_ring limits (ring_of n fibres)) (ring_fault (ring_of n fibres)) (rows (ring_of n fibres) []) next q in
-      rw e (rest-ring {ring = ring_of n fibres} w u.0 (subst (λ s. Rest limits judging x s text) (sym u.1) rest))
-  ring-leads l (no-ring misread fault) next q text rest = clash (cc)
+      rw e (rest_ring {ring = ring_of n fibres} w u.0 (subst (λ s. Rest limits judging x s text) (sym u.1) rest))
+  ring-leads l (no_ring misread fault) next q text rest = clash (cc)
 
   module _ (ring : Ring) (rs : List Routed) where
     cut-leads : (l : List ℕ) (o : ℕ) {y : ThreeNumbers} → CutRead l y → Leads (rows ring rs) l (cut_turn judging ring rs o y)
     unfolding cut_turn
     cut-leads l o (is_cut {g} {h} {m} e p q r) next t text rest =
         let u = unless-on (when judging (judge_cut ring.n rs (cut_of g h m))) whole_line (links ring rs (cut_of g h m) []) next t in
-        rw e (rest-cut p q r u.0 (subst (λ s. Rest limits judging x s text) (sym u.1) rest))
+        rw e (rest_cut p q r u.0 (subst (λ s. Rest limits judging x s text) (sym u.1) rest))
     cut-leads l o (no_cut misread fault) next t text rest = clash (cc)
 
     row-leads : (l : List ℕ) {y : SentRow} {z : ThreeNumbers} → SentRead l y → CutRead l z → Leads (rows ring rs) l (row_turn limits judging ring rs y z)
     unfolding row_turn
-    row-leads l (is-sent {i} {j} {d} {f} {b = k} {w} e spelled) other next t text rest =
+    row-leads l (is_sent {i} {j} {d} {f} {b = k} {w} e spelled) other next t text rest =
         let u = unless-on (or_else (judge_next limits ring.n rs i j d) (when judging (judge_halves (routed_of i j d f k w)))) (row_fault ring.n i j d) (rows ring (rs ++ routed_of i j d f k w ∷ [])) next t in
         let v = or-fine (judge_next limits ring.n rs i j d) (when judging (judge_halves (routed_of i j d f k w))) u.0 in
-        rw e (rest-row spelled v.0 v.1 (subst (λ s. Rest limits judging x s text) (sym u.1) rest))
-    row-leads l (no-sent {p} misread fault) other next t text rest = cut-leads l p other next t text rest
+        rw e (rest_row spelled v.0 v.1 (subst (λ s. Rest limits judging x s text) (sym u.1) rest))
+    row-leads l (no_sent {p} misread fault) other next t text rest = cut-leads l p other next t text rest
 
     module _ (c : Cut) (ks : List Link) where
       link-leads : (l : List ℕ) {y : ThreeNumbers} → length ks < ring.n → LinkRead l y → Leads (links ring rs c ks) l (link_turn judging ring rs c ks y)
       unfolding link_turn
-      link-leads l few (is-link {k} {s} {u} e p q r) next t text rest =
+      link-leads l few (is_link {k} {s} {u} e p q r) next t text rest =
           let v = unless-on (when judging (judge_link rs (length ks + 1) (link_of k s u))) whole_line (links ring rs c (ks ++ link_of k s u ∷ [])) next t in
-          rw e (rest-link few p q r v.0 (subst (λ s. Rest limits judging x s text) (sym v.1) rest))
-      link-leads l few (no-link misread fault) next t text rest = clash (cc)
+          rw e (rest_link few p q r v.0 (subst (λ s. Rest limits judging x s text) (sym v.1) rest))
+      link-leads l few (no_link misread fault) next t text rest = clash (cc)
 
       last-leads : (l : List ℕ) {y : TwoNumbers} → ring.n ≤ length ks → LastRead l y → Leads (links ring rs c ks) l (last_turn judging ring rs c ks y)
       unfolding last_turn
       last-leads l all (is_last {p} {z} e a b) next t text rest =
           let u = unless-on (when judging (judge_last ring rs p z)) whole_line (end (record { ring = ring; rows = rs; cut = c; links = ks; peak = p; size = z })) next t in
-          rw e (rest-last all a b u.0 (subst (λ s. Rest limits judging x s text) (sym u.1) rest))
+          rw e (rest_last all a b u.0 (subst (λ s. Rest limits judging x s text) (sym u.1) rest))
       last-leads l all (no_last misread fault) next t text rest = clash (cc)
 
   turn-leads : (state : State) (l : List ℕ) → Leads state l (turn limits judging state l)
@@ -158,8 +158,8 @@ cut-no-row g h m i j d f b w e = let q : letter_c ≡ letter_d = ap (λ l. get_o
 cut-not-sent : (g h m : ℕ) {y : SentRow} → SentRead (cut_line g h m) y → (limits : Limits) (judging : Bool) (ring : Ring) (rs : List Routed) (z : ThreeNumbers)
     → (o : ℕ) × (row_turn limits judging ring rs y z ≡ cut_turn judging ring rs o z)
 unfolding row_turn
-cut-not-sent g h m (is-sent e s) limits judging ring rs z = absurd (cut-no-row g h m _ _ _ _ _ _ e)
-cut-not-sent g h m (no-sent {p} misread fault) limits judging ring rs z = (p, refl)
+cut-not-sent g h m (is_sent e s) limits judging ring rs z = absurd (cut-no-row g h m _ _ _ _ _ _ e)
+cut-not-sent g h m (no_sent {p} misread fault) limits judging ring rs z = (p, refl)
 
 -- each line is the first of what it begins
 pub sent-first : (i j d f b w : ℕ) → SentSpelled i j d f b w → FirstLine (sent_line i j d f b w)
@@ -187,13 +187,13 @@ module _ (limits : Limits) (judging : Bool) (x : Sheet) where
   pub rest_read : {state : State} {text : List ℕ} → Rest limits judging x state text → (line : ℕ) → check_from limits judging state line (lines text) ≡ accepted x
   unfolding check_from turn after at_end whole_result lines ring_turn row_turn cut_turn link_turn last_turn unless or_else
   rest_read (rest_end v) line = rw v
-  rest_read (rest-last {ring} {rs} {c} {ks} {p} {z} {text} all a b v rest) line =
+  rest_read (rest_last {ring} {rs} {c} {ks} {p} {z} {text} all a b v rest) line =
       rw (last-first p z a b text, le-ltb (length ks) ring.n all, last-line-read p z a b, v) (rest_read rest (line + 1))
-  rest_read (rest-link {ring} {rs} {c} {ks} {k} {s} {u} {text} few a b d v rest) line =
+  rest_read (rest_link {ring} {rs} {c} {ks} {k} {s} {u} {text} few a b d v rest) line =
       rw (link-first k s u a b d text, lt-ltb (length ks) ring.n few, link-line-read k s u a b d, v) (rest_read rest (line + 1))
-  rest_read (rest-cut {ring} {rs} {g} {h} {m} {text} p q r v rest) line =
+  rest_read (rest_cut {ring} {rs} {g} {h} {m} {text} p q r v rest) line =
       rw (cut-first g h m p q r text, (cut-not-sent g h m (sent-read (cut_line g h m)) limits judging ring rs (three_in (read_line cut_shape (cut_line g h m)))).1, cut-line-read g h m p q r, v)
       (rest_read rest (line + 1))
-  rest_read (rest-row {ring} {rs} {i} {j} {d} {f} {k} {w} {text} spelled v u rest) line =
+  rest_read (rest_row {ring} {rs} {i} {j} {d} {f} {k} {w} {text} spelled v u rest) line =
       rw (sent-first i j d f k w spelled text, sent-line-read i j d f k w spelled, v, u) (rest_read rest (line + 1))
-  rest_read (rest-ring {ring} {text} h v rest) line = rw (ring-first ring.n ring.fibres h text, ring-line-read ring.n ring.fibres h, v) (rest_read rest (line + 1))
+  rest_read (rest_ring {ring} {text} h v rest) line = rw (ring-first ring.n ring.fibres h text, ring-line-read ring.n ring.fibres h, v) (rest_read rest (line + 1))

@@ -15,23 +15,23 @@ use Rattle.table.specs.Reasons.{rank_of}
 use Rattle.table.specs.declared.reason.Reason.{Reason}
 use Rattle.table.specs.declared.reason.Reason.TheVariants.{WrongSum}
 use Rattle.table.specs.declared.judge.Verdict.{Verdict}
-use Rattle.table.proofs.Judged.{RowJudged, no-such-node, not-below, out_of_order, too_many, too_much, row_fine, row-judged}
-use Rattle.table.proofs.Against.{AgainstRow, by-nodes, by-pair, by_order, by_count, by-amount, row-least}
+use Rattle.table.proofs.Judged.{RowJudged, no_such_node, not_below, out_of_order, too_many, too_much, row_fine, row-judged}
+use Rattle.table.proofs.Against.{AgainstRow, by_nodes, by_pair, by_order, by_count, by_amount, row-least}
 use Rattle.sheet.specs.Verdicts.{or_else}
 use Rattle.sheet.specs.Judge.{judge_halves}
 use Rattle.sheet.specs.Check.{when, last_of, judge_next}
-use Rattle.sheet.specs.Says.{rows, SentIs, At, behind-ring, behind-row, RowAt, WrongOrder, Says}
+use Rattle.sheet.specs.Says.{rows, SentIs, At, behind_ring, behind_row, RowAt, WrongOrder, Says}
 use Rattle.sheet.proofs.Last.{last_more}
 use Rattle.sheet.proofs.FirstReason.{HoldsAs, First, first-as, or-else-first, only_then, Counts, form-first, when-first}
 use Rattle.sheet.proofs.SheetJudged.{AgainstHalves, halves-late, halves-first}
 use Rattle.sheet.proofs.SheetSaid.{said-of-row, Counted, AgainstDemand, AgainstSent, said, said_here}
 
 early : {limits : Limits} {n k a b i j d : ℕ} {s : Reason} → AgainstRow limits n k a b i j d s → rank_of s < rank_of WrongSum
-early (by-nodes w) = omega arith
-early (by-pair w) = omega arith
+early (by_nodes w) = omega arith
+early (by_pair w) = omega arith
 early (by_order w) = omega arith
 early (by_count w) = omega arith
-early (by-amount w) = omega arith
+early (by_amount w) = omega arith
 
 abbrev pub row-at : {t : List ℕ} {line : ℕ} {ring : Ring} {rs : List Routed} {r : Routed} → At t line (rows ring rs) → SentIs t line r → RowAt t line r
 row-at {ring} {rs} at is = record { ring = ring; rs = rs; due = at; is = is }
@@ -39,9 +39,9 @@ row-at {ring} {rs} at is = record { ring = ring; rs = rs; due = at; is = is }
 -- a row that has a first node is not below the pair 0, 0, so there is a row before
 order-holds : {t : List ℕ} {line : ℕ} {ring : Ring} {rs : List Routed} {r : Routed} → At t line (rows ring rs) → RowAt t line r → 1 ≤ r.sent.row.i
     → PairBefore r.sent.row.i r.sent.row.j (last_of rs).i (last_of rs).j → WrongOrder t line
-order-holds (behind-ring ring) row low (inl l) = absurd (omega arith)
-order-holds (behind-ring ring) row low (inr l) = absurd (omega (arith, l.0))
-order-holds {r} (behind-row {line} {rs} {r = q} at is) row low wrong =
+order-holds (behind_ring ring) row low (inl l) = absurd (omega arith)
+order-holds (behind_ring ring) row low (inr l) = absurd (omega (arith, l.0))
+order-holds {r} (behind_row {line} {rs} {r = q} at is) row low wrong =
     record { before = line; next = refl; q = q; above = row-at at is; r = r; row = row; wrong = rw (last_more rs q) at wrong }
 
 module _ (limits : Limits) {t : List ℕ} {line : ℕ} {ring : Ring} {rs : List Routed} {r : Routed} (at : At t line (rows ring rs)) (is : SentIs t line r) where
@@ -55,11 +55,11 @@ module _ (limits : Limits) {t : List ℕ} {line : ℕ} {ring : Ring} {rs : List 
     where
       go : {v : Verdict} → RowJudged limits ring.n (length rs) (last_of rs).i (last_of rs).j r.sent.row.i r.sent.row.j r.sent.row.d v
           → HoldsAs (λ s. AgainstDemand limits ring.n rs r.sent.row s × Says limits t s line) v
-      go (no-such-node w) = (by-nodes w, record { r = r; row = row-at at is; wrong = w })
-      go (not-below h k w) = (by-pair w, record { r = r; row = row-at at is; wrong = w })
+      go (no_such_node w) = (by_nodes w, record { r = r; row = row-at at is; wrong = w })
+      go (not_below h k w) = (by_pair w, record { r = r; row = row-at at is; wrong = w })
       go (out_of_order h k l w) = (by_order w, order-holds at (row-at at is) h.0 w)
       go (too_many h k l o w) = (by_count w, record { r = r; row = row-at at is; wrong = omega arith })
-      go (too_much h k l o c w) = (by-amount w, record { r = r; row = row-at at is; wrong = w })
+      go (too_much h k l o c w) = (by_amount w, record { r = r; row = row-at at is; wrong = w })
       go (row_fine o up c m) = tt
 
   -- 8 and 9

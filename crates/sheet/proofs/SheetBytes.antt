@@ -27,11 +27,11 @@ use Rattle.table.specs.declared.judge.Verdict.{Verdict}
 use Rattle.table.specs.declared.judge.Verdict.TheVariants.{Fine, Fault}
 use Rattle.table.proofs.Against.{no-node-there}
 use Rattle.table.proofs.BytesGiven.{one-due as one-due-byte, one-shape-byte, one-ring-field}
-use Rattle.table.proofs.Judged.{RingJudged, wrong-size, wrong-fibres, right-ring, Node, no_node, has-node, node, RowJudged, no-such-node, not-below, out_of_order, too_many, too_much, row_fine, row-judged}
+use Rattle.table.proofs.Judged.{RingJudged, size_wrong, wrong_fibres, right_ring, Node, no_node, has_node, node, RowJudged, no_such_node, not_below, out_of_order, too_many, too_much, row_fine, row-judged}
 use Rattle.sheet.specs.Verdicts.{fault_if, or_else}
 use Rattle.sheet.specs.Judge.{wrong_sum, wrong_way, judge_halves}
 use Rattle.sheet.specs.Check.{when, whole_line, last_of, judge_next}
-use Rattle.sheet.specs.Says.{State, start, rows, links, end, SentIs, At, RowAt, NeitherGoesOn, LineByte, ring-due, row-or-cut-due, link-due, last-due, none-due, routed_byte, NodeByte, first-node, second-node, AmountByte, ByteIs}
+use Rattle.sheet.specs.Says.{State, start, rows, links, end, SentIs, At, RowAt, NeitherGoesOn, LineByte, ring_due, row_or_cut_due, link_due, last_due, none_due, routed_byte, NodeByte, first_node, second_node, AmountByte, ByteIs}
 use Rattle.sheet.proofs.FirstReason.{First, Only, only_then, Counts}
 use Rattle.sheet.proofs.Places.{sent-one, place-one}
 use Rattle.sheet.proofs.RowFirst.{row-at}
@@ -51,9 +51,9 @@ only-byte t line judging r A (Fault s) f b = only_then (λ s. ByteIs t s line 1)
 
 pub ring-byte : {limits : Limits} {t : List ℕ} {ring : Ring} {v : Verdict} → RingIs t ring → RingJudged limits ring v → ByteOn t 1 (ring_fault ring) v
 unfolding ByteIs ring_fault
-ring-byte {ring} here (wrong-size w) = record { ring = ring; said = here; is = refl }
-ring-byte {ring} here (wrong-fibres l m w) = record { ring = ring; said = here; is = refl }
-ring-byte here (right-ring l m f) = tt
+ring-byte {ring} here (size_wrong w) = record { ring = ring; said = here; is = refl }
+ring-byte {ring} here (wrong_fibres l m w) = record { ring = ring; said = here; is = refl }
+ring-byte here (right_ring l m f) = tt
 
 -- ---- D i j amount front back F-or-B
 
@@ -67,14 +67,14 @@ module _ {t : List ℕ} {line : ℕ} {ring : Ring} {rs : List Routed} {r : Route
 
   node-byte : Node ring.n r.sent.row.i → NoNode ring.n r.sent.row.i ⊎ NoNode ring.n r.sent.row.j → NodeByte t line (byte NoSuchNode)
   unfolding row_fault node_field
-  node-byte (no_node w e) out = first-node (row-at at is) w (rw e (field-byte 1 (omega arith)))
-  node-byte (has-node h e) (inl w) = absurd (no-node-there h w)
-  node-byte (has-node h e) (inr w) = second-node (row-at at is) (no-node-there h) w (rw e (field-byte 2 (omega arith)))
+  node-byte (no_node w e) out = first_node (row-at at is) w (rw e (field-byte 1 (omega arith)))
+  node-byte (has_node h e) (inl w) = absurd (no-node-there h w)
+  node-byte (has_node h e) (inr w) = second_node (row-at at is) (no-node-there h) w (rw e (field-byte 2 (omega arith)))
 
   demand-byte : {limits : Limits} {k a b : ℕ} {v : Verdict} → RowJudged limits ring.n k a b r.sent.row.i r.sent.row.j r.sent.row.d v → ByteOn t line byte v
   unfolding ByteIs row_fault field_byte write_line
-  demand-byte (no-such-node w) = node-byte (node ring.n r.sent.row.i) w
-  demand-byte (not-below h p l) = refl
+  demand-byte (no_such_node w) = node-byte (node ring.n r.sent.row.i) w
+  demand-byte (not_below h p l) = refl
   demand-byte (out_of_order h p l o) = refl
   demand-byte (too_many h p l o c) = refl
   demand-byte (too_much h p l o c m) = record { r = r; row = row-at at is; is = field-byte 3 (omega arith) }
@@ -119,15 +119,15 @@ neither {l} {q} {p} f g =
 
 -- ---- one byte
 
-no-later : {l : List ℕ} {p q : ℕ} → NeitherGoesOn l p → NeitherGoesOn l q → p < q → ⊥
-no-later {l} {p} {q} x y h = go y.before
+no_later : {l : List ℕ} {p q : ℕ} → NeitherGoesOn l p → NeitherGoesOn l q → p < q → ⊥
+no_later {l} {p} {q} x y h = go y.before
   where
     go : Agrees sent_shape l q ⊎ Agrees cut_shape l q → ⊥
     go (inl a) = x.no_row (fewer sent_shape l (p + 1) q (omega arith) a)
     go (inr a) = x.no_cut (fewer cut_shape l (p + 1) q (omega arith) a)
 
 one-neither : {l : List ℕ} {p q : ℕ} → NeitherGoesOn l p → NeitherGoesOn l q → p ≡ q
-one-neither {p} {q} x y = let a : p < q → ⊥ = no-later x y in let b : q < p → ⊥ = no-later y x in omega arith
+one-neither {p} {q} x y = let a : p < q → ⊥ = no_later x y in let b : q < p → ⊥ = no_later y x in omega arith
 
 -- what is due on a line
 abbrev due : State → ℕ
@@ -160,31 +160,31 @@ module _ {t : List ℕ} {line : ℕ} where
       full (end x) = 0
 
   one-line-byte : {b c : ℕ} → LineByte t line b → LineByte t line c → b ≡ c
-  one-line-byte (ring-due a x) (ring-due b y) = one-shape-byte x y
-  one-line-byte (ring-due a x) (row-or-cut-due b y) = absurd (omega (arith, one-due a b))
-  one-line-byte (ring-due a x) (link-due b g y) = absurd (omega (arith, one-due a b))
-  one-line-byte (ring-due a x) (last-due b g y) = absurd (omega (arith, one-due a b))
-  one-line-byte (ring-due a x) (none-due b y) = absurd (omega (arith, one-due a b))
-  one-line-byte (row-or-cut-due a x) (ring-due b y) = absurd (omega (arith, one-due a b))
-  one-line-byte (row-or-cut-due a x) (row-or-cut-due b y) = one-due-byte (λ l p q f g. one-neither f g) x y
-  one-line-byte (row-or-cut-due a x) (link-due b g y) = absurd (omega (arith, one-due a b))
-  one-line-byte (row-or-cut-due a x) (last-due b g y) = absurd (omega (arith, one-due a b))
-  one-line-byte (row-or-cut-due a x) (none-due b y) = absurd (omega (arith, one-due a b))
-  one-line-byte (link-due a f x) (ring-due b y) = absurd (omega (arith, one-due a b))
-  one-line-byte (link-due a f x) (row-or-cut-due b y) = absurd (omega (arith, one-due a b))
-  one-line-byte (link-due a f x) (link-due b g y) = one-shape-byte x y
-  one-line-byte (link-due a f x) (last-due b g y) = absurd (one-count a b f g)
-  one-line-byte (link-due a f x) (none-due b y) = absurd (omega (arith, one-due a b))
-  one-line-byte (last-due a f x) (ring-due b y) = absurd (omega (arith, one-due a b))
-  one-line-byte (last-due a f x) (row-or-cut-due b y) = absurd (omega (arith, one-due a b))
-  one-line-byte (last-due a f x) (link-due b g y) = absurd (one-count b a g f)
-  one-line-byte (last-due a f x) (last-due b g y) = one-shape-byte x y
-  one-line-byte (last-due a f x) (none-due b y) = absurd (omega (arith, one-due a b))
-  one-line-byte (none-due a x) (ring-due b y) = absurd (omega (arith, one-due a b))
-  one-line-byte (none-due a x) (row-or-cut-due b y) = absurd (omega (arith, one-due a b))
-  one-line-byte (none-due a x) (link-due b g y) = absurd (omega (arith, one-due a b))
-  one-line-byte (none-due a x) (last-due b g y) = absurd (omega (arith, one-due a b))
-  one-line-byte (none-due a x) (none-due b y) = x ∙ sym y
+  one-line-byte (ring_due a x) (ring_due b y) = one-shape-byte x y
+  one-line-byte (ring_due a x) (row_or_cut_due b y) = absurd (omega (arith, one-due a b))
+  one-line-byte (ring_due a x) (link_due b g y) = absurd (omega (arith, one-due a b))
+  one-line-byte (ring_due a x) (last_due b g y) = absurd (omega (arith, one-due a b))
+  one-line-byte (ring_due a x) (none_due b y) = absurd (omega (arith, one-due a b))
+  one-line-byte (row_or_cut_due a x) (ring_due b y) = absurd (omega (arith, one-due a b))
+  one-line-byte (row_or_cut_due a x) (row_or_cut_due b y) = one-due-byte (λ l p q f g. one-neither f g) x y
+  one-line-byte (row_or_cut_due a x) (link_due b g y) = absurd (omega (arith, one-due a b))
+  one-line-byte (row_or_cut_due a x) (last_due b g y) = absurd (omega (arith, one-due a b))
+  one-line-byte (row_or_cut_due a x) (none_due b y) = absurd (omega (arith, one-due a b))
+  one-line-byte (link_due a f x) (ring_due b y) = absurd (omega (arith, one-due a b))
+  one-line-byte (link_due a f x) (row_or_cut_due b y) = absurd (omega (arith, one-due a b))
+  one-line-byte (link_due a f x) (link_due b g y) = one-shape-byte x y
+  one-line-byte (link_due a f x) (last_due b g y) = absurd (one-count a b f g)
+  one-line-byte (link_due a f x) (none_due b y) = absurd (omega (arith, one-due a b))
+  one-line-byte (last_due a f x) (ring_due b y) = absurd (omega (arith, one-due a b))
+  one-line-byte (last_due a f x) (row_or_cut_due b y) = absurd (omega (arith, one-due a b))
+  one-line-byte (last_due a f x) (link_due b g y) = absurd (one-count b a g f)
+  one-line-byte (last_due a f x) (last_due b g y) = one-shape-byte x y
+  one-line-byte (last_due a f x) (none_due b y) = absurd (omega (arith, one-due a b))
+  one-line-byte (none_due a x) (ring_due b y) = absurd (omega (arith, one-due a b))
+  one-line-byte (none_due a x) (row_or_cut_due b y) = absurd (omega (arith, one-due a b))
+  one-line-byte (none_due a x) (link_due b g y) = absurd (omega (arith, one-due a b))
+  one-line-byte (none_due a x) (last_due b g y) = absurd (omega (arith, one-due a b))
+  one-line-byte (none_due a x) (none_due b y) = x ∙ sym y
 
   -- a row that is due stands on one ring
   ring-nodes : {r q : Routed} (x : RowAt t line r) (y : RowAt t line q) → x.ring.n ≡ y.ring.n
@@ -197,12 +197,12 @@ module _ {t : List ℕ} {line : ℕ} where
       nodes (end x) = 0
 
   one-node-byte : {b c : ℕ} → NodeByte t line b → NodeByte t line c → b ≡ c
-  one-node-byte (first-node x w e) (first-node y v f) = e ∙ ap (λ (r : Routed). routed_byte r 1) (sent-one x.is y.is) ∙ sym f
-  one-node-byte (first-node x w e) (second-node y v u f) =
+  one-node-byte (first_node x w e) (first_node y v f) = e ∙ ap (λ (r : Routed). routed_byte r 1) (sent-one x.is y.is) ∙ sym f
+  one-node-byte (first_node x w e) (second_node y v u f) =
       let s = sent-one x.is y.is in let n = ring-nodes x y in absurd (v (rw (s, n) at w))
-  one-node-byte (second-node x w u e) (first-node y v f) =
+  one-node-byte (second_node x w u e) (first_node y v f) =
       let s = sent-one y.is x.is in let n = ring-nodes y x in absurd (w (rw (s, n) at v))
-  one-node-byte (second-node x w u e) (second-node y v z f) = e ∙ ap (λ (r : Routed). routed_byte r 2) (sent-one x.is y.is) ∙ sym f
+  one-node-byte (second_node x w u e) (second_node y v z f) = e ∙ ap (λ (r : Routed). routed_byte r 2) (sent-one x.is y.is) ∙ sym f
 
   one-amount-byte : {b c : ℕ} → AmountByte t line b → AmountByte t line c → b ≡ c
   one-amount-byte x y = x.is ∙ ap (λ (r : Routed). routed_byte r 3) (sent-one x.row.is y.row.is) ∙ sym y.is

@@ -21,7 +21,7 @@ use Rattle.text.proofs.Apart.{clash}
 use Rattle.table.specs.Lines.{lines}
 use Rattle.table.specs.declared.judge.Verdict.TheVariants.{Fine}
 use Rattle.table.proofs.Against.{fine-ring-judged, fine-row-judged}
-use Rattle.table.proofs.FineRows.{FineRows, no_row, fine-row, fine-rows, table-rows, amounts-fine, count-fine}
+use Rattle.table.proofs.FineRows.{FineRows, no_row, fine_row, fine-rows, table-rows, amounts-fine, count-fine}
 use Rattle.table.proofs.LinesOf.{join-lines}
 use Rattle.table.proofs.TableText.{ring-spelled}
 use Rattle.table.specs.Table.{LimitsSpelled}
@@ -31,11 +31,11 @@ use Rattle.sheet.specs.Judge.{judge_halves}
 use Rattle.sheet.specs.Check.{Result, accepted, when, last_of, check_by}
 use Rattle.sheet.specs.Says.{start, rows, links}
 use Rattle.sheet.proofs.Back.{way_back}
-use Rattle.sheet.proofs.Short.{way-small}
+use Rattle.sheet.proofs.Short.{way_small}
 use Rattle.sheet.proofs.SheetLines.{SentSpelled}
 use Rattle.sheet.proofs.Last.{last_more}
-use Rattle.sheet.proofs.Rest.{Rest, rest_end, rest-last, rest-link, rest-cut, rest-row, rest-ring, read-rest, rest_read}
-use Rattle.sheet.proofs.Read.{LinksJudged, no-links, and-link, Judged, IsSheet, from_start}
+use Rattle.sheet.proofs.Rest.{Rest, rest_end, rest_last, rest_link, rest_cut, rest_row, rest_ring, read-rest, rest_read}
+use Rattle.sheet.proofs.Read.{LinksJudged, no_links, and_link, Judged, IsSheet, from_start}
 
 -- ---- a sheet's text is a rest
 
@@ -44,18 +44,18 @@ module _ (limits : Limits) (judging : Bool) (x : Sheet) (judged : Judged judging
   to-links : (later ks : List Link) → x.links ≡ ks ++ later → Each LinkSpelled later → LinksJudged judging x.rows (length ks) later
       → Rest limits judging x (links x.ring x.rows x.cut ks) (lines_of load_line later ++ last_line x.peak x.size)
   unfolding lines_of
-  to-links [] ks e none no-links =
+  to-links [] ks e none no_links =
       let k : x.links ≡ ks = e ∙ append-nil ks in
       let end-text = append-nil (last_line x.peak x.size) in
       subst (λ l. Rest limits judging x (links x.ring x.rows x.cut l) (last_line x.peak x.size)) k
       (subst (λ t. Rest limits judging x (links x.ring x.rows x.cut x.links) t) end-text
-      (rest-last (omega arith) spelled.last.0 spelled.last.1 judged.last (rest_end judged.whole)))
-  to-links (l ∷ later) ks e (more s ss) (and-link v vs) =
+      (rest_last (omega arith) spelled.last.0 spelled.last.1 judged.last (rest_end judged.whole)))
+  to-links (l ∷ later) ks e (more s ss) (and_link v vs) =
       let long : length (ks ++ l ∷ []) ≡ length ks + 1 = length-append ks (l ∷ []) in
       let f : x.links ≡ (ks ++ l ∷ []) ++ later = e ∙ sym (append_assoc ks (l ∷ []) later) in
       let few : length ks < x.ring.n = omega (arith, ap length e, length-append ks (l ∷ later)) in
       subst (λ t. Rest limits judging x (links x.ring x.rows x.cut ks) t) (sym (append_assoc (load_line l) (lines_of load_line later) (last_line x.peak x.size)))
-      (rest-link few s.link s.split s.unsplit v (to-links later (ks ++ l ∷ []) f ss (subst (λ m. LinksJudged judging x.rows m later) (sym long) vs)))
+      (rest_link few s.link s.split s.unsplit v (to-links later (ks ++ l ∷ []) f ss (subst (λ m. LinksJudged judging x.rows m later) (sym long) vs)))
 
   module _ (limited : LimitsSpelled limits) (many : x.ring.n ≤ limits.nodes) where
     to-rows : (later rs : List Routed) → x.rows ≡ rs ++ later → FineRows limits x.ring.n (length rs) (last_of rs).i (last_of rs).j (demands (sents later)) → Each RowSpelled later
@@ -64,8 +64,8 @@ module _ (limits : Limits) (judging : Bool) (x : Sheet) (judged : Judged judging
     to-rows [] rs e no_row none none =
         let k : x.rows ≡ rs = e ∙ append-nil rs in
         subst (λ l. Rest limits judging x (rows x.ring l) (end_text (figures_of x) x.links)) k
-        (rest-cut spelled.cut.0 spelled.cut.1.0 spelled.cut.1.1 judged.cut (to-links x.links [] refl spelled.loads judged.links))
-    to-rows (r ∷ later) rs e (fine-row on up room most fine) (more h hs) (more v vs) =
+        (rest_cut spelled.cut.0 spelled.cut.1.0 spelled.cut.1.1 judged.cut (to-links x.links [] refl spelled.loads judged.links))
+    to-rows (r ∷ later) rs e (fine_row on up room most fine) (more h hs) (more v vs) =
         let f : x.rows ≡ (rs ++ r ∷ []) ++ later = e ∙ sym (append_assoc rs (r ∷ []) later) in
         let one : length (rs ++ r ∷ []) ≡ length rs + 1 = length-append rs (r ∷ []) in
         let behind = subst (λ (q : Row). FineRows limits x.ring.n (length (rs ++ r ∷ [])) q.i q.j (demands (sents later))) (sym (last_more rs r)) (rw one fine) in
@@ -77,15 +77,15 @@ module _ (limits : Limits) (judging : Bool) (x : Sheet) (judged : Judged judging
           amount = omega (arith, most, limited.amount);
           front = h.front;
           back = h.back;
-          way = way-small r.way;
+          way = way_small r.way;
         } in
         subst (λ t. Rest limits judging x (rows x.ring rs) t) (sym (append_assoc (routed_line r) (lines_of routed_line later) (end_text (figures_of x) x.links)))
-        (rest-row s (fine-row-judged limits x.ring.n (length rs) (last_of rs).i (last_of rs).j r.sent.row.i r.sent.row.j r.sent.row.d on up room most) (rw same v) (rw same (to-rows later (rs ++ r ∷ []) f behind hs vs)))
+        (rest_row s (fine-row-judged limits x.ring.n (length rs) (last_of rs).i (last_of rs).j r.sent.row.i r.sent.row.j r.sent.row.d on up room most) (rw same v) (rw same (to-rows later (rs ++ r ∷ []) f behind hs vs)))
 
     to_start : limits.fewest ≤ x.ring.n → IsFibres x.ring.fibres → FineRows limits x.ring.n 0 0 0 (demands (sents x.rows)) → Rest limits judging x start (write_sheet x)
     unfolding write_sheet
     to_start few fibres fine =
-        rest-ring {ring = x.ring} (ring-spelled limits limited x.ring many fibres) (fine-ring-judged limits x.ring few many fibres) (to-rows x.rows [] refl fine spelled.halves judged.halves)
+        rest_ring {ring = x.ring} (ring-spelled limits limited x.ring many fibres) (fine-ring-judged limits x.ring few many fibres) (to-rows x.rows [] refl fine spelled.halves judged.halves)
 
 -- ---- both
 

@@ -37,9 +37,9 @@ unfolding lines_of
 lines-most line most none = omega arith
 lines-most line most (more {a = a} {l = l} p e) = omega (arith, length-append (line a) (lines_of line l), mul-suc most (length l), lines-most line most e)
 
-pub way-small : (w : Way) → way_number w < 2
-way-small F = omega arith
-way-small B = omega arith
+pub way_small : (w : Way) → way_number w < 2
+way_small F = omega arith
+way_small B = omega arith
 
 -- its demand is one of the desk's, and its halves can be spelled
 pub record RowFine (n : ℕ) (r : Routed) : Type 0 where
@@ -56,7 +56,7 @@ module _ (n : ℕ) (many : n ≤ desk.nodes) where
         amount = omega (arith, h.amount);
         front = h.spelled.front;
         back = h.spelled.back;
-        way = way-small r.way;
+        way = way_small r.way;
       }
 
   row-short : (r : Routed) → RowFine n r → length (routed_line r) ≤ 56

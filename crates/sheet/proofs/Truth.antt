@@ -26,13 +26,13 @@ use Rattle.sheet.specs.Judge.{judge_halves, judge_cut, judge_link, judge_last, j
 use Rattle.sheet.specs.Check.{when}
 use Rattle.sheet.proofs.FirstReason.{First, Only, only, only_fact}
 use Rattle.sheet.proofs.SheetJudged.{halves-first, CutWrong, cut-first, link-first, last-first, whole-first}
-use Rattle.sheet.proofs.Read.{LinksJudged, no-links, and-link, Judged}
+use Rattle.sheet.proofs.Read.{LinksJudged, no_links, and_link, Judged}
 
 -- ---- Fine exactly where no reason holds
 
-none-holds : {P : Reason → Type 0} {v : Verdict} → First P v → v ≡ Fine → (s : Reason) → P s → ⊥
-none-holds {v = Fine} f e = f.least
-none-holds {v = Fault r} f e = clash (cc)
+none_holds : {P : Reason → Type 0} {v : Verdict} → First P v → v ≡ Fine → (s : Reason) → P s → ⊥
+none_holds {v = Fine} f e = f.least
+none_holds {v = Fault r} f e = clash (cc)
 
 is-fine : {P : Reason → Type 0} {v : Verdict} → First P v → ((s : Reason) → P s → ⊥) → v ≡ Fine
 is-fine {v = Fine} f never = refl
@@ -62,7 +62,7 @@ kept r n = record { front = λ e. front r.way refl e; back = λ e h. back r.way 
 
 pub row-true : (r : Routed) → judge_halves r ≡ Fine → SumsTo2d r.sent × Kept r
 row-true r e =
-    let never = none-holds (halves-first r) e in
+    let never = none_holds (halves-first r) e in
     (same (r.sent.front + r.sent.back) (2 * r.sent.row.d) (λ d. never WrongSum (inl (only d))), kept r (λ k. never WrongWay (inr (only k))))
 
 row_fine : (r : Routed) → SumsTo2d r.sent → Kept r → judge_halves r ≡ Fine
@@ -78,7 +78,7 @@ cut-true : (n : ℕ) (rs : List Routed) (c : Cut) → judge_cut n rs c ≡ Fine 
 cut-true n rs c e = record { pair = pair; number = same c.number (across (demands (sents rs)) c.g c.h) (λ d. never WrongCut (only (inr d))) }
   where
     never : (s : Reason) → Only WrongCut (CutWrong n rs c) s → ⊥
-    never = none-holds (cut-first n rs c) e
+    never = none_holds (cut-first n rs c) e
 
     is : (IsCut n c → ⊥) → ⊥
     is d = never WrongCut (only (inl d))
@@ -102,7 +102,7 @@ pub record LinkTrue (rs : List Routed) (k : ℕ) (l : Link) : Type 0 where
 
 pub link-true : (rs : List Routed) (k : ℕ) (l : Link) → judge_link rs k l ≡ Fine → LinkTrue rs k l
 link-true rs k l e =
-    let never = none-holds (link-first rs k l) e in
+    let never = none_holds (link-first rs k l) e in
     record {
       number = same l.link k (λ d. never WrongLink (only (inl d)));
       split = same l.split (split_load (sents rs) k) (λ d. never WrongLink (only (inr (inl d))));
@@ -120,8 +120,8 @@ record LinksTrue (x : Sheet) (k : ℕ) (ls : List Link) : Type 0 where
 module _ (x : Sheet) where
   links-true : {k : ℕ} {ls : List Link} → LinksJudged true x.rows k ls → LinksTrue x k ls
   unfolding numbers_from when
-  links-true no-links = record { numbers = refl; loads = none }
-  links-true {k} (and-link {l = l} {ls = ls} v vs) = go (link-true x.rows (k + 1) l v) (links-true vs)
+  links-true no_links = record { numbers = refl; loads = none }
+  links-true {k} (and_link {l = l} {ls = ls} v vs) = go (link-true x.rows (k + 1) l v) (links-true vs)
     where
       go : LinkTrue x.rows (k + 1) l → LinksTrue x (k + 1) ls → LinksTrue x k (l ∷ ls)
       go t ts =
@@ -135,7 +135,7 @@ module _ (x : Sheet) where
 
   links-fine : (k : ℕ) (ls : List Link) → LinksTrue x k ls → LinksJudged true x.rows k ls
   unfolding numbers_from when
-  links-fine k [] t = no-links
+  links-fine k [] t = no_links
   links-fine k (l ∷ ls) t = go t.numbers t.loads (links-fine (k + 1) ls)
     where
       go : l.link ∷ map (λ (l : Link). l.link) ls ≡ suc k ∷ numbers_from (suc (suc k)) (length ls) → Each (TrueLoads x) (l ∷ ls)
@@ -145,7 +145,7 @@ module _ (x : Sheet) where
           let m : map (λ (l : Link). l.link) ls ≡ numbers_from (suc (suc k)) (length ls) = cc in
           let s : suc (suc k) ≡ suc (k + 1) = omega arith in
           let n : l.link ≡ k + 1 = omega arith in
-          and-link (link-fine x.rows (k + 1) l (record { number = n; split = rw n at t.split; unsplit = rw n at t.unsplit }))
+          and_link (link-fine x.rows (k + 1) l (record { number = n; split = rw n at t.split; unsplit = rw n at t.unsplit }))
           (later (record { numbers = m ∙ ap (λ a. numbers_from a (length ls)) s; loads = ts }))
 
 -- ---- the last line, and the whole
@@ -153,13 +153,13 @@ module _ (x : Sheet) where
 pub last-true : (ring : Ring) (rs : List Routed) (p z : ℕ) → judge_last ring rs p z ≡ Fine
     → (p ≡ peak (unsplit_load rs) ring.n) × (z ≡ line_size sonet_sizes ring.fibres (peak (unsplit_load rs) ring.n))
 last-true ring rs p z e =
-    let never = none-holds (last-first ring rs p z) e in
+    let never = none_holds (last-first ring rs p z) e in
     let u = peak (unsplit_load rs) ring.n in
     (same p u (λ d. never WrongLast (only (inl d))), same z (line_size sonet_sizes ring.fibres u) (λ d. never WrongLast (only (inr d))))
 
 whole-true : (x : Sheet) → judge_whole x ≡ Fine → (split_peak x ≡ x.cut.number) × (2 * unsplit_peak x ≤ split_peak x + 3 * largest_split_of x)
 whole-true x e =
-    let never = none-holds (whole-first x) e in
+    let never = none_holds (whole-first x) e in
     let within : split_peak x + 3 * largest_split_of x < 2 * unsplit_peak x → ⊥ = λ l. never OverBound (inr (only l)) in
     (same (split_peak x) x.cut.number (λ d. never NotTight (inl (only d))), omega arith)
 

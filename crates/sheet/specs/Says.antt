@@ -58,13 +58,13 @@ pub data State : Type 0 where
 
 -- what the lines before this one have said
 pub data At (t : List ℕ) : ℕ → State → Type 0 where
-  at-start : At t 1 start
-  behind-ring : {ring : Ring} → RingIs t ring → At t 2 (rows ring [])
-  behind-row : {line : ℕ} {ring : Ring} {rs : List Routed} {r : Routed} → At t line (rows ring rs) → SentIs t line r → At t (line + 1) (rows ring (rs ++ r ∷ []))
-  behind-cut : {line : ℕ} {ring : Ring} {rs : List Routed} {c : Cut} → At t line (rows ring rs) → CutIs t line c → At t (line + 1) (links ring rs c [])
-  behind-link : {line : ℕ} {ring : Ring} {rs : List Routed} {c : Cut} {ks : List Link} {l : Link} → At t line (links ring rs c ks) → length ks < ring.n → LinkIs t line l
+  at_start : At t 1 start
+  behind_ring : {ring : Ring} → RingIs t ring → At t 2 (rows ring [])
+  behind_row : {line : ℕ} {ring : Ring} {rs : List Routed} {r : Routed} → At t line (rows ring rs) → SentIs t line r → At t (line + 1) (rows ring (rs ++ r ∷ []))
+  behind_cut : {line : ℕ} {ring : Ring} {rs : List Routed} {c : Cut} → At t line (rows ring rs) → CutIs t line c → At t (line + 1) (links ring rs c [])
+  behind_link : {line : ℕ} {ring : Ring} {rs : List Routed} {c : Cut} {ks : List Link} {l : Link} → At t line (links ring rs c ks) → length ks < ring.n → LinkIs t line l
       → At t (line + 1) (links ring rs c (ks ++ l ∷ []))
-  behind-last : {line : ℕ} {ring : Ring} {rs : List Routed} {c : Cut} {ks : List Link} {p z : ℕ} → At t line (links ring rs c ks) → ring.n ≤ length ks → LastIs t line p z
+  behind_last : {line : ℕ} {ring : Ring} {rs : List Routed} {c : Cut} {ks : List Link} {p z : ℕ} → At t line (links ring rs c ks) → ring.n ≤ length ks → LastIs t line p z
       → At t (line + 1) (end (record { ring = ring; rows = rs; cut = c; links = ks; peak = p; size = z }))
 
 -- a D line that is due
@@ -78,10 +78,10 @@ pub record RowAt (t : List ℕ) (line : ℕ) (r : Routed) : Type 0 where
 
 -- 2: line of the wrong shape, missing, or left over
 pub data WrongLine (t : List ℕ) (line : ℕ) : Type 0 where
-  no-ring : At t line start → ((ring : Ring) → RingIs t ring → ⊥) → WrongLine t line
-  no-row-no-cut : {ring : Ring} {rs : List Routed} → At t line (rows ring rs) → ((r : Routed) → SentIs t line r → ⊥) → ((c : Cut) → CutIs t line c → ⊥)
+  no_ring : At t line start → ((ring : Ring) → RingIs t ring → ⊥) → WrongLine t line
+  no_row_no_cut : {ring : Ring} {rs : List Routed} → At t line (rows ring rs) → ((r : Routed) → SentIs t line r → ⊥) → ((c : Cut) → CutIs t line c → ⊥)
       → WrongLine t line
-  no-link : {ring : Ring} {rs : List Routed} {c : Cut} {ks : List Link} → At t line (links ring rs c ks) → length ks < ring.n → ((l : Link) → LinkIs t line l → ⊥)
+  no_link : {ring : Ring} {rs : List Routed} {c : Cut} {ks : List Link} → At t line (links ring rs c ks) → length ks < ring.n → ((l : Link) → LinkIs t line l → ⊥)
       → WrongLine t line
   no_last : {ring : Ring} {rs : List Routed} {c : Cut} {ks : List Link} → At t line (links ring rs c ks) → ring.n ≤ length ks → ((p z : ℕ) → LastIs t line p z → ⊥)
       → WrongLine t line
@@ -221,11 +221,11 @@ pub record NeitherGoesOn (l : List ℕ) (p : ℕ) : Type 0 where
 
 -- 2: by the shape that is due; 1 where the line is left over
 pub data LineByte (t : List ℕ) (line byte : ℕ) : Type 0 where
-  ring-due : At t line start → ShapeByte t ring_shape line byte → LineByte t line byte
-  row-or-cut-due : {ring : Ring} {rs : List Routed} → At t line (rows ring rs) → DueByte t line NeitherGoesOn byte → LineByte t line byte
-  link-due : {ring : Ring} {rs : List Routed} {c : Cut} {ks : List Link} → At t line (links ring rs c ks) → length ks < ring.n → ShapeByte t link_shape line byte → LineByte t line byte
-  last-due : {ring : Ring} {rs : List Routed} {c : Cut} {ks : List Link} → At t line (links ring rs c ks) → ring.n ≤ length ks → ShapeByte t last_shape line byte → LineByte t line byte
-  none-due : {x : Sheet} → At t line (end x) → byte ≡ 1 → LineByte t line byte
+  ring_due : At t line start → ShapeByte t ring_shape line byte → LineByte t line byte
+  row_or_cut_due : {ring : Ring} {rs : List Routed} → At t line (rows ring rs) → DueByte t line NeitherGoesOn byte → LineByte t line byte
+  link_due : {ring : Ring} {rs : List Routed} {c : Cut} {ks : List Link} → At t line (links ring rs c ks) → length ks < ring.n → ShapeByte t link_shape line byte → LineByte t line byte
+  last_due : {ring : Ring} {rs : List Routed} {c : Cut} {ks : List Link} → At t line (links ring rs c ks) → ring.n ≤ length ks → ShapeByte t last_shape line byte → LineByte t line byte
+  none_due : {x : Sheet} → At t line (end x) → byte ≡ 1 → LineByte t line byte
 
 -- where field k of a D line starts: the nodes are fields 1 and 2, the amount is field 3
 abbrev pub routed_byte : Routed → ℕ → ℕ
@@ -233,8 +233,8 @@ routed_byte r k = sent_byte r.sent.row.i r.sent.row.j r.sent.row.d r.sent.front 
 
 -- 4: where the first of the two nodes that is outside starts
 pub data NodeByte (t : List ℕ) (line byte : ℕ) : Type 0 where
-  first-node : {r : Routed} (row : RowAt t line r) → NoNode row.ring.n r.sent.row.i → byte ≡ routed_byte r 1 → NodeByte t line byte
-  second-node : {r : Routed} (row : RowAt t line r) → (NoNode row.ring.n r.sent.row.i → ⊥) → NoNode row.ring.n r.sent.row.j → byte ≡ routed_byte r 2 → NodeByte t line byte
+  first_node : {r : Routed} (row : RowAt t line r) → NoNode row.ring.n r.sent.row.i → byte ≡ routed_byte r 1 → NodeByte t line byte
+  second_node : {r : Routed} (row : RowAt t line r) → (NoNode row.ring.n r.sent.row.i → ⊥) → NoNode row.ring.n r.sent.row.j → byte ≡ routed_byte r 2 → NodeByte t line byte
 
 -- 7: where the amount starts
 pub record AmountByte (t : List ℕ) (line byte : ℕ) : Type 0 where
@@ -308,7 +308,7 @@ pub record GivenAmong (Counts : Reason → Type 0) (limits : Limits) (t : List �
   pub counts : Counts r
   pub holds : Says limits t r line
   pub first : (s : Reason) (other : ℕ) → Counts s → Earlier s other r line → Says limits t s other → ⊥
-  pub byte-is : ByteIs t r line byte
+  pub byte_is : ByteIs t r line byte
 
 -- none of the reasons that count holds
 abbrev pub NoneAmong : (Reason → Type 0) → Limits → List ℕ → Type 0

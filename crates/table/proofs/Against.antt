@@ -14,7 +14,7 @@ use Rattle.table.specs.declared.reason.Reason.{Reason}
 use Rattle.table.specs.declared.reason.Reason.TheVariants.{RingSize, Fibres, NoSuchNode, NotBelow, OutOfOrder, TooMany, TooMuch}
 use Rattle.table.specs.declared.judge.Verdict.{Verdict}
 use Rattle.table.specs.declared.judge.Verdict.TheVariants.{Fine, Fault}
-use Rattle.table.proofs.Judged.{RingJudged, wrong-size, wrong-fibres, right-ring, ring-judged, HasNode, RowJudged, no-such-node, not-below, out_of_order, too_many, too_much, row_fine, row-judged}
+use Rattle.table.proofs.Judged.{RingJudged, size_wrong, wrong_fibres, right_ring, ring-judged, HasNode, RowJudged, no_such_node, not_below, out_of_order, too_many, too_much, row_fine, row-judged}
 
 -- the verdict comes no later than the reason s, and where it is Fine there is no such reason
 abbrev pub NoLater : Verdict → Reason → Type 0
@@ -24,11 +24,11 @@ NoLater (Fault r) s = rank_of r ≤ rank_of s
 -- ---- a row, behind k rows
 
 pub data AgainstRow (limits : Limits) (n k a b i j d : ℕ) : Reason → Type 0 where
-  by-nodes : NoNode n i ⊎ NoNode n j → AgainstRow limits n k a b i j d NoSuchNode
-  by-pair : j ≤ i → AgainstRow limits n k a b i j d NotBelow
+  by_nodes : NoNode n i ⊎ NoNode n j → AgainstRow limits n k a b i j d NoSuchNode
+  by_pair : j ≤ i → AgainstRow limits n k a b i j d NotBelow
   by_order : PairBefore i j a b → AgainstRow limits n k a b i j d OutOfOrder
   by_count : limits.rows ≤ k → AgainstRow limits n k a b i j d TooMany
-  by-amount : limits.amount < d → AgainstRow limits n k a b i j d TooMuch
+  by_amount : limits.amount < d → AgainstRow limits n k a b i j d TooMuch
 
 pub no-node-there : {n i : ℕ} → HasNode n i → NoNode n i → ⊥
 no-node-there h (inl l) = omega (arith, h.0)
@@ -45,36 +45,36 @@ in_order (inr l) (inr m) = omega (arith, l.1, m.1)
 
 module _ {limits : Limits} {n k a b i j d : ℕ} where
   pub row-least : {v : Verdict} {s : Reason} → RowJudged limits n k a b i j d v → AgainstRow limits n k a b i j d s → NoLater v s
-  row-least (no-such-node u) (by-nodes w) = omega arith
-  row-least (no-such-node u) (by-pair w) = omega arith
-  row-least (no-such-node u) (by_order w) = omega arith
-  row-least (no-such-node u) (by_count w) = omega arith
-  row-least (no-such-node u) (by-amount w) = omega arith
-  row-least (not-below h p l) (by-nodes w) = absurd (has-nodes h p w)
-  row-least (not-below h p l) (by-pair w) = omega arith
-  row-least (not-below h p l) (by_order w) = omega arith
-  row-least (not-below h p l) (by_count w) = omega arith
-  row-least (not-below h p l) (by-amount w) = omega arith
-  row-least (out_of_order h p l o) (by-nodes w) = absurd (has-nodes h p w)
-  row-least (out_of_order h p l o) (by-pair w) = absurd (omega arith)
+  row-least (no_such_node u) (by_nodes w) = omega arith
+  row-least (no_such_node u) (by_pair w) = omega arith
+  row-least (no_such_node u) (by_order w) = omega arith
+  row-least (no_such_node u) (by_count w) = omega arith
+  row-least (no_such_node u) (by_amount w) = omega arith
+  row-least (not_below h p l) (by_nodes w) = absurd (has-nodes h p w)
+  row-least (not_below h p l) (by_pair w) = omega arith
+  row-least (not_below h p l) (by_order w) = omega arith
+  row-least (not_below h p l) (by_count w) = omega arith
+  row-least (not_below h p l) (by_amount w) = omega arith
+  row-least (out_of_order h p l o) (by_nodes w) = absurd (has-nodes h p w)
+  row-least (out_of_order h p l o) (by_pair w) = absurd (omega arith)
   row-least (out_of_order h p l o) (by_order w) = omega arith
   row-least (out_of_order h p l o) (by_count w) = omega arith
-  row-least (out_of_order h p l o) (by-amount w) = omega arith
-  row-least (too_many h p l o c) (by-nodes w) = absurd (has-nodes h p w)
-  row-least (too_many h p l o c) (by-pair w) = absurd (omega arith)
+  row-least (out_of_order h p l o) (by_amount w) = omega arith
+  row-least (too_many h p l o c) (by_nodes w) = absurd (has-nodes h p w)
+  row-least (too_many h p l o c) (by_pair w) = absurd (omega arith)
   row-least (too_many h p l o c) (by_order w) = absurd (in_order o w)
   row-least (too_many h p l o c) (by_count w) = omega arith
-  row-least (too_many h p l o c) (by-amount w) = omega arith
-  row-least (too_much h p l o c m) (by-nodes w) = absurd (has-nodes h p w)
-  row-least (too_much h p l o c m) (by-pair w) = absurd (omega arith)
+  row-least (too_many h p l o c) (by_amount w) = omega arith
+  row-least (too_much h p l o c m) (by_nodes w) = absurd (has-nodes h p w)
+  row-least (too_much h p l o c m) (by_pair w) = absurd (omega arith)
   row-least (too_much h p l o c m) (by_order w) = absurd (in_order o w)
   row-least (too_much h p l o c m) (by_count w) = absurd (omega arith)
-  row-least (too_much h p l o c m) (by-amount w) = omega arith
-  row-least (row_fine r o c m) (by-nodes w) = has-nodes (r.low, omega (arith, r.order, r.high)) (omega (arith, r.order), r.high) w
-  row-least (row_fine r o c m) (by-pair w) = omega (arith, r.order)
+  row-least (too_much h p l o c m) (by_amount w) = omega arith
+  row-least (row_fine r o c m) (by_nodes w) = has-nodes (r.low, omega (arith, r.order, r.high)) (omega (arith, r.order), r.high) w
+  row-least (row_fine r o c m) (by_pair w) = omega (arith, r.order)
   row-least (row_fine r o c m) (by_order w) = in_order o w
   row-least (row_fine r o c m) (by_count w) = omega arith
-  row-least (row_fine r o c m) (by-amount w) = omega arith
+  row-least (row_fine r o c m) (by_amount w) = omega arith
 
 pub fine-row-judged : (limits : Limits) (n k a b i j d : ℕ) → OnRing n (row i j d) → PairUpTo a b i j → k < limits.rows → d ≤ limits.amount
     → judge_row limits n k a b i j d ≡ Fine
@@ -84,18 +84,18 @@ fine-row-judged limits n k a b i j d r o c m = go (row-judged limits n k a b i j
     none = row-least (row_fine r o c m)
 
     go : {v : Verdict} → RowJudged limits n k a b i j d v → v ≡ Fine
-    go (no-such-node u) = absurd (none (by-nodes u))
-    go (not-below h p l) = absurd (none (by-pair l))
+    go (no_such_node u) = absurd (none (by_nodes u))
+    go (not_below h p l) = absurd (none (by_pair l))
     go (out_of_order h p l u) = absurd (none (by_order u))
     go (too_many h p l u x) = absurd (none (by_count x))
-    go (too_much h p l u c x) = absurd (none (by-amount x))
+    go (too_much h p l u c x) = absurd (none (by_amount x))
     go (row_fine r o c m) = refl
 
 -- ---- a ring
 
 pub data AgainstRing (limits : Limits) (ring : Ring) : Reason → Type 0 where
   by_size : (ring.n < limits.fewest) ⊎ (limits.nodes < ring.n) → AgainstRing limits ring RingSize
-  by-fibres : (IsFibres ring.fibres → ⊥) → AgainstRing limits ring Fibres
+  by_fibres : (IsFibres ring.fibres → ⊥) → AgainstRing limits ring Fibres
 
 has-size : {least most n : ℕ} → least ≤ n → n ≤ most → (n < least) ⊎ (most < n) → ⊥
 has-size few many (inl l) = omega arith
@@ -103,17 +103,17 @@ has-size few many (inr l) = omega arith
 
 module _ {limits : Limits} {ring : Ring} where
   pub ring-least : {v : Verdict} {s : Reason} → RingJudged limits ring v → AgainstRing limits ring s → NoLater v s
-  ring-least (wrong-size u) (by_size w) = omega arith
-  ring-least (wrong-size u) (by-fibres w) = omega arith
-  ring-least (wrong-fibres l m u) (by_size w) = absurd (has-size l m w)
-  ring-least (wrong-fibres l m u) (by-fibres w) = omega arith
-  ring-least (right-ring l m f) (by_size w) = has-size l m w
-  ring-least (right-ring l m f) (by-fibres w) = w f
+  ring-least (size_wrong u) (by_size w) = omega arith
+  ring-least (size_wrong u) (by_fibres w) = omega arith
+  ring-least (wrong_fibres l m u) (by_size w) = absurd (has-size l m w)
+  ring-least (wrong_fibres l m u) (by_fibres w) = omega arith
+  ring-least (right_ring l m f) (by_size w) = has-size l m w
+  ring-least (right_ring l m f) (by_fibres w) = w f
 
 pub fine-ring-judged : (limits : Limits) (ring : Ring) → limits.fewest ≤ ring.n → ring.n ≤ limits.nodes → IsFibres ring.fibres → judge_ring limits ring ≡ Fine
 fine-ring-judged limits ring few many fibres = go (ring-judged limits ring)
   where
     go : {v : Verdict} → RingJudged limits ring v → v ≡ Fine
-    go (wrong-size w) = absurd (has-size few many w)
-    go (wrong-fibres l m w) = absurd (w fibres)
-    go (right-ring l m f) = refl
+    go (size_wrong w) = absurd (has-size few many w)
+    go (wrong_fibres l m w) = absurd (w fibres)
+    go (right_ring l m f) = refl

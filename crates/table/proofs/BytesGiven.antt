@@ -11,12 +11,12 @@ use Rattle.text.specs.FieldByte.{field_byte, ring_byte}
 use Rattle.text.specs.WriteLine.{write_line}
 use Rattle.text.proofs.LineLaws.{one-fault}
 use Rattle.table.specs.Fields.{node_field, ring_fault, row_fault}
-use Rattle.table.specs.Says.{RingIs, RowIs, NoNode, ShapeByte, DueByte, line-missing, line-faulty, LineByte, ring-due, row-due, RingField, NodeByte, first-node, second-node, AmountByte, at-amount, ByteIs}
+use Rattle.table.specs.Says.{RingIs, RowIs, NoNode, ShapeByte, DueByte, line_missing, line_faulty, LineByte, ring_due, row_due, RingField, NodeByte, first_node, second_node, AmountByte, at_amount, ByteIs}
 use Rattle.table.specs.declared.reason.Reason.{Reason}
 use Rattle.table.specs.declared.reason.Reason.TheVariants.{TooLong, Misshapen, RingSize, Fibres, NoRow, NoSuchNode, NotBelow, OutOfOrder, TooMany, TooMuch, Full, WrongSum, WrongWay, WrongCut, WrongLink, WrongLast, NotTight, OverBound, NotZero, NotSymmetric, SumTooMuch, NoRoom}
 use Rattle.table.specs.declared.judge.Verdict.{Verdict}
 use Rattle.table.specs.declared.judge.Verdict.TheVariants.{Fine, Fault}
-use Rattle.table.proofs.Judged.{RingJudged, wrong-size, wrong-fibres, right-ring, Node, no_node, has-node, node, RowJudged, no-such-node, not-below, out_of_order, too_many, too_much, row_fine}
+use Rattle.table.proofs.Judged.{RingJudged, size_wrong, wrong_fibres, right_ring, Node, no_node, has_node, node, RowJudged, no_such_node, not_below, out_of_order, too_many, too_much, row_fine}
 use Rattle.table.proofs.Against.{no-node-there}
 use Rattle.table.proofs.LineNumbers.{line-one, ring-one, row_one}
 
@@ -27,55 +27,55 @@ ByteOn t line byte (Fault r) = ByteIs t r line (byte r)
 
 pub ring-byte : {limits : Limits} {t : List ℕ} {ring : Ring} {v : Verdict} → RingIs t ring → RingJudged limits ring v → ByteOn t 1 (ring_fault ring) v
 unfolding ByteIs ring_fault
-ring-byte {ring} here (wrong-size w) = record { ring = ring; said = here; is = refl }
-ring-byte {ring} here (wrong-fibres l m w) = record { ring = ring; said = here; is = refl }
-ring-byte here (right-ring l m f) = tt
+ring-byte {ring} here (size_wrong w) = record { ring = ring; said = here; is = refl }
+ring-byte {ring} here (wrong_fibres l m w) = record { ring = ring; said = here; is = refl }
+ring-byte here (right_ring l m f) = tt
 
 module _ {t : List ℕ} {ring : Ring} {line i j d : ℕ} (here : RingIs t ring) (row : RowIs t line i j d) where
   node-byte : Node ring.n i → NoNode ring.n i ⊎ NoNode ring.n j → NodeByte t line (row_fault ring.n i j d NoSuchNode)
   unfolding row_fault node_field
-  node-byte (no_node w e) out = rw e (first-node here row w)
-  node-byte (has-node h e) (inl w) = absurd (no-node-there h w)
-  node-byte (has-node h e) (inr w) = rw e (second-node here row (no-node-there h) w)
+  node-byte (no_node w e) out = rw e (first_node here row w)
+  node-byte (has_node h e) (inl w) = absurd (no-node-there h w)
+  node-byte (has_node h e) (inr w) = rw e (second_node here row (no-node-there h) w)
 
   pub row-byte : {limits : Limits} {k a b : ℕ} {v : Verdict} → RowJudged limits ring.n k a b i j d v → ByteOn t line (row_fault ring.n i j d) v
   unfolding ByteIs row_fault field_byte write_line
-  row-byte (no-such-node w) = node-byte (node ring.n i) w
-  row-byte (not-below h p l) = refl
+  row-byte (no_such_node w) = node-byte (node ring.n i) w
+  row-byte (not_below h p l) = refl
   row-byte (out_of_order h p l o) = refl
   row-byte (too_many h p l o c) = refl
-  row-byte (too_much h p l o c m) = at-amount row
+  row-byte (too_much h p l o c m) = at_amount row
   row-byte (row_fine r o c m) = tt
 
 -- ---- one byte
 
 pub one-due : {t : List ℕ} {line b c : ℕ} {Fault : List ℕ → ℕ → Type 0} → ((l : List ℕ) (p q : ℕ) → Fault l p → Fault l q → p ≡ q) → DueByte t line Fault b → DueByte t line Fault c → b ≡ c
-one-due one (line-missing none) (line-missing gone) = refl
-one-due one (line-missing none) (line-faulty is f) = absurd (none _ is)
-one-due one (line-faulty is f) (line-missing none) = absurd (none _ is)
-one-due {Fault = P} one (line-faulty {l} {p} is f) (line-faulty {l = m} {p = q} it g) =
+one-due one (line_missing none) (line_missing gone) = refl
+one-due one (line_missing none) (line_faulty is f) = absurd (none _ is)
+one-due one (line_faulty is f) (line_missing none) = absurd (none _ is)
+one-due {Fault = P} one (line_faulty {l} {p} is f) (line_faulty {l = m} {p = q} it g) =
     ap (λ p. p + 1) (one m p q (subst (λ s. P s p) (line-one is it refl) f) g)
 
 pub one-shape-byte : {t shape : List ℕ} {line b c : ℕ} → ShapeByte t shape line b → ShapeByte t shape line c → b ≡ c
 one-shape-byte x y = one-due (λ l p q f g. one-fault f g) x y
 
 one-line-byte : {t : List ℕ} {line b c : ℕ} → LineByte t line b → LineByte t line c → b ≡ c
-one-line-byte (ring-due e x) (ring-due f y) = one-shape-byte x y
-one-line-byte (ring-due e x) (row-due f y) = absurd (omega arith)
-one-line-byte (row-due e x) (ring-due f y) = absurd (omega arith)
-one-line-byte (row-due e x) (row-due f y) = one-shape-byte x y
+one-line-byte (ring_due e x) (ring_due f y) = one-shape-byte x y
+one-line-byte (ring_due e x) (row_due f y) = absurd (omega arith)
+one-line-byte (row_due e x) (ring_due f y) = absurd (omega arith)
+one-line-byte (row_due e x) (row_due f y) = one-shape-byte x y
 
 pub one-ring-field : {t : List ℕ} {k b c : ℕ} → RingField t k b → RingField t k c → b ≡ c
 one-ring-field {k} x y = x.is ∙ ap (λ (r : Ring). ring_byte r.n r.fibres k) (ring-one x.said y.said) ∙ sym y.is
 
 one-node-byte : {t : List ℕ} {line b c : ℕ} → NodeByte t line b → NodeByte t line c → b ≡ c
-one-node-byte (first-node r x w) (first-node s y v) = let e = row_one x y refl in rw (e.same-i, e.same-j, e.same-d)
-one-node-byte (first-node r x w) (second-node s y v u) = let e = row_one x y refl in let f = ring-one r s in absurd (v (rw (e.same-i, f) at w))
-one-node-byte (second-node r x w u) (first-node s y v) = let e = row_one y x refl in let f = ring-one s r in absurd (w (rw (e.same-i, f) at v))
-one-node-byte (second-node r x w u) (second-node s y v z) = let e = row_one x y refl in rw (e.same-i, e.same-j, e.same-d)
+one-node-byte (first_node r x w) (first_node s y v) = let e = row_one x y refl in rw (e.same_i, e.same_j, e.same_d)
+one-node-byte (first_node r x w) (second_node s y v u) = let e = row_one x y refl in let f = ring-one r s in absurd (v (rw (e.same_i, f) at w))
+one-node-byte (second_node r x w u) (first_node s y v) = let e = row_one y x refl in let f = ring-one s r in absurd (w (rw (e.same_i, f) at v))
+one-node-byte (second_node r x w u) (second_node s y v z) = let e = row_one x y refl in rw (e.same_i, e.same_j, e.same_d)
 
 one-amount-byte : {t : List ℕ} {line b c : ℕ} → AmountByte t line b → AmountByte t line c → b ≡ c
-one-amount-byte (at-amount x) (at-amount y) = let e = row_one x y refl in rw (e.same-i, e.same-j, e.same-d)
+one-amount-byte (at_amount x) (at_amount y) = let e = row_one x y refl in rw (e.same_i, e.same_j, e.same_d)
 
 pub one_byte : (t : List ℕ) (line b c : ℕ) (r : Reason) → ByteIs t r line b → ByteIs t r line c → b ≡ c
 unfolding ByteIs

@@ -15,10 +15,10 @@ use Rattle.table.specs.declared.reason.Reason.{Reason}
 use Rattle.table.specs.declared.reason.Reason.TheVariants.{Misshapen}
 use Rattle.table.specs.declared.judge.Verdict.{Verdict}
 use Rattle.table.specs.declared.judge.Verdict.TheVariants.{Fine, Fault}
-use Rattle.table.proofs.Judged.{RingJudged, wrong-size, wrong-fibres as other-fibres, right-ring, RowJudged, no-such-node, not-below, out_of_order, too_many, too_much, row_fine}
-use Rattle.table.proofs.Against.{NoLater, AgainstRow, by-nodes, by-pair, by_order, by_count, by-amount, row-least, AgainstRing, by_size, by-fibres, ring-least}
+use Rattle.table.proofs.Judged.{RingJudged, size_wrong, wrong_fibres as other-fibres, right_ring, RowJudged, no_such_node, not_below, out_of_order, too_many, too_much, row_fine}
+use Rattle.table.proofs.Against.{NoLater, AgainstRow, by_nodes, by_pair, by_order, by_count, by_amount, row-least, AgainstRing, by_size, by_fibres, ring-least}
 use Rattle.table.proofs.LineNumbers.{ring-one, row_one}
-use Rattle.table.proofs.Said.{Said, too_long, no-ring-line, no-row-line, wrong-ring, wrong-fibres, wrong-node, wrong-pair, wrong-order, wrong-count, wrong-amount, said, Stands, on_none, on-first, on-later, stands}
+use Rattle.table.proofs.Said.{Said, too_long, no_ring_line, no_row_line, wrong_ring, wrong_fibres, wrong_node, wrong_pair, wrong_order, wrong_count, wrong_amount, said, Stands, on_none, on_first, on_later, stands}
 
 -- the reason of a verdict holds on the line
 abbrev Holds : Limits → List ℕ → ℕ → Verdict → Type 0
@@ -38,8 +38,8 @@ misshapen-first {limits} {t} {line} low h = record { holds = h; least = λ s k. 
   where
     go : {s : Reason} → Stands limits t line s → 2 ≤ rank_of s
     go (on_none e long one) = absurd (omega arith)
-    go (on-first e two) = two
-    go (on-later later is two) = two
+    go (on_first e two) = two
+    go (on_later later is two) = two
 
 pub no-ring-first : {limits : Limits} {t : List ℕ} → ((ring : Ring) → RingIs t ring → ⊥) → FirstOnLine limits t 1 (Fault Misshapen)
 unfolding Says
@@ -56,43 +56,43 @@ module _ {limits : Limits} {t : List ℕ} {ring : Ring} (here : RingIs t ring) w
   -- what is said of the line is said of its numbers
   said-of-ring : {s : Reason} → Said limits t 1 s → AgainstRing limits ring s
   said-of-ring (too_long e long) = absurd (omega arith)
-  said-of-ring (no-ring-line h) = absurd (h.none ring here)
-  said-of-ring (no-row-line h) = absurd (omega (arith, h.later))
-  said-of-ring (wrong-ring h) = let e : h.ring ≡ ring = ring-one h.said here in by_size (rw e at h.wrong)
-  said-of-ring (wrong-fibres h) = let e : h.ring ≡ ring = ring-one h.said here in by-fibres (rw e at h.wrong)
-  said-of-ring (wrong-node h) = absurd (omega (arith, h.row.later))
-  said-of-ring (wrong-pair h) = absurd (omega (arith, h.row.later))
-  said-of-ring (wrong-order h) = absurd (omega (arith, h.row.later))
-  said-of-ring (wrong-count h) = absurd (omega (arith, h.row.later))
-  said-of-ring (wrong-amount h) = absurd (omega (arith, h.row.later))
+  said-of-ring (no_ring_line h) = absurd (h.none ring here)
+  said-of-ring (no_row_line h) = absurd (omega (arith, h.later))
+  said-of-ring (wrong_ring h) = let e : h.ring ≡ ring = ring-one h.said here in by_size (rw e at h.wrong)
+  said-of-ring (wrong_fibres h) = let e : h.ring ≡ ring = ring-one h.said here in by_fibres (rw e at h.wrong)
+  said-of-ring (wrong_node h) = absurd (omega (arith, h.row.later))
+  said-of-ring (wrong_pair h) = absurd (omega (arith, h.row.later))
+  said-of-ring (wrong_order h) = absurd (omega (arith, h.row.later))
+  said-of-ring (wrong_count h) = absurd (omega (arith, h.row.later))
+  said-of-ring (wrong_amount h) = absurd (omega (arith, h.row.later))
 
   pub ring-judged-first : {v : Verdict} → RingJudged limits ring v → FirstOnLine limits t 1 v
   unfolding Says
   ring-judged-first judged = record { holds = go judged; least = λ s h. ring-least judged (said-of-ring (said s h)) }
     where
       go : {v : Verdict} → RingJudged limits ring v → Holds limits t 1 v
-      go (wrong-size w) = record { at = refl; ring = ring; said = here; wrong = w }
+      go (size_wrong w) = record { at = refl; ring = ring; said = here; wrong = w }
       go (other-fibres l m w) = record { at = refl; ring = ring; said = here; wrong = w }
-      go (right-ring l m f) = tt
+      go (right_ring l m f) = tt
 
 -- ---- D i j d
 
 -- the row before a line: none, or a, b
 pub data RowBefore (t : List ℕ) : ℕ → ℕ → ℕ → Type 0 where
-  no-row-before : RowBefore t 2 0 0
+  no_row_before : RowBefore t 2 0 0
   row_before : {line a b c : ℕ} → RowIs t line a b c → RowBefore t (line + 1) a b
 
 order-against : {t : List ℕ} {line a b i j d : ℕ} → RowIs t line i j d → RowBefore t line a b → WrongOrder t line → PairBefore i j a b
-order-against row no-row-before h = absurd (omega (arith, h.next, h.above.later))
+order-against row no_row_before h = absurd (omega (arith, h.next, h.above.later))
 order-against row (row_before above) h =
     let q = row_one h.above above (omega (arith, h.next)) in
     let r = row_one h.row row refl in
-    rw (q.same-i, q.same-j, r.same-i, r.same-j) at h.wrong
+    rw (q.same_i, q.same_j, r.same_i, r.same_j) at h.wrong
 
 -- a row that has a first node is not below the pair 0, 0, so there is a row before
 order-holds : {t : List ℕ} {line a b i j d : ℕ} → RowIs t line i j d → RowBefore t line a b → 1 ≤ i → PairBefore i j a b → WrongOrder t line
-order-holds row no-row-before low (inl l) = absurd (omega arith)
-order-holds row no-row-before low (inr l) = absurd (omega (arith, l.0))
+order-holds row no_row_before low (inl l) = absurd (omega arith)
+order-holds row no_row_before low (inr l) = absurd (omega (arith, l.0))
 order-holds {i} {j} {d} row (row_before {line} {a} {b} {c} above) low wrong =
     record { before = line; next = refl; a = a; b = b; c = c; above = above; i = i; j = j; d = d; row = row; wrong = wrong }
 
@@ -100,26 +100,26 @@ order-holds {i} {j} {d} row (row_before {line} {a} {b} {c} above) low wrong =
 module _ {limits : Limits} {t : List ℕ} {ring : Ring} {line k i j d : ℕ} (here : RingIs t ring) (row : RowIs t line i j d) (place : line ≡ k + 2) where
   said-of-row : {a b : ℕ} {s : Reason} → RowBefore t line a b → Said limits t line s → AgainstRow limits ring.n k a b i j d s
   said-of-row before (too_long e long) = absurd (omega (arith, row.later))
-  said-of-row before (no-ring-line h) = absurd (omega (arith, h.at, row.later))
-  said-of-row before (no-row-line h) = absurd (h.none i j d row)
-  said-of-row before (wrong-ring h) = absurd (omega (arith, h.at, row.later))
-  said-of-row before (wrong-fibres h) = absurd (omega (arith, h.at, row.later))
-  said-of-row before (wrong-node h) =
+  said-of-row before (no_ring_line h) = absurd (omega (arith, h.at, row.later))
+  said-of-row before (no_row_line h) = absurd (h.none i j d row)
+  said-of-row before (wrong_ring h) = absurd (omega (arith, h.at, row.later))
+  said-of-row before (wrong_fibres h) = absurd (omega (arith, h.at, row.later))
+  said-of-row before (wrong_node h) =
       let r = row_one h.row row refl in
       let e : h.ring ≡ ring = ring-one h.said here in
-      by-nodes (rw (e, r.same-i, r.same-j) at h.wrong)
-  said-of-row before (wrong-pair h) = let r = row_one h.row row refl in by-pair (rw (r.same-i, r.same-j) at h.wrong)
-  said-of-row before (wrong-order h) = by_order (order-against row before h)
-  said-of-row before (wrong-count h) = by_count (omega (arith, h.wrong))
-  said-of-row before (wrong-amount h) = let r = row_one h.row row refl in by-amount (rw r.same-d at h.wrong)
+      by_nodes (rw (e, r.same_i, r.same_j) at h.wrong)
+  said-of-row before (wrong_pair h) = let r = row_one h.row row refl in by_pair (rw (r.same_i, r.same_j) at h.wrong)
+  said-of-row before (wrong_order h) = by_order (order-against row before h)
+  said-of-row before (wrong_count h) = by_count (omega (arith, h.wrong))
+  said-of-row before (wrong_amount h) = let r = row_one h.row row refl in by_amount (rw r.same_d at h.wrong)
 
   pub row-judged-first : {a b : ℕ} {v : Verdict} → RowBefore t line a b → RowJudged limits ring.n k a b i j d v → FirstOnLine limits t line v
   unfolding Says
   row-judged-first {a} {b} before judged = record { holds = go judged; least = λ s h. row-least judged (said-of-row before (said s h)) }
     where
       go : {v : Verdict} → RowJudged limits ring.n k a b i j d v → Holds limits t line v
-      go (no-such-node w) = record { ring = ring; said = here; i = i; j = j; d = d; row = row; wrong = w }
-      go (not-below h p w) = record { i = i; j = j; d = d; row = row; wrong = w }
+      go (no_such_node w) = record { ring = ring; said = here; i = i; j = j; d = d; row = row; wrong = w }
+      go (not_below h p w) = record { i = i; j = j; d = d; row = row; wrong = w }
       go (out_of_order h p l w) = order-holds row before h.0 w
       go (too_many h p l o w) = record { i = i; j = j; d = d; row = row; wrong = omega arith }
       go (too_much h p l o c w) = record { i = i; j = j; d = d; row = row; wrong = w }

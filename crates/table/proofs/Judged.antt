@@ -35,23 +35,23 @@ size limits n =
     ]
 
 pub data SizeJudged (limits : Limits) (n : ℕ) : Verdict → Type 0 where
-  not-so-many : (n < limits.fewest) ⊎ (limits.nodes < n) → SizeJudged limits n (Fault RingSize)
-  right-size : limits.fewest ≤ n → n ≤ limits.nodes → SizeJudged limits n Fine
+  not_so_many : (n < limits.fewest) ⊎ (limits.nodes < n) → SizeJudged limits n (Fault RingSize)
+  right_size : limits.fewest ≤ n → n ≤ limits.nodes → SizeJudged limits n Fine
 
 pub size-judged : (limits : Limits) (n : ℕ) → SizeJudged limits n (judge_size limits n)
 unfolding judge_size
 size-judged limits n = go (size limits n)
   where
     go : Size limits n → SizeJudged limits n (judge_size limits n)
-    go (wrong w e) = rw e (not-so-many w)
-    go (right few many e) = rw e (right-size few many)
+    go (wrong w e) = rw e (not_so_many w)
+    go (right few many e) = rw e (right_size few many)
 
 pub fine-size : (limits : Limits) (n : ℕ) → limits.fewest ≤ n → n ≤ limits.nodes → judge_size limits n ≡ Fine
 fine-size limits n few many = go (size-judged limits n)
   where
     go : {v : Verdict} → SizeJudged limits n v → v ≡ Fine
-    go (not-so-many w) = absurd (⊎_elim (λ l. omega arith) (λ l. omega arith) w)
-    go (right-size a b) = refl
+    go (not_so_many w) = absurd (⊎_elim (λ l. omega arith) (λ l. omega arith) w)
+    go (right_size a b) = refl
 
 -- fibres, by their test
 pub data Fibred (fibres : ℕ) : Type 0 where
@@ -70,18 +70,18 @@ fibred fibres =
     ]
 
 pub data RingJudged (limits : Limits) (ring : Ring) : Verdict → Type 0 where
-  wrong-size : (ring.n < limits.fewest) ⊎ (limits.nodes < ring.n) → RingJudged limits ring (Fault RingSize)
-  wrong-fibres : limits.fewest ≤ ring.n → ring.n ≤ limits.nodes → (IsFibres ring.fibres → ⊥) → RingJudged limits ring (Fault Fibres)
-  right-ring : limits.fewest ≤ ring.n → ring.n ≤ limits.nodes → IsFibres ring.fibres → RingJudged limits ring Fine
+  size_wrong : (ring.n < limits.fewest) ⊎ (limits.nodes < ring.n) → RingJudged limits ring (Fault RingSize)
+  wrong_fibres : limits.fewest ≤ ring.n → ring.n ≤ limits.nodes → (IsFibres ring.fibres → ⊥) → RingJudged limits ring (Fault Fibres)
+  right_ring : limits.fewest ≤ ring.n → ring.n ≤ limits.nodes → IsFibres ring.fibres → RingJudged limits ring Fine
 
 pub ring-judged : (limits : Limits) (ring : Ring) → RingJudged limits ring (judge_ring limits ring)
 unfolding judge_ring
 ring-judged limits ring = go (size limits ring.n) (fibred ring.fibres)
   where
     go : Size limits ring.n → Fibred ring.fibres → RingJudged limits ring (judge_ring limits ring)
-    go (wrong w e) f = rw e (wrong-size w)
-    go (right l m e) (other o f) = rw (e, f) (wrong-fibres l m o)
-    go (right l m e) (known o f) = rw (e, f) (right-ring l m o)
+    go (wrong w e) f = rw e (size_wrong w)
+    go (right l m e) (other o f) = rw (e, f) (wrong_fibres l m o)
+    go (right l m e) (known o f) = rw (e, f) (right_ring l m o)
 
 -- ---- a node
 
@@ -91,7 +91,7 @@ HasNode n i = (1 ≤ i) × (i ≤ n)
 
 pub data Node (n i : ℕ) : Type 0 where
   no_node : NoNode n i → outside n i ≡ true → Node n i
-  has-node : HasNode n i → outside n i ≡ false → Node n i
+  has_node : HasNode n i → outside n i ≡ false → Node n i
 
 pub node : (n i : ℕ) → Node n i
 unfolding outside
@@ -100,7 +100,7 @@ node n i =
       | yes l ↦ no_node (inl l) (rw (lt-ltb i 1 l))
       | no l ↦ elim (dec_lt n i) [
         | yes m ↦ no_node (inr m) (let k : 1 ≤ i = omega arith in rw (le-ltb i 1 k, lt-ltb n i m))
-        | no m ↦ has-node (omega arith, omega arith) (let k : 1 ≤ i = omega arith in let h : i ≤ n = omega arith in rw (le-ltb i 1 k, le-ltb n i h))
+        | no m ↦ has_node (omega arith, omega arith) (let k : 1 ≤ i = omega arith in let h : i ≤ n = omega arith in rw (le-ltb i 1 k, le-ltb n i h))
       ]
     ]
 
@@ -127,8 +127,8 @@ order a b i j =
 -- ---- a row, behind k rows
 
 pub data RowJudged (limits : Limits) (n k a b i j d : ℕ) : Verdict → Type 0 where
-  no-such-node : NoNode n i ⊎ NoNode n j → RowJudged limits n k a b i j d (Fault NoSuchNode)
-  not-below : HasNode n i → HasNode n j → j ≤ i → RowJudged limits n k a b i j d (Fault NotBelow)
+  no_such_node : NoNode n i ⊎ NoNode n j → RowJudged limits n k a b i j d (Fault NoSuchNode)
+  not_below : HasNode n i → HasNode n j → j ≤ i → RowJudged limits n k a b i j d (Fault NotBelow)
   out_of_order : HasNode n i → HasNode n j → i < j → PairBefore i j a b → RowJudged limits n k a b i j d (Fault OutOfOrder)
   too_many : HasNode n i → HasNode n j → i < j → PairUpTo a b i j → limits.rows ≤ k → RowJudged limits n k a b i j d (Fault TooMany)
   too_much : HasNode n i → HasNode n j → i < j → PairUpTo a b i j → k < limits.rows → limits.amount < d → RowJudged limits n k a b i j d (Fault TooMuch)
@@ -140,17 +140,17 @@ row-judged limits n k a b i j d = go (node n i) (node n j) (dec_le j i) (order a
   where
     go : Node n i → Node n j → Dec (j ≤ i) → Order a b i j → Dec (limits.rows ≤ k) → Dec (limits.amount < d)
         → RowJudged limits n k a b i j d (judge_row limits n k a b i j d)
-    go (no_node u e) s t o c m = rw e (no-such-node (inl u))
-    go (has-node u e) (no_node v f) t o c m = rw (e, f) (no-such-node (inr v))
-    go (has-node u e) (has-node v f) (yes l) o c m = rw (e, f, le-leb j i l) (not-below u v l)
-    go (has-node u e) (has-node v f) (no l) (falls w g) c m = let q : i < j = omega arith in rw (e, f, lt-leb j i q, g) (out_of_order u v q w)
-    go (has-node u e) (has-node v f) (no l) (keeps w g) (yes c) m =
+    go (no_node u e) s t o c m = rw e (no_such_node (inl u))
+    go (has_node u e) (no_node v f) t o c m = rw (e, f) (no_such_node (inr v))
+    go (has_node u e) (has_node v f) (yes l) o c m = rw (e, f, le-leb j i l) (not_below u v l)
+    go (has_node u e) (has_node v f) (no l) (falls w g) c m = let q : i < j = omega arith in rw (e, f, lt-leb j i q, g) (out_of_order u v q w)
+    go (has_node u e) (has_node v f) (no l) (keeps w g) (yes c) m =
         let q : i < j = omega arith in rw (e, f, lt-leb j i q, g, le-leb limits.rows k c) (too_many u v q w c)
-    go (has-node u e) (has-node v f) (no l) (keeps w g) (no c) (yes m) =
+    go (has_node u e) (has_node v f) (no l) (keeps w g) (no c) (yes m) =
         let q : i < j = omega arith in
         let r : k < limits.rows = omega arith in
         rw (e, f, lt-leb j i q, g, lt-leb limits.rows k r, lt-ltb limits.amount d m) (too_much u v q w r m)
-    go (has-node u e) (has-node v f) (no l) (keeps w g) (no c) (no m) =
+    go (has_node u e) (has_node v f) (no l) (keeps w g) (no c) (no m) =
         let q : i < j = omega arith in
         let r : k < limits.rows = omega arith in
         let h : d ≤ limits.amount = omega arith in

@@ -35,15 +35,15 @@ ring-one {t} {r} {s} p q =
 
 -- the same three numbers
 pub record SameRow (i j d i' j' d' : ℕ) : Type 0 where
-  pub same-i : i ≡ i'
-  pub same-j : j ≡ j'
-  pub same-d : d ≡ d'
+  pub same_i : i ≡ i'
+  pub same_j : j ≡ j'
+  pub same_d : d ≡ d'
 
 pub row_one : {t : List ℕ} {line other i j d i' j' d' : ℕ} → RowIs t line i j d → RowIs t other i' j' d' → line ≡ other → SameRow i j d i' j' d'
 row_one {i} {j} {d} {i'} {j'} {d'} p q e =
     let f : AreThree i j d ≡ AreThree i' j' d' =
     sym (row-line-read i j d p.spelled) ∙ ap (λ l. three_in (read_line row_shape l)) (line-one p.text q.text e) ∙ row-line-read i' j' d' q.spelled in
-    record { same-i = cc; same-j = cc; same-d = cc }
+    record { same_i = cc; same_j = cc; same_d = cc }
 
 -- ---- in order
 

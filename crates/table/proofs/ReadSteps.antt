@@ -144,9 +144,9 @@ module _ (s : List ℕ) (t : Table) where
     first-line : lines s ≡ take (end - 0) (drop 0 s) ∷ lines (drop end s)
     first-line = line_at s 0 end there ends
 
-    pub no-ring : (p byte : ℕ) → x ≡ NotTwo p → byte ≡ p + 1 → t ≡ table_in (refused Misshapen 1 byte) → t ≡ table_in (table_of desk s)
+    pub no_ring : (p byte : ℕ) → x ≡ NotTwo p → byte ≡ p + 1 → t ≡ table_in (refused Misshapen 1 byte) → t ≡ table_in (table_of desk s)
     unfolding table_of
-    no-ring p byte q b e = e ∙ ap table_in (rw (le-ltb desk.bytes (length s) short, first-line, ← ex, q, b))
+    no_ring p byte q b e = e ∙ ap table_in (rw (le-ltb desk.bytes (length s) short, first-line, ← ex, q, b))
 
     module _ (n fibres : ℕ) (is : x ≡ AreTwo n fibres) (v : Verdict) (ev : v ≡ judge_ring desk (ring_of n fibres)) where
       pub ring-fault : (reason : Reason) (byte : ℕ) → v ≡ Fault reason → byte ≡ ring_fault (ring_of n fibres) reason → t ≡ table_in (refused reason 1 byte) → t ≡ table_in (table_of desk s)
@@ -157,4 +157,4 @@ module _ (s : List ℕ) (t : Table) where
       unfolding table_of
       then-rows q e = e ∙ ap table_in (rw (le-ltb desk.bytes (length s) short, first-line, ← ex, is, ← ev, q))
 
-pub ruleset reads_table = (too_long, no_line, no-ring, ring-place, ring-fault, then-rows)
+pub ruleset reads_table = (too_long, no_line, no_ring, ring-place, ring-fault, then-rows)

@@ -19,18 +19,18 @@ use Rattle.table.specs.Judge.{judge_ring, judge_row}
 use Rattle.table.specs.Reasons.{rank_of}
 use Rattle.table.specs.Fields.{ring_fault, row_fault}
 use Rattle.table.specs.ReadTable.{Result, accepted, refused, ring_or, row_or, unless, rows_of, table_lines, table_of}
-use Rattle.table.specs.Says.{RingIs, RowIs, Says, line-missing, line-faulty, ring-due, row-due, ByteIs, Earlier, Given, Accepted}
+use Rattle.table.specs.Says.{RingIs, RowIs, Says, line_missing, line_faulty, ring_due, row_due, ByteIs, Earlier, Given, Accepted}
 use Rattle.table.specs.declared.reason.Reason.{Reason}
 use Rattle.table.specs.declared.reason.Reason.TheVariants.{TooLong}
 use Rattle.table.specs.declared.judge.Verdict.{Verdict}
 use Rattle.table.specs.declared.judge.Verdict.TheVariants.{Fine, Fault}
 use Rattle.table.proofs.Judged.{ring-judged, row-judged}
-use Rattle.table.proofs.LineRead.{RingRead, is-ring, no-ring, ring-read, RowRead, is-row, no_row, row_read}
+use Rattle.table.proofs.LineRead.{RingRead, is_a_ring, no_ring, ring-read, RowRead, is_a_row, no_row, row_read}
 use Rattle.table.proofs.LineNumbers.{line-one, LinesFrom, from_first, from_next, line-here, no-line-left}
 use Rattle.table.proofs.ReasonNumbers.{same_rank}
-use Rattle.table.proofs.Said.{said, Stands, on_none, on-first, on-later, stands}
+use Rattle.table.proofs.Said.{said, Stands, on_none, on_first, on_later, stands}
 use Rattle.table.proofs.BytesGiven.{ByteOn, ring-byte, row-byte, one_byte}
-use Rattle.table.proofs.FirstOnLine.{FirstOnLine, no-ring-first, no-row-first, ring-judged-first, RowBefore, no-row-before, row_before, row-judged-first}
+use Rattle.table.proofs.FirstOnLine.{FirstOnLine, no-ring-first, no-row-first, ring-judged-first, RowBefore, no_row_before, row_before, row-judged-first}
 
 -- ---- line by line
 
@@ -40,12 +40,12 @@ record Clean (limits : Limits) (t : List ℕ) (line : ℕ) : Type 0 where
 
 -- a result that is right by what the reasons say
 data Right (limits : Limits) (t : List ℕ) : Result → Type 0 where
-  none-holds : {ring : Ring} {rs : List Row} → Accepted limits t → Right limits t (accepted ring rs)
+  none_holds : {ring : Ring} {rs : List Row} → Accepted limits t → Right limits t (accepted ring rs)
   first_holds : {r : Reason} {line byte : ℕ} → Given limits t r line byte → Right limits t (refused r line byte)
 
 module _ {limits : Limits} {t : List ℕ} where
   given-here : {line byte : ℕ} {r : Reason} → Clean limits t line → FirstOnLine limits t line (Fault r) → ByteIs t r line byte → Given limits t r line byte
-  given-here {line} {r} clean f b = record { holds = f.holds; first = go; byte-is = b }
+  given-here {line} {r} clean f b = record { holds = f.holds; first = go; byte_is = b }
     where
       go : (s : Reason) (other : ℕ) → Earlier s other r line → Says limits t s other → ⊥
       go s other (inl l) h = clean.none s other l h
@@ -73,21 +73,21 @@ module _ {limits : Limits} {t : List ℕ} where
     where
       go : {other : ℕ} {s : Reason} → other < 1 → Stands limits t other s → ⊥
       go l (on_none e long one) = omega arith
-      go l (on-first e two) = omega arith
-      go l (on-later later is two) = omega arith
+      go l (on_first e two) = omega arith
+      go l (on_later later is two) = omega arith
 
   clean_end : {line : ℕ} → 2 ≤ line → LinesFrom (lines t) line [] → Clean limits t line → Accepted limits t
   clean_end {line} later from clean s other h = go (stands (said s h))
     where
       go : {s : Reason} → Stands limits t other s → ⊥
       go (on_none e long one) = clean.none s other (omega arith) h
-      go (on-first e two) = clean.none s other (omega arith) h
-      go (on-later m is two) = clean.none s other (no-line-left from is) h
+      go (on_first e two) = clean.none s other (omega arith) h
+      go (on_later m is two) = clean.none s other (no-line-left from is) h
 
   rows_right : {ring : Ring} → RingIs t ring → (ls : List (List ℕ)) (line a b : ℕ) (rs : List Row) → LinesFrom (lines t) line ls → line ≡ length rs + 2 → Clean limits t line
       → RowBefore t line a b → Right limits t (rows_of limits ring line a b rs ls)
   unfolding rows_of row_or ByteIs
-  rows_right here [] line a b rs from place clean before = none-holds (clean_end (omega arith) from clean)
+  rows_right here [] line a b rs from place clean before = none_holds (clean_end (omega arith) from clean)
   rows_right {ring} here (l ∷ ls) line a b rs from place clean before =
       go (row_read l) (λ i j d. rows_right here ls (line + 1) i j (rs ++ row i j d ∷ []) (from_next from) (omega (arith, length-append rs (row i j d ∷ []))))
     where
@@ -96,38 +96,38 @@ module _ {limits : Limits} {t : List ℕ} where
 
       go : {x : ThreeNumbers} → RowRead l x → ((i j d : ℕ) → Clean limits t (line + 1) → RowBefore t (line + 1) i j → Right limits t (next i j d))
           → Right limits t (row_or x line λ i j d. unless (judge_row limits ring.n (length rs) a b i j d) line (row_fault ring.n i j d) (next i j d))
-      go (is-row {i} {j} {d} e w) rest =
+      go (is_a_row {i} {j} {d} e w) rest =
           let now : RowIs t line i j d = record { later = omega arith; text = rw e at (line-here from); spelled = w } in
           let judged = row-judged limits ring.n (length rs) a b i j d in
           unless-right _ _ clean (row-judged-first here now place before judged) (row-byte here now judged) (λ c. rest i j d c (row_before now))
       go (no_row none fault) rest =
           first_holds (given-here clean (no-row-first (omega arith) (line-here from) (λ i j d r. none i j d (line-one (line-here from) r.text refl) r.spelled))
-          (row-due (omega arith) (line-faulty (line-here from) fault)))
+          (row_due (omega arith) (line_faulty (line-here from) fault)))
 
   lines-right : length t ≤ limits.bytes → (ls : List (List ℕ)) → LinesFrom (lines t) 1 ls → Right limits t (table_lines limits ls)
   unfolding table_lines ring_or ByteIs
-  lines-right short [] from = first_holds (given-here (clean-start short) (no-ring-first (λ n r. omega (arith, no-line-left from r.text))) (ring-due refl (line-missing (λ l is. omega (arith, no-line-left from is)))))
+  lines-right short [] from = first_holds (given-here (clean-start short) (no-ring-first (λ n r. omega (arith, no-line-left from r.text))) (ring_due refl (line_missing (λ l is. omega (arith, no-line-left from is)))))
   lines-right short (l ∷ ls) from = go (ring-read l)
     where
       go : {x : TwoNumbers} → RingRead l x → Right limits t (ring_or x 1 λ ring. unless (judge_ring limits ring) 1 (ring_fault ring) (rows_of limits ring 2 0 0 [] ls))
-      go (is-ring {n} {fibres} e w) =
+      go (is_a_ring {n} {fibres} e w) =
           let here : RingIs t (ring_of n fibres) = record { text = rw e at (line-here from); spelled = w } in
           let judged = ring-judged limits (ring_of n fibres) in
           unless-right _ _ (clean-start short) (ring-judged-first here judged) (ring-byte here judged)
-          (λ c. rows_right here ls 2 0 0 [] (from_next from) refl c no-row-before)
-      go (no-ring none fault) =
+          (λ c. rows_right here ls 2 0 0 [] (from_next from) refl c no_row_before)
+      go (no_ring none fault) =
           first_holds (given-here (clean-start short) (no-ring-first (λ ring r. none ring.n ring.fibres (line-one (line-here from) r.text refl) r.spelled))
-          (ring-due refl (line-faulty (line-here from) fault)))
+          (ring_due refl (line_faulty (line-here from) fault)))
 
 too-long-given : {limits : Limits} {t : List ℕ} → limits.bytes < length t → Given limits t TooLong 0 0
 unfolding Says ByteIs
-too-long-given {limits} {t} long = record { holds = (refl, long); first = λ s other e h. go e (stands (said s h)); byte-is = refl }
+too-long-given {limits} {t} long = record { holds = (refl, long); first = λ s other e h. go e (stands (said s h)); byte_is = refl }
   where
     go : {s : Reason} {other : ℕ} → Earlier s other TooLong 0 → Stands limits t other s → ⊥
     go (inl l) w = omega arith
     go (inr l) (on_none e long one) = omega (arith, l.1)
-    go (inr l) (on-first e two) = omega (arith, l.1)
-    go (inr l) (on-later m is two) = omega (arith, l.1)
+    go (inr l) (on_first e two) = omega (arith, l.1)
+    go (inr l) (on_later m is two) = omega (arith, l.1)
 
 right : (limits : Limits) (t : List ℕ) → Right limits t (table_of limits t)
 unfolding table_of
@@ -147,7 +147,7 @@ one-given {t} {r} {s} {line} {other} {byte} {on} f g =
     let c : rank_of r < rank_of s → ⊥ = λ l. g.first r line (inr (e, l)) f.holds in
     let d : rank_of s < rank_of r → ⊥ = λ l. f.first s other (inr (sym e, l)) g.holds in
     let k : r ≡ s = same_rank r s (omega arith) in
-    (k, e, one_byte t other byte on s (rw (k, e) at f.byte-is) g.byte-is)
+    (k, e, one_byte t other byte on s (rw (k, e) at f.byte_is) g.byte_is)
 
 pub given : (limits : Limits) (t : List ℕ) (r : Reason) (line byte : ℕ) → (table_of limits t ≡ refused r line byte) ↔ Given limits t r line byte
 given limits t r line byte = (λ e. there (subst (Right limits t) e (right limits t)), λ g. back g (right limits t))
@@ -156,7 +156,7 @@ given limits t r line byte = (λ e. there (subst (Right limits t) e (right limit
     there (first_holds g) = g
 
     back : Given limits t r line byte → {x : Result} → Right limits t x → x ≡ refused r line byte
-    back g (none-holds none) = absurd (none r line g.holds)
+    back g (none_holds none) = absurd (none r line g.holds)
     back g (first_holds f) = let o = one-given f g in rw (o.0, o.1, o.2)
 
 -- the text is read to a table
@@ -169,7 +169,7 @@ pub accepted-is : (limits : Limits) (t : List ℕ) → Reads limits t ↔ Accept
 accepted-is limits t = (λ h. there (subst (Right limits t) h.is (right limits t)), λ none. back none (table_of limits t) refl)
   where
     there : {ring : Ring} {rs : List Row} → Right limits t (accepted ring rs) → Accepted limits t
-    there (none-holds none) = none
+    there (none_holds none) = none
 
     back : Accepted limits t → (x : Result) → table_of limits t ≡ x → Reads limits t
     back none (accepted ring rs) e = record { ring = ring; rs = rs; is = e }

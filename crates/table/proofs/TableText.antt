@@ -24,10 +24,10 @@ use Rattle.table.specs.ReadTable.{Result, accepted, refused, ring_or, row_or, un
 use Rattle.table.specs.declared.reason.Reason.{Reason}
 use Rattle.table.specs.declared.judge.Verdict.{Verdict}
 use Rattle.table.specs.declared.judge.Verdict.TheVariants.{Fine, Fault}
-use Rattle.table.proofs.Judged.{RingJudged, right-ring, ring-judged, RowJudged, row_fine, row-judged}
+use Rattle.table.proofs.Judged.{RingJudged, right_ring, ring-judged, RowJudged, row_fine, row-judged}
 use Rattle.table.proofs.Against.{fine-ring-judged, fine-row-judged}
-use Rattle.table.proofs.FineRows.{FineRows, no_row, fine-row, fine-rows, table-rows, amounts-fine, count-fine}
-use Rattle.table.proofs.LineRead.{RingSpelled, ring-line-read, RingRead, is-ring, no-ring, ring-read, RowSpelled, row-line-read, RowRead, is-row, no_row as no-row-line, row_read}
+use Rattle.table.proofs.FineRows.{FineRows, no_row, fine_row, fine-rows, table-rows, amounts-fine, count-fine}
+use Rattle.table.proofs.LineRead.{RingSpelled, ring-line-read, RingRead, is_a_ring, no_ring, ring-read, RowSpelled, row-line-read, RowRead, is_a_row, no_row as no_row_line, row_read}
 use Rattle.table.proofs.LinesOf.{join-lines, ring-first, row_first}
 
 pub desk-spelled : LimitsSpelled desk
@@ -39,18 +39,18 @@ desk-spelled = record { nodes = omega arith; amount = omega arith }
 data RowsRead (limits : Limits) (ring : Ring) (a b : ℕ) (rs : List Row) (ls : List (List ℕ)) : Result → Type 0 where
   rows_are : {all : List Row} (more : List Row) → all ≡ rs ++ more → flatten ls ≡ write_rows more → FineRows limits ring.n (length rs) a b more
       → RowsRead limits ring a b rs ls (accepted ring all)
-  rows-refused : {r : Reason} {line byte : ℕ} → RowsRead limits ring a b rs ls (refused r line byte)
+  rows_refused : {r : Reason} {line byte : ℕ} → RowsRead limits ring a b rs ls (refused r line byte)
 
 module _ {limits : Limits} {ring : Ring} where
   -- one row more in front
   row_more : (line : ℕ) (byte : Reason → ℕ) {a b i j d : ℕ} {rs : List Row} {l : List ℕ} {ls : List (List ℕ)} {v : Verdict} {x : Result} → l ≡ row_line i j d
       → RowJudged limits ring.n (length rs) a b i j d v → RowsRead limits ring i j (rs ++ row i j d ∷ []) ls x → RowsRead limits ring a b rs (l ∷ ls) (unless v line byte x)
   unfolding unless write_rows flatten
-  row_more line byte {v = Fault r} e w rest = rows-refused
+  row_more line byte {v = Fault r} e w rest = rows_refused
   row_more line byte {i} {j} {d} {rs} {v = Fine} e (row_fine o up c m) (rows_are more whole text fine) =
       let one = length-append rs (row i j d ∷ []) in
-      rows_are (row i j d ∷ more) (whole ∙ append_assoc rs (row i j d ∷ []) more) (rw (e, text)) (fine-row o up c m (subst (λ k. FineRows limits ring.n k i j more) one fine))
-  row_more line byte {v = Fine} e w rows-refused = rows-refused
+      rows_are (row i j d ∷ more) (whole ∙ append_assoc rs (row i j d ∷ []) more) (rw (e, text)) (fine_row o up c m (subst (λ k. FineRows limits ring.n k i j more) one fine))
+  row_more line byte {v = Fine} e w rows_refused = rows_refused
 
   rows-read : (ls : List (List ℕ)) (line a b : ℕ) (rs : List Row) → RowsRead limits ring a b rs ls (rows_of limits ring line a b rs ls)
   unfolding rows_of row_or write_rows flatten
@@ -62,20 +62,20 @@ module _ {limits : Limits} {ring : Ring} where
 
       go : {x : ThreeNumbers} → RowRead l x → ((i j d : ℕ) → RowsRead limits ring i j (rs ++ row i j d ∷ []) ls (next i j d))
           → RowsRead limits ring a b rs (l ∷ ls) (row_or x line λ i j d. unless (judge_row limits ring.n (length rs) a b i j d) line (row_fault ring.n i j d) (next i j d))
-      go (is-row {i} {j} {d} e w) rest = row_more line (row_fault ring.n i j d) e (row-judged limits ring.n (length rs) a b i j d) (rest i j d)
-      go (no-row-line none fault) rest = rows-refused
+      go (is_a_row {i} {j} {d} e w) rest = row_more line (row_fault ring.n i j d) e (row-judged limits ring.n (length rs) a b i j d) (rest i j d)
+      go (no_row_line none fault) rest = rows_refused
 
 -- what a text is read to
 data TableRead (limits : Limits) (t : List ℕ) : Result → Type 0 where
   table_is : {ring : Ring} {rs : List Row} → t ≡ write_table ring rs → InRange limits ring rs → TableRead limits t (accepted ring rs)
-  table-refused : {r : Reason} {line byte : ℕ} → TableRead limits t (refused r line byte)
+  table_refused : {r : Reason} {line byte : ℕ} → TableRead limits t (refused r line byte)
 
 module _ {limits : Limits} {t : List ℕ} (short : length t ≤ limits.bytes) where
   ring-more : (byte : Reason → ℕ) {ring : Ring} {l : List ℕ} {ls : List (List ℕ)} {v : Verdict} {x : Result} → t ≡ l ++ flatten ls → l ≡ ring_line ring.n ring.fibres
       → RingJudged limits ring v → RowsRead limits ring 0 0 [] ls x → TableRead limits t (unless v 1 byte x)
   unfolding unless write_table
-  ring-more byte {v = Fault r} whole e w rows = table-refused
-  ring-more byte {ring} {v = Fine} whole e (right-ring few many fibres) (rows_are {all} rs is text fine) =
+  ring-more byte {v = Fault r} whole e w rows = table_refused
+  ring-more byte {ring} {v = Fine} whole e (right_ring few many fibres) (rows_are {all} rs is text fine) =
       let written : t ≡ write_table ring all = whole ∙ rw (e, text, is) in
       table_is {rs = all} written (record {
         few = few;
@@ -86,21 +86,21 @@ module _ {limits : Limits} {t : List ℕ} (short : length t ≤ limits.bytes) wh
         amounts = rw is (amounts-fine fine);
         short = omega (arith, ap length written);
       })
-  ring-more byte {v = Fine} whole e w rows-refused = table-refused
+  ring-more byte {v = Fine} whole e w rows_refused = table_refused
 
   lines-read : (ls : List (List ℕ)) → t ≡ flatten ls → TableRead limits t (table_lines limits ls)
   unfolding table_lines ring_or flatten
-  lines-read [] whole = table-refused
+  lines-read [] whole = table_refused
   lines-read (l ∷ ls) whole = go (ring-read l)
     where
       go : {x : TwoNumbers} → RingRead l x → TableRead limits t (ring_or x 1 λ ring. unless (judge_ring limits ring) 1 (ring_fault ring) (rows_of limits ring 2 0 0 [] ls))
-      go (is-ring {n} {fibres} e w) = ring-more (ring_fault (ring_of n fibres)) whole e (ring-judged limits (ring_of n fibres)) (rows-read ls 2 0 0 [])
-      go (no-ring none fault) = table-refused
+      go (is_a_ring {n} {fibres} e w) = ring-more (ring_fault (ring_of n fibres)) whole e (ring-judged limits (ring_of n fibres)) (rows-read ls 2 0 0 [])
+      go (no_ring none fault) = table_refused
 
 table-read : (limits : Limits) (t : List ℕ) → TableRead limits t (table_of limits t)
 unfolding table_of
 table-read limits t =
-    cond-elim (TableRead limits t) _ _ _ (λ e. table-refused) (λ e. lines-read (ltb-false limits.bytes (length t) e) (lines t) (sym (join-lines t)))
+    cond-elim (TableRead limits t) _ _ _ (λ e. table_refused) (λ e. lines-read (ltb-false limits.bytes (length t) e) (lines t) (sym (join-lines t)))
 
 -- ---- written, so read
 
@@ -109,7 +109,7 @@ module _ (limits : Limits) (spelled : LimitsSpelled limits) (ring : Ring) (many 
       → rows_of limits ring line a b rs (lines (write_rows more)) ≡ accepted ring (rs ++ more)
   unfolding rows_of row_or unless write_rows lines
   written-rows-read line rs e no_row = ap (accepted ring) (sym (append-nil rs))
-  written-rows-read line rs {k} {a} {b} e (fine-row {r = r} {rs = more} o up c m fine) =
+  written-rows-read line rs {k} {a} {b} e (fine_row {r = r} {rs = more} o up c m fine) =
       let w : RowSpelled r.i r.j r.d = (omega (arith, o.order, o.high), (omega (arith, o.high), omega arith)) in
       rw (row_first r.i r.j r.d w (write_rows more), row-line-read r.i r.j r.d w, e, fine-row-judged limits ring.n k a b r.i r.j r.d o up c m)
       (written-rows-read (line + 1) (rs ++ r ∷ []) (omega (arith, length-append rs (r ∷ []))) fine ∙ ap (accepted ring) (append_assoc rs (r ∷ []) more))

@@ -140,8 +140,8 @@ Says limits t NoRoom line = ⊥
 
 -- where a line is due: 1 where it is missing; else the byte at which its first fault is, by what a fault is there
 pub data DueByte (t : List ℕ) (line : ℕ) (Fault : List ℕ → ℕ → Type 0) : ℕ → Type 0 where
-  line-missing : ((l : List ℕ) → LineIs (lines t) line l → ⊥) → DueByte t line Fault 1
-  line-faulty : {l : List ℕ} {p : ℕ} → LineIs (lines t) line l → Fault l p → DueByte t line Fault (p + 1)
+  line_missing : ((l : List ℕ) → LineIs (lines t) line l → ⊥) → DueByte t line Fault 1
+  line_faulty : {l : List ℕ} {p : ℕ} → LineIs (lines t) line l → Fault l p → DueByte t line Fault (p + 1)
 
 -- where a line of this shape is due it is the first byte at which no line of the shape goes on like this
 abbrev pub ShapeByte : List ℕ → List ℕ → ℕ → ℕ → Type 0
@@ -149,8 +149,8 @@ ShapeByte t shape line = DueByte t line (FirstFault shape)
 
 -- 2: by the shape that is due
 pub data LineByte (t : List ℕ) (line byte : ℕ) : Type 0 where
-  ring-due : line ≡ 1 → ShapeByte t ring_shape line byte → LineByte t line byte
-  row-due : 2 ≤ line → ShapeByte t row_shape line byte → LineByte t line byte
+  ring_due : line ≡ 1 → ShapeByte t ring_shape line byte → LineByte t line byte
+  row_due : 2 ≤ line → ShapeByte t row_shape line byte → LineByte t line byte
 
 -- 3: where n starts, which is field 1; 20: where fibres starts, which is field 2
 pub record RingField (t : List ℕ) (k byte : ℕ) : Type 0 where
@@ -160,12 +160,12 @@ pub record RingField (t : List ℕ) (k byte : ℕ) : Type 0 where
 
 -- 4: where the first of the two nodes that is outside starts
 pub data NodeByte (t : List ℕ) (line : ℕ) : ℕ → Type 0 where
-  first-node : {ring : Ring} {i j d : ℕ} → RingIs t ring → RowIs t line i j d → NoNode ring.n i → NodeByte t line (row_byte i j d 1)
-  second-node : {ring : Ring} {i j d : ℕ} → RingIs t ring → RowIs t line i j d → (NoNode ring.n i → ⊥) → NoNode ring.n j → NodeByte t line (row_byte i j d 2)
+  first_node : {ring : Ring} {i j d : ℕ} → RingIs t ring → RowIs t line i j d → NoNode ring.n i → NodeByte t line (row_byte i j d 1)
+  second_node : {ring : Ring} {i j d : ℕ} → RingIs t ring → RowIs t line i j d → (NoNode ring.n i → ⊥) → NoNode ring.n j → NodeByte t line (row_byte i j d 2)
 
 -- 7: where the amount starts
 pub data AmountByte (t : List ℕ) (line : ℕ) : ℕ → Type 0 where
-  at-amount : {i j d : ℕ} → RowIs t line i j d → AmountByte t line (row_byte i j d 3)
+  at_amount : {i j d : ℕ} → RowIs t line i j d → AmountByte t line (row_byte i j d 3)
 
 -- the byte of a reason that holds on a line
 unfoldable pub ByteIs : List ℕ → Reason → ℕ → ℕ → Type 0
@@ -206,7 +206,7 @@ Earlier r line s other = (line < other) ⊎ ((line ≡ other) × (rank_of r < ra
 pub record Given (limits : Limits) (t : List ℕ) (r : Reason) (line byte : ℕ) : Type 0 where
   pub holds : Says limits t r line
   pub first : (s : Reason) (other : ℕ) → Earlier s other r line → Says limits t s other → ⊥
-  pub byte-is : ByteIs t r line byte
+  pub byte_is : ByteIs t r line byte
 
 -- a table is accepted when no reason that judges its own length or lines holds of it
 abbrev pub Accepted : Limits → List ℕ → Type 0

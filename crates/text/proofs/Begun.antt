@@ -19,7 +19,7 @@ use Rattle.text.specs.declared.field.Field.{Field}
 use Rattle.text.specs.declared.field.Field.TheVariants.{Is, Bad}
 use Rattle.text.proofs.Apart.{clash}
 use Rattle.text.proofs.Lists.{byte-over}
-use Rattle.text.proofs.NextByte.{NextDigit, more, ends, stops, next-digit, FirstDigit, digit, no_digit, first-digit, MarkByte, mark, no-mark, mark-byte, EndByte, closed, not-closed, end-byte}
+use Rattle.text.proofs.NextByte.{NextDigit, more, ends, stops, next-digit, FirstDigit, digit, no_digit, first-digit, MarkByte, mark, no_mark, mark-byte, EndByte, closed, not_closed, end-byte}
 use Rattle.text.proofs.NumberText.{first-spelled, more-spelled}
 use Rattle.text.proofs.FieldText.{byte-of-mark, field-read-write}
 use Rattle.text.proofs.Local.{field-local}
@@ -104,7 +104,7 @@ end-begun end v p q (b ∷ xs) e = go (end-byte end v p b)
   where
     go : EndByte end v p b → p ≡ q
     go (closed he s) = clash (cc (s xs))
-    go (not-closed s) = cc (s xs)
+    go (not_closed s) = cc (s xs)
 
 mark-begun : (f : ℕ) → eqb f number ≡ false → (xs : List ℕ) (end p q : ℕ) → mark_from f end p xs ≡ Bad q → Begun f xs p q
 unfolding mark_from top spell
@@ -115,7 +115,7 @@ mark-begun f i (b ∷ xs) end p q e = go (mark-byte f end p b)
     go (mark h s) =
         let j : p + 1 ≡ q = end-begun end (mark_of f b) (p + 1) q xs (sym (s xs) ∙ e) in
         record { v = mark_of f b; small = rw i h; k = 1; place = sym j; text = λ ys. rw (i, byte-of-mark f b h) }
-    go (no-mark s) = not-begun f p q (b ∷ xs) (cc (s xs))
+    go (no_mark s) = not-begun f p q (b ∷ xs) (cc (s xs))
 
 field-begun : (f : ℕ) (s : List ℕ) (p end q : ℕ) → field_at f s p end ≡ Bad q → q ≤ p + length (drop p s) → Begun f (drop p s) p q
 unfolding field_at number_at mark_at

@@ -17,7 +17,7 @@ use Rattle.text.specs.ReadLine.{field_at}
 use Rattle.text.specs.declared.field.Field.TheVariants.{Is}
 use Rattle.text.proofs.Apart.{clash}
 use Rattle.text.proofs.Lists.{behind}
-use Rattle.text.proofs.NextByte.{MarkByte, mark, no-mark, mark-byte, EndByte, closed, not-closed, end-byte}
+use Rattle.text.proofs.NextByte.{MarkByte, mark, no_mark, mark-byte, EndByte, closed, not_closed, end-byte}
 use Rattle.text.proofs.NumberText.{number-write-read, number-read-write}
 
 -- ---- a mark and its byte
@@ -91,11 +91,11 @@ mark-marked f end (b ∷ xs) p v q e = go (mark-byte f end p b)
             let mv : mark_of f b ≡ v = cc (s xs) in
             let pq : q ≡ p + 1 + 1 = cc (s xs) in
             record { rest = xs; small = subst (λ (n : ℕ). n < marks f) mv h; text = rw (← mv, byte-of-mark f b h, he); next = pq }
-        stop (not-closed s) = clash (cc (s xs))
+        stop (not_closed s) = clash (cc (s xs))
 
     go : MarkByte f end p b → Marked f end (b ∷ xs) p v q
     go (mark h s) = closing h xs (sym (s xs) ∙ e)
-    go (no-mark s) = clash (cc (s xs))
+    go (no_mark s) = clash (cc (s xs))
 
 -- at the place p of s: the value v, then `end`, then what stands from q on
 pub record FieldSpelled (f end : ℕ) (s : List ℕ) (p v q : ℕ) : Type 0 where

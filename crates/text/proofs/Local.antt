@@ -17,7 +17,7 @@ use Rattle.text.specs.declared.field.Field.{Field}
 use Rattle.text.specs.declared.field.Field.TheVariants.{Is, Bad}
 use Rattle.text.proofs.Apart.{clash}
 use Rattle.text.proofs.Lists.{same-behind}
-use Rattle.text.proofs.NextByte.{NextDigit, more, ends, stops, next-digit, FirstDigit, digit, no_digit, first-digit, MarkByte, mark, no-mark, mark-byte, EndByte, closed, not-closed, end-byte}
+use Rattle.text.proofs.NextByte.{NextDigit, more, ends, stops, next-digit, FirstDigit, digit, no_digit, first-digit, MarkByte, mark, no_mark, mark-byte, EndByte, closed, not_closed, end-byte}
 
 -- the place behind the last byte that was looked at
 abbrev pub reach : Field → ℕ
@@ -102,7 +102,7 @@ end-local (b ∷ xs) end v p = go (end-byte end v p b)
   where
     go : EndByte end v p b → Local (end_from end v) p (b ∷ xs)
     go (closed he s) = decided (end_from end v) p b xs (Is v (p + 1)) refl (omega arith) s
-    go (not-closed s) = decided (end_from end v) p b xs (Bad p) refl (omega arith) s
+    go (not_closed s) = decided (end_from end v) p b xs (Bad p) refl (omega arith) s
 
 mark-local : (f : ℕ) (xs : List ℕ) (end p : ℕ) → Local (mark_from f end) p xs
 unfolding mark_from
@@ -111,7 +111,7 @@ mark-local f (b ∷ xs) end p = go (mark-byte f end p b)
   where
     go : MarkByte f end p b → Local (mark_from f end) p (b ∷ xs)
     go (mark h s) = goes_on (mark_from f end) p b xs (end_from end (mark_of f b)) s (end-local xs end (mark_of f b) (p + 1))
-    go (no-mark s) = decided (mark_from f end) p b xs (Bad p) refl (omega arith) s
+    go (no_mark s) = decided (mark_from f end) p b xs (Bad p) refl (omega arith) s
 
 -- the field f at the place p of the text s, read as x: the same, in places of the whole text
 pub record LocalField (f : ℕ) (s : List ℕ) (p end : ℕ) (x : Field) : Type 0 where

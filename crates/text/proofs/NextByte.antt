@@ -48,7 +48,7 @@ first-digit end p b = go (ltb (digit_of b) base) refl
 -- the byte b where a mark is due: a mark of the field f, or a fault
 pub data MarkByte (f end p b : ℕ) : Type 0 where
   mark : mark_of f b < marks f → ((xs : List ℕ) → mark_from f end p (b ∷ xs) ≡ end_from end (mark_of f b) (p + 1) xs) → MarkByte f end p b
-  no-mark : ((xs : List ℕ) → mark_from f end p (b ∷ xs) ≡ Bad p) → MarkByte f end p b
+  no_mark : ((xs : List ℕ) → mark_from f end p (b ∷ xs) ≡ Bad p) → MarkByte f end p b
 
 pub mark-byte : (f end p b : ℕ) → MarkByte f end p b
 unfolding mark_from
@@ -56,12 +56,12 @@ mark-byte f end p b = go (ltb (mark_of f b) (marks f)) refl
   where
     go : (m : Bool) → ltb (mark_of f b) (marks f) ≡ m → MarkByte f end p b
     go true hm = mark (ltb-true _ _ hm) (λ xs. rw hm)
-    go false hm = no-mark (λ xs. rw hm)
+    go false hm = no_mark (λ xs. rw hm)
 
 -- the byte b behind the mark v: the end, or a fault
 pub data EndByte (end v p b : ℕ) : Type 0 where
   closed : b ≡ end → ((xs : List ℕ) → end_from end v p (b ∷ xs) ≡ Is v (p + 1)) → EndByte end v p b
-  not-closed : ((xs : List ℕ) → end_from end v p (b ∷ xs) ≡ Bad p) → EndByte end v p b
+  not_closed : ((xs : List ℕ) → end_from end v p (b ∷ xs) ≡ Bad p) → EndByte end v p b
 
 pub end-byte : (end v p b : ℕ) → EndByte end v p b
 unfolding end_from
@@ -69,4 +69,4 @@ end-byte end v p b = go (eqb b end) refl
   where
     go : (e : Bool) → eqb b end ≡ e → EndByte end v p b
     go true he = closed (eqb-true b end he) (λ xs. rw he)
-    go false he = not-closed (λ xs. rw he)
+    go false he = not_closed (λ xs. rw he)

@@ -22,7 +22,7 @@ use Rattle.table.specs.declared.reason.Reason.{Reason}
 use Rattle.table.specs.declared.judge.Verdict.{Verdict}
 use Rattle.table.specs.declared.judge.Verdict.TheVariants.{Fine}
 use Rattle.table.proofs.ReasonNumbers.{no-reason-0}
-use Rattle.table.proofs.Judged.{RingJudged, wrong-size, wrong-fibres, right-ring, ring-judged}
+use Rattle.table.proofs.Judged.{RingJudged, size_wrong, wrong_fibres, right_ring, ring-judged}
 use Rattle.work.specs.Places.{empty, holds, Plain}
 use Rattle.work.specs.Calls.{Call, start, add, change, remove, refuses, makes, judge_start, judge_place, judge_room, with_place, outcome, answer, row_said, row_answer}
 use Rattle.work.specs.Made.{place_in, called_in, Made, begun, called, plain_of}
@@ -44,8 +44,8 @@ pub record Sound (w : Work) : Type 0 where
 
 -- what a call is, in the struct and in the list: refused by both for one reason, or a table by both
 pub data Step (w : Work) (c : Call) : Type 0 where
-  both-refuse : (reason : ℕ) → (reason ≡ 0 → ⊥) → called_in w c ≡ refused_in w reason → outcome (plain_of w) c ≡ refuses reason → Step w c
-  both-make : (p : ℕ) (x : Work) → Right x → called_in w c ≡ kept_in x p → outcome (plain_of w) c ≡ makes p (plain_of x) → Step w c
+  both_refuse : (reason : ℕ) → (reason ≡ 0 → ⊥) → called_in w c ≡ refused_in w reason → outcome (plain_of w) c ≡ refuses reason → Step w c
+  both_make : (p : ℕ) (x : Work) → Right x → called_in w c ≡ kept_in x p → outcome (plain_of w) c ≡ makes p (plain_of x) → Step w c
 
 kept-sound : (p : ℕ) (x : Work) → Right x → Sound (kept_in x p).work
 unfolding kept_in
@@ -59,17 +59,17 @@ module _ {w : Work} {c : Call} where
   -- the reply is the list's
   pub replied : Step w c → (called_in w c).reply ≡ answer (outcome (plain_of w) c)
   unfolding answer kept_in
-  replied (both-refuse reason z e f) = rw (e, f)
-  replied (both-make p x s e f) = rw (e, f, cut-is x s)
+  replied (both_refuse reason z e f) = rw (e, f)
+  replied (both_make p x s e f) = rw (e, f, cut-is x s)
 
   stays-sound : Step w c → Sound w → Sound (called_in w c).work
-  stays-sound (both-refuse reason z e f) s = rw e s
-  stays-sound (both-make p x r e f) s = rw e (kept-sound p x r)
+  stays-sound (both_refuse reason z e f) s = rw e s
+  stays-sound (both_make p x r e f) s = rw e (kept-sound p x r)
 
   -- an accepted call makes a table that is right, whatever was there before
   accepted-sound : Step w c → (called_in w c).reply.reason ≡ 0 → Sound (called_in w c).work
-  accepted-sound (both-refuse reason z e f) a = absurd (z (rw e at a))
-  accepted-sound (both-make p x r e f) a = rw e (kept-sound p x r)
+  accepted-sound (both_refuse reason z e f) a = absurd (z (rw e at a))
+  accepted-sound (both_make p x r e f) a = rw e (kept-sound p x r)
 
 -- ---- a start, whatever the table was
 
@@ -81,7 +81,7 @@ module _ (w : Work) (n fibres : ℕ) where
   fine-start : desk.fewest ≤ n → n ≤ desk.nodes → IsFibres fibres → judge_ring desk (ring_of n fibres) ≡ Fine → Step w (start n fibres)
   unfolding started_in unless_fault outcome judge_start fresh_in
   fine-start l h o v =
-      both-make 0 (fresh_in n fibres) (fresh-right n fibres l h o) (rw v)
+      both_make 0 (fresh_in n fibres) (fresh-right n fibres l h o) (rw v)
       (rw (le-ltb n desk.fewest l, le-ltb desk.nodes n h, known-fibres o) (ap (λ ps. makes 0 (record { n = n; fibres = fibres; places = ps })) (sym (fresh-places n fibres))))
 
   pub start-step : Step w (start n fibres)
@@ -89,12 +89,12 @@ module _ (w : Work) (n fibres : ℕ) where
   start-step = go (judge_ring desk (ring_of n fibres)) refl (ring-judged desk (ring_of n fibres))
     where
       go : (v : Verdict) → judge_ring desk (ring_of n fibres) ≡ v → RingJudged desk (ring_of n fibres) v → Step w (start n fibres)
-      go v e (right-ring l h o) = fine-start l h o e
-      go v e (wrong-fibres l h o) =
-          both-refuse 20 (λ z. omega arith) (rw e)
+      go v e (right_ring l h o) = fine-start l h o e
+      go v e (wrong_fibres l h o) =
+          both_refuse 20 (λ z. omega arith) (rw e)
           (rw (le-ltb n desk.fewest l, le-ltb desk.nodes n h, ne_eqb fibres 2 (λ q. o (inl q)), ne_eqb fibres 4 (λ q. o (inr q))))
-      go v e (wrong-size (inl l)) = both-refuse 3 (λ z. omega arith) (rw e) (rw (lt-ltb n desk.fewest l))
-      go v e (wrong-size (inr l)) = both-refuse 3 (λ z. omega arith) (rw e) (rw (lt-ltb desk.nodes n l, or-true (ltb n desk.fewest)))
+      go v e (size_wrong (inl l)) = both_refuse 3 (λ z. omega arith) (rw e) (rw (lt-ltb n desk.fewest l))
+      go v e (size_wrong (inr l)) = both_refuse 3 (λ z. omega arith) (rw e) (rw (lt-ltb desk.nodes n l, or-true (ltb n desk.fewest)))
 
 -- ---- a row added, changed, removed
 
@@ -114,18 +114,18 @@ module _ (w : Work) (s : Right w) where
     add_step = go (demand w.n i j d)
       where
         go : Demand w.n i j d (judge_row desk w.n 0 0 0 i j d) → Step w (add i j d)
-        go (bad reason e f) = both-refuse (number_of reason) (number-above reason) (rw (verdict ∙ e)) (f _)
+        go (bad reason e f) = both_refuse (number_of reason) (number-above reason) (rw (verdict ∙ e)) (f _)
         go (good e g f) =
             elim (dec_lt (free_in w.first) desk.rows) [
               | yes l ↦
                   let free = free-is-free w.first 0 desk.rows (omega arith) in
-                  both-make (free_in w.first + 1) (put_in w (free_in w.first) i j d) (put_right w s (free_in w.first) l i j d free g)
+                  both_make (free_in w.first + 1) (put_in w (free_in w.first) i j d) (put_right w s (free_in w.first) l i j d free g)
                   (rw (verdict ∙ e, lt-ltb (free_in w.first) desk.rows l))
                   (f _ ∙
                   (rw (same-free w s, count w s, lt-ltb (free_in w.first) desk.rows l)
                   (ap (λ ps. makes (free_in w.first + 1) (record { n = w.n; fibres = w.fibres; places = ps })) (sym (put-places w s (free_in w.first) l i j d free g)))))
               | no l ↦
-                  both-refuse 21 (λ z. omega arith) (rw (verdict ∙ e, le-ltb (free_in w.first) desk.rows (omega arith)))
+                  both_refuse 21 (λ z. omega arith) (rw (verdict ∙ e, le-ltb (free_in w.first) desk.rows (omega arith)))
                   (f _ ∙ (rw (same-free w s, count w s, le-ltb (free_in w.first) desk.rows (omega arith))))
             ]
 
@@ -156,25 +156,25 @@ module _ (w : Work) (s : Right w) where
     change-step i j d = go (holds_in w.first p) refl (demand w.n i j d)
       where
         go : (b : Bool) → holds_in w.first p ≡ b → Demand w.n i j d (judge_row desk w.n 0 0 0 i j d) → Step w (change p i j d)
-        go false h v = both-refuse 22 (λ z. omega arith) (rw h) (rw (same_place w s p ∙ h))
-        go true h (bad reason e f) = both-refuse (number_of reason) (number-above reason) (rw (h, verdict i j d ∙ e)) (rw (same_place w s p ∙ h) (f _))
+        go false h v = both_refuse 22 (λ z. omega arith) (rw h) (rw (same_place w s p ∙ h))
+        go true h (bad reason e f) = both_refuse (number_of reason) (number-above reason) (rw (h, verdict i j d ∙ e)) (rw (same_place w s p ∙ h) (f _))
         go true h (good e g f) =
-            let row-there = holding w.first p h in
-            let off = clear-right w s (p - 1) row-there.high row-there.row in
-            both-make p (put_in (cleared_in w (p - 1)) (p - 1) i j d) (put_right (cleared_in w (p - 1)) off (p - 1) row-there.high i j d (cleared-free (p - 1) row-there.high) (still (p - 1) row-there.high g))
+            let row_there = holding w.first p h in
+            let off = clear-right w s (p - 1) row_there.high row_there.row in
+            both_make p (put_in (cleared_in w (p - 1)) (p - 1) i j d) (put_right (cleared_in w (p - 1)) off (p - 1) row_there.high i j d (cleared-free (p - 1) row_there.high) (still (p - 1) row_there.high g))
             (rw (h, verdict i j d ∙ e))
-            (rw (same_place w s p ∙ h) (f _ ∙ ap (λ ps. makes p (record { n = w.n; fibres = w.fibres; places = ps })) (sym (changed-places (p - 1) row-there.high row-there.row i j d g))))
+            (rw (same_place w s p ∙ h) (f _ ∙ ap (λ ps. makes p (record { n = w.n; fibres = w.fibres; places = ps })) (sym (changed-places (p - 1) row_there.high row_there.row i j d g))))
 
     remove-step : Step w (remove p)
     unfolding removed_in outcome judge_place
     remove-step = go (holds_in w.first p) refl
       where
         go : (b : Bool) → holds_in w.first p ≡ b → Step w (remove p)
-        go false h = both-refuse 22 (λ z. omega arith) (rw h) (rw (same_place w s p ∙ h))
+        go false h = both_refuse 22 (λ z. omega arith) (rw h) (rw (same_place w s p ∙ h))
         go true h =
-            let row-there = holding w.first p h in
-            both-make p (cleared_in w (p - 1)) (clear-right w s (p - 1) row-there.high row-there.row) (rw h)
-            (rw (same_place w s p ∙ h) (removed-plain (p - 1) row-there.high row-there.row p))
+            let row_there = holding w.first p h in
+            both_make p (cleared_in w (p - 1)) (clear-right w s (p - 1) row_there.high row_there.row) (rw h)
+            (rw (same_place w s p ∙ h) (removed-plain (p - 1) row_there.high row_there.row p))
 
   pub call_step : (c : Call) → Step w c
   call_step (start n fibres) = start-step w n fibres

@@ -21,7 +21,7 @@ use Rattle.table.specs.declared.reason.Reason.{Reason}
 use Rattle.table.specs.declared.reason.Reason.TheVariants.{NoRow, Full}
 use Rattle.table.specs.declared.judge.Verdict.{Verdict}
 use Rattle.table.specs.declared.judge.Verdict.TheVariants.{Fine, Fault}
-use Rattle.table.proofs.Judged.{RowJudged, no-such-node, not-below, out_of_order, too_many, too_much, row_fine, row-judged}
+use Rattle.table.proofs.Judged.{RowJudged, no_such_node, not_below, out_of_order, too_many, too_much, row_fine, row-judged}
 use Rattle.work.specs.declared.place.RowReply.{RowReply}
 use Rattle.work.specs.Changes.{Fitting, ring_size, refused_in, kept_in, free_in, holds_in, row_in, with_row, put_in, cleared_in, unless_fault, fresh_in, started_in, judged, added_in, changed_in, removed_in}
 use Rattle.work.specs.declared.Work.{Work}
@@ -90,8 +90,8 @@ module _ (w : Work) where
       where
         go : (u : Verdict) → u ≡ Fine → RowJudged desk (ring_size w.n) 0 0 0 i j d u → Fitting k i j d
         go u q (row_fine on up c m) = record { place = l; low = on.low; first = omega (arith, on.order, on.high); second = omega (arith, on.high); amount = omega arith }
-        go u q (no-such-node x) = absurd (never q)
-        go u q (not-below x y z) = absurd (never q)
+        go u q (no_such_node x) = absurd (never q)
+        go u q (not_below x y z) = absurd (never q)
         go u q (out_of_order x y z o) = absurd (never q)
         go u q (too_many x y z o c) = absurd (never q)
         go u q (too_much x y z o c m) = absurd (never q)
@@ -125,9 +125,9 @@ module _ (w : Work) where
     remove-done k x t ek ex er = rw (sym eb ∙ t, ← ek, ← ex) er
 
   module _ (p : ℕ) (b : Bool) (eb : b ≡ holds_in w.first p) where
-    pub row-there : (k : ℕ) → b ≡ true → k ≡ p - 1 → row_reply (get_or w.first k 0) (get_or w.second k 0) (get_or w.amount k 0) ≡ row_in w p
+    pub row_there : (k : ℕ) → b ≡ true → k ≡ p - 1 → row_reply (get_or w.first k 0) (get_or w.second k 0) (get_or w.amount k 0) ≡ row_in w p
     unfolding row_in
-    row-there k t ek = rw (sym eb ∙ t, ek)
+    row_there k t ek = rw (sym eb ∙ t, ek)
 
     pub row-none : (number : ℕ) → b ≡ false → number ≡ number_of NoRow → record { reason = number; line = 0; first = 0; second = 0; amount = 0 } ≡ row_in w p
     unfolding row_in

@@ -17,14 +17,14 @@ use Rattle.work.specs.Changes.{refused_in, kept_in, row_in, started_in, added_in
 use Rattle.work.specs.Made.{Made, begun, called, called_in, plain_of}
 use Rattle.work.specs.Kept.{kept_cut}
 use Rattle.work.specs.Played.{played, named_by, last_named, AsPlayed}
-use Rattle.work.specs.Promises.{RowAt, NoRow, Given, NoneHolds, faults, Makes, WorkSays, refused, accepted, WorkPromise, RowSays, none-there, row-there, RowPromise}
+use Rattle.work.specs.Promises.{RowAt, NoRow, Given, NoneHolds, faults, Makes, WorkSays, refused, accepted, WorkPromise, RowSays, none_there, row_there, RowPromise}
 use Rattle.work.specs.declared.Work.{Work}
 use Rattle.work.specs.declared.held.WorkReply.{WorkReply}
 use Rattle.work.specs.declared.held.Changed.{Changed}
 use Rattle.work.specs.declared.place.RowReply.{RowReply}
 use Rattle.work.proofs.Right.{Right, cut-is}
 use Rattle.work.proofs.Reasons.{Ends, stops, goes, call_ends, one-given, none-given, one-made}
-use Rattle.work.proofs.ByCalls.{Step, both-refuse, both-make, start-step, call_step, replied, made-sound, made_row}
+use Rattle.work.proofs.ByCalls.{Step, both_refuse, both_make, start-step, call_step, replied, made-sound, made_row}
 
 -- ---- one call
 
@@ -35,47 +35,47 @@ names-a-link x s = (rule-A x.n (rows_held (plain_of x).places) s.two).among.low
 module _ (w : Work) (c : Call) (r : WorkReply) (x : Work) where
   -- a refusal with a reason above 0, or a table that is right
   data Case : Type 0 where
-    is-refused : {reason : ℕ} → Given (faults (plain_of w) c) reason → (reason ≡ 0 → ⊥) → r ≡ refusal reason → x ≡ w → Case
-    is-accepted : {p : ℕ} {u : Plain} → NoneHolds (faults (plain_of w) c) → Makes (plain_of w) c p u → r ≡ acceptance p u → plain_of x ≡ u → 1 ≤ (rule_a u.n (rows_held u.places)).g → Case
+    is_refused : {reason : ℕ} → Given (faults (plain_of w) c) reason → (reason ≡ 0 → ⊥) → r ≡ refusal reason → x ≡ w → Case
+    is_accepted : {p : ℕ} {u : Plain} → NoneHolds (faults (plain_of w) c) → Makes (plain_of w) c p u → r ≡ acceptance p u → plain_of x ≡ u → 1 ≤ (rule_a u.n (rows_held u.places)).g → Case
 
   module _ (er : r ≡ (called_in w c).reply) (ex : x ≡ (called_in w c).work) where
     case-of : {o : Outcome} → Step w c → outcome (plain_of w) c ≡ o → Ends (faults (plain_of w) c) (Makes (plain_of w) c) o → Case
     unfolding kept_in
-    case-of (both-refuse reason z e f) is (stops {reason = k} g) = let q : k ≡ reason = cc in is-refused g (λ y. z (sym q ∙ y)) (er ∙ (rw (e, q))) (ex ∙ (rw e))
-    case-of (both-refuse reason z e f) is (goes n m) = absurd (let z : ◌≡◌ {A = ℕ} 0 1 = cc in omega arith)
-    case-of (both-make p y s e f) is (stops g) = absurd (let z : ◌≡◌ {A = ℕ} 0 1 = cc in omega arith)
-    case-of (both-make p y s e f) is (goes {p = k} {u = u} n m) =
+    case-of (both_refuse reason z e f) is (stops {reason = k} g) = let q : k ≡ reason = cc in is_refused g (λ y. z (sym q ∙ y)) (er ∙ (rw (e, q))) (ex ∙ (rw e))
+    case-of (both_refuse reason z e f) is (goes n m) = absurd (let z : ◌≡◌ {A = ℕ} 0 1 = cc in omega arith)
+    case-of (both_make p y s e f) is (stops g) = absurd (let z : ◌≡◌ {A = ℕ} 0 1 = cc in omega arith)
+    case-of (both_make p y s e f) is (goes {p = k} {u = u} n m) =
         let q : k ≡ p = cc in
         let v : u ≡ plain_of y = cc in
-        is-accepted n m (er ∙ (rw (e, q, v, cut-is y s))) (ap plain_of ex ∙ (rw (e, v))) (rw v (names-a-link y s))
+        is_accepted n m (er ∙ (rw (e, q, v, cut-is y s))) (ap plain_of ex ∙ (rw (e, v))) (rw v (names-a-link y s))
 
   says : Case → WorkSays w c r x
-  says (is-refused g z er ex) = refused g er ex
-  says (is-accepted n m er ex l) = accepted n m er ex
+  says (is_refused g z er ex) = refused g er ex
+  says (is_accepted n m er ex l) = accepted n m er ex
 
   gives : (reason : ℕ) → Case → r ≡ refusal reason → Given (faults (plain_of w) c) reason
-  gives reason (is-refused {reason = k} g z er ex) e = let q : k ≡ reason = ap (λ (y : WorkReply). y.reason) (sym er ∙ e) in rw (← q) g
-  gives reason (is-accepted n m er ex l) e = absurd (omega (arith, l, ap (λ (y : WorkReply). y.g) (sym er ∙ e)))
+  gives reason (is_refused {reason = k} g z er ex) e = let q : k ≡ reason = ap (λ (y : WorkReply). y.reason) (sym er ∙ e) in rw (← q) g
+  gives reason (is_accepted n m er ex l) e = absurd (omega (arith, l, ap (λ (y : WorkReply). y.g) (sym er ∙ e)))
 
   given : (reason : ℕ) → Case → Given (faults (plain_of w) c) reason → r ≡ refusal reason
-  given reason (is-refused g z er ex) h = let q = one-given (faults (plain_of w) c) h g in rw q er
-  given reason (is-accepted n m er ex l) h = absurd (none-given (faults (plain_of w) c) reason h n)
+  given reason (is_refused g z er ex) h = let q = one-given (faults (plain_of w) c) h g in rw q er
+  given reason (is_accepted n m er ex l) h = absurd (none-given (faults (plain_of w) c) reason h n)
 
   stays : (reason : ℕ) → Case → r ≡ refusal reason → x ≡ w
-  stays reason (is-refused g z er ex) e = ex
-  stays reason (is-accepted n m er ex l) e = absurd (omega (arith, l, ap (λ (y : WorkReply). y.g) (sym er ∙ e)))
+  stays reason (is_refused g z er ex) e = ex
+  stays reason (is_accepted n m er ex l) e = absurd (omega (arith, l, ap (λ (y : WorkReply). y.g) (sym er ∙ e)))
 
   module _ (p : ℕ) (u : Plain) where
     takes : Case → (r ≡ acceptance p u) × (plain_of x ≡ u) → NoneHolds (faults (plain_of w) c) × Makes (plain_of w) c p u
-    takes (is-refused g z er ex) h = absurd (z (ap (λ (y : WorkReply). y.reason) (sym er ∙ h.0)))
-    takes (is-accepted {p = k} {u = v} n m er ex l) h =
+    takes (is_refused g z er ex) h = absurd (z (ap (λ (y : WorkReply). y.reason) (sym er ∙ h.0)))
+    takes (is_accepted {p = k} {u = v} n m er ex l) h =
         let a : k ≡ p = ap (λ (y : WorkReply). y.place) (sym er ∙ h.0) in
         let b : v ≡ u = sym ex ∙ h.1 in
         rw (← a, ← b) (n, m)
 
     taken : Case → NoneHolds (faults (plain_of w) c) × Makes (plain_of w) c p u → (r ≡ acceptance p u) × (plain_of x ≡ u)
-    taken (is-refused {reason = k} g z er ex) h = absurd (none-given (faults (plain_of w) c) k g h.0)
-    taken (is-accepted n m er ex l) h = let q = one-made h.1 m in rw (q.0, q.1) (er, ex)
+    taken (is_refused {reason = k} g z er ex) h = absurd (none-given (faults (plain_of w) c) k g h.0)
+    taken (is_accepted n m er ex l) h = let q = one-made h.1 m in rw (q.0, q.1) (er, ex)
 
   promise : Step w c → (r ≡ (called_in w c).reply) × (x ≡ (called_in w c).work) → WorkPromise w c r x
   promise step is =
@@ -110,30 +110,30 @@ module _ (t : Plain) (p : ℕ) (r : RowReply) where
   said is =
       elim (dec_lt 0 p) [
         | yes l ↦ go l (get_or t.places (p - 1) empty) refl (is ∙ (rw (lt-ltb 0 p l)))
-        | no l ↦ none-there (λ y. omega (arith, y.there.from-1)) (is ∙ (rw (le-ltb 0 p (omega arith))))
+        | no l ↦ none_there (λ y. omega (arith, y.there.from_1)) (is ∙ (rw (le-ltb 0 p (omega arith))))
       ]
     where
       go : 1 ≤ p → (x : Place) → get_or t.places (p - 1) empty ≡ x → r ≡ row_said x → RowSays t.places p r
-      go l empty e q = none-there (λ y. let f = y.there.is in let z : ◌≡◌ {A = ℕ} 0 1 = cc in omega arith) q
-      go l (holds x) e q = row-there x (record { from-1 = l; is = e }) q
+      go l empty e q = none_there (λ y. let f = y.there.is in let z : ◌≡◌ {A = ℕ} 0 1 = cc in omega arith) q
+      go l (holds x) e q = row_there x (record { from_1 = l; is = e }) q
 
 module _ (ps : List Place) (p : ℕ) (r : RowReply) where
   no-row-said : RowSays ps p r → r ≡ no_row → NoRow ps p
-  no-row-said (none-there n e) q = n
-  no-row-said (row-there x at e) q = absurd (omega (arith, ap (λ (y : RowReply). y.reason) (sym e ∙ q)))
+  no-row-said (none_there n e) q = n
+  no-row-said (row_there x at e) q = absurd (omega (arith, ap (λ (y : RowReply). y.reason) (sym e ∙ q)))
 
   says-no-row : RowSays ps p r → NoRow ps p → r ≡ no_row
-  says-no-row (none-there n e) h = e
-  says-no-row (row-there x at e) h = absurd (h (record { r = x; there = at }))
+  says-no-row (none_there n e) h = e
+  says-no-row (row_there x at e) h = absurd (h (record { r = x; there = at }))
 
   module _ (x : Row) where
     row-said : RowSays ps p r → r ≡ the_row x → RowAt ps p x
-    row-said (none-there n e) q = absurd (omega (arith, ap (λ (y : RowReply). y.reason) (sym e ∙ q)))
-    row-said (row-there y at e) q = let same : y ≡ x = ap (λ (z : RowReply). row z.first z.second z.amount) (sym e ∙ q) in rw (← same) at
+    row-said (none_there n e) q = absurd (omega (arith, ap (λ (y : RowReply). y.reason) (sym e ∙ q)))
+    row-said (row_there y at e) q = let same : y ≡ x = ap (λ (z : RowReply). row z.first z.second z.amount) (sym e ∙ q) in rw (← same) at
 
     says_row : RowSays ps p r → RowAt ps p x → r ≡ the_row x
-    says_row (none-there n e) h = absurd (n (record { r = x; there = h }))
-    says_row (row-there y at e) h = let same : y ≡ x = cc (at.is, h.is) in rw (← same) e
+    says_row (none_there n e) h = absurd (n (record { r = x; there = h }))
+    says_row (row_there y at e) h = let same : y ≡ x = cc (at.is, h.is) in rw (← same) e
 
 pub row-promise : {cs : List Call} {w : Work} → Made cs w → (p : ℕ) (r : RowReply) → r ≡ row_in w p → RowPromise w p r
 row-promise {w = w} m p r is =
@@ -148,8 +148,8 @@ next : {w : Work} {c : Call} (t : Plain) (d : Cut) → Step w c → outcome (pla
     → ((reason : ℕ) → (reason ≡ 0 → ⊥) → called_in w c ≡ refused_in w reason → (plain_of w ≡ t) × (kept_cut w ≡ d))
     → (plain_of (called_in w c).work ≡ after t (outcome t c)) × (kept_cut (called_in w c).work ≡ named_by (answer (outcome t c)) d)
 unfolding after answer named_by kept_in
-next t d (both-refuse reason z e f) same was = let b = was reason z e in rw (e, ← same, f, ne_eqb reason 0 z) b
-next t d (both-make p y s e f) same was = rw (e, ← same, f, cut-is y s) (refl, refl)
+next t d (both_refuse reason z e f) same was = let b = was reason z e in rw (e, ← same, f, ne_eqb reason 0 z) b
+next t d (both_make p y s e f) same was = rw (e, ← same, f, cut-is y s) (refl, refl)
 
 behind : {cs : List Call} {w : Work} → Made cs w → (plain_of w ≡ played cs) × (kept_cut w ≡ last_named cs)
 unfolding played last_named outcome

@@ -11,7 +11,7 @@ use borrow.Author.Tests.{lt-ltb, le-ltb}
 use Rattle.ring.specs.LineSize.{IsFibres}
 use Rattle.ring.specs.Limits.{desk}
 use Rattle.ring.specs.Row.{Row, row}
-use Rattle.table.proofs.Tested.{Tested, is-so, not_so, test-or, test-less, test-most, test-same}
+use Rattle.table.proofs.Tested.{Tested, is_so, not_so, test-or, test-less, test-most, test-same}
 use Rattle.work.specs.Places.{Place, empty, holds, Plain, is_row, lowest_free, holds_row}
 use Rattle.work.specs.Calls.{Call, start, add, change, remove, Outcome, refuses, makes, judge_start, judge_demand, judge_place, judge_room, with_place, outcome}
 use Rattle.work.specs.Sorted.{HoldsAt}
@@ -34,11 +34,11 @@ module _ {k : ℕ} {A : Type 0} {fs : Faults} {M : ℕ → Plain → Type 0} whe
   later f (goes n m) = goes (f, n) m
 
   if : {b : Bool} {o : Outcome} → Tested A b → Ends fs M o → Ends (fault k A fs) M (cond b (refuses k) o)
-  if (is-so a) e = now a
+  if (is_so a) e = now a
   if (not_so f) e = later f e
 
 unless : {k : ℕ} {A : Type 0} {fs : Faults} {M : ℕ → Plain → Type 0} {b : Bool} {o : Outcome} → Tested A b → Ends fs M o → Ends (fault k (A → ⊥) fs) M (cond b o (refuses k))
-unless (is-so a) e = later (λ f. f a) e
+unless (is_so a) e = later (λ f. f a) e
 unless (not_so f) e = now f
 
 none_left : {M : ℕ → Plain → Type 0} {p : ℕ} {u : Plain} → M p u → Ends no_more M (makes p u)
@@ -49,14 +49,14 @@ none_left m = goes tt m
 
 test-row : (ps : List Place) (p : ℕ) → 1 ≤ p → (x : Place) → get_or ps (p - 1) empty ≡ x → Tested (Taken ps p) (is_row x)
 test-row ps p l empty e = not_so (λ t. let f = t.there.is in let z : ◌≡◌ {A = ℕ} 0 1 = cc in omega arith)
-test-row ps p l (holds r) e = is-so (record { r = r; there = record { from-1 = l; is = e } })
+test-row ps p l (holds r) e = is_so (record { r = r; there = record { from_1 = l; is = e } })
 
 test-place : (ps : List Place) (p : ℕ) → Tested (Taken ps p) (holds_row ps p)
 unfolding holds_row
 test-place ps p =
     elim (dec_lt 0 p) [
       | yes l ↦ rw (lt-ltb 0 p l) (test-row ps p l (get_or ps (p - 1) empty) refl)
-      | no l ↦ rw (le-ltb 0 p (omega arith)) (not_so (λ t. omega (arith, t.there.from-1)))
+      | no l ↦ rw (le-ltb 0 p (omega arith)) (not_so (λ t. omega (arith, t.there.from_1)))
     ]
 
 -- the lowest free place, if there is one
@@ -78,12 +78,12 @@ row_below (holds r ∷ ps) zero l = record { r = r; is = refl }
 row_below (holds r ∷ ps) (suc k) l = let t = row_below ps k (omega arith) in record { r = t.r; is = t.is }
 
 below-is-taken : (ps : List Place) (q : ℕ) → 1 ≤ q → q ≤ lowest_free ps → Taken ps q
-below-is-taken ps q a b = let t = row_below ps (q - 1) (omega arith) in record { r = t.r; there = record { from-1 = a; is = t.is } }
+below-is-taken ps q a b = let t = row_below ps (q - 1) (omega arith) in record { r = t.r; there = record { from_1 = a; is = t.is } }
 
 lowest : (ps : List Place) → lowest_free ps < length ps → LowestFree ps (lowest_free ps + 1)
 lowest ps l =
     record {
-      from-1 = omega arith;
+      from_1 = omega arith;
       to_last = omega arith;
       free = λ t. let e : lowest_free ps + 1 - 1 ≡ lowest_free ps = omega arith in let f = rw e at t.there.is in let g = no-row-at ps l in let z : ◌≡◌ {A = ℕ} 0 1 = cc in omega arith;
       below = λ q a b. below-is-taken ps q a (omega arith);
@@ -110,7 +110,7 @@ module _ {fs : Faults} {M : ℕ → Plain → Type 0} {o : Outcome} where
   room-ends t e =
       let ps = t.places in
       elim (dec_lt (lowest_free ps) (length ps)) [
-        | yes l ↦ let f = lowest ps l in rw (lt-ltb (lowest_free ps) (length ps) l) (later (λ all. f.free (all (lowest_free ps + 1) f.from-1 f.to_last)) (e f))
+        | yes l ↦ let f = lowest ps l in rw (lt-ltb (lowest_free ps) (length ps) l) (later (λ all. f.free (all (lowest_free ps + 1) f.from_1 f.to_last)) (e f))
         | no l ↦ rw (le-ltb (lowest_free ps) (length ps) (omega arith)) (now (λ p a b. below-is-taken ps p a (omega arith)))
       ]
 
@@ -149,8 +149,8 @@ none-given (fault k A fs) a (inr p) n = none-given fs a p.1 n.1
 one-lowest : (ps : List Place) (p q : ℕ) → LowestFree ps p → LowestFree ps q → p ≡ q
 one-lowest ps p q a b =
     elim (dec_lt p q) [
-      | yes l ↦ absurd (a.free (b.below p a.from-1 l))
-      | no l ↦ elim (dec_lt q p) [ yes m ↦ absurd (b.free (a.below q b.from-1 m)) | no m ↦ omega arith ]
+      | yes l ↦ absurd (a.free (b.below p a.from_1 l))
+      | no l ↦ elim (dec_lt q p) [ yes m ↦ absurd (b.free (a.below q b.from_1 m)) | no m ↦ omega arith ]
     ]
 
 pub one-made : {t : Plain} {c : Call} {p q : ℕ} {u v : Plain} → Makes t c p u → Makes t c q v → (p ≡ q) × (u ≡ v)

@@ -16,7 +16,7 @@ use Rattle.table.specs.Reasons.{number_of}
 use Rattle.table.specs.declared.reason.Reason.{Reason}
 use Rattle.table.specs.declared.judge.Verdict.{Verdict}
 use Rattle.table.specs.declared.judge.Verdict.TheVariants.{Fine, Fault}
-use Rattle.table.proofs.Judged.{RowJudged, no-such-node, not-below, out_of_order, too_many, too_much, row_fine, row-judged}
+use Rattle.table.proofs.Judged.{RowJudged, no_such_node, not_below, out_of_order, too_many, too_much, row_fine, row-judged}
 use Rattle.work.specs.Places.{is_row, lowest_free, holds_row}
 use Rattle.work.specs.Calls.{Outcome, refuses, judge_demand}
 use Rattle.work.specs.Made.{place_in, plain_of}
@@ -36,11 +36,11 @@ unfolding judge_demand
 demand n i j d = go (row-judged desk n 0 0 0 i j d)
   where
     go : {v : Verdict} → RowJudged desk n 0 0 0 i j d v → Demand n i j d v
-    go (no-such-node (inl (inl l))) = bad _ refl (λ next. rw (lt-ltb i 1 l))
-    go (no-such-node (inl (inr l))) = bad _ refl (λ next. rw (lt-ltb n i l, or-true (ltb i 1)))
-    go (no-such-node (inr (inl l))) = bad _ refl (λ next. rw (lt-ltb j 1 l, or-true (ltb i 1 || ltb n i)))
-    go (no-such-node (inr (inr l))) = bad _ refl (λ next. rw (lt-ltb n j l, or-true (ltb j 1), or-true (ltb i 1 || ltb n i)))
-    go (not-below a b l) = bad _ refl (λ next. rw (le-ltb i 1 a.0, le-ltb n i a.1, le-ltb j 1 b.0, le-ltb n j b.1, le-leb j i l))
+    go (no_such_node (inl (inl l))) = bad _ refl (λ next. rw (lt-ltb i 1 l))
+    go (no_such_node (inl (inr l))) = bad _ refl (λ next. rw (lt-ltb n i l, or-true (ltb i 1)))
+    go (no_such_node (inr (inl l))) = bad _ refl (λ next. rw (lt-ltb j 1 l, or-true (ltb i 1 || ltb n i)))
+    go (no_such_node (inr (inr l))) = bad _ refl (λ next. rw (lt-ltb n j l, or-true (ltb j 1), or-true (ltb i 1 || ltb n i)))
+    go (not_below a b l) = bad _ refl (λ next. rw (le-ltb i 1 a.0, le-ltb n i a.1, le-ltb j 1 b.0, le-ltb n j b.1, le-leb j i l))
     go (out_of_order a b l (inl m)) = absurd (omega arith)
     go (out_of_order a b l (inr m)) = absurd (omega arith)
     go (too_many a b l o c) = absurd (omega arith)
@@ -54,9 +54,9 @@ demand n i j d = go (row-judged desk n 0 0 0 i j d)
 
 -- ---- the place named
 
-is-row : (i j d : ℕ) → is_row (place_in i j d) ≡ ltb 0 i
-is-row zero j d = refl
-is-row (suc i) j d = sym (lt-ltb 0 (suc i) (omega arith))
+is_a_row : (i j d : ℕ) → is_row (place_in i j d) ≡ ltb 0 i
+is_a_row zero j d = refl
+is_a_row (suc i) j d = sym (lt-ltb 0 (suc i) (omega arith))
 
 module _ (w : Work) (s : Right w) where
   -- a place that the columns have not got has the first node 0
@@ -71,7 +71,7 @@ module _ (w : Work) (s : Right w) where
 
   pub same_place : (p : ℕ) → holds_row (plain_of w).places p ≡ holds_in w.first p
   unfolding holds_row holds_in
-  same_place p = rw (place_is w s (p - 1), is-row (get_or w.first (p - 1) 0) (get_or w.second (p - 1) 0) (get_or w.amount (p - 1) 0), within (p - 1))
+  same_place p = rw (place_is w s (p - 1), is_a_row (get_or w.first (p - 1) 0) (get_or w.second (p - 1) 0) (get_or w.amount (p - 1) 0), within (p - 1))
 
   -- ---- the lowest free place
 

@@ -18,7 +18,7 @@ use Rattle.work.specs.declared.place.RowReply.{RowReply}
 
 -- the place p holds the row r; 0 holds none, nor does a place that the list has not got
 pub record RowAt (ps : List Place) (p : ℕ) (r : Row) : Type 0 where
-  pub from-1 : 1 ≤ p
+  pub from_1 : 1 ≤ p
   pub is : HoldsAt ps (p - 1) r
 
 -- it holds some row
@@ -35,7 +35,7 @@ AllTaken ps = (p : ℕ) → 1 ≤ p → p ≤ length ps → Taken ps p
 
 -- it is free, and all places below it are taken
 pub record LowestFree (ps : List Place) (p : ℕ) : Type 0 where
-  pub from-1 : 1 ≤ p
+  pub from_1 : 1 ≤ p
   pub to_last : p ≤ length ps
   pub free : NoRow ps p
   pub below : (q : ℕ) → 1 ≤ q → q < p → Taken ps q
@@ -95,8 +95,8 @@ pub record WorkPromise (w : Work) (c : Call) (r : WorkReply) (x : Work) : Type 0
 
 -- one of the two is the case
 pub data RowSays (ps : List Place) (p : ℕ) (r : RowReply) : Type 0 where
-  none-there : NoRow ps p → r ≡ no_row → RowSays ps p r
-  row-there : (x : Row) → RowAt ps p x → r ≡ the_row x → RowSays ps p r
+  none_there : NoRow ps p → r ≡ no_row → RowSays ps p r
+  row_there : (x : Row) → RowAt ps p x → r ≡ the_row x → RowSays ps p r
 
 -- 22 exactly when the place holds no row, else the row
 pub record RowPromise (w : Work) (p : ℕ) (r : RowReply) : Type 0 where

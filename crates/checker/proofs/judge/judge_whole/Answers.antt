@@ -1,9 +1,9 @@
 -- The two tests in their order, over numbers made wide.
-use Rattle.checker.proofs.JudgeSteps.{not-tight, over-bound, within-bound}
+use Rattle.checker.proofs.JudgeSteps.{not_tight, over-bound, within-bound}
 use Rattle.checker.proofs.judge.judge_whole.Goals as goal
 
 pub returns-then-split_peak-number : goal.returns-then-split_peak-number
-returns-then-split_peak-number c = search not-tight
+returns-then-split_peak-number c = search not_tight
 
 pub returns-then-wide : goal.returns-then-wide
 returns-then-wide c = search over-bound
