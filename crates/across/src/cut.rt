@@ -15,7 +15,8 @@ pub struct Cut {
 }
 
 pub fn largest_cut(triangle: &[u32; PAIRS], n: usize) -> Cut
-    requires { (2 ≤ n) × (n ≤ most_links) }
+    requires two { 2 ≤ n }
+    requires few { n ≤ most_links }
     ensures { result ≡ cut_in (largest_cut (at triangle.now) n) }
 {
     let mut best_g: usize = 1;

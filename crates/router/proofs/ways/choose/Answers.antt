@@ -7,12 +7,12 @@ pub loop-t-init : goal.loop-t-init
 loop-t-init c = search ways-start
 
 pub turn-s-requires : goal.turn-s-requires
-turn-s-requires c = (
-  most-small _ c.args.amount.now c.args.front.now c.args.back.now _ c.requires.count_le_most_rows c.requires.by_index c.largest_split-most.ensures,
-  omega (arith, c.loop-t.invariant),
-  omega (arith, c.loop-t.invariant),
-  c.requires.halves.small _,
-)
+turn-s-requires c = record {
+  most_small = most-small _ c.args.amount.now c.args.front.now c.args.back.now _ c.requires.few c.requires.amounts_small c.largest_split-most.ensures;
+  added_small = omega (arith, c.loop-t.invariant);
+  taken_small = omega (arith, c.loop-t.invariant);
+  halves_small = c.requires.halves.small _;
+}
 
 pub loop-t-preserved : goal.loop-t-preserved
 loop-t-preserved c = search ways-turn
