@@ -3,7 +3,7 @@ use Rattle.std.specs.Prelude.{ℕ, zero, suc, ◌+◌, ◌-◌, ◌≤◌, ◌<�
 use Rattle.ring.specs.Limits.{Limits}
 use Rattle.ring.specs.Lists.{Each, Pairs}
 use Rattle.ring.specs.Row.{Row, row}
-use Rattle.ring.specs.Columns.{listed}
+use Rattle.ring.specs.Lists.{listed}
 use Rattle.matrix.specs.Matrix.{entry}
 
 -- ---- from a matrix
