@@ -11,9 +11,13 @@ use Rattle.across.specs.Step.{type_end, step, stepped, step_row}
 use Rattle.across.specs.Lines.{Pairwise, LineStep, LineFits}
 use Rattle.across.proofs.Places.{apart, place-within, line-below, triangle-is, all-pairs}
 
--- a pair's place lies in the triangle
+-- the line of link h, which has h - 1 places, lies in the triangle
+pub line_in : (h : ℕ) → h ≤ most_links → offset h + (h - 1) ≤ most_pairs
+line_in h c = omega (arith, line-below h (suc most_links) (omega arith), all-pairs)
+
+-- so does a pair's place
 pub place_in : (g h : ℕ) → 1 ≤ g → g < h → h ≤ most_links → place_of g h < most_pairs
-place_in g h a b c = omega (arith, place-within g h a b, line-below h (suc most_links) (omega arith), all-pairs)
+place_in g h a b c = omega (arith, line_in h c)
 
 -- ---- one line
 
