@@ -1,4 +1,4 @@
--- To believe: a ring as its R line says it: its nodes and its fibres (02, K3).
+-- To believe: a ring as its R line says it: its nodes and its fibres.
 use Rattle.std.specs.Prelude.{ℕ}
 
 pub record Ring : Type 0 where
