@@ -9,7 +9,7 @@ use Rattle.ring.proofs.Side.{Side, before, within, after, side, in-front, before
 use Rattle.across.specs.Triangle.{most_links, most_pairs, offset, place_of, at}
 use Rattle.across.specs.Step.{type_end, step, stepped, step_row}
 use Rattle.across.specs.Lines.{Pairwise, LineStep, LineFits}
-use Rattle.across.proofs.Places.{apart, place-within, line-below, triangle-is, all-pairs}
+use Rattle.across.proofs.Places.{apart, line-below, triangle-is, all-pairs}
 
 -- the line of link h, which has h - 1 places, lies in the triangle
 pub line_in : (h : ℕ) → h ≤ most_links → offset h + (h - 1) ≤ most_pairs

@@ -6,7 +6,7 @@ use native.Mathlib.Omega.{arith}
 use lib.ListN.{length, length-append}
 use Rattle.std.specs.List.{flat_map}
 use Rattle.ring.specs.Routing.{Sent}
-use Rattle.ring.specs.RuleC.{Swept, move, sweep, pass, rule_c}
+use Rattle.ring.specs.RuleC.{move, sweep, pass, rule_c}
 use Rattle.ring.specs.Sheet.{numbers_from}
 use Rattle.ring.specs.Rules.{Places, places, pairs_of_places, MovedAt, MovedInTurn, no_more, move_then, OncePerPair}
 

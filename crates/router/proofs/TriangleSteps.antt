@@ -10,9 +10,9 @@ use borrow.Author.Tests.{eq-eqb, ne_eqb}
 use lib.ListN.{get_or}
 use Rattle.ring.specs.Row.{Row, row}
 use Rattle.ring.specs.Cut.{across}
-use Rattle.ring.specs.Columns.{listed, row_at, rows_in}
+use Rattle.ring.specs.Columns.{listed, row_at}
 use Rattle.ring.proofs.Across.{one_link}
-use Rattle.ring.proofs.Listed.{listed-none, listed_back, listed-all}
+use Rattle.ring.proofs.Listed.{listed-none, listed_back}
 use Rattle.ring.proofs.Totals.{across-total, total-small, part_small}
 use Rattle.across.specs.Triangle.{most_links, at}
 use Rattle.across.specs.Step.{step_row}
