@@ -1,7 +1,6 @@
 -- The lines of the square: those before i are fine (`Down`).
 use Rattle.matrix.proofs.JudgeSteps.{line-fault, line-fine, down-done}
 use Rattle.matrix.proofs.ByteSteps.{across-few}
-use Rattle.std.proofs.Common.{rules}
 use Rattle.matrix.proofs.judge.judge_square.Goals as goal
 
 pub square_byte-requires-clause-in_line : goal.square_byte-requires-clause-in_line

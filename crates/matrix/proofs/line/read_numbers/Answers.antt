@@ -1,4 +1,4 @@
--- A line of numbers: the values of the fields before t stand in the column, and what is left begins at p (`Reading-on`).
+-- A line of numbers: the values of the fields before t stand in the column, and what is left begins at p (`ReadingOn`).
 use Rattle.matrix.proofs.LineSteps.{reading-starts, reading-stops, reads-number, reading-done, reading-over}
 use Rattle.matrix.proofs.line.read_numbers.Goals as goal
 
