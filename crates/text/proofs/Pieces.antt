@@ -46,6 +46,10 @@ module _ (line text : ℕ → List ℕ) (start count k size : ℕ) (measuring : 
   pub measure-fits : (r : ℕ) → k < count → r ≤ 1000 → start ≤ 100 → count ≤ 100000 → Fits w64 (size + r)
   measure-fits r l h m n = omega (arith, measuring.small)
 
+  pub measures_line : (r : ℕ) → k < count → r ≡ length (line k) → Measuring line text start count (k + 1) (size + r)
+  measures_line r l e =
+      record { pieces = measuring.pieces; is = omega (arith, measuring.is, more-long line text measuring.pieces k); within = omega arith; small = omega (arith, measuring.small, measuring.pieces.short k) }
+
   pub measured : count ≤ k → size ≡ start + length (text count)
   measured h = let e : count ≡ k = omega (arith, measuring.within) in rw e measuring.is
 
