@@ -7,7 +7,7 @@ pub loop-at-init : goal.loop-at-init
 loop-at-init c = search lines_start
 
 pub returns-then-n-count : goal.returns-then-n-count
-returns-then-n-count c = search left_over
+returns-then-n-count c = search (rules, left_over)
 
 pub byte_at-requires : goal.byte_at-requires
 byte_at-requires c = search line-place
