@@ -1,6 +1,6 @@
 -- The lines of a matrix: those read so far are laid out in the square, and reading the rest is reading the whole (`ReadingLines`).
 use Rattle.matrix.proofs.SquareSteps.{lines_start, left_over, missing, lines-read, line-misshapen, line-place, amount-place, line-too-much, reads-line}
-use Rattle.std.proofs.Common.{rules}
+use Rattle.std.proofs.Common.{rules, arith, ◌<◌}
 use Rattle.matrix.proofs.square.read_lines.Goals as goal
 
 pub loop-at-init : goal.loop-at-init
@@ -13,7 +13,7 @@ pub byte_at-requires : goal.byte_at-requires
 byte_at-requires c = search line-place
 
 pub returns-in-Bad : goal.returns-in-Bad
-returns-in-Bad c = search line-misshapen
+returns-in-Bad c = let due : c.loop-at.count < c.args.n = omega arith in search line-misshapen
 
 pub entry_byte-requires : goal.entry_byte-requires
 entry_byte-requires c = search (rules, amount-place)
