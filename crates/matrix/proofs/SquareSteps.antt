@@ -74,6 +74,16 @@ lines_start s n entries none =
     let e : n - 0 ≡ n = omega arith in
     record { m = []; rest = rw e; many = refl; held = none; placed = refl; lined = refl; most = omega arith; within = omega arith }
 
+-- the faulty byte of a line is within the text
+pub line-place : (s : List ℕ) (n at end : ℕ) → LineEnds s at end → (x : Numbers) → x ≡ numbers_in (read_line (numbers n) (take (end - at) (drop at s)))
+    → (p : ℕ) → x.spelling ≡ BadSpelling p → length s ≤ desk.bytes → p ≤ desk.bytes
+line-place s n at end ends x ex p f short =
+    omega (arith, bad-within (numbers n) (take (end - at) (drop at s)) p (told-bad (take (end - at) (drop at s)) n x ex p f), length-take (end - at) (drop at s), ends.within)
+
+-- the entry that is over stands in the line
+pub amount-place : (n k : ℕ) (values : List ℕ) (v : Found) → v ≡ judge_amounts desk 0 (take n values) → n ≤ desk.nodes → (reason : Reason) → v ≡ At reason k → k ≤ desk.nodes
+amount-place n k values v ev few reason g = omega (arith, amount-few n k values v reason ev g)
+
 module _ (s : List ℕ) (n : ℕ) (entries : List ℕ) (start count line at : ℕ) (on : ReadingLines s n entries start count line at) where
   abbrev whole : Matrix
   whole = lines_of desk n 1 n [] (lines s)
@@ -112,10 +122,6 @@ module _ (s : List ℕ) (n : ℕ) (entries : List ℕ) (start count line at : �
     unfolding numbers_or
     line-misshapen p byte r f b e = e ∙ ap square_in (sym (next-line ∙ rw (told-bad text n x ex p f, b)))
 
-    -- its faulty byte is within the text
-    pub line-place : (p : ℕ) → x.spelling ≡ BadSpelling p → length s ≤ desk.bytes → p ≤ desk.bytes
-    line-place p f short = omega (arith, bad-within (numbers n) text p (told-bad text n x ex p f), length-take (end - at) (drop at s), ends.within)
-
     module _ (f : x.spelling ≡ Good) (few : n ≤ desk.nodes) (v : Found) (ev : v ≡ judge_amounts desk 0 (take n x.values)) where
       abbrev told : ToldGood (read_line (numbers n) text) n x.values
       told = told-good text n x ex f
@@ -123,10 +129,6 @@ module _ (s : List ℕ) (n : ℕ) (entries : List ℕ) (start count line at : �
       judged : whole ≡ unless_at v line (entry_byte told.vs) (lines_of desk n (line + 1) (n - count - 1) (on.m ++ told.vs ∷ []) (lines (drop end s)))
       unfolding numbers_or
       judged = let w : v ≡ judge_amounts desk 0 told.vs = ev ∙ ap (judge_amounts desk 0) (told.held few) in next-line ∙ rw (told.is, ← w)
-
-      -- the entry that is over stands in the line
-      pub amount-place : (reason : Reason) (k : ℕ) → v ≡ At reason k → k ≤ desk.nodes
-      amount-place reason k g = omega (arith, amount-few n k x.values v reason ev g)
 
       pub line-too-much : (reason : Reason) (k byte : ℕ) (r : Square) → v ≡ At reason k → byte ≡ entry_byte x.values k → r ≡ square_in (no_matrix reason line byte) → r ≡ square_in whole
       unfolding unless_at

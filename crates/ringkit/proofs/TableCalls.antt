@@ -21,6 +21,7 @@ use Rattle.sheet.proofs.Short.{plan-short}
 use Rattle.ringkit.specs.Outcome.{Fills}
 use Rattle.ringkit.specs.TableCalls.{of_table, table_afresh, table_routed}
 use Rattle.ringkit.specs.Says.{CallPromise}
+use Rattle.ringkit.specs.Back.{TableThereAndBack}
 use Rattle.ringkit.specs.Texts.{TableOf, TableDue, SomeDue, sheet_due, Itself}
 use Rattle.ringkit.specs.declared.Reply.{Reply}
 use Rattle.ringkit.proofs.Calls.{Decided, is_due, is_given, One, call-promise}
@@ -58,6 +59,10 @@ module _ (t : List ℕ) where
           other = λ {r} {line} g. not-15 desk t line r g.holds;
         }
 
+-- the same text is the table of one ring and one list of rows
+pub same-values : {t : List ℕ} {ring other : Ring} {rs qs : List Row} → TableOf t ring rs → TableOf t other qs → (ring ≡ other) × (rs ≡ qs)
+same-values {ring} {other} {rs} {qs} a b = same-table desk desk-spelled ring other rs qs a.range b.range (sym a.text ∙ b.text)
+
 -- ---- rewriting
 
 afresh : (t : List ℕ) (x : Result) → table_of desk t ≡ x → Decided (Itself (Accepted desk t) t) (Given desk t) (of_table write_table x)
@@ -79,6 +84,17 @@ one-itself t =
 pub rewrite-promise : (t old new : List ℕ) (r : Reply) → Fills (table_afresh t) old new r → CallPromise (Itself (Accepted desk t) t) (Given desk t) old new r
 unfolding table_afresh
 rewrite-promise t old new r f = call-promise (one-itself t) (afresh t (table_of desk t) refl) f
+
+-- what is read is written again as the same bytes, and what is written is read again as the same values
+pub table-rewritten : TableThereAndBack
+table-rewritten =
+    record {
+      read = λ t a. let d = ((due-accepted t write_table).0 a).is in record { ring = d.ring; rs = d.rs; of = d.of };
+      written = λ t ring rs of. (accepted-is desk t).0 (record { ring = ring; rs = rs; is = (read_is t ring rs).1 of });
+      same_ring = λ t ring other rs qs a b. (same-values a b).0;
+      same_rows = λ t ring other rs qs a b. (same-values a b).1;
+      rewritten = λ t old new r p a room. (p.succeeds t).1 (record { accepted = a; same = refl }, room);
+    }
 
 -- ---- routing
 

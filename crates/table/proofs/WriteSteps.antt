@@ -37,6 +37,9 @@ module _ (first second amount : List ℕ) where
           let e : 0 + k ≡ k = omega arith in
           ap write_rows (listed-snoc (row_at first second amount) 0 k ∙ ap (λ m. rows_in k first second amount ++ row_at first second amount m ∷ []) e) ∙ rows_more (rows_in k first second amount) (row_at first second amount k)
 
+pub row-short : (i j d size : ℕ) → size ≡ length (row_line i j d) → size ≤ 1000
+row-short i j d size e = omega (arith, line-short row_shape (0 ∷ i ∷ j ∷ d ∷ []))
+
 -- ---- R n fibres, and the rows behind it
 
 pub ring-short : (n fibres size : ℕ) → size ≡ length (ring_line n fibres) → size ≤ 100

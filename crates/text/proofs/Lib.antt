@@ -19,5 +19,6 @@ pub mod Begun
 -- what the code's steps say
 pub mod Tests
 pub mod Lengths
+pub mod NumberSteps
 pub mod Writing
 pub mod Pieces

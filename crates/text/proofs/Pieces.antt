@@ -42,10 +42,13 @@ pub measuring-starts : (line text : ℕ → List ℕ) → Pieces line text → (
 measuring-starts line text pieces start count = record { pieces = pieces; is = omega (arith, ap length pieces.none); within = omega arith; small = omega arith }
 
 module _ (line text : ℕ → List ℕ) (start count k size : ℕ) (measuring : Measuring line text start count k size) where
-  module _ (r : ℕ) (l : k < count) (e : r ≡ length (line k)) where
-    -- no sum is too large for a usize
-    pub measure-fits : start ≤ 100 → count ≤ 100000 → Fits w64 (size + r)
-    measure-fits h m = omega (arith, measuring.small, measuring.pieces.short k)
+  -- no sum is too large for a usize
+  pub measure-fits : (r : ℕ) → k < count → r ≤ 1000 → start ≤ 100 → count ≤ 100000 → Fits w64 (size + r)
+  measure-fits r l h m n = omega (arith, measuring.small)
+
+  pub measures_line : (r : ℕ) → k < count → r ≡ length (line k) → Measuring line text start count (k + 1) (size + r)
+  measures_line r l e =
+      record { pieces = measuring.pieces; is = omega (arith, measuring.is, more-long line text measuring.pieces k); within = omega arith; small = omega (arith, measuring.small, measuring.pieces.short k) }
 
   pub measured : count ≤ k → size ≡ start + length (text count)
   measured h = let e : count ≡ k = omega (arith, measuring.within) in rw e measuring.is

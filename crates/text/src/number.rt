@@ -15,9 +15,6 @@ const LIMIT: u32 = 10000000;
 // From here on a number has 7 digits, and no further digit may follow.
 const FULL: u32 = LIMIT / BASE;
 
-// This number stands alone: no further digit may follow, so that no number has a leading zero.
-const ALONE: u32 = 0;
-
 // The value of a digit, BASE for any other byte.
 #[tactic(auto, unfolding(crate::specs::ReadNumber::digit_of))]
 fn digit_of(b: u8) -> u32
@@ -52,7 +49,7 @@ pub(crate) fn read_number(s: &[u8], at: usize, end: u8) -> Field
                 Field::Bad(p)
             };
         }
-        if v == ALONE || v >= FULL {
+        if v == 0 || v >= FULL {
             return Field::Bad(p);
         }
         v = v * BASE + d;
