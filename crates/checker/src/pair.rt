@@ -66,7 +66,8 @@ pub fn first_pair<'a>(
     back: &'a [u32; ROWS],
 ) -> Pair
     requires { count ≤ desk.rows }
-    ensures { (amount : List ℕ) → result ≡ first_pair (sents_in count first.now second.now amount front.now back.now) }
+    ensures { (amount : List ℕ) → result ≡ first_pair
+        (sents_in count first.now second.now amount front.now back.now) }
 {
     for a in 0..count {
         for b in a + 1..count {
