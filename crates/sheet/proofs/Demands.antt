@@ -1,4 +1,4 @@
--- Demands 2 and 3 of sheets: from the two laws of a sheet's text (`SheetText`) and of what judging finds (`Truth`).
+-- What is promised of sheets and their texts, there and back: from the two laws of a sheet's text (`SheetText`) and of what judging finds (`Truth`).
 use Prim.Native.Nat.{ℕ, ◌+◌}
 use mathlib.Core.Bool.{true, false}
 use mathlib.Core.List.{List, [], ◌∷◌}
@@ -56,7 +56,7 @@ module _ (limits : Limits) (limited : table.LimitsSpelled limits) (t : List ℕ)
     λ h. (sheet-text limits limited true t x).1 (h.0, (h.1.0, (judged-true x h.1.0.links).1 h.1.1)),
   )
 
-  -- demand 3: a well-formed sheet is accepted exactly when it is a true sheet
+  -- a well-formed sheet is accepted exactly when it is a true sheet
   pub accepted-true : form limits t ≡ accepted x → (check limits t ≡ accepted x) ↔ TrueSheet x
   accepted-true f = (λ e. (check-text.0 e).1.1, λ true_sheet. let w = form-text.0 f in check-text.1 (w.0, (w.1, true_sheet)))
 
@@ -65,7 +65,7 @@ module _ (limits : Limits) (limited : table.LimitsSpelled limits) (t : List ℕ)
   accepted-formed e = let h = check-text.0 e in form-text.1 (h.0, h.1.0)
 
 module _ (limits : Limits) (limited : table.LimitsSpelled limits) where
-  -- demand 2: read again, a sheet that was written has the same values
+  -- read again, a sheet that was written has the same values
   read-written : (x : Sheet) → InRange limits x → TrueSheet x → check limits (write_sheet x) ≡ accepted x
   read-written x range true_sheet = (check-text limits limited (write_sheet x) x).1 (refl, (range, true_sheet))
 
@@ -78,7 +78,7 @@ module _ (limits : Limits) (limited : table.LimitsSpelled limits) where
       sym ((form-text limits limited (write_sheet x) x).1 (refl, r)) ∙ ap (form limits) e ∙ (form-text limits limited (write_sheet y) y).1 (refl, s) in
       cc
 
-  -- demand 3: no division of the demands, however fine, has a lower peak
+  -- no division of the demands, however fine, has a lower peak
   pub no-lower-peak : NoLowerPeak limits
   no-lower-peak x range a =
       let reads = (accepted-is limits (write_sheet x)).1 a in
@@ -86,6 +86,6 @@ module _ (limits : Limits) (limited : table.LimitsSpelled limits) where
       let e : x ≡ reads.x = same-sheet x reads.x range text.1.0 text.0 in
       no_lower x (rw e text.1.1)
 
--- demand 3: the sheet of a table's plan is accepted
+-- the sheet of a table's plan is accepted
 pub plan-accepted : PlanAccepted
 plan-accepted ring rs h = true-accepted desk desk-spelled (plan ring rs) (plan-in-range ring rs h) (plan-true ring rs h.few h.rows)
