@@ -138,8 +138,8 @@ module _ (count : ℕ) (v : SheetValues) where
 -- ---- from the rows on
 
 -- checking behind the R line
-abbrev from-rows : List ℕ → Ring → ℕ → Result
-from-rows s ring from = check_from desk true (rows ring []) 2 (lines (drop from s))
+abbrev from_rows : List ℕ → Ring → ℕ → Result
+from_rows s ring from = check_from desk true (rows ring []) 2 (lines (drop from s))
 
 rows-stopped : {s : List ℕ} {ring : Ring} {result : Result} {v : SheetValues} {end : RowsEnd} {reason : Reason} {line byte : ℕ} →
     RowsMean s ring result v end → end ≡ RowsRefused reason line byte → result ≡ refused reason line byte
@@ -192,7 +192,7 @@ module _ (s : List ℕ) (from n : ℕ) (v : SheetValues) (end : RowsEnd) (read :
   rows-stop fibres reason line byte r q e = e ∙ ap checked_in (sym (rows-stopped (read.means fibres) q))
 
   module _ (count at line no_row : ℕ) (q : end ≡ At count at line no_row) where
-    known : (fibres : ℕ) → RowsEnded s (ring_of n fibres) (from-rows s (ring_of n fibres) from) v count at line no_row
+    known : (fibres : ℕ) → RowsEnded s (ring_of n fibres) (from_rows s (ring_of n fibres) from) v count at line no_row
     known fibres = rows-ended (read.means fibres) q
 
     -- what is known of the columns is known whatever the fibres
@@ -211,16 +211,16 @@ module _ (s : List ℕ) (from n : ℕ) (v : SheetValues) (end : RowsEnd) (read :
     pub rows-halves : Halves count v.front v.back
     rows-halves = (known 0).halves
 
-    module _ (fibres : ℕ) (new : SheetValues) (step : Step) (End-read : EndRead s at line no_row (ring_of n fibres) count v new step) where
+    module _ (fibres : ℕ) (new : SheetValues) (step : Step) (end_read : EndRead s at line no_row (ring_of n fibres) count v new step) where
       abbrev rest : Result
       rest = cut_from (ring_of n fibres) (rows_held count v) line no_row (lines (drop at s))
 
-      is-result : from-rows s (ring_of n fibres) from ≡ rest
+      is-result : from_rows s (ring_of n fibres) from ≡ rest
       is-result = (known fibres).is ∙ ap (λ rs. cut_from (ring_of n fibres) rs line no_row (lines (drop at s))) (sym (known fibres).columns.is)
 
       pub end-stops : (reason : Reason) (place byte : ℕ) (r : Checked) → step ≡ StepRefused reason place byte → r ≡ checked_in (refused reason place byte) →
           r ≡ checked_in (check_from desk true (rows (ring_of n fibres) []) 2 (lines (drop from s)))
-      end-stops reason place byte r f er = er ∙ ap checked_in (sym (is-result ∙ go End-read f))
+      end-stops reason place byte r f er = er ∙ ap checked_in (sym (is-result ∙ go end_read f))
         where
           go : {step : Step} → EndMeans (ring_of n fibres) (rows_held count v) rest v new step → step ≡ StepRefused reason place byte → rest ≡ refused reason place byte
           go (ends_with c top size split unsplit a b d u) g = clash (cc)
@@ -232,12 +232,12 @@ module _ (s : List ℕ) (from n : ℕ) (v : SheetValues) (end : RowsEnd) (read :
 
       pub sheet-ends : (p : ℕ) → step ≡ On p → beside (Is count) new ≡ checked_in (check_from desk true (rows (ring_of n fibres) []) 2 (lines (drop from s)))
       unfolding checked_in
-      sheet-ends p f = go End-read f
+      sheet-ends p f = go end_read f
         where
-          go : {step : Step} → EndMeans (ring_of n fibres) (rows_held count v) rest v new step → step ≡ On p → beside (Is count) new ≡ checked_in (from-rows s (ring_of n fibres) from)
+          go : {step : Step} → EndMeans (ring_of n fibres) (rows_held count v) rest v new step → step ≡ On p → beside (Is count) new ≡ checked_in (from_rows s (ring_of n fibres) from)
           go (ends_with c top size split unsplit a b d u) g =
               let k = (known fibres).columns in
-              let whole : from-rows s (ring_of n fibres) from ≡ accepted (sheet_with (ring_of n fibres) (known fibres).rs c split unsplit top size) =
+              let whole : from_rows s (ring_of n fibres) from ≡ accepted (sheet_with (ring_of n fibres) (known fibres).rs c split unsplit top size) =
               is-result ∙ a ∙ ap (λ rs. accepted (sheet_with (ring_of n fibres) rs c split unsplit top size)) k.is in
               rw (whole, b) (same-values k.many k.firsts k.seconds k.amounts k.fronts k.backs k.ways d u)
           go (end_refused a) g = clash (cc)

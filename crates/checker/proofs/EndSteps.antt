@@ -51,7 +51,7 @@ not_on = record { place = λ at q. clash (cc) }
 
 -- ---- the loads that are due
 
-module _ {n : ℕ} {rs : List Routed} {split unsplit : List ℕ} {split-peak top largest : ℕ} (many : n ≤ desk.nodes) (w : Weighed n rs split unsplit split-peak top largest) where
+module _ {n : ℕ} {rs : List Routed} {split unsplit : List ℕ} {split_peak top largest : ℕ} (many : n ≤ desk.nodes) (w : Weighed n rs split unsplit split_peak top largest) where
   load_at : (load : ℕ → ℕ) (array : List ℕ) → array ≡ column load desk.nodes (numbers_from 1 n) → (k : ℕ) → k < n → get_or array k 0 ≡ load (k + 1)
   load_at load array e k h =
       let m = numbers-length 1 n in
@@ -73,13 +73,13 @@ pub record LinksReading (s : List ℕ) (from n start : ℕ) (split unsplit : Lis
   pub lined : line ≡ start + k
   pub many : n ≤ desk.nodes
   pub low : start ≤ desk.bytes
-  pub rest : (fibres : ℕ) (rs : List Routed) (c : Cut) (split-peak top largest : ℕ) → Weighed n rs split unsplit split-peak top largest →
+  pub rest : (fibres : ℕ) (rs : List Routed) (c : Cut) (split_peak top largest : ℕ) → Weighed n rs split unsplit split_peak top largest →
       check_from desk true (links (ring_of n fibres) rs c []) start (lines (drop from s)) ≡ check_from desk true (links (ring_of n fibres) rs c (links_in k split unsplit)) line (lines (drop at s))
 
 module _ (s : List ℕ) (from n start : ℕ) (split unsplit : List ℕ) where
   pub links-start : from ≤ length s → n ≤ desk.nodes → start ≤ desk.bytes → LinksReading s from n start split unsplit from start 0
   unfolding listed
-  links-start w m l = record { within = w; upto = omega arith; lined = omega arith; many = m; low = l; rest = λ fibres rs c split-peak top largest q. refl }
+  links-start w m l = record { within = w; upto = omega arith; lined = omega arith; many = m; low = l; rest = λ fibres rs c split_peak top largest q. refl }
 
   module _ (at line k : ℕ) (reading : LinksReading s from n start split unsplit at line k) where
     pub links-done : (m : ℕ) → m ≡ n → m ≤ k → LinksRead s from n start split unsplit (On at)
@@ -88,8 +88,8 @@ module _ (s : List ℕ) (from n start : ℕ) (split unsplit : List ℕ) where
         let q : line ≡ start + n = omega (arith, reading.lined) in
         record {
           within = record { place = λ p f. let g : p ≡ at = cc in rw g reading.within };
-          means = λ fibres rs c split-peak top largest w. steps_on {at = at} reading.within
-              (reading.rest fibres rs c split-peak top largest w ∙ ap (λ m. check_from desk true (links (ring_of n fibres) rs c (links_in m split unsplit)) line (lines (drop at s))) e
+          means = λ fibres rs c split_peak top largest w. steps_on {at = at} reading.within
+              (reading.rest fibres rs c split_peak top largest w ∙ ap (λ m. check_from desk true (links (ring_of n fibres) rs c (links_in m split unsplit)) line (lines (drop at s))) e
               ∙ ap (λ m. check_from desk true (links (ring_of n fibres) rs c (links_in n split unsplit)) m (lines (drop at s))) q);
         }
 
@@ -100,12 +100,12 @@ module _ (s : List ℕ) (from n start : ℕ) (split unsplit : List ℕ) where
     long = listed-length (link_at split unsplit) 0 k
 
     module _ (m : ℕ) (em : m ≡ n) (below : k < m) (to : ℕ) (ends : NextEnds s at to) (x : ThreeNumbers) (ex : x ≡ three_in (read_line link_shape (take (to - at) (drop at s)))) where
-      module _ (fibres : ℕ) (rs : List Routed) (c : Cut) (split-peak top largest : ℕ) (w : Weighed n rs split unsplit split-peak top largest) where
+      module _ (fibres : ℕ) (rs : List Routed) (c : Cut) (split_peak top largest : ℕ) (w : Weighed n rs split unsplit split_peak top largest) where
         led : check_from desk true (links (ring_of n fibres) rs c []) start (lines (drop from s)) ≡ after (link_turn true (ring_of n fibres) rs c ks x) line (λ next. check_from desk true next (line + 1) (lines (drop to s)))
         unfolding turn
         led =
             let few : length ks < n = omega (arith, long) in
-            reading.rest fibres rs c split-peak top largest w ∙ step-at desk true s at to ends (links (ring_of n fibres) rs c ks) tt line ∙ rw (lt-ltb (length ks) n few, ← ex)
+            reading.rest fibres rs c split_peak top largest w ∙ step-at desk true s at to ends (links (ring_of n fibres) rs c ks) tt line ∙ rw (lt-ltb (length ks) n few, ← ex)
 
       pub link-place : (p : ℕ) → x ≡ NotThree p → length s ≤ desk.bytes → p ≤ desk.bytes
       link-place p q short = omega (arith, three-within link_shape (take (to - at) (drop at s)) p (sym ex ∙ q), length-take (to - at) (drop at s), ends.within)
@@ -115,13 +115,13 @@ module _ (s : List ℕ) (from n start : ℕ) (split unsplit : List ℕ) where
       no_link p byte q b =
           record {
             within = not_on;
-            means = λ fibres rs c split-peak top largest w. step_refused {reason = Misshapen} {line = line} {byte = byte} (led fibres rs c split-peak top largest w ∙ rw (q, b));
+            means = λ fibres rs c split_peak top largest w. step_refused {reason = Misshapen} {line = line} {byte = byte} (led fibres rs c split_peak top largest w ∙ rw (q, b));
           }
 
       module _ (a b d due : ℕ) (is : x ≡ AreThree a b d) (edue : due ≡ k + 1) (v : Verdict) (ev : v ≡ link_verdict due (get_or split k 0) (get_or unsplit k 0) a b d) where
-        judged : (rs : List Routed) (split-peak top largest : ℕ) → Weighed n rs split unsplit split-peak top largest → judge_link rs (length ks + 1) (link_of a b d) ≡ v
+        judged : (rs : List Routed) (split_peak top largest : ℕ) → Weighed n rs split unsplit split_peak top largest → judge_link rs (length ks + 1) (link_of a b d) ≡ v
         unfolding judge_link
-        judged rs split-peak top largest w =
+        judged rs split_peak top largest w =
             let e : length ks + 1 ≡ k + 1 = omega (arith, long) in
             let s1 = split-due reading.many w k (omega arith) in
             let u1 = unsplit-due reading.many w k (omega arith) in
@@ -132,13 +132,13 @@ module _ (s : List ℕ) (from n start : ℕ) (split unsplit : List ℕ) where
         link-fault reason q =
             record {
               within = not_on;
-              means = λ fibres rs c split-peak top largest w. step_refused {reason = reason} {line = line} {byte = 1} (led fibres rs c split-peak top largest w ∙ rw (is, judged rs split-peak top largest w ∙ q));
+              means = λ fibres rs c split_peak top largest w. step_refused {reason = reason} {line = line} {byte = 1} (led fibres rs c split_peak top largest w ∙ rw (is, judged rs split_peak top largest w ∙ q));
             }
 
-        same-link : (rs : List Routed) (split-peak top largest : ℕ) → Weighed n rs split unsplit split-peak top largest → v ≡ Fine → link_of a b d ≡ link_at split unsplit k
-        same-link rs split-peak top largest w q =
+        same-link : (rs : List Routed) (split_peak top largest : ℕ) → Weighed n rs split unsplit split_peak top largest → v ≡ Fine → link_of a b d ≡ link_at split unsplit k
+        same-link rs split_peak top largest w q =
             let e : length ks + 1 ≡ k + 1 = omega (arith, long) in
-            let t = link-true rs (length ks + 1) (link_of a b d) (judged rs split-peak top largest w ∙ q) in
+            let t = link-true rs (length ks + 1) (link_of a b d) (judged rs split_peak top largest w ∙ q) in
             let ea : a ≡ k + 1 = t.number ∙ e in
             let eb : b ≡ get_or split k 0 = t.split ∙ ap (split_load (sents rs)) e ∙ sym (split-due reading.many w k (omega arith)) in
             let ed : d ≡ get_or unsplit k 0 = t.unsplit ∙ ap (unsplit_load rs) e ∙ sym (unsplit-due reading.many w k (omega arith)) in
@@ -153,13 +153,13 @@ module _ (s : List ℕ) (from n start : ℕ) (split unsplit : List ℕ) where
               lined = omega (arith, reading.lined);
               many = reading.many;
               low = reading.low;
-              rest = λ fibres rs c split-peak top largest w.
+              rest = λ fibres rs c split_peak top largest w.
                   let z : 0 + k ≡ k = omega arith in
                   let more : links_in k split unsplit ++ link_of a b d ∷ [] ≡ links_in (k + 1) split unsplit =
-                  ap (λ l. links_in k split unsplit ++ l ∷ []) (same-link rs split-peak top largest w q ∙ ap (link_at split unsplit) (sym z)) ∙ sym (listed-snoc (link_at split unsplit) 0 k) in
+                  ap (λ l. links_in k split unsplit ++ l ∷ []) (same-link rs split_peak top largest w q ∙ ap (link_at split unsplit) (sym z)) ∙ sym (listed-snoc (link_at split unsplit) 0 k) in
                   let turned : after (link_turn true (ring_of n fibres) rs c ks x) line (λ next. check_from desk true next (line + 1) (lines (drop to s))) ≡ check_from desk true (links (ring_of n fibres) rs c (ks ++ link_of a b d ∷ [])) (line + 1) (lines (drop to s)) =
-                  rw (is, judged rs split-peak top largest w ∙ q) in
-                  led fibres rs c split-peak top largest w ∙ turned ∙ ap (λ l. check_from desk true (links (ring_of n fibres) rs c l) (line + 1) (lines (drop to s))) more;
+                  rw (is, judged rs split_peak top largest w ∙ q) in
+                  led fibres rs c split_peak top largest w ∙ turned ∙ ap (λ l. check_from desk true (links (ring_of n fibres) rs c l) (line + 1) (lines (drop to s))) more;
             }
 
 -- ---- the Z line
@@ -244,12 +244,12 @@ step-goes (step_refused e) q = clash (cc)
 
 -- ---- the whole
 
-module _ (s : List ℕ) (at line number split-peak top size largest : ℕ) (r : Step) (last : LastRead s at line top size r) where
-  pub whole-stops : (reason : Reason) (place byte : ℕ) → r ≡ Refused reason place byte → WholeRead s at line number split-peak top size largest (Refused reason place byte)
+module _ (s : List ℕ) (at line number split_peak top size largest : ℕ) (r : Step) (last : LastRead s at line top size r) where
+  pub whole-stops : (reason : Reason) (place byte : ℕ) → r ≡ Refused reason place byte → WholeRead s at line number split_peak top size largest (Refused reason place byte)
   whole-stops reason place byte q = record { means = λ ring rs g h ks all es et el ez. step-stops (last.means ring rs (cut_of g h number) ks all et ez) q }
 
-  module _ (to : ℕ) (q : r ≡ On to) (v : Verdict) (ev : v ≡ whole_verdict split-peak number largest top) where
-    module _ (ring : Ring) (rs : List Routed) (g h : ℕ) (ks : List Link) (all : ring.n ≤ length ks) (es : split-peak ≡ peak (split_load (sents rs)) ring.n) (et : top ≡ peak (unsplit_load rs) ring.n)
+  module _ (to : ℕ) (q : r ≡ On to) (v : Verdict) (ev : v ≡ whole_verdict split_peak number largest top) where
+    module _ (ring : Ring) (rs : List Routed) (g h : ℕ) (ks : List Link) (all : ring.n ≤ length ks) (es : split_peak ≡ peak (split_load (sents rs)) ring.n) (et : top ≡ peak (unsplit_load rs) ring.n)
         (el : largest ≡ largest_split (sents rs)) (ez : size ≡ line_size sonet_sizes ring.fibres top) where
       abbrev x : Sheet
       x = record { ring = ring; rows = rs; cut = cut_of g h number; links = ks; peak = top; size = size }
@@ -261,12 +261,12 @@ module _ (s : List ℕ) (at line number split-peak top size largest : ℕ) (r : 
       result : check_from desk true (links ring rs (cut_of g h number) ks) line (lines (drop at s)) ≡ whole_result x v
       result = step-goes (last.means ring rs (cut_of g h number) ks all et ez) q ∙ ap (whole_result x) whole-judged
 
-    pub whole-fault : (reason : Reason) → v ≡ Fault reason → WholeRead s at line number split-peak top size largest (Refused reason 0 0)
+    pub whole-fault : (reason : Reason) → v ≡ Fault reason → WholeRead s at line number split_peak top size largest (Refused reason 0 0)
     unfolding whole_result
     whole-fault reason f =
         record { means = λ ring rs g h ks all es et el ez. step_refused {reason = reason} {line = 0} {byte = 0} (result ring rs g h ks all es et el ez ∙ ap (whole_result (x ring rs g h ks all es et el ez)) f) }
 
-    pub whole-fine : v ≡ Fine → WholeRead s at line number split-peak top size largest (On to)
+    pub whole-fine : v ≡ Fine → WholeRead s at line number split_peak top size largest (On to)
     unfolding whole_result
     whole-fine f =
         record {
@@ -275,17 +275,17 @@ module _ (s : List ℕ) (at line number split-peak top size largest : ℕ) (r : 
 
 -- ---- the L lines, the Z line and the whole
 
-module _ (s : List ℕ) (at line n number : ℕ) (split unsplit : List ℕ) (split-peak top size largest : ℕ) (r : Step) (read : LinksRead s at n line split unsplit r) where
-  pub tail-stops : (reason : Reason) (place byte : ℕ) → r ≡ Refused reason place byte → TailRead s at line n number split unsplit split-peak top size largest (Refused reason place byte)
-  tail-stops reason place byte q = record { means = λ fibres rs g h w ez. step-stops (read.means fibres rs (cut_of g h number) split-peak top largest w) q }
+module _ (s : List ℕ) (at line n number : ℕ) (split unsplit : List ℕ) (split_peak top size largest : ℕ) (r : Step) (read : LinksRead s at n line split unsplit r) where
+  pub tail-stops : (reason : Reason) (place byte : ℕ) → r ≡ Refused reason place byte → TailRead s at line n number split unsplit split_peak top size largest (Refused reason place byte)
+  tail-stops reason place byte q = record { means = λ fibres rs g h w ez. step-stops (read.means fibres rs (cut_of g h number) split_peak top largest w) q }
 
   module _ (behind : ℕ) (q : r ≡ On behind) where
-    pub tail-goes : (t : Step) → WholeRead s behind (line + n) number split-peak top size largest t → TailRead s at line n number split unsplit split-peak top size largest t
+    pub tail-goes : (t : Step) → WholeRead s behind (line + n) number split_peak top size largest t → TailRead s at line n number split unsplit split_peak top size largest t
     tail-goes t whole =
         record {
           means = λ fibres rs g h w ez.
               let all : n ≤ length (links_in n split unsplit) = omega (arith, listed-length (link_at split unsplit) 0 n) in
-              let e = step-goes (read.means fibres rs (cut_of g h number) split-peak top largest w) q in
+              let e = step-goes (read.means fibres rs (cut_of g h number) split_peak top largest w) q in
               subst (λ z. StepMeans s z (λ p. accepted (sheet_with (ring_of n fibres) rs (cut_of g h number) split unsplit top size)) t) (sym e)
               (whole.means (ring_of n fibres) rs g h (links_in n split unsplit) all w.split_peaks w.tops w.largests ez);
         }

@@ -103,11 +103,11 @@ columns-back rs few =
     (rw (i, j, d, ← long) (sym (rows_back desk.rows (demands (sents rs)) (omega arith))))
 
 module _ (n : ℕ) (rs : List Routed) (few : length rs ≤ desk.rows) (fine : Each (FineSent n) rs) where
-  abbrev at-column : (Routed → ℕ) → ℕ → ℕ
-  at-column f k = get_or (column f desk.rows rs) k 0
+  abbrev at_column : (Routed → ℕ) → ℕ → ℕ
+  at_column f k = get_or (column f desk.rows rs) k 0
 
   demand-at : (k : ℕ) → k < length rs →
-      row (at-column (λ (r : Routed). r.sent.row.i) k) (at-column (λ (r : Routed). r.sent.row.j) k) (at-column (λ (r : Routed). r.sent.row.d) k) ≡ (get_or rs k no_row).sent.row
+      row (at_column (λ (r : Routed). r.sent.row.i) k) (at_column (λ (r : Routed). r.sent.row.j) k) (at_column (λ (r : Routed). r.sent.row.d) k) ≡ (get_or rs k no_row).sent.row
   demand-at k h =
       rw (
         column-at (λ (r : Routed). r.sent.row.i) desk.rows rs no_row k few h,
@@ -126,7 +126,7 @@ module _ (n : ℕ) (rs : List Routed) (few : length rs ≤ desk.rows) (fine : Ea
         small = λ k h. let e = column-at (λ (r : Routed). r.sent.row.d) desk.rows rs no_row k few h in rw e (each_at no_row fine k h).amount;
       }
 
-  halves_small : (k : ℕ) → at-column (λ (r : Routed). r.sent.front) k + at-column (λ (r : Routed). r.sent.back) k ≤ most_halves
+  halves_small : (k : ℕ) → at_column (λ (r : Routed). r.sent.front) k + at_column (λ (r : Routed). r.sent.back) k ≤ most_halves
   halves_small k =
       elim (dec_lt k (length rs)) [
         | yes h ↦
@@ -228,7 +228,7 @@ module _ (s : List ℕ) (n from line a b count at : ℕ) (v : SheetValues) (read
     rows_end p q =
         let e = reading.many in
         let here = next-line s at to ends in
-        let no-row-here : sent_in (read_line sent_shape (first_of (lines (drop at s)))) ≡ NotSent p = rw here at (sym ex ∙ q) in
+        let no_row_here : sent_in (read_line sent_shape (first_of (lines (drop at s)))) ≡ NotSent p = rw here at (sym ex ∙ q) in
         let c1 = reading.firsts in
         let c2 = reading.seconds in
         let c3 = reading.amounts in
@@ -247,7 +247,7 @@ module _ (s : List ℕ) (n from line a b count at : ℕ) (v : SheetValues) (read
                 ways = reading.ways;
                 is = rw (e, c1, c2, c3, c4, c5, reading.ways) (columns-back reading.rs few);
               })
-              (reading.rest fibres ∙ step_from desk true (rows (ring_of n fibres) reading.rs) tt line (lines (drop at s)) ∙ rw no-row-here)
+              (reading.rest fibres ∙ step_from desk true (rows (ring_of n fibres) reading.rs) tt line (lines (drop at s)) ∙ rw no_row_here)
               reading.within
               (omega (arith, sent-within sent_shape (take (to - at) (drop at s)) p (sym ex ∙ q), length-take (to - at) (drop at s), ends.within))
               reading.lined

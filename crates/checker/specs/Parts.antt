@@ -86,10 +86,10 @@ pub record RowsRead (s : List ℕ) (from n : ℕ) (v : SheetValues) (end : RowsE
 -- ---- the lines behind them
 
 -- the figures that are true of rows
-pub record Weighed (n : ℕ) (rs : List Routed) (split unsplit : List ℕ) (split-peak top largest : ℕ) : Type 0 where
+pub record Weighed (n : ℕ) (rs : List Routed) (split unsplit : List ℕ) (split_peak top largest : ℕ) : Type 0 where
   pub splits : split ≡ column (λ k. split_load (sents rs) k) desk.nodes (numbers_from 1 n)
   pub unsplits : unsplit ≡ column (λ k. unsplit_load rs k) desk.nodes (numbers_from 1 n)
-  pub split_peaks : split-peak ≡ peak (split_load (sents rs)) n
+  pub split_peaks : split_peak ≡ peak (split_load (sents rs)) n
   pub tops : top ≡ peak (unsplit_load rs) n
   pub largests : largest ≡ largest_split (sents rs)
 
@@ -109,7 +109,7 @@ sheet_with ring rs c split unsplit top size = record { ring = ring; rows = rs; c
 -- the L lines: behind the cut and no link, to behind the last link
 pub record LinksRead (s : List ℕ) (from n line : ℕ) (split unsplit : List ℕ) (r : Step) : Type 0 where
   pub within : Within s r
-  pub means : (fibres : ℕ) (rs : List Routed) (c : Cut) (split-peak top largest : ℕ) → Weighed n rs split unsplit split-peak top largest →
+  pub means : (fibres : ℕ) (rs : List Routed) (c : Cut) (split_peak top largest : ℕ) → Weighed n rs split unsplit split_peak top largest →
       StepMeans s (check_from desk true (links (ring_of n fibres) rs c []) line (lines (drop from s)))
       (λ at. check_from desk true (links (ring_of n fibres) rs c (links_in n split unsplit)) (line + n) (lines (drop at s))) r
 
@@ -121,15 +121,15 @@ pub record LastRead (s : List ℕ) (at line top size : ℕ) (r : Step) : Type 0 
       StepMeans s (check_from desk true (links ring rs c ks) line (lines (drop at s))) (λ p. whole_result x (judge_whole x)) r
 
 -- the Z line, and then the whole sheet
-pub record WholeRead (s : List ℕ) (at line number split-peak top size largest : ℕ) (r : Step) : Type 0 where
-  pub means : (ring : Ring) (rs : List Routed) (g h : ℕ) (ks : List Link) → ring.n ≤ length ks → split-peak ≡ peak (split_load (sents rs)) ring.n → top ≡ peak (unsplit_load rs) ring.n →
+pub record WholeRead (s : List ℕ) (at line number split_peak top size largest : ℕ) (r : Step) : Type 0 where
+  pub means : (ring : Ring) (rs : List Routed) (g h : ℕ) (ks : List Link) → ring.n ≤ length ks → split_peak ≡ peak (split_load (sents rs)) ring.n → top ≡ peak (unsplit_load rs) ring.n →
       largest ≡ largest_split (sents rs) → size ≡ line_size sonet_sizes ring.fibres top →
       let x : Sheet = record { ring = ring; rows = rs; cut = cut_of g h number; links = ks; peak = top; size = size } in
       StepMeans s (check_from desk true (links ring rs (cut_of g h number) ks) line (lines (drop at s))) (λ p. accepted x) r
 
 -- all of them
-pub record TailRead (s : List ℕ) (at line n number : ℕ) (split unsplit : List ℕ) (split-peak top size largest : ℕ) (r : Step) : Type 0 where
-  pub means : (fibres : ℕ) (rs : List Routed) (g h : ℕ) → Weighed n rs split unsplit split-peak top largest → size ≡ line_size sonet_sizes fibres top →
+pub record TailRead (s : List ℕ) (at line n number : ℕ) (split unsplit : List ℕ) (split_peak top size largest : ℕ) (r : Step) : Type 0 where
+  pub means : (fibres : ℕ) (rs : List Routed) (g h : ℕ) → Weighed n rs split unsplit split_peak top largest → size ≡ line_size sonet_sizes fibres top →
       StepMeans s (check_from desk true (links (ring_of n fibres) rs (cut_of g h number) []) line (lines (drop at s)))
       (λ p. accepted (sheet_with (ring_of n fibres) rs (cut_of g h number) split unsplit top size)) r
 

@@ -128,45 +128,40 @@ pub(crate) fn judge_cut(
     number: u32,
 ) -> Verdict
     requires { Table n count first.now second.now amount.now }
-    ensures { result ≡ cut_verdict n (across (rows_in count first.now second.now amount.now) g h) g h number }
+    ensures { result ≡ cut_verdict n
+        (across (rows_in count first.now second.now amount.now) g h) g h number }
 {
     if no_cut(n, g, h) {
         return Verdict::Fault(Reason::WrongCut);
     }
     let sum = across_of(n, count, first, second, amount, g, h);
-    if wide(number) != sum {
-        return Verdict::Fault(Reason::WrongCut);
+    if wide(number) == sum {
+        Verdict::Fine
+    } else {
+        Verdict::Fault(Reason::WrongCut)
     }
-    Verdict::Fine
 }
 
 // 11: link out of order, or either load false. Link k is due, and its loads are `split` and `unsplit`.
 pub(crate) fn judge_link(k: u32, split: u32, unsplit: u32, link: u32, s: u32, u: u32) -> Verdict
     ensures { result ≡ link_verdict k split unsplit link s u }
 {
-    if link != k {
-        return Verdict::Fault(Reason::WrongLink);
+    if link == k && s == split && u == unsplit {
+        Verdict::Fine
+    } else {
+        Verdict::Fault(Reason::WrongLink)
     }
-    if s != split {
-        return Verdict::Fault(Reason::WrongLink);
-    }
-    if u != unsplit {
-        return Verdict::Fault(Reason::WrongLink);
-    }
-    Verdict::Fine
 }
 
 // 12: unsplit peak or size false.
 pub(crate) fn judge_last(peak: u32, size: u32, p: u32, z: u32) -> Verdict
     ensures { result ≡ last_verdict peak size p z }
 {
-    if p != peak {
-        return Verdict::Fault(Reason::WrongLast);
+    if p == peak && z == size {
+        Verdict::Fine
+    } else {
+        Verdict::Fault(Reason::WrongLast)
     }
-    if z != size {
-        return Verdict::Fault(Reason::WrongLast);
-    }
-    Verdict::Fine
 }
 
 // 13: split peak (halves) is not the across number; 14: the bound of rule D broken.

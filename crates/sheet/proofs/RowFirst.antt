@@ -33,8 +33,8 @@ early (by_order w) = omega arith
 early (by_count w) = omega arith
 early (by_amount w) = omega arith
 
-abbrev pub row-at : {t : List ℕ} {line : ℕ} {ring : Ring} {rs : List Routed} {r : Routed} → At t line (rows ring rs) → SentIs t line r → RowAt t line r
-row-at {ring} {rs} at is = record { ring = ring; rs = rs; due = at; is = is }
+abbrev pub row_at : {t : List ℕ} {line : ℕ} {ring : Ring} {rs : List Routed} {r : Routed} → At t line (rows ring rs) → SentIs t line r → RowAt t line r
+row_at {ring} {rs} at is = record { ring = ring; rs = rs; due = at; is = is }
 
 -- a row that has a first node is not below the pair 0, 0, so there is a row before
 order-holds : {t : List ℕ} {line : ℕ} {ring : Ring} {rs : List Routed} {r : Routed} → At t line (rows ring rs) → RowAt t line r → 1 ≤ r.sent.row.i
@@ -42,7 +42,7 @@ order-holds : {t : List ℕ} {line : ℕ} {ring : Ring} {rs : List Routed} {r : 
 order-holds (behind_ring ring) row low (inl l) = absurd (omega arith)
 order-holds (behind_ring ring) row low (inr l) = absurd (omega (arith, l.0))
 order-holds {r} (behind_row {line} {rs} {r = q} at is) row low wrong =
-    record { before = line; next = refl; q = q; above = row-at at is; r = r; row = row; wrong = rw (last_more rs q) at wrong }
+    record { before = line; next = refl; q = q; above = row_at at is; r = r; row = row; wrong = rw (last_more rs q) at wrong }
 
 module _ (limits : Limits) {t : List ℕ} {line : ℕ} {ring : Ring} {rs : List Routed} {r : Routed} (at : At t line (rows ring rs)) (is : SentIs t line r) where
   -- 4 to 7 and 16
@@ -55,18 +55,18 @@ module _ (limits : Limits) {t : List ℕ} {line : ℕ} {ring : Ring} {rs : List 
     where
       go : {v : Verdict} → RowJudged limits ring.n (length rs) (last_of rs).i (last_of rs).j r.sent.row.i r.sent.row.j r.sent.row.d v
           → HoldsAs (λ s. AgainstDemand limits ring.n rs r.sent.row s × Says limits t s line) v
-      go (no_such_node w) = (by_nodes w, record { r = r; row = row-at at is; wrong = w })
-      go (not_below h k w) = (by_pair w, record { r = r; row = row-at at is; wrong = w })
-      go (out_of_order h k l w) = (by_order w, order-holds at (row-at at is) h.0 w)
-      go (too_many h k l o w) = (by_count w, record { r = r; row = row-at at is; wrong = omega arith })
-      go (too_much h k l o c w) = (by_amount w, record { r = r; row = row-at at is; wrong = w })
+      go (no_such_node w) = (by_nodes w, record { r = r; row = row_at at is; wrong = w })
+      go (not_below h k w) = (by_pair w, record { r = r; row = row_at at is; wrong = w })
+      go (out_of_order h k l w) = (by_order w, order-holds at (row_at at is) h.0 w)
+      go (too_many h k l o w) = (by_count w, record { r = r; row = row_at at is; wrong = omega arith })
+      go (too_much h k l o c w) = (by_amount w, record { r = r; row = row_at at is; wrong = w })
       go (row_fine o up c m) = tt
 
   -- 8 and 9
   halves-said : (s : Reason) → AgainstHalves r s → Says limits t s line
   unfolding Says
-  halves-said s (inl o) = only_then (λ s. Says limits t s line) (λ w. record { r = r; row = row-at at is; wrong = w }) s o
-  halves-said s (inr o) = only_then (λ s. Says limits t s line) (λ w. record { r = r; row = row-at at is; wrong = w }) s o
+  halves-said s (inl o) = only_then (λ s. Says limits t s line) (λ w. record { r = r; row = row_at at is; wrong = w }) s o
+  halves-said s (inr o) = only_then (λ s. Says limits t s line) (λ w. record { r = r; row = row_at at is; wrong = w }) s o
 
   pub sent-first : (judging : Bool) → First (Counted limits judging t line)
       (or_else (judge_next limits ring.n rs r.sent.row.i r.sent.row.j r.sent.row.d) (when judging (judge_halves r)))

@@ -34,7 +34,7 @@ use Rattle.sheet.specs.Check.{when, whole_line, last_of, judge_next}
 use Rattle.sheet.specs.Says.{State, start, rows, links, end, SentIs, At, RowAt, NeitherGoesOn, LineByte, ring_due, row_or_cut_due, link_due, last_due, none_due, routed_byte, NodeByte, first_node, second_node, AmountByte, ByteIs}
 use Rattle.sheet.proofs.FirstReason.{First, Only, only_then, Counts}
 use Rattle.sheet.proofs.Places.{sent-one, place-one}
-use Rattle.sheet.proofs.RowFirst.{row-at}
+use Rattle.sheet.proofs.RowFirst.{row_at}
 
 -- the byte that goes with the reason of a verdict is that reason's
 abbrev pub ByteOn : List ℕ → ℕ → (Reason → ℕ) → Verdict → Type 0
@@ -67,9 +67,9 @@ module _ {t : List ℕ} {line : ℕ} {ring : Ring} {rs : List Routed} {r : Route
 
   node-byte : Node ring.n r.sent.row.i → NoNode ring.n r.sent.row.i ⊎ NoNode ring.n r.sent.row.j → NodeByte t line (byte NoSuchNode)
   unfolding row_fault node_field
-  node-byte (no_node w e) out = first_node (row-at at is) w (rw e (field-byte 1 (omega arith)))
+  node-byte (no_node w e) out = first_node (row_at at is) w (rw e (field-byte 1 (omega arith)))
   node-byte (has_node h e) (inl w) = absurd (no-node-there h w)
-  node-byte (has_node h e) (inr w) = second_node (row-at at is) (no-node-there h) w (rw e (field-byte 2 (omega arith)))
+  node-byte (has_node h e) (inr w) = second_node (row_at at is) (no-node-there h) w (rw e (field-byte 2 (omega arith)))
 
   demand-byte : {limits : Limits} {k a b : ℕ} {v : Verdict} → RowJudged limits ring.n k a b r.sent.row.i r.sent.row.j r.sent.row.d v → ByteOn t line byte v
   unfolding ByteIs row_fault field_byte write_line
@@ -77,7 +77,7 @@ module _ {t : List ℕ} {line : ℕ} {ring : Ring} {rs : List Routed} {r : Route
   demand-byte (not_below h p l) = refl
   demand-byte (out_of_order h p l o) = refl
   demand-byte (too_many h p l o c) = refl
-  demand-byte (too_much h p l o c m) = record { r = r; row = row-at at is; is = field-byte 3 (omega arith) }
+  demand-byte (too_much h p l o c m) = record { r = r; row = row_at at is; is = field-byte 3 (omega arith) }
   demand-byte (row_fine o up c m) = tt
 
   or-else-byte : (v w : Verdict) → ByteOn t line byte v → ByteOn t line byte w → ByteOn t line byte (or_else v w)

@@ -46,9 +46,9 @@ module _ (limits : Limits) (judging : Bool) (x : Sheet) (judged : Judged judging
   unfolding lines_of
   to-links [] ks e none no_links =
       let k : x.links ≡ ks = e ∙ append-nil ks in
-      let end-text = append-nil (last_line x.peak x.size) in
+      let nothing_behind = append-nil (last_line x.peak x.size) in
       subst (λ l. Rest limits judging x (links x.ring x.rows x.cut l) (last_line x.peak x.size)) k
-      (subst (λ t. Rest limits judging x (links x.ring x.rows x.cut x.links) t) end-text
+      (subst (λ t. Rest limits judging x (links x.ring x.rows x.cut x.links) t) nothing_behind
       (rest_last (omega arith) spelled.last.0 spelled.last.1 judged.last (rest_end judged.whole)))
   to-links (l ∷ later) ks e (more s ss) (and_link v vs) =
       let long : length (ks ++ l ∷ []) ≡ length ks + 1 = length-append ks (l ∷ []) in

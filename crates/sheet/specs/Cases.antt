@@ -1,6 +1,6 @@
--- Examples: 01's "Numbers to try" that are marked P, two cases of 02's K1 and those of K3: one list, each case by its texts and what is said besides; and the answers to them all, as
--- they are stated and as the definitions have them.
-use Rattle.std.specs.Prelude.{ℕ, ◌+◌, ◌*◌, min, cond, List, [], ◌∷◌, ◌++◌, map, leb, eqb}
+-- Examples: rings small enough to be worked out by hand: one list, each case by its texts and what is said besides; and the answers to them all, as they are
+-- stated and as the definitions have them.
+use Rattle.std.specs.Prelude.{ℕ, ◌+◌, ◌*◌, min, cond, List, [], ◌∷◌, ◌++◌, map, leb, eqb, ◌≡◌}
 use Prim.Native.String.{String}
 use Rattle.ring.specs.Cut.{across}
 use Rattle.ring.specs.Limits.{desk}
@@ -36,7 +36,7 @@ pub data Claim : Type 0 where
   -- the least unsplit peak over all choices of ways for its demands
   best_peak_is : ℕ → Claim
 
--- the lines of a text, as 01 prints them
+-- the lines of a text, with tabs shown as |
 abbrev pub Text : Type 0
 Text = List String
 
@@ -65,12 +65,12 @@ cases =
     plan_of ("R|4|4" ∷ "D|1|2|1" ∷ [])
     ("R|4|4" ∷ "D|1|2|1|1|1|F" ∷ "C|1|2|1" ∷ "L|1|1|1" ∷ "L|2|1|0" ∷ "L|3|1|0" ∷ "L|4|1|0" ∷ "Z|1|3" ∷ [])
     [] ∷
-    -- document 002's ring: rule B splits 1-4 as 6/4 and 2-4 as 4/18
+    -- six demands between five offices: rule B splits 1-4 as 6/4 and 2-4 as 4/18
     plan_of ("R|5|4" ∷ "D|1|2|2" ∷ "D|1|4|5" ∷ "D|2|3|9" ∷ "D|2|4|11" ∷ "D|3|4|4" ∷ "D|3|5|3" ∷ [])
     ("R|5|4" ∷ "D|1|2|2|4|0|F" ∷ "D|1|4|5|0|10|B" ∷ "D|2|3|9|18|0|F" ∷ "D|2|4|11|10|12|B" ∷ "D|3|4|4|8|0|F" ∷ "D|3|5|3|6|0|F" ∷
     "C|2|4|28" ∷ "L|1|16|13" ∷ "L|2|28|9" ∷ "L|3|24|7" ∷ "L|4|28|19" ∷ "L|5|22|16" ∷ "Z|19|48" ∷ [])
     (sent_by_B (4 & 0 ∷ 6 & 4 ∷ 18 & 0 ∷ 4 & 18 ∷ 8 & 0 ∷ 6 & 0 ∷ []) ∷ []) ∷
-    -- document 003's figure 4.1: the best possible peak is 3, ours is 4 and within the bound
+    -- two short rows inside two longer ones: the best possible peak is 3, ours is 4 and within the bound
     plan_of ("R|8|4" ∷ "D|1|4|1" ∷ "D|2|3|1" ∷ "D|5|8|2" ∷ "D|6|7|2" ∷ [])
     ("R|8|4" ∷ "D|1|4|1|2|0|F" ∷ "D|2|3|1|2|0|F" ∷ "D|5|8|2|4|0|F" ∷ "D|6|7|2|2|2|F" ∷ "C|2|6|6" ∷
     "L|1|4|1" ∷ "L|2|6|2" ∷ "L|3|4|1" ∷ "L|4|2|0" ∷ "L|5|6|2" ∷ "L|6|6|4" ∷ "L|7|6|2" ∷ "L|8|2|0" ∷ "Z|4|12" ∷ [])
@@ -93,16 +93,16 @@ cases =
     "L|1|4|1" ∷ "L|2|4|2" ∷ "L|3|4|3" ∷ "L|4|4|4" ∷ "L|5|4|3" ∷ "L|6|4|2" ∷ "L|7|4|1" ∷ "L|8|4|0" ∷ "Z|4|12" ∷ [])
     14 0 0
     (tight 4 4 ∷ 8 above 4 plus 3 ∷ []) ∷
-    -- K1: three circuits between offices 1 and 3 of the square, of which rule B splits the second
+    -- three circuits between offices 1 and 3 of the square, of which rule B splits the second
     plan_of ("R|4|4" ∷ "D|1|3|1" ∷ "D|1|3|1" ∷ "D|1|3|1" ∷ "D|2|4|1" ∷ [])
     ("R|4|4" ∷ "D|1|3|1|2|0|F" ∷ "D|1|3|1|1|1|F" ∷ "D|1|3|1|0|2|B" ∷ "D|2|4|1|1|1|B" ∷ "C|1|3|4" ∷
     "L|1|4|3" ∷ "L|2|4|2" ∷ "L|3|4|1" ∷ "L|4|4|2" ∷ "Z|3|3" ∷ [])
     (M_is 4 ∷ 6 at-most 4 plus 3 ∷ []) ∷
-    -- K1: a row below the row before, behind one of the same nodes: 6
+    -- a row below the row before, behind one of the same nodes: 6
     refusal_of ("R|4|4" ∷ "D|1|3|1|1|1|F" ∷ "D|1|3|1|1|1|B" ∷ "D|1|2|1|2|0|F" ∷ [])
     6 4 1
     [] ∷
-    -- K3: n = 2, 1-2 of 384 on two fibres: twice 384 is 768
+    -- n = 2, 1-2 of 384 on two fibres: twice 384 is 768
     plan_of ("R|2|2" ∷ "D|1|2|384" ∷ [])
     ("R|2|2" ∷ "D|1|2|384|384|384|F" ∷ "C|1|2|384" ∷ "L|1|384|384" ∷ "L|2|384|0" ∷ "Z|384|768" ∷ [])
     [] ∷
@@ -110,15 +110,15 @@ cases =
     plan_of ("R|2|2" ∷ "D|1|2|385" ∷ [])
     ("R|2|2" ∷ "D|1|2|385|385|385|F" ∷ "C|1|2|385" ∷ "L|1|385|385" ∷ "L|2|385|0" ∷ "Z|385|0" ∷ [])
     [] ∷
-    -- K3: the square on two fibres: only its R line and its Z line differ
+    -- the square on two fibres: only its R line and its Z line differ
     plan_of ("R|4|2" ∷ "D|1|3|1" ∷ "D|2|4|1" ∷ [])
     ("R|4|2" ∷ "D|1|3|1|1|1|F" ∷ "D|2|4|1|1|1|B" ∷ "C|1|3|2" ∷ "L|1|2|2" ∷ "L|2|2|1" ∷ "L|3|2|0" ∷ "L|4|2|1" ∷ "Z|2|12" ∷ [])
     [] ∷
-    -- K3: the square on two fibres with the size for four: 12
+    -- the square on two fibres with the size for four: 12
     refusal_of ("R|4|2" ∷ "D|1|3|1|1|1|F" ∷ "D|2|4|1|1|1|B" ∷ "C|1|3|2" ∷ "L|1|2|2" ∷ "L|2|2|1" ∷ "L|3|2|0" ∷ "L|4|2|1" ∷ "Z|2|3" ∷ [])
     12 9 1
     [] ∷
-    -- K3: three fibres: 20, but 3 where n is wrong too; without the number the line has the wrong shape: 2
+    -- three fibres: 20, but 3 where n is wrong too; without the number the line has the wrong shape: 2
     refusal_of ("R|4|3" ∷ [])
     20 1 5
     [] ∷
@@ -209,3 +209,7 @@ computed (plan_of table sheet claims ∷ cs) =
     map (claiming (form desk (printed sheet))) claims ++ computed cs
 computed (refusal_of sheet reason line byte claims ∷ cs) =
     checking (check desk (printed sheet)) ∷ map (claiming (form desk (printed sheet))) claims ++ computed cs
+
+-- they are the same
+abbrev pub CasesHold : Type 0
+CasesHold = computed cases ≡ stated cases

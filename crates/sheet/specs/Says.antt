@@ -211,7 +211,7 @@ Says limits t NoRow line = ⊥
 Says limits t Full line = ⊥
 Says limits t NoRoom line = ⊥
 
--- ---- the byte of the line that is given with a reason (02, K5), counted from 1
+-- ---- the byte of the line that is given with a reason, counted from 1
 
 -- where a D line or the C line is due, both shapes count: p is the place of the first byte at which neither goes on
 pub record NeitherGoesOn (l : List ℕ) (p : ℕ) : Type 0 where

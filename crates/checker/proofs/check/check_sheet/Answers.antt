@@ -6,6 +6,9 @@ use Rattle.checker.proofs.check.check_sheet.Goals as goal
 pub returns-then-s-gt-BYTES : goal.returns-then-s-gt-BYTES
 returns-then-s-gt-BYTES c = search too_long
 
+pub returns-in_default : goal.returns-in_default
+returns-in_default c = search then-rows
+
 pub byte_at-requires : goal.byte_at-requires
 byte_at-requires c = search ring-place
 
@@ -17,6 +20,3 @@ check_rows-requires c = search (next_place, ring-two, ring-fits)
 
 pub returns-in-Bad : goal.returns-in-Bad
 returns-in-Bad c = search no_ring
-
-pub returns-in_default : goal.returns-in_default
-returns-in_default c = search then-rows
