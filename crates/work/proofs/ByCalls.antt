@@ -23,17 +23,21 @@ use Rattle.table.specs.declared.judge.Verdict.{Verdict}
 use Rattle.table.specs.declared.judge.Verdict.TheVariants.{Fine}
 use Rattle.table.proofs.ReasonNumbers.{no-reason-0}
 use Rattle.table.proofs.Judged.{RingJudged, size_wrong, wrong_fibres, right_ring, ring-judged}
-use Rattle.work.specs.Places.{empty, holds, Plain}
+use Rattle.work.specs.Places.{empty, holds, Plain, place_in, plain_of}
 use Rattle.work.specs.Calls.{Call, start, add, change, remove, refuses, makes, judge_start, judge_place, judge_room, with_place, outcome, answer, row_said, row_answer}
-use Rattle.work.specs.Made.{place_in, called_in, Made, begun, called, plain_of}
+use Rattle.work.specs.Made.{Made, begun, called}
 use Rattle.work.specs.Kept.{held, kept_cut, Keeps}
-use Rattle.work.specs.Changes.{refused_in, kept_in, free_in, holds_in, row_in, put_in, cleared_in, unless_fault, fresh_in, started_in, judged, added_in, changed_in, removed_in}
+use Rattle.work.specs.Changes.{refused_in, kept_in, free_in, holds_in, row_in, put_in, cleared_in, unless_fault, fresh_in, started_in, judged, added_in, changed_in, removed_in, called_in}
 use Rattle.work.specs.Keys.{sorted_rows}
 use Rattle.work.specs.Sorted.{Sorted, WritesOut}
+use Rattle.work.specs.Promises.{WorkSays, refused, accepted}
 use Rattle.work.specs.declared.Work.{Work}
+use Rattle.work.specs.declared.held.WorkReply.{WorkReply}
 use Rattle.work.proofs.PlaceSteps.{holding}
 use Rattle.work.proofs.Right.{Good, Right, size_is, count, place_is, put-places, put_right, clear-places, clear-right, fresh-places, fresh-right, cut-is}
 use Rattle.work.proofs.OneOrder.{one-order}
+use Rattle.work.proofs.Reasons.{above_0}
+use Rattle.work.proofs.Fits.{Fits, begun-fits, made-fits}
 use Rattle.work.proofs.SortedRows.{rows-sorted, rows-range, rows_cut, rows-room}
 use Rattle.work.proofs.Views.{Demand, bad, good, demand, within, same_place, same-free, free-is-free}
 
@@ -62,12 +66,12 @@ module _ {w : Work} {c : Call} where
   replied (both_refuse reason z e f) = rw (e, f)
   replied (both_make p x s e f) = rw (e, f, cut-is x s)
 
-  stays-sound : Step w c → Sound w → Sound (called_in w c).work
+  pub stays-sound : Step w c → Sound w → Sound (called_in w c).work
   stays-sound (both_refuse reason z e f) s = rw e s
   stays-sound (both_make p x r e f) s = rw e (kept-sound p x r)
 
   -- an accepted call makes a table that is right, whatever was there before
-  accepted-sound : Step w c → (called_in w c).reply.reason ≡ 0 → Sound (called_in w c).work
+  pub accepted-sound : Step w c → (called_in w c).reply.reason ≡ 0 → Sound (called_in w c).work
   accepted-sound (both_refuse reason z e f) a = absurd (z (rw e at a))
   accepted-sound (both_make p x r e f) a = rw e (kept-sound p x r)
 
@@ -182,15 +186,45 @@ module _ (w : Work) (s : Right w) where
   call_step (change p i j d) = change-step p i j d
   call_step (remove p) = remove-step p
 
--- ---- the theorems
+-- ---- a table made by calls
 
-pub made-sound : {cs : List Call} {w : Work} → Made cs w → Sound w
-made-sound (begun any n fibres a) = accepted-sound (start-step any n fibres) a
-made-sound (called {w = w} m c) = let s = made-sound m in stays-sound (call_step w s.right c) s
+pub keeps-of : {w : Work} → Sound w → Keeps w
+keeps-of {w} s =
+    record {
+      places = count w s.right;
+      firsts = s.right.firsts;
+      seconds = s.right.seconds;
+      amounts = s.right.amounts;
+      numbers = s.right.kept;
+      largest = s.largest;
+    }
 
 -- 496 places, the across number of every cut, the largest and its cut are kept
 pub made-keeps : {cs : List Call} {w : Work} → Made cs w → Keeps w
-made-keeps {w} m = let s = made-sound m in record { places = count w s.right; numbers = s.right.kept; largest = s.largest }
+made-keeps (begun p a k) = k
+made-keeps (called m p k) = k
+
+module _ {w x : Work} {r : WorkReply} where
+  begun-is-fit : {n fibres : ℕ} → WorkSays w (start n fibres) r x → r.reason ≡ 0 → Fits (plain_of x)
+  begun-is-fit {n} {fibres} (refused g er ex) a = absurd (above_0 _ (plain_of w) (start n fibres) g (ap (λ (y : WorkReply). y.reason) (sym er) ∙ a))
+  begun-is-fit (accepted n m er ex) a = rw ex (begun-fits n m)
+
+  called-is-fit : {c : Call} → Fits (plain_of w) → WorkSays w c r x → Fits (plain_of x)
+  called-is-fit f (refused g er ex) = rw ex f
+  called-is-fit f (accepted n m er ex) = rw ex (made-fits f n m)
+
+made-is-fit : {cs : List Call} {w : Work} → Made cs w → Fits (plain_of w)
+made-is-fit (begun p a k) = begun-is-fit p.cases a
+made-is-fit (called m p k) = called-is-fit (made-is-fit m) p.cases
+
+pub made-sound : {cs : List Call} {w : Work} → Made cs w → Sound w
+made-sound m =
+    let f = made-is-fit m in
+    let k = made-keeps m in
+    record {
+      right = record { two = f.two; few = f.few; fibres = f.fibres; firsts = k.firsts; seconds = k.seconds; amounts = k.amounts; rows = f.rows; kept = k.numbers };
+      largest = k.largest;
+    }
 
 -- the row at a place is the list's
 module _ (w : Work) (s : Right w) where

@@ -19,8 +19,7 @@ use Rattle.across.specs.Triangle.{most_pairs, place_of, at}
 use Rattle.across.specs.Lines.{Pairwise}
 use Rattle.across.proofs.Kept.{row-at}
 use Rattle.across.proofs.CutSteps.{same-cut}
-use Rattle.work.specs.Places.{empty, holds}
-use Rattle.work.specs.Made.{place_in, plain_of}
+use Rattle.work.specs.Places.{empty, holds, place_in, plain_of}
 use Rattle.work.specs.Kept.{held}
 use Rattle.work.specs.Changes.{ring_size, cut_of, put_in, cleared_in, fresh_in}
 use Rattle.work.specs.declared.Work.{Work}

@@ -17,9 +17,8 @@ use Rattle.table.specs.declared.reason.Reason.{Reason}
 use Rattle.table.specs.declared.judge.Verdict.{Verdict}
 use Rattle.table.specs.declared.judge.Verdict.TheVariants.{Fine, Fault}
 use Rattle.table.proofs.Judged.{RowJudged, no_such_node, not_below, out_of_order, too_many, too_much, row_fine, row-judged}
-use Rattle.work.specs.Places.{is_row, lowest_free, holds_row}
+use Rattle.work.specs.Places.{is_row, lowest_free, holds_row, place_in, plain_of}
 use Rattle.work.specs.Calls.{Outcome, refuses, judge_demand}
-use Rattle.work.specs.Made.{place_in, plain_of}
 use Rattle.work.specs.Changes.{free_from, free_in, holds_in}
 use Rattle.work.specs.declared.Work.{Work}
 use Rattle.work.proofs.RowsHeld.{places-free}
