@@ -34,8 +34,7 @@ use Rattle.work.specs.Promises.{WorkSays, refused, accepted}
 use Rattle.work.specs.declared.Work.{Work}
 use Rattle.work.specs.declared.held.WorkReply.{WorkReply}
 use Rattle.work.proofs.PlaceSteps.{holding}
-use Rattle.work.proofs.Right.{Good, Right, size_is, count, place_is, put-places, put_right, clear-places, clear-right, fresh-places, fresh-right, cut-is}
-use Rattle.work.proofs.OneOrder.{one-order}
+use Rattle.work.proofs.Right.{Good, Right, Sized, sized, right-bytes, size_is, count, place_is, put-places, put_right, clear-places, clear-right, fresh-places, fresh-right, cut-is}
 use Rattle.work.proofs.Reasons.{above_0}
 use Rattle.work.proofs.Fits.{Fits, begun-fits, made-fits}
 use Rattle.work.proofs.SortedRows.{rows-sorted, rows-range, rows_cut, rows-room}
@@ -126,11 +125,11 @@ module _ (w : Work) (s : Right w) where
                   both_make (free_in w.first + 1) (put_in w (free_in w.first) i j d) (put_right w s (free_in w.first) l i j d free g)
                   (rw (verdict ∙ e, lt-ltb (free_in w.first) desk.rows l))
                   (f _ ∙
-                  (rw (same-free w s, count w s, lt-ltb (free_in w.first) desk.rows l)
+                  (rw (same-free w (sized s), count w (sized s), lt-ltb (free_in w.first) desk.rows l)
                   (ap (λ ps. makes (free_in w.first + 1) (record { n = w.n; fibres = w.fibres; places = ps })) (sym (put-places w s (free_in w.first) l i j d free g)))))
               | no l ↦
                   both_refuse 21 (λ z. omega arith) (rw (verdict ∙ e, le-ltb (free_in w.first) desk.rows (omega arith)))
-                  (f _ ∙ (rw (same-free w s, count w s, le-ltb (free_in w.first) desk.rows (omega arith))))
+                  (f _ ∙ (rw (same-free w (sized s), count w (sized s), le-ltb (free_in w.first) desk.rows (omega arith))))
             ]
 
   -- the table between, of a change
@@ -160,25 +159,25 @@ module _ (w : Work) (s : Right w) where
     change-step i j d = go (holds_in w.first p) refl (demand w.n i j d)
       where
         go : (b : Bool) → holds_in w.first p ≡ b → Demand w.n i j d (judge_row desk w.n 0 0 0 i j d) → Step w (change p i j d)
-        go false h v = both_refuse 22 (λ z. omega arith) (rw h) (rw (same_place w s p ∙ h))
-        go true h (bad reason e f) = both_refuse (number_of reason) (number-above reason) (rw (h, verdict i j d ∙ e)) (rw (same_place w s p ∙ h) (f _))
+        go false h v = both_refuse 22 (λ z. omega arith) (rw h) (rw (same_place w (sized s) p ∙ h))
+        go true h (bad reason e f) = both_refuse (number_of reason) (number-above reason) (rw (h, verdict i j d ∙ e)) (rw (same_place w (sized s) p ∙ h) (f _))
         go true h (good e g f) =
             let row_there = holding w.first p h in
             let off = clear-right w s (p - 1) row_there.high row_there.row in
             both_make p (put_in (cleared_in w (p - 1)) (p - 1) i j d) (put_right (cleared_in w (p - 1)) off (p - 1) row_there.high i j d (cleared-free (p - 1) row_there.high) (still (p - 1) row_there.high g))
             (rw (h, verdict i j d ∙ e))
-            (rw (same_place w s p ∙ h) (f _ ∙ ap (λ ps. makes p (record { n = w.n; fibres = w.fibres; places = ps })) (sym (changed-places (p - 1) row_there.high row_there.row i j d g))))
+            (rw (same_place w (sized s) p ∙ h) (f _ ∙ ap (λ ps. makes p (record { n = w.n; fibres = w.fibres; places = ps })) (sym (changed-places (p - 1) row_there.high row_there.row i j d g))))
 
     remove-step : Step w (remove p)
     unfolding removed_in outcome judge_place
     remove-step = go (holds_in w.first p) refl
       where
         go : (b : Bool) → holds_in w.first p ≡ b → Step w (remove p)
-        go false h = both_refuse 22 (λ z. omega arith) (rw h) (rw (same_place w s p ∙ h))
+        go false h = both_refuse 22 (λ z. omega arith) (rw h) (rw (same_place w (sized s) p ∙ h))
         go true h =
             let row_there = holding w.first p h in
             both_make p (cleared_in w (p - 1)) (clear-right w s (p - 1) row_there.high row_there.row) (rw h)
-            (rw (same_place w s p ∙ h) (removed-plain (p - 1) row_there.high row_there.row p))
+            (rw (same_place w (sized s) p ∙ h) (removed-plain (p - 1) row_there.high row_there.row p))
 
   pub call_step : (c : Call) → Step w c
   call_step (start n fibres) = start-step w n fibres
@@ -191,7 +190,7 @@ module _ (w : Work) (s : Right w) where
 pub keeps-of : {w : Work} → Sound w → Keeps w
 keeps-of {w} s =
     record {
-      places = count w s.right;
+      places = count w (sized s.right);
       firsts = s.right.firsts;
       seconds = s.right.seconds;
       amounts = s.right.amounts;
@@ -226,9 +225,9 @@ made-sound m =
       largest = k.largest;
     }
 
--- the row at a place is the list's
-module _ (w : Work) (s : Right w) where
-  row_is : (p : ℕ) → row_in w p ≡ row_answer (plain_of w) p
+-- the row at a place is the list's, on every struct
+module _ (w : Work) (s : Sized w) where
+  pub row_is : (p : ℕ) → row_in w p ≡ row_answer (plain_of w) p
   unfolding row_in row_answer holds_in
   row_is p =
       elim (dec_lt 0 p) [
@@ -240,15 +239,8 @@ module _ (w : Work) (s : Right w) where
       go zero j d = refl
       go (suc i) j d = rw (lt-ltb 0 (suc i) (omega arith))
 
-pub made_row : {cs : List Call} {w : Work} → Made cs w → (p : ℕ) → row_in w p ≡ row_answer (plain_of w) p
-made_row {w} m p = row_is w (made-sound m).right p
-
 -- what is written out: the rows held, by nodes, then by place, an accepted table with the cut of the rows held
 pub made-writes-out : {cs : List Call} {w : Work} → Made cs w → WritesOut w (sorted_rows w)
 made-writes-out {w} m =
     let s = (made-sound m).right in
-    record { sorted = rows-sorted w s; range = rows-range w s; cut = rows_cut w s; short = rows-room w s }
-
--- there is one such order only
-pub made-one-order : {cs : List Call} {w : Work} → Made cs w → {rs qs : List Row} → Sorted (plain_of w).places rs → Sorted (plain_of w).places qs → rs ≡ qs
-made-one-order {w = w} m = one-order w (made-sound m).right
+    record { sorted = rows-sorted w (sized s) (right-bytes w s); range = rows-range w s; cut = rows_cut w s; short = rows-room w s }

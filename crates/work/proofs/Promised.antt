@@ -23,9 +23,9 @@ use Rattle.work.specs.declared.Work.{Work}
 use Rattle.work.specs.declared.held.WorkReply.{WorkReply}
 use Rattle.work.specs.declared.held.Changed.{Changed}
 use Rattle.work.specs.declared.place.RowReply.{RowReply}
-use Rattle.work.proofs.Right.{Right, cut-is}
+use Rattle.work.proofs.Right.{Right, Sized, cut-is}
 use Rattle.work.proofs.Reasons.{Ends, stops, goes, call_ends, one-given, none-given, one-made, above_0}
-use Rattle.work.proofs.ByCalls.{Step, both_refuse, both_make, start-step, call_step, stays-sound, accepted-sound, keeps-of, made-sound, made_row}
+use Rattle.work.proofs.ByCalls.{Step, both_refuse, both_make, start-step, call_step, stays-sound, accepted-sound, keeps-of, made-sound, row_is}
 
 -- ---- one call
 
@@ -154,11 +154,20 @@ module _ (ps : List Place) (p : ℕ) (r : RowReply) where
     says_row (none_there n e) h = absurd (n (record { r = x; there = h }))
     says_row (row_there y at e) h = let same : y ≡ x = cc (at.is, h.is) in rw (← same) e
 
-pub row-promise : {cs : List Call} {w : Work} → Made cs w → (p : ℕ) (r : RowReply) → r ≡ row_in w p → RowPromise w p r
-row-promise {w = w} m p r is =
-    let s = said (plain_of w) p r (is ∙ made_row m p) in
+-- on every struct
+pub row-promise : (w : Work) → Sized w → (p : ℕ) {r : RowReply} → r ≡ row_in w p → RowPromise w p r
+row-promise w z p {r} is =
+    let s = said (plain_of w) p r (is ∙ row_is w z p) in
     let ps = (plain_of w).places in
     record { cases = s; refuses = (no-row-said ps p r s, says-no-row ps p r s); says = λ x. (row-said ps p r x s, says_row ps p r x s) }
+
+-- no other reply keeps the promise
+pub only-row : {w : Work} {p : ℕ} {r : RowReply} → RowPromise w p r → OnlyRow w p r
+only-row {w} {p} {r} a s b = go b.cases
+  where
+    go : RowSays (plain_of w).places p s → s ≡ r
+    go (none_there n e) = e ∙ sym (a.refuses.1 n)
+    go (row_there x at e) = e ∙ sym ((a.says x).1 at)
 
 -- ---- a whole list of calls
 

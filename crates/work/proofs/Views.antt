@@ -22,7 +22,7 @@ use Rattle.work.specs.Calls.{Outcome, refuses, judge_demand}
 use Rattle.work.specs.Changes.{free_from, free_in, holds_in}
 use Rattle.work.specs.declared.Work.{Work}
 use Rattle.work.proofs.RowsHeld.{places-free}
-use Rattle.work.proofs.Right.{Good, Right, place_is}
+use Rattle.work.proofs.Right.{Good, Sized, place_is}
 
 -- ---- a row
 
@@ -57,7 +57,7 @@ is_a_row : (i j d : ℕ) → is_row (place_in i j d) ≡ ltb 0 i
 is_a_row zero j d = refl
 is_a_row (suc i) j d = sym (lt-ltb 0 (suc i) (omega arith))
 
-module _ (w : Work) (s : Right w) where
+module _ (w : Work) (s : Sized w) where
   -- a place that the columns have not got has the first node 0
   pub within : (k : ℕ) → (ltb k desk.rows && ltb 0 (get_or w.first k 0)) ≡ ltb 0 (get_or w.first k 0)
   within k =
