@@ -34,7 +34,7 @@ use Rattle.work.specs.Promises.{WorkSays, refused, accepted}
 use Rattle.work.specs.declared.Work.{Work}
 use Rattle.work.specs.declared.held.WorkReply.{WorkReply}
 use Rattle.work.proofs.PlaceSteps.{holding}
-use Rattle.work.proofs.Right.{Good, Right, Sized, sized, right-bytes, size_is, count, place_is, put-places, put_right, clear-places, clear-right, fresh-places, fresh-right, cut-is}
+use Rattle.work.proofs.Right.{Good, Right, Sized, HasBytes, sized, right-bytes, size_is, count, place_is, put-places, put_right, clear-places, clear-right, fresh-places, fresh-right, cut-is}
 use Rattle.work.proofs.Reasons.{above_0}
 use Rattle.work.proofs.Fits.{Fits, begun-fits, made-fits}
 use Rattle.work.proofs.SortedRows.{rows-sorted, rows-range, rows_cut, rows-room}
@@ -244,3 +244,9 @@ pub made-writes-out : {cs : List Call} {w : Work} → Made cs w → WritesOut w 
 made-writes-out {w} m =
     let s = (made-sound m).right in
     record { sorted = rows-sorted w (sized s) (right-bytes w s); range = rows-range w s; cut = rows_cut w s; short = rows-room w s }
+
+pub made-sized : {cs : List Call} {w : Work} → Made cs w → Sized w
+made-sized m = sized (made-sound m).right
+
+pub made-bytes : {cs : List Call} {w : Work} → Made cs w → HasBytes w
+made-bytes {w = w} m = right-bytes w (made-sound m).right
