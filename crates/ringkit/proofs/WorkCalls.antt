@@ -1,15 +1,14 @@
 -- Writing a working table out does what 01 says of a call that fills a buffer, on every struct; of one made by calls the table is an accepted one, `table_room` is room for it, and routing it names
 -- the cut that the last accepted reply named: by the rows that are written, and the promise of routing.
-use Prim.Native.Nat.{ℕ, ◌≤◌, ◌<◌}
+use Prim.Native.Nat.{ℕ, ◌≤◌}
 use mathlib.Core.List.{List}
 use mathlib.Core.Path.{◌≡◌, refl, sym, ◌∙◌, ap}
 use native.Mathlib.Omega.{arith}
-use lib.ListN.{length, get_or}
+use lib.ListN.{length}
 use Rattle.ring.specs.Limits.{desk}
 use Rattle.ring.specs.Sheet.{plan}
 use Rattle.table.specs.Table.{write_table, table_room}
 use Rattle.table.specs.Says.{Accepted}
-use Rattle.sheet.specs.Range.{longest}
 use Rattle.sheet.proofs.Short.{plan-short}
 use Rattle.work.specs.Places.{ring_in}
 use Rattle.work.specs.Calls.{Call}
@@ -22,10 +21,10 @@ use Rattle.work.proofs.OneOrder.{one-order}
 use Rattle.work.proofs.ByCalls.{made-keeps, made-writes-out, made-sized, made-bytes}
 use Rattle.work.proofs.Promised.{made-as-played}
 use Rattle.ringkit.specs.Outcome.{Fills}
-use Rattle.ringkit.specs.Says.{Success, CallPromise}
+use Rattle.ringkit.specs.Says.{CallPromise}
 use Rattle.ringkit.specs.TableCalls.{work_written}
 use Rattle.ringkit.specs.Texts.{TableOf, TableDue, sheet_due}
-use Rattle.ringkit.specs.WorkCalls.{WorkDue, NoRefusal, WritesAccepted, RoutedCut, RoutedAsNamed}
+use Rattle.ringkit.specs.WorkCalls.{WorkDue, NoRefusal, WritesAccepted, RoutedAsNamed}
 use Rattle.ringkit.specs.Only.{Only}
 use Rattle.ringkit.specs.declared.Reply.{Reply}
 use Rattle.ringkit.proofs.Calls.{is_due, One, call-promise}

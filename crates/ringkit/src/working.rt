@@ -104,7 +104,8 @@ pub fn ringkit_work_remove(work: &mut Work, place: u32) -> WorkReply
         WorkPromise work.old (remove place) result work.new }
     ensures only { (calls : List Call) → Made calls work.old →
         OnlyThis work.old (remove place) result work.new }
-    ensures made { (calls : List Call) → Made calls work.old → Made (remove place ∷ calls) work.new }
+    ensures made { (calls : List Call) → Made calls work.old →
+        Made (remove place ∷ calls) work.new }
     ensures kept { (calls : List Call) → Made calls work.old → Keeps work.new }
     ensures played { (calls : List Call) → Made calls work.old →
         AsPlayed (remove place ∷ calls) work.new }

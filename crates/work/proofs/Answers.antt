@@ -2,13 +2,12 @@
 use Prim.Native.Nat.{ℕ, ◌+◌, ◌-◌}
 use mathlib.Core.Bool.{Bool, true, false, cond}
 use mathlib.Core.Logic.{inl, inr}
-use mathlib.Core.Path.{◌≡◌, refl, sym, ◌∙◌, ap}
+use mathlib.Core.Path.{◌≡◌, refl, ◌∙◌, ap}
 use native.Mathlib.Omega.{arith}
 use lib.Dec.{ltb}
 use Rattle.ring.specs.Limits.{desk}
 use Rattle.ring.specs.Lists.{Some, here, there}
 use Rattle.ring.specs.Ring.{ring_of}
-use Rattle.table.specs.Judge.{judge_ring, judge_row}
 use Rattle.table.specs.Reasons.{number_of}
 use Rattle.table.specs.declared.reason.Reason.{Reason}
 use Rattle.table.specs.declared.reason.Reason.TheVariants.{RingSize, Fibres, NoRow, NoSuchNode, NotBelow, TooMuch, Full}

@@ -14,7 +14,7 @@ use borrow.Author.Tests.{lt-ltb, le-ltb, eq-eqb, ne_eqb}
 use Rattle.ring.specs.Limits.{desk}
 use Rattle.ring.specs.Ring.{ring_of}
 use Rattle.ring.specs.LineSize.{IsFibres}
-use Rattle.ring.specs.Row.{Row, row}
+use Rattle.ring.specs.Row.{row}
 use Rattle.ring.specs.RuleA.{rule_a}
 use Rattle.table.specs.Judge.{judge_ring, judge_row}
 use Rattle.table.specs.Reasons.{number_of}
@@ -24,12 +24,12 @@ use Rattle.table.specs.declared.judge.Verdict.TheVariants.{Fine}
 use Rattle.table.proofs.ReasonNumbers.{no-reason-0}
 use Rattle.table.proofs.Judged.{RingJudged, size_wrong, wrong_fibres, right_ring, ring-judged}
 use Rattle.work.specs.Places.{empty, holds, Plain, place_in, plain_of}
-use Rattle.work.specs.Calls.{Call, start, add, change, remove, refuses, makes, judge_start, judge_place, judge_room, with_place, outcome, answer, row_said, row_answer}
+use Rattle.work.specs.Calls.{Call, start, add, change, remove, refuses, makes, judge_start, judge_place, judge_room, with_place, outcome, row_said, row_answer}
 use Rattle.work.specs.Made.{Made, begun, called}
 use Rattle.work.specs.Kept.{held, kept_cut, Keeps}
 use Rattle.work.specs.Changes.{refused_in, kept_in, free_in, holds_in, row_in, put_in, cleared_in, unless_fault, fresh_in, started_in, judged, added_in, changed_in, removed_in, called_in}
 use Rattle.work.specs.Keys.{sorted_rows}
-use Rattle.work.specs.Sorted.{Sorted, WritesOut}
+use Rattle.work.specs.Sorted.{WritesOut}
 use Rattle.work.specs.Promises.{WorkSays, refused, accepted}
 use Rattle.work.specs.declared.Work.{Work}
 use Rattle.work.specs.declared.held.WorkReply.{WorkReply}
@@ -59,12 +59,6 @@ kept-sound p x s =
     }
 
 module _ {w : Work} {c : Call} where
-  -- the reply is the list's
-  pub replied : Step w c → (called_in w c).reply ≡ answer (outcome (plain_of w) c)
-  unfolding answer kept_in
-  replied (both_refuse reason z e f) = rw (e, f)
-  replied (both_make p x s e f) = rw (e, f, cut-is x s)
-
   pub stays-sound : Step w c → Sound w → Sound (called_in w c).work
   stays-sound (both_refuse reason z e f) s = rw e s
   stays-sound (both_make p x r e f) s = rw e (kept-sound p x r)

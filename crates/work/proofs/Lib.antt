@@ -11,4 +11,3 @@ pub mod Fits
 pub mod ByCalls
 pub mod Promised
 pub mod Answers
-pub mod Unique

@@ -1,4 +1,4 @@
--- Internal: what each call answers and leaves, for every value of the struct; over tables made by calls the list of places (Places, Calls) says it in plain words.
+-- Internal: what each call answers and leaves, for every value of the struct; what a call promises is said over the list of places (Places, Calls, Promises), and names none of this.
 use Rattle.std.specs.Prelude.{ℕ, zero, suc, ◌+◌, ◌-◌, ◌≤◌, ◌<◌, min, max, Bool, true, false, cond, ◌&&◌, List, ltb, eqb, get_or, set, replicate}
 use Rattle.ring.specs.Limits.{desk}
 use Rattle.ring.specs.Ring.{ring_of}
