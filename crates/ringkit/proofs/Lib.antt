@@ -5,6 +5,7 @@ pub mod RouteSteps
 pub mod SheetSteps
 pub mod Unique
 pub mod Calls
+pub mod OnlyOne
 pub mod TableCalls
 pub mod SheetCalls
 pub mod MatrixCalls

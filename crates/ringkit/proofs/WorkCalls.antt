@@ -1,70 +1,95 @@
--- Writing a working table out does what 01 says of a call that fills a buffer; the table is an accepted one, `table_room` is room for it, and routing it names the cut that the last accepted reply
--- named: by what is written of a table made by calls, and the promise of routing.
+-- Writing a working table out does what 01 says of a call that fills a buffer, on every struct; of one made by calls the table is an accepted one, `table_room` is room for it, and routing it names
+-- the cut that the last accepted reply named: by the rows that are written, and the promise of routing.
 use Prim.Native.Nat.{ℕ, ◌≤◌}
 use mathlib.Core.List.{List}
-use mathlib.Core.Path.{refl, sym, ◌∙◌, ap}
+use mathlib.Core.Path.{◌≡◌, refl, sym, ◌∙◌, ap}
 use native.Mathlib.Omega.{arith}
 use lib.ListN.{length}
 use Rattle.ring.specs.Limits.{desk}
 use Rattle.ring.specs.Sheet.{plan}
 use Rattle.table.specs.Table.{write_table, table_room}
 use Rattle.table.specs.Says.{Accepted}
-use Rattle.sheet.specs.Range.{longest}
 use Rattle.sheet.proofs.Short.{plan-short}
+use Rattle.work.specs.Places.{ring_in}
 use Rattle.work.specs.Calls.{Call}
-use Rattle.work.specs.Made.{Made, ring_in}
-use Rattle.work.specs.Keys.{sorted_rows}
+use Rattle.work.specs.Made.{Made}
+use Rattle.work.specs.Keys.{sorted_rows, IsBytes}
 use Rattle.work.specs.declared.Work.{Work}
-use Rattle.work.proofs.ByCalls.{made-keeps, made-writes-out, made-one-order}
+use Rattle.work.proofs.Right.{Sized, HasBytes, bytes-of}
+use Rattle.work.proofs.SortedRows.{rows-sorted}
+use Rattle.work.proofs.OneOrder.{one-order}
+use Rattle.work.proofs.ByCalls.{made-keeps, made-writes-out, made-sized, made-bytes}
 use Rattle.work.proofs.Promised.{made-as-played}
 use Rattle.ringkit.specs.Outcome.{Fills}
-use Rattle.ringkit.specs.Says.{Success, CallPromise}
-use Rattle.ringkit.specs.TableCalls.{table_routed, work_written}
+use Rattle.ringkit.specs.Says.{CallPromise}
+use Rattle.ringkit.specs.TableCalls.{work_written}
 use Rattle.ringkit.specs.Texts.{TableOf, TableDue, sheet_due}
-use Rattle.ringkit.specs.WorkCalls.{WorkDue, NoRefusal, RoutedCut}
+use Rattle.ringkit.specs.WorkCalls.{WorkDue, NoRefusal, WritesAccepted, RoutedAsNamed}
+use Rattle.ringkit.specs.Only.{Only}
 use Rattle.ringkit.specs.declared.Reply.{Reply}
 use Rattle.ringkit.proofs.Calls.{is_due, One, call-promise}
-use Rattle.ringkit.proofs.TableCalls.{due-accepted, route-promise}
+use Rattle.ringkit.proofs.OnlyOne.{only-call}
+use Rattle.ringkit.proofs.TableCalls.{due-accepted}
 
-module _ {cs : List Call} {w : Work} (m : Made cs w) where
+-- ---- every struct
+
+module _ (w : Work) (s : Sized w) (byte : HasBytes w) where
   -- a text is due, and one only
-  pub work-due : WorkDue w (write_table (ring_in w) (sorted_rows w))
-  work-due = record { rs = sorted_rows w; sorted = (made-writes-out m).sorted; is = refl }
+  work-due : WorkDue w (write_table (ring_in w) (sorted_rows w))
+  work-due = record { rs = sorted_rows w; sorted = rows-sorted w s byte; is = refl }
 
   one-due : One (WorkDue w) NoRefusal
   one-due =
       record {
-        text = λ a b. let e = made-one-order m a.sorted b.sorted in a.is ∙ ap (write_table (ring_in w)) e ∙ sym b.is;
+        text = λ a b. let e = one-order w s byte a.sorted b.sorted in a.is ∙ ap (write_table (ring_in w)) e ∙ sym b.is;
         refusal = λ f g. absurd f;
         apart = λ d g. g;
         other = λ g e. g;
       }
 
   -- it is written, with room for it; else 15
-  pub work-write-promise : (old new : List ℕ) (r : Reply) → Fills (work_written w) old new r → CallPromise (WorkDue w) NoRefusal old new r
-  work-write-promise old new r f = call-promise one-due (is_due work-due) f
+  filled-promise : {old new : List ℕ} {r : Reply} → Fills (work_written w) old new r → CallPromise (WorkDue w) NoRefusal old new r
+  filled-promise {old} {new} {r} f = call-promise one-due (is_due work-due) f
 
+-- the columns of every struct have a place each, and hold bytes
+pub work-write-promise : (w : Work) → Sized w → IsBytes w.second → {old new : List ℕ} {r : Reply} → Fills (work_written w) old new r
+    → CallPromise (WorkDue w) NoRefusal old new r
+work-write-promise w s b f = filled-promise w s (bytes-of w s b) f
+
+pub work-write-only : {w : Work} {old new : List ℕ} {r : Reply} → CallPromise (WorkDue w) NoRefusal old new r → Only (CallPromise (WorkDue w) NoRefusal old) new r
+work-write-only p = only-call (λ reason line byte g e. g) p
+
+-- ---- one made by calls
+
+module _ {cs : List Call} {w : Work} (m : Made cs w) where
   module _ (text : List ℕ) (d : WorkDue w text) where
-    -- it is the table of its rows
-    pub work-table : TableOf text (ring_in w) d.rs
-    work-table = record { text = d.is; range = rw (made-one-order m d.sorted (made-writes-out m).sorted) (made-writes-out m).range }
+    same-rows : d.rs ≡ sorted_rows w
+    same-rows = one-order w (made-sized m) (made-bytes m) d.sorted (made-writes-out m).sorted
 
-    pub work-accepted : Accepted desk text
+    -- it is the table of its rows
+    work-table : TableOf text (ring_in w) d.rs
+    work-table = record { text = d.is; range = rw same-rows (made-writes-out m).range }
+
+    work-accepted : Accepted desk text
     work-accepted = (due-accepted text write_table).1 (record { text = text; is = record { ring = ring_in w; rs = d.rs; of = work-table; is = d.is } })
 
-    -- with `table_room` bytes of room it is always written
-    pub always-work-written : (old new : List ℕ) (r : Reply) → Fills (work_written w) old new r → table_room desk ≤ length old → Success text old new r
-    always-work-written old new r f room =
-        let same = ap length (one-due.text d work-due) in
-        ((work-write-promise old new r f).succeeds text).1 (d, omega (arith, (made-writes-out m).short))
+  module _ {old new : List ℕ} {r : Reply} where
+    pub writes-accepted : CallPromise (WorkDue w) NoRefusal old new r → WritesAccepted old new r
+    writes-accepted p text s = work-accepted text ((p.succeeds text).0 s).0
 
-    -- with `longest` bytes of room it is always routed, and the C line of its sheet is the cut that the last accepted reply named
-    pub work-routed : (old new : List ℕ) (r : Reply) → Fills (table_routed text) old new r → longest desk ≤ length old → RoutedCut cs old new r
-    unfolding plan
-    work-routed old new r call room =
-        let due : TableDue sheet_due text (sheet_due (ring_in w) d.rs) = record { ring = ring_in w; rs = d.rs; of = work-table; is = refl } in
-        record {
-          x = plan (ring_in w) d.rs;
-          success = ((route-promise text old new r call).succeeds (sheet_due (ring_in w) d.rs)).1 (due, omega (arith, plan-short (ring_in w) d.rs work-table.range));
-          cut = (rw (made-one-order m d.sorted (made-writes-out m).sorted) (made-writes-out m).cut) ∙ sym (made-keeps m).largest ∙ (made-as-played m).cut;
-        }
+    -- with `table_room` bytes of room it is always written
+    pub always-work-written : CallPromise (WorkDue w) NoRefusal old new r → table_room desk ≤ length old → r.reason ≡ 0
+    always-work-written p room =
+        let due = work-due w (made-sized m) (made-bytes m) in
+        ((p.succeeds (write_table (ring_in w) (sorted_rows w))).1 (due, omega (arith, (made-writes-out m).short))).reason
+
+-- with `longest` bytes of room it is always routed, and the C line of its sheet is the cut that the last accepted reply named
+pub routed-as-named : RoutedAsNamed
+unfolding plan
+routed-as-named cs w m text d old new r promise room =
+    let due : TableDue sheet_due text (sheet_due (ring_in w) d.rs) = record { ring = ring_in w; rs = d.rs; of = work-table m text d; is = refl } in
+    record {
+      x = plan (ring_in w) d.rs;
+      success = (promise.succeeds (sheet_due (ring_in w) d.rs)).1 (due, omega (arith, plan-short (ring_in w) d.rs (work-table m text d).range));
+      cut = (rw (same-rows m text d) (made-writes-out m).cut) ∙ sym (made-keeps m).largest ∙ (made-as-played m).cut;
+    }

@@ -6,7 +6,7 @@ use Rattle.ring.specs.Limits.{desk}
 use Rattle.ring.specs.Columns.{rows_in}
 use Rattle.table.specs.Table.{write_table}
 use Rattle.table.proofs.Columns.{rows_back}
-use Rattle.work.specs.Made.{ring_in}
+use Rattle.work.specs.Places.{ring_in}
 use Rattle.work.specs.Keys.{sorted_rows, ByNodes, sorted_in}
 use Rattle.work.specs.declared.Work.{Work}
 use Rattle.work.proofs.SortedRows.{sorted-few}

@@ -5,7 +5,7 @@ use Rattle.ring.specs.Ring.{Ring}
 use Rattle.ring.specs.Row.{Row}
 use Rattle.table.specs.Table.{write_table}
 use Rattle.table.specs.ReadTable.{Result, accepted, refused, table_of}
-use Rattle.work.specs.Made.{ring_in}
+use Rattle.work.specs.Places.{ring_in}
 use Rattle.work.specs.Keys.{sorted_rows}
 use Rattle.work.specs.declared.Work.{Work}
 use Rattle.ringkit.specs.Texts.{sheet_due}

@@ -14,7 +14,7 @@ use borrow.Author.Tests.{lt-ltb, le-ltb, eq-eqb, ne_eqb}
 use Rattle.ring.specs.Limits.{desk}
 use Rattle.ring.specs.Ring.{ring_of}
 use Rattle.ring.specs.LineSize.{IsFibres}
-use Rattle.ring.specs.Row.{Row, row}
+use Rattle.ring.specs.Row.{row}
 use Rattle.ring.specs.RuleA.{rule_a}
 use Rattle.table.specs.Judge.{judge_ring, judge_row}
 use Rattle.table.specs.Reasons.{number_of}
@@ -23,17 +23,20 @@ use Rattle.table.specs.declared.judge.Verdict.{Verdict}
 use Rattle.table.specs.declared.judge.Verdict.TheVariants.{Fine}
 use Rattle.table.proofs.ReasonNumbers.{no-reason-0}
 use Rattle.table.proofs.Judged.{RingJudged, size_wrong, wrong_fibres, right_ring, ring-judged}
-use Rattle.work.specs.Places.{empty, holds, Plain}
-use Rattle.work.specs.Calls.{Call, start, add, change, remove, refuses, makes, judge_start, judge_place, judge_room, with_place, outcome, answer, row_said, row_answer}
-use Rattle.work.specs.Made.{place_in, called_in, Made, begun, called, plain_of}
+use Rattle.work.specs.Places.{empty, holds, Plain, place_in, plain_of}
+use Rattle.work.specs.Calls.{Call, start, add, change, remove, refuses, makes, judge_start, judge_place, judge_room, with_place, outcome, row_said, row_answer}
+use Rattle.work.specs.Made.{Made, begun, called}
 use Rattle.work.specs.Kept.{held, kept_cut, Keeps}
-use Rattle.work.specs.Changes.{refused_in, kept_in, free_in, holds_in, row_in, put_in, cleared_in, unless_fault, fresh_in, started_in, judged, added_in, changed_in, removed_in}
+use Rattle.work.specs.Changes.{refused_in, kept_in, free_in, holds_in, row_in, put_in, cleared_in, unless_fault, fresh_in, started_in, judged, added_in, changed_in, removed_in, called_in}
 use Rattle.work.specs.Keys.{sorted_rows}
-use Rattle.work.specs.Sorted.{Sorted, WritesOut}
+use Rattle.work.specs.Sorted.{WritesOut}
+use Rattle.work.specs.Promises.{WorkSays, refused, accepted}
 use Rattle.work.specs.declared.Work.{Work}
+use Rattle.work.specs.declared.held.WorkReply.{WorkReply}
 use Rattle.work.proofs.PlaceSteps.{holding}
-use Rattle.work.proofs.Right.{Good, Right, size_is, count, place_is, put-places, put_right, clear-places, clear-right, fresh-places, fresh-right, cut-is}
-use Rattle.work.proofs.OneOrder.{one-order}
+use Rattle.work.proofs.Right.{Good, Right, Sized, HasBytes, sized, right-bytes, size_is, count, place_is, put-places, put_right, clear-places, clear-right, fresh-places, fresh-right, cut-is}
+use Rattle.work.proofs.Reasons.{above_0}
+use Rattle.work.proofs.Fits.{Fits, begun-fits, made-fits}
 use Rattle.work.proofs.SortedRows.{rows-sorted, rows-range, rows_cut, rows-room}
 use Rattle.work.proofs.Views.{Demand, bad, good, demand, within, same_place, same-free, free-is-free}
 
@@ -56,18 +59,12 @@ kept-sound p x s =
     }
 
 module _ {w : Work} {c : Call} where
-  -- the reply is the list's
-  pub replied : Step w c → (called_in w c).reply ≡ answer (outcome (plain_of w) c)
-  unfolding answer kept_in
-  replied (both_refuse reason z e f) = rw (e, f)
-  replied (both_make p x s e f) = rw (e, f, cut-is x s)
-
-  stays-sound : Step w c → Sound w → Sound (called_in w c).work
+  pub stays-sound : Step w c → Sound w → Sound (called_in w c).work
   stays-sound (both_refuse reason z e f) s = rw e s
   stays-sound (both_make p x r e f) s = rw e (kept-sound p x r)
 
   -- an accepted call makes a table that is right, whatever was there before
-  accepted-sound : Step w c → (called_in w c).reply.reason ≡ 0 → Sound (called_in w c).work
+  pub accepted-sound : Step w c → (called_in w c).reply.reason ≡ 0 → Sound (called_in w c).work
   accepted-sound (both_refuse reason z e f) a = absurd (z (rw e at a))
   accepted-sound (both_make p x r e f) a = rw e (kept-sound p x r)
 
@@ -122,11 +119,11 @@ module _ (w : Work) (s : Right w) where
                   both_make (free_in w.first + 1) (put_in w (free_in w.first) i j d) (put_right w s (free_in w.first) l i j d free g)
                   (rw (verdict ∙ e, lt-ltb (free_in w.first) desk.rows l))
                   (f _ ∙
-                  (rw (same-free w s, count w s, lt-ltb (free_in w.first) desk.rows l)
+                  (rw (same-free w (sized s), count w (sized s), lt-ltb (free_in w.first) desk.rows l)
                   (ap (λ ps. makes (free_in w.first + 1) (record { n = w.n; fibres = w.fibres; places = ps })) (sym (put-places w s (free_in w.first) l i j d free g)))))
               | no l ↦
                   both_refuse 21 (λ z. omega arith) (rw (verdict ∙ e, le-ltb (free_in w.first) desk.rows (omega arith)))
-                  (f _ ∙ (rw (same-free w s, count w s, le-ltb (free_in w.first) desk.rows (omega arith))))
+                  (f _ ∙ (rw (same-free w (sized s), count w (sized s), le-ltb (free_in w.first) desk.rows (omega arith))))
             ]
 
   -- the table between, of a change
@@ -156,25 +153,25 @@ module _ (w : Work) (s : Right w) where
     change-step i j d = go (holds_in w.first p) refl (demand w.n i j d)
       where
         go : (b : Bool) → holds_in w.first p ≡ b → Demand w.n i j d (judge_row desk w.n 0 0 0 i j d) → Step w (change p i j d)
-        go false h v = both_refuse 22 (λ z. omega arith) (rw h) (rw (same_place w s p ∙ h))
-        go true h (bad reason e f) = both_refuse (number_of reason) (number-above reason) (rw (h, verdict i j d ∙ e)) (rw (same_place w s p ∙ h) (f _))
+        go false h v = both_refuse 22 (λ z. omega arith) (rw h) (rw (same_place w (sized s) p ∙ h))
+        go true h (bad reason e f) = both_refuse (number_of reason) (number-above reason) (rw (h, verdict i j d ∙ e)) (rw (same_place w (sized s) p ∙ h) (f _))
         go true h (good e g f) =
             let row_there = holding w.first p h in
             let off = clear-right w s (p - 1) row_there.high row_there.row in
             both_make p (put_in (cleared_in w (p - 1)) (p - 1) i j d) (put_right (cleared_in w (p - 1)) off (p - 1) row_there.high i j d (cleared-free (p - 1) row_there.high) (still (p - 1) row_there.high g))
             (rw (h, verdict i j d ∙ e))
-            (rw (same_place w s p ∙ h) (f _ ∙ ap (λ ps. makes p (record { n = w.n; fibres = w.fibres; places = ps })) (sym (changed-places (p - 1) row_there.high row_there.row i j d g))))
+            (rw (same_place w (sized s) p ∙ h) (f _ ∙ ap (λ ps. makes p (record { n = w.n; fibres = w.fibres; places = ps })) (sym (changed-places (p - 1) row_there.high row_there.row i j d g))))
 
     remove-step : Step w (remove p)
     unfolding removed_in outcome judge_place
     remove-step = go (holds_in w.first p) refl
       where
         go : (b : Bool) → holds_in w.first p ≡ b → Step w (remove p)
-        go false h = both_refuse 22 (λ z. omega arith) (rw h) (rw (same_place w s p ∙ h))
+        go false h = both_refuse 22 (λ z. omega arith) (rw h) (rw (same_place w (sized s) p ∙ h))
         go true h =
             let row_there = holding w.first p h in
             both_make p (cleared_in w (p - 1)) (clear-right w s (p - 1) row_there.high row_there.row) (rw h)
-            (rw (same_place w s p ∙ h) (removed-plain (p - 1) row_there.high row_there.row p))
+            (rw (same_place w (sized s) p ∙ h) (removed-plain (p - 1) row_there.high row_there.row p))
 
   pub call_step : (c : Call) → Step w c
   call_step (start n fibres) = start-step w n fibres
@@ -182,19 +179,49 @@ module _ (w : Work) (s : Right w) where
   call_step (change p i j d) = change-step p i j d
   call_step (remove p) = remove-step p
 
--- ---- the theorems
+-- ---- a table made by calls
 
-pub made-sound : {cs : List Call} {w : Work} → Made cs w → Sound w
-made-sound (begun any n fibres a) = accepted-sound (start-step any n fibres) a
-made-sound (called {w = w} m c) = let s = made-sound m in stays-sound (call_step w s.right c) s
+pub keeps-of : {w : Work} → Sound w → Keeps w
+keeps-of {w} s =
+    record {
+      places = count w (sized s.right);
+      firsts = s.right.firsts;
+      seconds = s.right.seconds;
+      amounts = s.right.amounts;
+      numbers = s.right.kept;
+      largest = s.largest;
+    }
 
 -- 496 places, the across number of every cut, the largest and its cut are kept
 pub made-keeps : {cs : List Call} {w : Work} → Made cs w → Keeps w
-made-keeps {w} m = let s = made-sound m in record { places = count w s.right; numbers = s.right.kept; largest = s.largest }
+made-keeps (begun p a k) = k
+made-keeps (called m p k) = k
 
--- the row at a place is the list's
-module _ (w : Work) (s : Right w) where
-  row_is : (p : ℕ) → row_in w p ≡ row_answer (plain_of w) p
+module _ {w x : Work} {r : WorkReply} where
+  begun-is-fit : {n fibres : ℕ} → WorkSays w (start n fibres) r x → r.reason ≡ 0 → Fits (plain_of x)
+  begun-is-fit {n} {fibres} (refused g er ex) a = absurd (above_0 _ (plain_of w) (start n fibres) g (ap (λ (y : WorkReply). y.reason) (sym er) ∙ a))
+  begun-is-fit (accepted n m er ex) a = rw ex (begun-fits n m)
+
+  called-is-fit : {c : Call} → Fits (plain_of w) → WorkSays w c r x → Fits (plain_of x)
+  called-is-fit f (refused g er ex) = rw ex f
+  called-is-fit f (accepted n m er ex) = rw ex (made-fits f n m)
+
+made-is-fit : {cs : List Call} {w : Work} → Made cs w → Fits (plain_of w)
+made-is-fit (begun p a k) = begun-is-fit p.cases a
+made-is-fit (called m p k) = called-is-fit (made-is-fit m) p.cases
+
+pub made-sound : {cs : List Call} {w : Work} → Made cs w → Sound w
+made-sound m =
+    let f = made-is-fit m in
+    let k = made-keeps m in
+    record {
+      right = record { two = f.two; few = f.few; fibres = f.fibres; firsts = k.firsts; seconds = k.seconds; amounts = k.amounts; rows = f.rows; kept = k.numbers };
+      largest = k.largest;
+    }
+
+-- the row at a place is the list's, on every struct
+module _ (w : Work) (s : Sized w) where
+  pub row_is : (p : ℕ) → row_in w p ≡ row_answer (plain_of w) p
   unfolding row_in row_answer holds_in
   row_is p =
       elim (dec_lt 0 p) [
@@ -206,15 +233,14 @@ module _ (w : Work) (s : Right w) where
       go zero j d = refl
       go (suc i) j d = rw (lt-ltb 0 (suc i) (omega arith))
 
-pub made_row : {cs : List Call} {w : Work} → Made cs w → (p : ℕ) → row_in w p ≡ row_answer (plain_of w) p
-made_row {w} m p = row_is w (made-sound m).right p
-
 -- what is written out: the rows held, by nodes, then by place, an accepted table with the cut of the rows held
 pub made-writes-out : {cs : List Call} {w : Work} → Made cs w → WritesOut w (sorted_rows w)
 made-writes-out {w} m =
     let s = (made-sound m).right in
-    record { sorted = rows-sorted w s; range = rows-range w s; cut = rows_cut w s; short = rows-room w s }
+    record { sorted = rows-sorted w (sized s) (right-bytes w s); range = rows-range w s; cut = rows_cut w s; short = rows-room w s }
 
--- there is one such order only
-pub made-one-order : {cs : List Call} {w : Work} → Made cs w → {rs qs : List Row} → Sorted (plain_of w).places rs → Sorted (plain_of w).places qs → rs ≡ qs
-made-one-order {w = w} m = one-order w (made-sound m).right
+pub made-sized : {cs : List Call} {w : Work} → Made cs w → Sized w
+made-sized m = sized (made-sound m).right
+
+pub made-bytes : {cs : List Call} {w : Work} → Made cs w → HasBytes w
+made-bytes {w = w} m = right-bytes w (made-sound m).right

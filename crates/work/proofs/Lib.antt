@@ -7,7 +7,7 @@ pub mod SortSteps
 pub mod SortedRows
 pub mod OneOrder
 pub mod Reasons
+pub mod Fits
 pub mod ByCalls
 pub mod Promised
 pub mod Answers
-pub mod Unique

@@ -1,30 +1,31 @@
 -- Each call of the working table does what is promised of it, and a whole list of calls what the list of places says when they are played over it: from what a call is in both (`ByCalls`) and the
 -- reasons as facts (`Reasons`).
 use Prim.Native.Nat.{ℕ, ◌-◌, ◌≤◌}
-use mathlib.Core.List.{List}
+use mathlib.Core.List.{List, [], ◌∷◌}
 use mathlib.Core.Path.{◌≡◌, refl, sym, ◌∙◌, ap}
 use native.Mathlib.Omega.{arith}
 use native.Mathlib.Decide.{dec_lt}
 use lib.ListN.{get_or}
 use borrow.Author.Tests.{lt-ltb, le-ltb, ne_eqb}
-use Rattle.ring.specs.Cut.{Cut}
+use Rattle.ring.specs.Cut.{Cut, across}
 use Rattle.ring.specs.Row.{Row, row}
 use Rattle.ring.specs.RuleA.{rule_a}
 use Rattle.ring.proofs.LargestCut.{rule-A}
-use Rattle.work.specs.Places.{Place, empty, holds, Plain, rows_held}
-use Rattle.work.specs.Calls.{Call, start, add, change, remove, Outcome, fresh_plain, outcome, after, answer, refusal, acceptance, no_row, the_row, row_said, row_answer}
-use Rattle.work.specs.Changes.{refused_in, kept_in, row_in, started_in, added_in, changed_in, removed_in}
-use Rattle.work.specs.Made.{Made, begun, called, called_in, plain_of}
-use Rattle.work.specs.Kept.{kept_cut}
-use Rattle.work.specs.Played.{played, named_by, last_named, AsPlayed}
-use Rattle.work.specs.Promises.{RowAt, NoRow, Given, NoneHolds, faults, Makes, WorkSays, refused, accepted, WorkPromise, RowSays, none_there, row_there, RowPromise}
+use Rattle.across.specs.Triangle.{at}
+use Rattle.work.specs.Places.{Place, empty, holds, Plain, rows_held, plain_of}
+use Rattle.work.specs.Calls.{Call, start, Outcome, refuses, makes, fresh_plain, outcome, after, answer, refusal, acceptance, no_row, the_row, row_said, row_answer}
+use Rattle.work.specs.Changes.{kept_in, row_in, started_in, called_in}
+use Rattle.work.specs.Kept.{held, kept_cut, Keeps}
+use Rattle.work.specs.Promises.{RowAt, NoRow, Given, NoneHolds, faults, Makes, WorkSays, refused, accepted, WorkPromise, SameKept, OnlyThis, RowSays, none_there, row_there, RowPromise, OnlyRow}
+use Rattle.work.specs.Made.{Made, begun, called}
+use Rattle.work.specs.Played.{played, answer_after, named_by, last_named, AsPlayed}
 use Rattle.work.specs.declared.Work.{Work}
 use Rattle.work.specs.declared.held.WorkReply.{WorkReply}
 use Rattle.work.specs.declared.held.Changed.{Changed}
 use Rattle.work.specs.declared.place.RowReply.{RowReply}
-use Rattle.work.proofs.Right.{Right, cut-is}
-use Rattle.work.proofs.Reasons.{Ends, stops, goes, call_ends, one-given, none-given, one-made}
-use Rattle.work.proofs.ByCalls.{Step, both_refuse, both_make, start-step, call_step, replied, made-sound, made_row}
+use Rattle.work.proofs.Right.{Right, Sized, cut-is}
+use Rattle.work.proofs.Reasons.{Ends, stops, goes, call_ends, one-given, none-given, one-made, above_0}
+use Rattle.work.proofs.ByCalls.{Step, both_refuse, both_make, start-step, call_step, stays-sound, accepted-sound, keeps-of, made-sound, row_is}
 
 -- ---- one call
 
@@ -87,20 +88,38 @@ module _ (w : Work) (c : Call) (r : WorkReply) (x : Work) where
         accepts = λ p u. (takes p u k, taken p u k);
       }
 
--- on whatever bytes
-pub start-promise : (any : Work) (n fibres : ℕ) (r : WorkReply) (x : Work) → (r ≡ (started_in any n fibres).reply) × (x ≡ (started_in any n fibres).work) → WorkPromise any (start n fibres) r x
-start-promise any n fibres r x = promise any (start n fibres) r x (start-step any n fibres)
+-- ---- of the promise alone: no other reply and table keep it, and it is played over the list
 
--- on a table made by calls
-module _ {cs : List Call} {w : Work} (m : Made cs w) (r : WorkReply) (x : Work) where
-  pub add-promise : (i j d : ℕ) → (r ≡ (added_in w i j d).reply) × (x ≡ (added_in w i j d).work) → WorkPromise w (add i j d) r x
-  add-promise i j d = promise w (add i j d) r x (call_step w (made-sound m).right (add i j d))
+module _ {w : Work} {c : Call} {r s : WorkReply} {x y : Work} where
+  same-says : WorkSays w c r x → WorkSays w c s y → (s ≡ r) × (plain_of y ≡ plain_of x)
+  same-says (refused g er ex) (refused h es ey) = let e = one-given (faults (plain_of w) c) h g in (es ∙ ap refusal e ∙ sym er, ap plain_of (ey ∙ sym ex))
+  same-says (refused {reason = k} g er ex) (accepted n m es ey) = absurd (none-given (faults (plain_of w) c) k g n)
+  same-says (accepted n m er ex) (refused {reason = k} h es ey) = absurd (none-given (faults (plain_of w) c) k h n)
+  same-says (accepted {p = p} {u = u} n m er ex) (accepted {p = q} {u = v} o l es ey) =
+      let e = one-made l m in
+      let f : acceptance q v ≡ acceptance p u = rw (e.0, e.1) in
+      (es ∙ f ∙ sym er, ey ∙ e.1 ∙ sym ex)
 
-  pub change-promise : (p i j d : ℕ) → (r ≡ (changed_in w p i j d).reply) × (x ≡ (changed_in w p i j d).work) → WorkPromise w (change p i j d) r x
-  change-promise p i j d = promise w (change p i j d) r x (call_step w (made-sound m).right (change p i j d))
+  same-kept : WorkSays w c r x → (r.reason ≡ 0 → Keeps x) → WorkSays w c s y → Keeps y → SameKept y x
+  same-kept (refused g er ex) k (refused h es ey) l = rw (ex, ey) (record { cut = refl; numbers = λ g h a b c. refl })
+  same-kept (refused {reason = j} g er ex) k (accepted n m es ey) l = absurd (none-given (faults (plain_of w) c) j g n)
+  same-kept (accepted n m er ex) k other l =
+      let kx = k (ap (λ (z : WorkReply). z.reason) er) in
+      let e = (same-says (accepted n m er ex) other).1 in
+      let size : y.n ≡ x.n = ap (λ (t : Plain). t.n) e in
+      let rows : held y ≡ held x = ap (λ (t : Plain). rows_held t.places) e in
+      record {
+        cut = l.largest ∙ (rw (size, rows)) ∙ sym kx.largest;
+        numbers = λ g h a b c. l.numbers g h a b (rw size c) ∙ ap (λ rs. across rs g h) rows ∙ sym (kx.numbers g h a b c);
+      }
 
-  pub remove-promise : (p : ℕ) → (r ≡ (removed_in w p).reply) × (x ≡ (removed_in w p).work) → WorkPromise w (remove p) r x
-  remove-promise p = promise w (remove p) r x (call_step w (made-sound m).right (remove p))
+pub only-this : {w : Work} {c : Call} {r : WorkReply} {x : Work} → WorkPromise w c r x → (r.reason ≡ 0 → Keeps x) → OnlyThis w c r x
+only-this p k =
+    record {
+      reply = λ s y q. (same-says p.cases q.cases).0;
+      table = λ s y q. (same-says p.cases q.cases).1;
+      kept = λ s y q l. same-kept p.cases k q.cases l;
+    }
 
 -- ---- the row at a place
 
@@ -135,31 +154,115 @@ module _ (ps : List Place) (p : ℕ) (r : RowReply) where
     says_row (none_there n e) h = absurd (n (record { r = x; there = h }))
     says_row (row_there y at e) h = let same : y ≡ x = cc (at.is, h.is) in rw (← same) e
 
-pub row-promise : {cs : List Call} {w : Work} → Made cs w → (p : ℕ) (r : RowReply) → r ≡ row_in w p → RowPromise w p r
-row-promise {w = w} m p r is =
-    let s = said (plain_of w) p r (is ∙ made_row m p) in
+-- on every struct
+pub row-promise : (w : Work) → Sized w → (p : ℕ) {r : RowReply} → r ≡ row_in w p → RowPromise w p r
+row-promise w z p {r} is =
+    let s = said (plain_of w) p r (is ∙ row_is w z p) in
     let ps = (plain_of w).places in
     record { cases = s; refuses = (no-row-said ps p r s, says-no-row ps p r s); says = λ x. (row-said ps p r x s, says_row ps p r x s) }
 
+-- no other reply keeps the promise
+pub only-row : {w : Work} {p : ℕ} {r : RowReply} → RowPromise w p r → OnlyRow w p r
+only-row {w} {p} {r} a s b = go b.cases
+  where
+    go : RowSays (plain_of w).places p s → s ≡ r
+    go (none_there n e) = e ∙ sym (a.refuses.1 n)
+    go (row_there x at e) = e ∙ sym ((a.says x).1 at)
+
 -- ---- a whole list of calls
 
--- a call, from a table that is t and keeps the cut d; of the two nothing need be known where the call is accepted
-next : {w : Work} {c : Call} (t : Plain) (d : Cut) → Step w c → outcome (plain_of w) c ≡ outcome t c
-    → ((reason : ℕ) → (reason ≡ 0 → ⊥) → called_in w c ≡ refused_in w reason → (plain_of w ≡ t) × (kept_cut w ≡ d))
-    → (plain_of (called_in w c).work ≡ after t (outcome t c)) × (kept_cut (called_in w c).work ≡ named_by (answer (outcome t c)) d)
-unfolding after answer named_by kept_in
-next t d (both_refuse reason z e f) same was = let b = was reason z e in rw (e, ← same, f, ne_eqb reason 0 z) b
-next t d (both_make p y s e f) same was = rw (e, ← same, f, cut-is y s) (refl, refl)
+above : {reason : ℕ} {r : WorkReply} → (reason ≡ 0 → ⊥) → r ≡ refusal reason → r.reason ≡ 0 → ⊥
+above z er e = z (sym (ap (λ (y : WorkReply). y.reason) er) ∙ e)
+
+-- what a call gave is what the list of places says of it
+data As (w : Work) (r : WorkReply) (x : Work) : Outcome → Type 0 where
+  as_refused : {reason : ℕ} → (reason ≡ 0 → ⊥) → r ≡ refusal reason → x ≡ w → As w r x (refuses reason)
+  as_made : {p : ℕ} {u : Plain} → r ≡ acceptance p u → plain_of x ≡ u → As w r x (makes p u)
+
+module _ {w : Work} {r : WorkReply} {x : Work} where
+  ends-as : {c : Call} {o : Outcome} → Ends (faults (plain_of w) c) (Makes (plain_of w) c) o → WorkSays w c r x → As w r x o
+  ends-as {c} (stops g) (refused h er ex) = let e = one-given (faults (plain_of w) c) h g in as_refused (above_0 _ (plain_of w) c g) (er ∙ ap refusal e) ex
+  ends-as {c} (stops {reason = k} g) (accepted n m er ex) = absurd (none-given (faults (plain_of w) c) k g n)
+  ends-as {c} (goes n m) (refused {reason = k} h er ex) = absurd (none-given (faults (plain_of w) c) k h n)
+  ends-as {c} (goes {p = p} {u = u} n m) (accepted {p = q} {u = v} o l er ex) =
+      let e = one-made l m in
+      let f : acceptance q v ≡ acceptance p u = rw (e.0, e.1) in
+      as_made (er ∙ f) (ex ∙ e.1)
+
+  as-is : {c : Call} → WorkSays w c r x → As w r x (outcome (plain_of w) c)
+  as-is {c} says = ends-as (call_ends (plain_of w) c) says
+
+  reply-as : {o : Outcome} → As w r x o → r ≡ answer o
+  unfolding answer
+  reply-as (as_refused z er ex) = er
+  reply-as (as_made er ex) = er
+
+  -- from the table t with the cut d; of the two nothing need be known where the call is accepted
+  module _ (t : Plain) (d : Cut) (was : (r.reason ≡ 0 → ⊥) → (plain_of w ≡ t) × (kept_cut w ≡ d)) where
+    table-as : {o : Outcome} → As w r x o → plain_of x ≡ after t o
+    unfolding after
+    table-as (as_refused z er ex) = ap plain_of ex ∙ (was (above z er)).0
+    table-as (as_made er ex) = ex
+
+    cut-as : {o : Outcome} → Keeps x → As w r x o → kept_cut x ≡ named_by (answer o) d
+    unfolding answer named_by
+    cut-as k (as_refused {reason = reason} z er ex) = rw (ne_eqb reason 0 z) (ap kept_cut ex ∙ (was (above z er)).1)
+    cut-as k (as_made {u = u} er ex) = k.largest ∙ ap (λ (v : Plain). rule_a v.n (rows_held v.places)) ex
 
 behind : {cs : List Call} {w : Work} → Made cs w → (plain_of w ≡ played cs) × (kept_cut w ≡ last_named cs)
 unfolding played last_named outcome
-behind (begun any n fibres a) =
-    next (fresh_plain 0 0) (record { g = 0; h = 0; number = 0 }) (start-step any n fibres) refl (λ reason z e. absurd (z (sym (ap (λ (x : Changed). x.reply.reason) e) ∙ a)))
-behind (called {cs = cs} {w = w} m c) =
+behind (begun {any = any} {n = n} {fibres = fibres} p a k) =
+    let t = fresh_plain 0 0 in
+    let none : Cut = record { g = 0; h = 0; number = 0 } in
+    let is = as-is p.cases in
+    (table-as t none (λ z. absurd (z a)) is, cut-as t none (λ z. absurd (z a)) k is)
+behind (called {cs = cs} {w = w} {x = x} {c = c} {r = r} m p k) =
     let b = behind m in
-    next (played cs) (last_named cs) (call_step w (made-sound m).right c) (ap (λ t. outcome t c) b.0) (λ reason z e. b)
+    let is : As w r x (outcome (played cs) c) = rw (← b.0) (as-is p.cases) in
+    (table-as (played cs) (last_named cs) (λ z. b) is, cut-as (played cs) (last_named cs) (λ z. b) k is)
 
 pub made-as-played : {cs : List Call} {w : Work} → Made cs w → AsPlayed cs w
-made-as-played {w = w} m =
-    let b = behind m in
-    record { table = b.0; cut = b.1; replies = λ c. replied (call_step w (made-sound m).right c) ∙ ap (λ t. answer (outcome t c)) b.0 }
+made-as-played m = let b = behind m in record { table = b.0; cut = b.1 }
+
+-- ---- a start, on whatever bytes
+
+module _ (any : Work) (n fibres : ℕ) {done : Changed} (is : done ≡ started_in any n fibres) where
+  pub started-promise : WorkPromise any (start n fibres) done.reply done.work
+  started-promise = promise any (start n fibres) done.reply done.work (start-step any n fibres) (ap (λ x. x.reply) is, ap (λ x. x.work) is)
+
+  pub started-keeps : done.reply.reason ≡ 0 → Keeps done.work
+  started-keeps a = rw is (keeps-of (accepted-sound (start-step any n fibres) (ap (λ x. x.reply.reason) (sym is) ∙ a)))
+
+  pub started-made : done.reply.reason ≡ 0 → Made (start n fibres ∷ []) done.work
+  started-made a = begun started-promise a (started-keeps a)
+
+  pub started-played : done.reply.reason ≡ 0 → AsPlayed (start n fibres ∷ []) done.work
+  started-played a = made-as-played (started-made a)
+
+  pub started-answer : done.reply ≡ answer_after [] (start n fibres)
+  unfolding played outcome
+  started-answer = reply-as (as-is started-promise.cases)
+
+  pub started-only : OnlyThis any (start n fibres) done.reply done.work
+  started-only = only-this started-promise started-keeps
+
+-- ---- a call on a table made by calls
+
+module _ {cs : List Call} {w : Work} (m : Made cs w) (c : Call) {done : Changed} (is : done ≡ called_in w c) where
+  pub called-promise : WorkPromise w c done.reply done.work
+  called-promise = promise w c done.reply done.work (call_step w (made-sound m).right c) (ap (λ x. x.reply) is, ap (λ x. x.work) is)
+
+  pub called-keeps : Keeps done.work
+  called-keeps = rw is (keeps-of (stays-sound (call_step w (made-sound m).right c) (made-sound m)))
+
+  pub called-made : Made (c ∷ cs) done.work
+  called-made = called m called-promise called-keeps
+
+  pub called-played : AsPlayed (c ∷ cs) done.work
+  called-played = made-as-played called-made
+
+  pub called-answer : done.reply ≡ answer_after cs c
+  called-answer = let t = (made-as-played m).table in rw (← t) (reply-as (as-is called-promise.cases))
+
+  pub called-only : OnlyThis w c done.reply done.work
+  called-only = only-this called-promise (λ z. called-keeps)

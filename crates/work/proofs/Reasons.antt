@@ -158,3 +158,28 @@ one-made starts starts = (refl, refl)
 one-made {t} (adds {p = p} a) (adds {p = q} b) = let e = one-lowest t.places p q a b in rw e (refl, refl)
 one-made changes changes = (refl, refl)
 one-made removes removes = (refl, refl)
+
+-- ---- no reason is 0
+
+module _ (reason : ℕ) where
+  abbrev Above : Faults → Type 0
+  Above fs = Given fs reason → reason ≡ 0 → ⊥
+
+  later_above : (k : ℕ) (A : Type 0) (fs : Faults) → (k ≡ 0 → ⊥) → Above fs → Above (fault k A fs)
+  unfolding Given
+  later_above k A fs z f (inl g) e = z (sym g.0 ∙ e)
+  later_above k A fs z f (inr g) e = f g.1 e
+
+  none_above : Above no_more
+  unfolding Given
+  none_above g e = g
+
+  row_above : (n i j d : ℕ) (fs : Faults) → Above fs → Above (row_faults n i j d fs)
+  row_above n i j d fs f = later_above _ _ _ (λ z. omega arith) (later_above _ _ _ (λ z. omega arith) (later_above _ _ _ (λ z. omega arith) f))
+
+  pub above_0 : (t : Plain) (c : Call) → Above (faults t c)
+  unfolding faults
+  above_0 t (start n fibres) = later_above _ _ _ (λ z. omega arith) (later_above _ _ _ (λ z. omega arith) none_above)
+  above_0 t (add i j d) = row_above t.n i j d _ (later_above _ _ _ (λ z. omega arith) none_above)
+  above_0 t (change p i j d) = later_above _ _ _ (λ z. omega arith) (row_above t.n i j d no_more none_above)
+  above_0 t (remove p) = later_above _ _ _ (λ z. omega arith) none_above

@@ -2,7 +2,7 @@
 use Prim.Native.Nat.{ℕ, zero, suc, ◌+◌, ◌*◌, ◌≤◌, ◌<◌}
 use mathlib.Core.Bool.{true, false}
 use mathlib.Core.List.{[]}
-use mathlib.Core.Path.{◌≡◌, refl, ◌∙◌, ap}
+use mathlib.Core.Path.{◌≡◌, refl, sym, ◌∙◌, ap}
 use native.Mathlib.Omega.{arith}
 use lib.ListN.{length, get_or, set, replicate, length-set, length-replicate}
 use Rattle.ring.specs.Limits.{desk}
@@ -19,12 +19,12 @@ use Rattle.across.specs.Triangle.{most_pairs, place_of, at}
 use Rattle.across.specs.Lines.{Pairwise}
 use Rattle.across.proofs.Kept.{row-at}
 use Rattle.across.proofs.CutSteps.{same-cut}
-use Rattle.work.specs.Places.{empty, holds}
-use Rattle.work.specs.Made.{place_in, plain_of}
+use Rattle.work.specs.Places.{empty, holds, place_in, plain_of}
 use Rattle.work.specs.Kept.{held}
+use Rattle.work.specs.Sorted.{HoldsAt}
 use Rattle.work.specs.Changes.{ring_size, cut_of, put_in, cleared_in, fresh_in}
 use Rattle.work.specs.declared.Work.{Work}
-use Rattle.work.proofs.RowsHeld.{across-set, held-few, each_set, held-fresh, places-set, places-length, places-at, places-fresh}
+use Rattle.work.proofs.RowsHeld.{across-set, held-few, each_set, each_at, held-fresh, places-set, places-length, places-at, places-fresh}
 
 -- a row that a call can put into a table
 pub record Good (n : ℕ) (r : Row) : Type 0 where
@@ -41,10 +41,20 @@ pub record Right (w : Work) : Type 0 where
   pub rows : Each (Good w.n) (held w)
   pub kept : Pairwise w.n (λ g h. at w.triangle g h ≡ across (held w) g h)
 
-module _ (w : Work) (s : Right w) where
-  pub size_is : ring_size w.n ≡ w.n
-  size_is = omega (arith, s.two, s.few)
+-- its columns have a place each: every struct of the type is so
+pub record Sized (w : Work) : Type 0 where
+  pub firsts : length w.first ≡ desk.rows
+  pub seconds : length w.second ≡ desk.rows
+  pub amounts : length w.amount ≡ desk.rows
 
+-- a second node is a byte
+abbrev pub HasBytes : Work → Type 0
+HasBytes w = (k : ℕ) (r : Row) → HoldsAt (plain_of w).places k r → r.j < 256
+
+pub sized : {w : Work} → Right w → Sized w
+sized s = record { firsts = s.firsts; seconds = s.seconds; amounts = s.amounts }
+
+module _ (w : Work) (s : Sized w) where
   same-firsts : length w.first ≡ length w.second
   same-firsts = omega (arith, s.firsts, s.seconds)
 
@@ -57,11 +67,25 @@ module _ (w : Work) (s : Right w) where
   pub place_is : (k : ℕ) → get_or (plain_of w).places k empty ≡ place_in (get_or w.first k 0) (get_or w.second k 0) (get_or w.amount k 0)
   place_is k = places-at w.first w.second w.amount k same-firsts same-seconds
 
+  second_of : (i j d : ℕ) (r : Row) → place_in i j d ≡ holds r → r.j ≡ j
+  second_of zero j d r e = absurd (let z : ◌≡◌ {A = ℕ} 0 1 = cc in omega arith)
+  second_of (suc i) j d r e = let f : row (suc i) j d ≡ r = cc in ap (λ (x : Row). x.j) (sym f)
+
+  pub bytes-of : ((k : ℕ) → get_or w.second k 0 < 256) → HasBytes w
+  bytes-of f k r h = omega (arith, f k, second_of (get_or w.first k 0) (get_or w.second k 0) (get_or w.amount k 0) r (sym (place_is k) ∙ h))
+
+module _ (w : Work) (s : Right w) where
+  pub size_is : ring_size w.n ≡ w.n
+  size_is = omega (arith, s.two, s.few)
+
+  pub right-bytes : HasBytes w
+  right-bytes k r h = omega (arith, (each_at {P = Good w.n} (plain_of w).places k r s.rows h).on.high, s.few)
+
   -- no kept number comes near the type's end
   pub number_small : (g h : ℕ) → across (held w) g h ≤ desk.amount * desk.rows
   number_small g h =
       omega
-      (arith, total-most {sum = λ rs. across rs g h} (across-total g h) desk.amount (each (λ r q. omega (arith, part_small r g h, q.small)) s.rows), held-few (plain_of w).places, count)
+      (arith, total-most {sum = λ rs. across rs g h} (across-total g h) desk.amount (each (λ r q. omega (arith, part_small r g h, q.small)) s.rows), held-few (plain_of w).places, count w (sized s))
 
 -- ---- a row is put at a free place
 
@@ -77,8 +101,8 @@ module _ (w : Work) (s : Right w) (k : ℕ) (in_table : k < desk.rows) where
 
     put-across : (g h : ℕ) → across (held (put_in w k i j d)) g h ≡ part (row i j d) g h + across (held w) g h
     put-across g h =
-        let was : get_or (plain_of w).places k empty ≡ empty = place_is w s k ∙ (rw free) in
-        let sum = rw was at (across-set (plain_of w).places k (holds (row i j d)) g h (omega (arith, count w s))) in
+        let was : get_or (plain_of w).places k empty ≡ empty = place_is w (sized s) k ∙ (rw free) in
+        let sum = rw was at (across-set (plain_of w).places k (holds (row i j d)) g h (omega (arith, count w (sized s)))) in
         rw put-places (omega arith)
 
     pub put_right : Right (put_in w k i j d)
@@ -110,8 +134,8 @@ module _ (w : Work) (s : Right w) (k : ℕ) (in_table : k < desk.rows) where
 
     clear-across : (g h : ℕ) → across (held (cleared_in w k)) g h + part gone g h ≡ across (held w) g h
     clear-across g h =
-        let was : get_or (plain_of w).places k empty ≡ holds gone = place_is w s k ∙ place-holds _ _ _ taken in
-        let sum = rw was at (across-set (plain_of w).places k empty g h (omega (arith, count w s))) in
+        let was : get_or (plain_of w).places k empty ≡ holds gone = place_is w (sized s) k ∙ place-holds _ _ _ taken in
+        let sum = rw was at (across-set (plain_of w).places k empty g h (omega (arith, count w (sized s)))) in
         rw clear-places (omega arith)
 
     pub clear-right : Right (cleared_in w k)

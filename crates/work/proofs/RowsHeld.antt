@@ -9,8 +9,7 @@ use lib.ListN.{length, get_or, set, replicate}
 use Rattle.ring.specs.Lists.{Each, more}
 use Rattle.ring.specs.Row.{Row}
 use Rattle.ring.specs.Cut.{part, across}
-use Rattle.work.specs.Places.{Place, empty, holds, rows_held, lowest_free}
-use Rattle.work.specs.Made.{place_in, places_in}
+use Rattle.work.specs.Places.{Place, empty, holds, rows_held, lowest_free, place_in, places_in}
 use Rattle.work.specs.Changes.{free_from}
 
 -- what a place adds to an across number

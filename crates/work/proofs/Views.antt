@@ -17,13 +17,12 @@ use Rattle.table.specs.declared.reason.Reason.{Reason}
 use Rattle.table.specs.declared.judge.Verdict.{Verdict}
 use Rattle.table.specs.declared.judge.Verdict.TheVariants.{Fine, Fault}
 use Rattle.table.proofs.Judged.{RowJudged, no_such_node, not_below, out_of_order, too_many, too_much, row_fine, row-judged}
-use Rattle.work.specs.Places.{is_row, lowest_free, holds_row}
+use Rattle.work.specs.Places.{is_row, lowest_free, holds_row, place_in, plain_of}
 use Rattle.work.specs.Calls.{Outcome, refuses, judge_demand}
-use Rattle.work.specs.Made.{place_in, plain_of}
 use Rattle.work.specs.Changes.{free_from, free_in, holds_in}
 use Rattle.work.specs.declared.Work.{Work}
 use Rattle.work.proofs.RowsHeld.{places-free}
-use Rattle.work.proofs.Right.{Good, Right, place_is}
+use Rattle.work.proofs.Right.{Good, Sized, place_is}
 
 -- ---- a row
 
@@ -58,7 +57,7 @@ is_a_row : (i j d : ℕ) → is_row (place_in i j d) ≡ ltb 0 i
 is_a_row zero j d = refl
 is_a_row (suc i) j d = sym (lt-ltb 0 (suc i) (omega arith))
 
-module _ (w : Work) (s : Right w) where
+module _ (w : Work) (s : Sized w) where
   -- a place that the columns have not got has the first node 0
   pub within : (k : ℕ) → (ltb k desk.rows && ltb 0 (get_or w.first k 0)) ≡ ltb 0 (get_or w.first k 0)
   within k =

@@ -1,4 +1,4 @@
--- Internal: what each call answers and leaves, for every value of the struct; over tables made by calls the list of places (Places, Calls) says it in plain words.
+-- Internal: what each call answers and leaves, for every value of the struct; what a call promises is said over the list of places (Places, Calls, Promises), and names none of this.
 use Rattle.std.specs.Prelude.{ℕ, zero, suc, ◌+◌, ◌-◌, ◌≤◌, ◌<◌, min, max, Bool, true, false, cond, ◌&&◌, List, ltb, eqb, get_or, set, replicate}
 use Rattle.ring.specs.Limits.{desk}
 use Rattle.ring.specs.Ring.{ring_of}
@@ -13,6 +13,7 @@ use Rattle.table.specs.Reasons.{number_of}
 use Rattle.table.specs.declared.reason.Reason.TheVariants.{NoRow, Full}
 use Rattle.table.specs.declared.judge.Verdict.{Verdict}
 use Rattle.table.specs.declared.judge.Verdict.TheVariants.{Fine, Fault}
+use Rattle.work.specs.Calls.{Call, start, add, change, remove}
 use Rattle.work.specs.declared.Work.{Work}
 use Rattle.work.specs.declared.held.WorkReply.{WorkReply}
 use Rattle.work.specs.declared.held.Changed.{Changed}
@@ -124,6 +125,12 @@ changed_in w p i j d =
 
 unfoldable pub removed_in : Work → ℕ → Changed
 removed_in w p = cond (holds_in w.first p) (kept_in (cleared_in w (p - 1)) p) (refused_in w (number_of NoRow))
+
+abbrev pub called_in : Work → Call → Changed
+called_in w (start n fibres) = started_in w n fibres
+called_in w (add i j d) = added_in w i j d
+called_in w (change p i j d) = changed_in w p i j d
+called_in w (remove p) = removed_in w p
 
 -- what a row must be to stand in the columns
 pub record Fitting (k i j d : ℕ) : Type 0 where

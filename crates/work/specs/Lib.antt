@@ -1,9 +1,9 @@
 pub mod Places
 pub mod Calls
 pub mod Changes
-pub mod Made
 pub mod Kept
-pub mod Played
 pub mod Keys
 pub mod Sorted
 pub mod Promises
+pub mod Made
+pub mod Played

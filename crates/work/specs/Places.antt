@@ -1,6 +1,8 @@
--- To believe: a working table is a ring and a list of 496 places, each of which is empty or holds a row.
-use Rattle.std.specs.Prelude.{ℕ, suc, ◌-◌, Bool, true, false, ◌&&◌, List, [], ◌∷◌, ltb, get_or}
-use Rattle.ring.specs.Row.{Row}
+-- To believe: a working table is a ring and a list of 496 places, each of which is empty or holds a row; and which of them a struct is.
+use Rattle.std.specs.Prelude.{ℕ, zero, suc, ◌-◌, Bool, true, false, ◌&&◌, List, [], ◌∷◌, ltb, get_or}
+use Rattle.ring.specs.Ring.{Ring, ring_of}
+use Rattle.ring.specs.Row.{Row, row}
+use Rattle.work.specs.declared.Work.{Work}
 
 pub data Place : Type 0 where
   empty : Place
@@ -31,3 +33,24 @@ is_row (holds r) = true
 -- whether a place, counted from 1, holds a row; a place that the list has not got holds none
 unfoldable pub holds_row : List Place → ℕ → Bool
 holds_row ps p = ltb 0 p && is_row (get_or ps (p - 1) empty)
+
+-- ---- the table that a struct is
+
+-- a place as it stands in the columns: a first node of 0 says that it is empty
+abbrev pub place_in : ℕ → ℕ → ℕ → Place
+place_in zero j d = empty
+place_in (suc i) j d = holds (row (suc i) j d)
+
+unfoldable pub places_in : List ℕ → List ℕ → List ℕ → List Place
+places_in [] js ds = []
+places_in (i ∷ is) [] ds = []
+places_in (i ∷ is) (j ∷ js) [] = []
+places_in (i ∷ is) (j ∷ js) (d ∷ ds) = place_in i j d ∷ places_in is js ds
+
+-- the ring that a struct says
+abbrev pub ring_in : Work → Ring
+ring_in w = ring_of w.n w.fibres
+
+-- its ring and its places
+abbrev pub plain_of : Work → Plain
+plain_of w = record { n = w.n; fibres = w.fibres; places = places_in w.first w.second w.amount }

@@ -3,12 +3,13 @@ use Rattle.std.specs.Prelude.{ℕ, ◌-◌, ◌≤◌, ◌<◌, List, ◌⊎◌,
 use Rattle.ring.specs.Limits.{desk}
 use Rattle.ring.specs.LineSize.{IsFibres}
 use Rattle.ring.specs.Row.{Row, row}
+use Rattle.across.specs.Triangle.{at}
 use Rattle.table.specs.Reasons.{number_of}
 use Rattle.table.specs.Says.{NoNode}
 use Rattle.table.specs.declared.reason.Reason.TheVariants.{RingSize, Fibres, NoRow as NoPlaceRow, NoSuchNode, NotBelow, TooMuch, Full}
-use Rattle.work.specs.Places.{Place, empty, holds, Plain}
+use Rattle.work.specs.Places.{Place, empty, holds, Plain, plain_of}
 use Rattle.work.specs.Calls.{Call, start, add, change, remove, with_place, fresh_plain, refusal, acceptance, no_row, the_row}
-use Rattle.work.specs.Made.{plain_of}
+use Rattle.work.specs.Kept.{kept_cut, Keeps}
 use Rattle.work.specs.Sorted.{HoldsAt}
 use Rattle.work.specs.declared.Work.{Work}
 use Rattle.work.specs.declared.held.WorkReply.{WorkReply}
@@ -91,6 +92,17 @@ pub record WorkPromise (w : Work) (c : Call) (r : WorkReply) (x : Work) : Type 0
   -- a place, rule A's cut of the rows then held, and the table that holds them, exactly when no reason holds and the call makes this
   pub accepts : (p : ℕ) (u : Plain) → ((r ≡ acceptance p u) × (plain_of x ≡ u)) ↔ (NoneHolds (faults (plain_of w) c) × Makes (plain_of w) c p u)
 
+-- two structs keep one cut, and the same number for each
+pub record SameKept (x y : Work) : Type 0 where
+  pub cut : kept_cut x ≡ kept_cut y
+  pub numbers : (g h : ℕ) → 1 ≤ g → g < h → h ≤ y.n → at x.triangle g h ≡ at y.triangle g h
+
+-- no other reply keeps the promise, and no struct that is another table; and what it keeps is the same
+pub record OnlyThis (w : Work) (c : Call) (r : WorkReply) (x : Work) : Type 0 where
+  pub reply : (s : WorkReply) (y : Work) → WorkPromise w c s y → s ≡ r
+  pub table : (s : WorkReply) (y : Work) → WorkPromise w c s y → plain_of y ≡ plain_of x
+  pub kept : (s : WorkReply) (y : Work) → WorkPromise w c s y → Keeps y → SameKept y x
+
 -- ---- the row at a place
 
 -- one of the two is the case
@@ -103,3 +115,7 @@ pub record RowPromise (w : Work) (p : ℕ) (r : RowReply) : Type 0 where
   pub cases : RowSays (plain_of w).places p r
   pub refuses : (r ≡ no_row) ↔ NoRow (plain_of w).places p
   pub says : (x : Row) → (r ≡ the_row x) ↔ RowAt (plain_of w).places p x
+
+-- no other reply keeps it
+abbrev pub OnlyRow : Work → ℕ → RowReply → Type 0
+OnlyRow w p r = (s : RowReply) → RowPromise w p s → s ≡ r

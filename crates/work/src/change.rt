@@ -28,8 +28,8 @@ fn put(work: Work, k: usize, first: u32, second: u32, amount: u32) -> Work
 
 // The row at place k+1 is taken off.
 fn cleared(work: Work, k: usize) -> Work
-    requires k_lt_rows { k < desk.rows }
-    requires bound { 1 ≤ get_or work.first k 0 }
+    requires has_place { k < desk.rows }
+    requires taken { 1 ≤ get_or work.first k 0 }
     ensures { result ≡ cleared_in work k }
 {
     let mut w = work;

@@ -1,6 +1,7 @@
 // Which places hold rows.
 ghost use Rattle.std.specs.Prelude.{◌≡◌};
 ghost use Rattle.work.specs.Changes.{free_in, holds_in, row_in};
+ghost use Rattle.work.specs.Promises.{RowPromise};
 
 use crate::Work;
 use ring::{ROWS, wide};
@@ -45,7 +46,8 @@ pub struct RowReply {
 
 // The row at a place.
 pub fn row_of(work: Work, place: u32) -> RowReply
-    ensures { result ≡ row_in work place }
+    ensures promise { RowPromise work place result }
+    ensures value { result ≡ row_in work place }
 {
     let holds = holds_row(&work.first, place);
     if holds {

@@ -1,9 +1,15 @@
--- The sorted rows are written as a table is (`WorkSteps`).
+-- The sorted rows are written as a table is (`WorkSteps`); they are due to every struct, since each column has 496 places, and a node is a byte.
+use Rattle.std.proofs.Common.{rules}
 use Rattle.ringkit.proofs.WorkSteps.{rows-have-room, rows_written}
+use Rattle.ringkit.proofs.WorkCalls.{work-write-promise}
 use Rattle.ringkit.proofs.working.written.Goals as goal
 
 pub put_table-requires : goal.put_table-requires
 put_table-requires c = search rows-have-room
 
-pub returns : goal.returns
-returns c = search rows_written
+pub returns-clause-value : goal.returns-clause-value
+returns-clause-value c = search rows_written
+
+pub returns-clause-promise : goal.returns-clause-promise
+returns-clause-promise c =
+    work-write-promise _ (record { firsts = search rules; seconds = search rules; amounts = search rules }) c.sorted-count.ensures.bytes (returns-clause-value c)

@@ -6,11 +6,11 @@ use Rattle.work.proofs.change.changed.Goals as goal
 pub overflow_sub-place : goal.overflow_sub-place
 overflow_sub-place c = search place-low
 
-pub cleared-off-requires-clause-k_lt_rows : goal.cleared-off-requires-clause-k_lt_rows
-cleared-off-requires-clause-k_lt_rows c = search place-high
+pub cleared-off-requires-clause-has_place : goal.cleared-off-requires-clause-has_place
+cleared-off-requires-clause-has_place c = search place-high
 
-pub cleared-off-requires-clause-bound : goal.cleared-off-requires-clause-bound
-cleared-off-requires-clause-bound c = search place-row
+pub cleared-off-requires-clause-taken : goal.cleared-off-requires-clause-taken
+cleared-off-requires-clause-taken c = search place-row
 
 pub put-w-requires : goal.put-w-requires
 put-w-requires c = search (place-high, fitting)

@@ -6,11 +6,11 @@ use Rattle.work.proofs.change.removed.Goals as goal
 pub overflow_sub-place : goal.overflow_sub-place
 overflow_sub-place c = search place-low
 
-pub cleared-w-requires-clause-k_lt_rows : goal.cleared-w-requires-clause-k_lt_rows
-cleared-w-requires-clause-k_lt_rows c = search place-high
+pub cleared-w-requires-clause-has_place : goal.cleared-w-requires-clause-has_place
+cleared-w-requires-clause-has_place c = search place-high
 
-pub cleared-w-requires-clause-bound : goal.cleared-w-requires-clause-bound
-cleared-w-requires-clause-bound c = search place-row
+pub cleared-w-requires-clause-taken : goal.cleared-w-requires-clause-taken
+cleared-w-requires-clause-taken c = search place-row
 
 pub returns-then-holds : goal.returns-then-holds
 returns-then-holds c = search remove-done

@@ -1,0 +1,72 @@
+-- A table that calls make fits its ring: by the reasons that do not hold where a call is accepted.
+use Prim.Native.Nat.{ℕ, ◌-◌, ◌≤◌, ◌<◌}
+use mathlib.Core.Logic.{inl, inr}
+use mathlib.Core.Path.{◌≡◌}
+use native.Mathlib.Omega.{arith}
+use native.Mathlib.Decide.{dec_lt, ℕ_discrete}
+use lib.ListN.{set}
+use Rattle.ring.specs.LineSize.{IsFibres}
+use Rattle.ring.specs.Limits.{desk}
+use Rattle.ring.specs.Lists.{Each, none}
+use Rattle.ring.specs.Row.{Row, row}
+use Rattle.work.specs.Places.{empty, holds, Plain, rows_held}
+use Rattle.work.specs.Calls.{Call, start, fresh_plain}
+use Rattle.work.specs.Promises.{AllTaken, Faults, no_more, fault, NoneHolds, row_faults, faults, Makes, starts, adds, changes, removes}
+use Rattle.work.proofs.RowsHeld.{each_set, held-fresh}
+use Rattle.work.proofs.Right.{Good}
+
+pub record Fits (t : Plain) : Type 0 where
+  pub two : desk.fewest ≤ t.n
+  pub few : t.n ≤ desk.nodes
+  pub fibres : IsFibres t.fibres
+  pub rows : Each (Good t.n) (rows_held t.places)
+
+not_less : {a b : ℕ} → (a < b → ⊥) → b ≤ a
+not_less {a} {b} f = elim (dec_lt a b) [ yes l ↦ absurd (f l) | no l ↦ omega arith ]
+
+not_most : {a b : ℕ} → (a ≤ b → ⊥) → b < a
+not_most {a} {b} f = elim (dec_lt b a) [ yes l ↦ l | no l ↦ absurd (f (omega arith)) ]
+
+two_or_four : (fibres : ℕ) → ((IsFibres fibres → ⊥) → ⊥) → IsFibres fibres
+two_or_four fibres h =
+    elim (ℕ_discrete fibres 2) [
+      | yes e ↦ inl e
+      | no f ↦ elim (ℕ_discrete fibres 4) [ yes e ↦ inr e | no g ↦ absurd (h (neither f g)) ]
+    ]
+  where
+    neither : (fibres ≡ 2 → ⊥) → (fibres ≡ 4 → ⊥) → IsFibres fibres → ⊥
+    neither f g (inl e) = f e
+    neither f g (inr e) = g e
+
+start-fits : (t : Plain) (n fibres : ℕ) → NoneHolds (faults t (start n fibres)) → Fits (fresh_plain n fibres)
+unfolding faults NoneHolds
+start-fits t n fibres h =
+    record {
+      two = not_less (λ l. h.0 (inl l));
+      few = not_less (λ l. h.0 (inr l));
+      fibres = two_or_four fibres h.1.0;
+      rows = rw (held-fresh desk.rows) none;
+    }
+
+row_good : (n i j d : ℕ) (fs : Faults) → NoneHolds (row_faults n i j d fs) → Good n (row i j d)
+unfolding NoneHolds
+row_good n i j d fs h =
+    record {
+      on = record { low = not_less (λ l. h.0 (inl (inl l))); order = not_most h.1.0; high = not_less (λ l. h.0 (inr (inr l))) };
+      small = not_less h.1.1.0;
+    }
+
+module _ {t : Plain} where
+  put_fits : (k : ℕ) (r : Row) → Fits t → Good t.n r → Fits (record { n = t.n; fibres = t.fibres; places = set t.places k (holds r) })
+  put_fits k r f g = record { two = f.two; few = f.few; fibres = f.fibres; rows = each_set t.places k (holds r) f.rows g }
+
+  -- a start makes a table that fits, and each other call of one that fits
+  pub begun-fits : {n fibres p : ℕ} {u : Plain} → NoneHolds (faults t (start n fibres)) → Makes t (start n fibres) p u → Fits u
+  begun-fits h (starts {n = n} {fibres = fibres}) = start-fits t n fibres h
+
+  pub made-fits : {c : Call} {p : ℕ} {u : Plain} → Fits t → NoneHolds (faults t c) → Makes t c p u → Fits u
+  unfolding faults NoneHolds
+  made-fits f h (starts {n = n} {fibres = fibres}) = start-fits t n fibres h
+  made-fits f h (adds {i = i} {j = j} {d = d} {p = p} low) = put_fits (p - 1) (row i j d) f (row_good t.n i j d (fault 21 (AllTaken t.places) no_more) h)
+  made-fits f h (changes {p = p} {i = i} {j = j} {d = d}) = put_fits (p - 1) (row i j d) f (row_good t.n i j d no_more h.1)
+  made-fits f h (removes {p = p}) = record { two = f.two; few = f.few; fibres = f.fibres; rows = each_set t.places (p - 1) empty f.rows tt }
