@@ -73,13 +73,7 @@ module _ (a : ℕ → ℕ → ℕ) where
       go (entry_right none) (across_wrong at l m h first) = across_wrong at (omega arith) (omega arith) h (λ x s p q. first-right none x s (λ u. first x s u q) p)
       go (entry_right none) (across_right all) = across_right (λ x s p q. first-right none x s (λ u. all x s u (omega arith)) p)
 
-  -- the lines i and on, k of them, each of n entries: the first wrong entry is i, j
-  pub record FirstWrong (n i j : ℕ) (r : Reason) : Type 0 where
-    pub line : Node n i
-    pub field : Node n j
-    pub wrong : WrongEntry a i j r
-    pub first : (x y : ℕ) (s : Reason) → Node n x → Node n y → PairBefore x y i j → WrongEntry a x y s → ⊥
-
+  -- the lines i and on, k of them, each of n entries: the first wrong entry stands on `line` at `at`, or there is none
   pub data DownJudged (n i k : ℕ) : Lines → Type 0 where
     down_wrong : {r : Reason} {line : ℕ} (at : ℕ) → i ≤ line → line < i + k → Node n at → WrongEntry a line at r
         → ((x y : ℕ) (s : Reason) → i ≤ x → Node n y → PairBefore x y line at → WrongEntry a x y s → ⊥)

@@ -8,7 +8,6 @@ pub mod SumsGiven
 pub mod Rooms
 pub mod OneEach
 pub mod Told
-pub mod Unique
 -- how they are shown
 pub mod LinesText
 pub mod AnyFields

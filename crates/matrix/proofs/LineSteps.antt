@@ -4,9 +4,7 @@ use mathlib.Core.List.{List, [], ◌∷◌, ◌++◌, map}
 use mathlib.Core.Path.{◌≡◌, refl, ap, ◌∙◌, sym}
 use native.Mathlib.Omega.{arith}
 use lib.ListN.{length, get_or, set, take, drop, replicate, length-append, length-replicate, length-take, drop_of_length-le}
-use lib.Seq.{drop-length, length-take-le, get_or-take, set_out, sets-eq, take_at}
-use mir.Syntax.{w64}
-use mir.Val.{Fits}
+use lib.Seq.{drop-length, length-take-le, get_or-take, sets-eq, take_at}
 use borrow.Author.Tests.{eq-eqb, ne_eqb, lt-ltb, le-ltb}
 use Rattle.ring.specs.Limits.{desk}
 use Rattle.ring.specs.Columns.{column}
@@ -20,7 +18,7 @@ use Rattle.text.specs.declared.field.Field.{Field}
 use Rattle.text.specs.declared.field.Field.TheVariants.{Is, Bad}
 use Rattle.text.proofs.Lists.{here}
 use Rattle.table.specs.declared.reason.Reason.TheVariants.{TooMuch}
-use Rattle.table.proofs.Columns.{column-length, column-more}
+use Rattle.table.proofs.Columns.{column-more}
 use Rattle.matrix.specs.Read.{fields_in, judge_amounts}
 use Rattle.matrix.specs.Arrays.{values_in, numbers_in}
 use Rattle.matrix.specs.declared.byte.Found.TheVariants.{Nothing, At}
@@ -52,23 +50,20 @@ module _ (s : List ℕ) (p count : ℕ) (counted : Counted s p count) where
 
 -- ---- values: those of the fields before t are read, and the next begins at p
 
-pub record Reading-on (s : List ℕ) (n : ℕ) (values : List ℕ) (p t : ℕ) : Type 0 where
+pub record ReadingOn (s : List ℕ) (n : ℕ) (values : List ℕ) (p t : ℕ) : Type 0 where
   pub vs : List ℕ
   pub rest : read_line (numbers n) s ≡ fields_from (numbers (n - t)) s p vs
   pub many : t ≡ length vs
   pub held : values ≡ values_in vs
   pub within : t ≤ n
 
-pub reading-starts : (s : List ℕ) (n : ℕ) → Reading-on s n (replicate {A = ℕ} desk.nodes 0) 0 0
+pub reading-starts : (s : List ℕ) (n : ℕ) → ReadingOn s n (replicate {A = ℕ} desk.nodes 0) 0 0
 unfolding read_line column
 reading-starts s n =
     let e : n - 0 ≡ n = omega arith in
     record { vs = []; rest = rw e; many = refl; held = refl; within = omega arith }
 
-module _ (s : List ℕ) (n : ℕ) (values : List ℕ) (p t : ℕ) (on : Reading-on s n values p t) where
-  pub values-long : length values ≡ desk.nodes
-  values-long = ap length on.held ∙ column-length (λ (w : ℕ). w) desk.nodes on.vs
-
+module _ (s : List ℕ) (n : ℕ) (values : List ℕ) (p t : ℕ) (on : ReadingOn s n values p t) where
   module _ (l : t < n) (x : Field) (ex : x ≡ field_at number s p (end_of (n - t - 1))) where
     next-is : read_line (numbers n) s ≡ field_then x (λ v q. fields_from (numbers (n - t - 1)) s q (on.vs ++ v ∷ []))
     unfolding fields_from
@@ -80,7 +75,7 @@ module _ (s : List ℕ) (n : ℕ) (values : List ℕ) (p t : ℕ) (on : Reading-
     unfolding field_then
     reading-stops q r f e = e ∙ ap numbers_in (sym (next-is ∙ rw f))
 
-    pub reads-number : (v q : ℕ) (new : List ℕ) → x ≡ Is v q → new ≡ set values t v → Reading-on s n new q (t + 1)
+    pub reads-number : (v q : ℕ) (new : List ℕ) → x ≡ Is v q → new ≡ set values t v → ReadingOn s n new q (t + 1)
     unfolding field_then
     reads-number v q new f e =
         let k : n - t - 1 ≡ n - (t + 1) = omega arith in
@@ -155,11 +150,6 @@ pub record ToldGood (y : Reading) (n : ℕ) (values : List ℕ) : Type 0 where
   pub vs : List ℕ
   pub is : y ≡ good vs
   pub held : n ≤ desk.nodes → take n values ≡ vs
-
-reading-long : (y : Reading) → length (numbers_in y).values ≡ desk.nodes
-unfolding numbers_in
-reading-long (good vs) = column-length (λ (w : ℕ). w) desk.nodes vs
-reading-long (bad p) = column-length (λ (w : ℕ). w) desk.nodes []
 
 module _ (l : List ℕ) (n : ℕ) (x : Numbers) where
   bad-case : (y : Reading) (p : ℕ) → x ≡ numbers_in y → x.spelling ≡ BadSpelling p → y ≡ bad p

@@ -1,9 +1,9 @@
 -- A matrix's text line by line: a line's sums stand in the column one behind the other, and its text is one of the pieces that measuring and writing go through.
-use Prim.Native.Nat.{ℕ, suc, zero, ◌+◌, ◌-◌, ◌≤◌, ◌<◌}
+use Prim.Native.Nat.{ℕ, suc, zero, ◌+◌, ◌≤◌, ◌<◌}
 use mathlib.Core.List.{List, [], ◌∷◌, ◌++◌, append_assoc, append-nil}
 use mathlib.Core.Path.{◌≡◌, refl, ap, ◌∙◌, sym}
 use native.Mathlib.Omega.{arith}
-use lib.ListN.{length, set, take, drop, replicate, length-replicate}
+use lib.ListN.{length, set, take, replicate, length-replicate}
 use lib.Seq.{length-take-le}
 use Rattle.ring.specs.Limits.{desk}
 use Rattle.ring.specs.Row.{Row}
@@ -15,7 +15,7 @@ use Rattle.text.specs.WriteLine.{write_line}
 use Rattle.text.specs.Written.{Written}
 use Rattle.text.proofs.Lengths.{line-short}
 use Rattle.text.proofs.Pieces.{Pieces}
-use Rattle.table.proofs.Columns.{column-length, column-more}
+use Rattle.table.proofs.Columns.{column-more}
 use Rattle.matrix.specs.Matrix.{write_matrix}
 use Rattle.matrix.specs.Demands.{sum_of}
 use Rattle.matrix.specs.Arrays.{values_in}
@@ -27,17 +27,6 @@ pub take-numbers : (n m : ℕ) → n ≤ m → take n (numbers m) ≡ numbers n
 take-numbers zero m l = refl
 take-numbers (suc n) zero l = absurd (omega arith)
 take-numbers (suc n) (suc m) l = ap (λ (s : List ℕ). number ∷ s) (take-numbers n m (omega arith))
-
--- a part that begins at 0
-pub part-is : (n : ℕ) (s : List ℕ) → take (n - 0) (drop 0 s) ≡ take n s
-part-is n s = let e : n - 0 ≡ n = omega arith in rw e
-
-module _ (n : ℕ) (shape values : List ℕ) where
-  abbrev part_text : List ℕ
-  part_text = write_line (take (n - 0) (drop 0 shape)) (take (n - 0) (drop 0 values))
-
-  part-text : part_text ≡ write_line (take n shape) (take n values)
-  part-text = rw (part-is n shape, part-is n values)
 
 module _ (n : ℕ) (values : List ℕ) (l : n ≤ desk.nodes) (room : length values ≡ desk.nodes) where
   line-is : write_line (take n (numbers desk.nodes)) (take n values) ≡ numbers_line (take n values)
@@ -82,9 +71,6 @@ module _ (f : ℕ → ℕ) (n : ℕ) (values : List ℕ) (t : ℕ) (lining : Lin
 module _ (f : ℕ → ℕ) (n nodes : ℕ) (few : n ≤ desk.nodes) (e : nodes ≡ n) (values : List ℕ) (held : values ≡ values_in (listed f 1 nodes)) where
   taken : take nodes values ≡ listed f 1 n
   taken = rw (held, e) (take-values (listed f 1 n) n (sym (listed-length f 1 n)) few)
-
-  pub values-long : length values ≡ desk.nodes
-  values-long = ap length held ∙ column-length (λ (w : ℕ). w) desk.nodes (listed f 1 nodes)
 
   pub sums-measured : (r : ℕ) → r ≡ length (numbers_line (take nodes values)) → r ≡ length (numbers_line (listed f 1 n))
   sums-measured r h = h ∙ ap (λ vs. length (numbers_line vs)) taken

@@ -1,4 +1,4 @@
--- To believe: a matrix's demands as a table's rows, one for each pair whose entry is above 0; and a table's rows as a matrix, where rows of one pair add up (02, K2).
+-- To believe: a matrix's demands as a table's rows, one for each pair whose entry is above 0; and a table's rows as a matrix, where rows of one pair add up.
 use Rattle.std.specs.Prelude.{ℕ, zero, suc, ◌+◌, ◌-◌, ◌≤◌, ◌<◌, Bool, cond, ◌&&◌, ◌||◌, List, [], ◌∷◌, ◌++◌, ◌≡◌, eqb, length, get_or, take}
 use Rattle.ring.specs.Limits.{Limits}
 use Rattle.ring.specs.Lists.{Each, Pairs}

@@ -1,4 +1,4 @@
--- To believe: what a matrix of demands is and how it is written, n lines of n numbers parted by tabs, symmetric and with 0 on the diagonal (02, K2).
+-- To believe: what a matrix of demands is and how it is written, n lines of n numbers parted by tabs, symmetric and with 0 on the diagonal.
 use Rattle.std.specs.Prelude.{ℕ, ◌+◌, ◌-◌, ◌≤◌, List, [], ◌∷◌, ◌++◌, ◌≡◌, length, get_or, take}
 use Rattle.ring.specs.Limits.{Limits}
 use Rattle.ring.specs.Lists.{Each}
@@ -13,7 +13,7 @@ unfoldable pub write_matrix : List (List ℕ) → List ℕ
 write_matrix [] = []
 write_matrix (vs ∷ m) = numbers_line vs ++ write_matrix m
 
--- where the entry behind k others starts in the line of the numbers vs, counted from 1: one more than the length of what is written before it (02, K5)
+-- where the entry behind k others starts in the line of the numbers vs, counted from 1: one more than the length of what is written before it
 abbrev pub entry_byte : List ℕ → ℕ → ℕ
 entry_byte vs k = length (numbers_line (take k vs)) + 1
 

@@ -105,7 +105,7 @@ Says limits t NoRow line = ⊥
 Says limits t Full line = ⊥
 Says limits t NoRoom line = ⊥
 
--- ---- the byte of the line that is given with a reason (02, K5), counted from 1
+-- ---- the byte of the line that is given with a reason, counted from 1
 
 -- p is the place of the first faulty byte of a line that may have any number of fields: for some number of fields a line may begin with the bytes before it, and for
 -- none with it too

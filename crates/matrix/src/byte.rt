@@ -19,7 +19,7 @@ pub(crate) enum Found {
 
 // Of the entry behind k others in a line of these values.
 pub(crate) fn entry_byte(k: usize, values: &[u32; LINKS]) -> u32
-    requires { (k ≤ desk.nodes) × (length values.now ≡ desk.nodes) }
+    requires { k ≤ desk.nodes }
     ensures { result ≡ entry_byte values.now k }
 {
     numbers_length(k, values) as u32 + 1
@@ -27,7 +27,9 @@ pub(crate) fn entry_byte(k: usize, values: &[u32; LINKS]) -> u32
 
 // Line i of a square of n nodes.
 fn line_at(i: u32, n: usize, square: &[u32; SQUARE]) -> [u32; LINKS]
-    requires { (1 ≤ i) × (i ≤ desk.nodes) × (n ≤ desk.nodes) }
+    requires line_from_1 { 1 ≤ i }
+    requires line_in_square { i ≤ desk.nodes }
+    requires few_nodes { n ≤ desk.nodes }
     ensures { result ≡ values_in (line_of (at square.now) n i) }
 {
     let mut values = [0u32; LINKS];
@@ -39,7 +41,10 @@ fn line_at(i: u32, n: usize, square: &[u32; SQUARE]) -> [u32; LINKS]
 
 // Of the entry behind k others in that line.
 pub(crate) fn square_byte(k: usize, i: u32, n: u32, square: &[u32; SQUARE]) -> u32
-    requires { (k ≤ n) × (1 ≤ i) × (i ≤ desk.nodes) × (n ≤ desk.nodes) }
+    requires in_line { k ≤ n }
+    requires line_from_1 { 1 ≤ i }
+    requires line_in_square { i ≤ desk.nodes }
+    requires few_nodes { n ≤ desk.nodes }
     ensures { result ≡ entry_byte (line_of (at square.now) n i) k }
 {
     entry_byte(k, &line_at(i, wide(n), square))

@@ -29,7 +29,9 @@ fn judge_entry(i: u32, j: u32, x: u32, y: u32) -> Verdict
 
 // The entries of line i.
 fn judge_across(n: u32, i: u32, square: &[u32; SQUARE]) -> Found
-    requires { (1 ≤ i) × (i ≤ n) × (n ≤ desk.nodes) }
+    requires line_from_1 { 1 ≤ i }
+    requires line_of_matrix { i ≤ n }
+    requires few_nodes { n ≤ desk.nodes }
     ensures { result ≡ judge_across (at square.now) i 1 n }
 {
     for j in 1..n + 1 {

@@ -51,7 +51,6 @@ fn faulty(p: usize) -> Numbers
 
 // Keeps the value of field t where there is room for it.
 fn put(values: &mut [u32; LINKS], t: usize, v: u32)
-    requires { length values.old ≡ desk.nodes }
     ensures { values.new ≡ set values.old t v }
 {
     if t < LINKS {
@@ -87,7 +86,7 @@ pub(crate) fn read_numbers(line: &[u8], n: usize) -> Numbers
 
 // The first n values: the first that is over the limit.
 pub(crate) fn judge_amounts(n: usize, values: &[u32; LINKS]) -> Found
-    requires { (n ≤ desk.nodes) × (length values.now ≡ desk.nodes) }
+    requires { n ≤ desk.nodes }
     ensures { result ≡ judge_amounts desk 0 (take n values.now) }
 {
     for t in 0..n {

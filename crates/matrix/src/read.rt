@@ -22,8 +22,13 @@ fn read_square(
     second: &mut [u32; ROWS],
     amount: &mut [u32; ROWS],
 ) -> Answer
-    requires { (n ≤ desk.nodes) × (length s.now ≤ desk.bytes) }
-    ensures { beside result first.new second.new amount.new ≡ table_in (table_from fibres (square_judged (lines_of desk n 1 n [] (lines s.now)))) }
+    requires few_nodes { n ≤ desk.nodes }
+    requires short_text { length s.now ≤ desk.bytes }
+    ensures {
+        let read = lines_of desk n 1 n [] (lines s.now) in
+        beside result first.new second.new amount.new
+        ≡ table_in (table_from fibres (square_judged read))
+    }
 {
     let mut entries = [0u32; SQUARE];
     if let Lines::Refused(reason, line, byte) = read_lines(s, ring::wide(n), &mut entries) {
@@ -46,7 +51,10 @@ pub fn read_matrix(
     second: &mut [u32; ROWS],
     amount: &mut [u32; ROWS],
 ) -> Answer
-    ensures { beside result first.new second.new amount.new ≡ table_in (table_from fibres (matrix_of desk s.now)) }
+    ensures {
+        beside result first.new second.new amount.new
+        ≡ table_in (table_from fibres (matrix_of desk s.now))
+    }
 {
     if BYTES < s.len() {
         return refusal(first, second, amount, Reason::TooLong, 0, 0);

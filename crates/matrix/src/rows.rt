@@ -20,9 +20,12 @@ pub(crate) fn rows_of(
     second: &mut [u32; ROWS],
     amount: &mut [u32; ROWS],
 ) -> Answer
-    requires n_le_nodes { n ≤ desk.nodes }
+    requires few_nodes { n ≤ desk.nodes }
     requires no_rows { NoRows first.old second.old amount.old }
-    ensures { beside result first.new second.new amount.new ≡ table_in (accepted (ring_of n fibres) (rows_by n (at square.now))) }
+    ensures {
+        beside result first.new second.new amount.new
+        ≡ table_in (accepted (ring_of n fibres) (rows_by n (at square.now)))
+    }
 {
     let mut count: usize = 0;
     let mut i: u32 = 1;

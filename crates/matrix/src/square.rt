@@ -23,7 +23,10 @@ pub(crate) enum Lines {
 
 // The entry i, j.
 pub(crate) fn get(square: &[u32; SQUARE], i: u32, j: u32) -> u32
-    requires { (1 ≤ i) × (i ≤ desk.nodes) × (1 ≤ j) × (j ≤ desk.nodes) }
+    requires line_from_1 { 1 ≤ i }
+    requires line_in_square { i ≤ desk.nodes }
+    requires place_from_1 { 1 ≤ j }
+    requires place_in_line { j ≤ desk.nodes }
     ensures { result ≡ entry_at square.now i j }
 {
     square[LINKS * (wide(i) - 1) + (wide(j) - 1)]
@@ -31,7 +34,8 @@ pub(crate) fn get(square: &[u32; SQUARE], i: u32, j: u32) -> u32
 
 // Puts the first n values of a line into the square, from `start` on.
 fn keep(square: &mut [u32; SQUARE], start: usize, n: usize, values: &[u32; LINKS])
-    requires { (n ≤ desk.nodes) × (start + n ≤ 1024) × (length values.now ≡ desk.nodes) }
+    requires in_line { n ≤ desk.nodes }
+    requires in_square { start + n ≤ 1024 }
     ensures { square.new ≡ sets square.old start (take n values.now) }
 {
     for t in 0..n {
@@ -50,8 +54,13 @@ fn refused(entries: &mut [u32; SQUARE], reason: Reason, line: u32, byte: u32) ->
 
 // The lines of a matrix of n nodes. A line behind the n-th is left over, and a missing one is the one after the last.
 pub(crate) fn read_lines(s: &[u8], n: usize, entries: &mut [u32; SQUARE]) -> Lines
-    requires { (n ≤ desk.nodes) × (length s.now ≤ desk.bytes) × (entries.old ≡ empty) }
-    ensures { beside_entries result entries.new ≡ square_in (lines_of desk n 1 n [] (lines_in s.now)) }
+    requires few_nodes { n ≤ desk.nodes }
+    requires short_text { length s.now ≤ desk.bytes }
+    requires no_entries { entries.old ≡ empty }
+    ensures {
+        beside_entries result entries.new
+        ≡ square_in (lines_of desk n 1 n [] (lines_in s.now))
+    }
 {
     let mut start: usize = 0;
     let mut count: usize = 0;

@@ -22,8 +22,12 @@ fn line_of(
     second: &[u32; ROWS],
     amount: &[u32; ROWS],
 ) -> [u32; LINKS]
-    requires { (n ≤ desk.nodes) × Amounts count amount.now }
-    ensures { result ≡ values_in (listed (sum_of (rows_in count first.now second.now amount.now) i) 1 n) }
+    requires few_nodes { n ≤ desk.nodes }
+    requires amounts { Amounts count amount.now }
+    ensures {
+        let rs = rows_in count first.now second.now amount.now in
+        result ≡ values_in (listed (sum_of rs i) 1 n)
+    }
 {
     let mut values = [0u32; LINKS];
     for t in 0..n {
@@ -34,7 +38,9 @@ fn line_of(
 
 // How many bytes a line has, of the first n fields of a shape and the first n values.
 fn part_length(n: usize, shape: &[u8], values: &[u32]) -> usize
-    requires { (n ≤ desk.nodes) × (n ≤ length shape.now) × (n ≤ length values.now) }
+    requires few_nodes { n ≤ desk.nodes }
+    requires in_shape { n ≤ length shape.now }
+    requires has_values { n ≤ length values.now }
     ensures { result ≡ length (write_line (take n shape.now) (take n values.now)) }
 {
     text::line_length(&shape[0..n], &values[0..n])
@@ -42,15 +48,21 @@ fn part_length(n: usize, shape: &[u8], values: &[u32]) -> usize
 
 // Writes it from `at` on, and answers the place behind it.
 fn write_part(buf: &mut [u8], at: usize, n: usize, shape: &[u8], values: &[u32]) -> usize
-    requires { (n ≤ length shape.now) × (n ≤ length values.now) × (at + length (write_line (take n shape.now) (take n values.now)) ≤ length buf.old) }
-    ensures { Written buf.old at (write_line (take n shape.now) (take n values.now)) buf.new result }
+    requires in_shape { n ≤ length shape.now }
+    requires has_values { n ≤ length values.now }
+    requires has_room {
+        at + length (write_line (take n shape.now) (take n values.now)) ≤ length buf.old
+    }
+    ensures {
+        Written buf.old at (write_line (take n shape.now) (take n values.now)) buf.new result
+    }
 {
     text::write_line(buf, at, &shape[0..n], &values[0..n])
 }
 
 // How many bytes the line of the first n values has.
 pub(crate) fn numbers_length(n: usize, values: &[u32; LINKS]) -> usize
-    requires { (n ≤ desk.nodes) × (length values.now ≡ desk.nodes) }
+    requires { n ≤ desk.nodes }
     ensures { result ≡ length (numbers_line (take n values.now)) }
 {
     part_length(n, &[NUMBER; LINKS], values)
@@ -58,7 +70,8 @@ pub(crate) fn numbers_length(n: usize, values: &[u32; LINKS]) -> usize
 
 // Writes it from `at` on, and answers the place behind it.
 fn write_numbers(buf: &mut [u8], at: usize, n: usize, values: &[u32; LINKS]) -> usize
-    requires { (n ≤ desk.nodes) × (length values.now ≡ desk.nodes) × (at + length (numbers_line (take n values.now)) ≤ length buf.old) }
+    requires few_nodes { n ≤ desk.nodes }
+    requires has_room { at + length (numbers_line (take n values.now)) ≤ length buf.old }
     ensures { Written buf.old at (numbers_line (take n values.now)) buf.new result }
 {
     write_part(buf, at, n, &[NUMBER; LINKS], values)
@@ -73,8 +86,12 @@ fn sums_length(
     second: &[u32; ROWS],
     amount: &[u32; ROWS],
 ) -> usize
-    requires { (n ≤ desk.nodes) × Amounts count amount.now }
-    ensures { result ≡ length (numbers_line (listed (sum_of (rows_in count first.now second.now amount.now) i) 1 n)) }
+    requires few_nodes { n ≤ desk.nodes }
+    requires amounts { Amounts count amount.now }
+    ensures {
+        let rs = rows_in count first.now second.now amount.now in
+        result ≡ length (numbers_line (listed (sum_of rs i) 1 n))
+    }
 {
     let n = wide(n);
     numbers_length(n, &line_of(i, n, count, first, second, amount))
@@ -91,8 +108,16 @@ fn write_sums(
     second: &[u32; ROWS],
     amount: &[u32; ROWS],
 ) -> usize
-    requires { (n ≤ desk.nodes) × Amounts count amount.now × (at + length (numbers_line (listed (sum_of (rows_in count first.now second.now amount.now) i) 1 n)) ≤ length buf.old) }
-    ensures { Written buf.old at (numbers_line (listed (sum_of (rows_in count first.now second.now amount.now) i) 1 n)) buf.new result }
+    requires few_nodes { n ≤ desk.nodes }
+    requires amounts { Amounts count amount.now }
+    requires has_room {
+        let rs = rows_in count first.now second.now amount.now in
+        at + length (numbers_line (listed (sum_of rs i) 1 n)) ≤ length buf.old
+    }
+    ensures {
+        let rs = rows_in count first.now second.now amount.now in
+        Written buf.old at (numbers_line (listed (sum_of rs i) 1 n)) buf.new result
+    }
 {
     let nodes = wide(n);
     let values = line_of(i, nodes, count, first, second, amount);
@@ -107,8 +132,12 @@ pub fn matrix_length<'a>(
     second: &'a [u32; ROWS],
     amount: &'a [u32; ROWS],
 ) -> usize
-    requires { (n ≤ desk.nodes) × Amounts count amount.now }
-    ensures { result ≡ length (write_matrix (matrix_of_rows n (rows_in count first.now second.now amount.now))) }
+    requires few_nodes { n ≤ desk.nodes }
+    requires amounts { Amounts count amount.now }
+    ensures {
+        let rs = rows_in count first.now second.now amount.now in
+        result ≡ length (write_matrix (matrix_of_rows n rs))
+    }
 {
     let mut size: usize = 0;
     for k in 0..n {
@@ -126,8 +155,16 @@ pub fn write_matrix<'a>(
     second: &'a [u32; ROWS],
     amount: &'a [u32; ROWS],
 ) -> usize
-    requires { (n ≤ desk.nodes) × Amounts count amount.now × (length (write_matrix (matrix_of_rows n (rows_in count first.now second.now amount.now))) ≤ length buf.old) }
-    ensures { Written buf.old 0 (write_matrix (matrix_of_rows n (rows_in count first.now second.now amount.now))) buf.new result }
+    requires few_nodes { n ≤ desk.nodes }
+    requires amounts { Amounts count amount.now }
+    requires has_room {
+        let rs = rows_in count first.now second.now amount.now in
+        length (write_matrix (matrix_of_rows n rs)) ≤ length buf.old
+    }
+    ensures {
+        let rs = rows_in count first.now second.now amount.now in
+        Written buf.old 0 (write_matrix (matrix_of_rows n rs)) buf.new result
+    }
 {
     let mut p: usize = 0;
     for k in 0..n {

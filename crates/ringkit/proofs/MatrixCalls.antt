@@ -19,9 +19,7 @@ use Rattle.table.specs.declared.reason.Reason.TheVariants.{NoRoom}
 use Rattle.table.proofs.Judged.{Fibred, other as not-fibres, known as are-fibres, fibred}
 use Rattle.table.proofs.ReasonNumbers.{same-reason}
 use Rattle.table.proofs.ReasonsGiven as table-given
-use Rattle.table.proofs.Accepted.{same-table}
 use Rattle.table.proofs.Said.{not-15 as table-not-15}
-use Rattle.table.proofs.TableText.{desk-spelled}
 use Rattle.matrix.specs.Matrix.{write_matrix}
 use Rattle.matrix.specs.Demands.{rows_of_matrix, matrix_of_rows, Passes, OneEach}
 use Rattle.matrix.specs.Read.{Matrix, matrix, no_matrix, matrix_of, table_from}
@@ -39,12 +37,21 @@ use Rattle.matrix.proofs.OneEach.{one-each-fit}
 use Rattle.ringkit.specs.Outcome.{write, Fills}
 use Rattle.ringkit.specs.TableCalls.{of_table}
 use Rattle.ringkit.specs.MatrixCalls.{matrix_read, unless_pass, of_rows, matrix_written}
+<<<<<<< HEAD
 use Rattle.ringkit.specs.Says.{Success, CallPromise, Only}
 use Rattle.ringkit.specs.Texts.{TableOf, MatrixOf, SomeMatrix, MatrixDue, MatrixGiven, of_fibres, of_matrix, SumsDue, SumsFit, SumsGiven, of_the_table, of_sums}
 use Rattle.ringkit.specs.Promises.{ReadMatrixPromise, WriteMatrixPromise}
 use Rattle.ringkit.specs.declared.Reply.{Reply}
 use Rattle.ringkit.proofs.Calls.{Decided, is_due, is_given, One, call-promise, call-only, written-due, length-within}
 use Rattle.ringkit.proofs.TableCalls.{read_is, due-accepted}
+=======
+use Rattle.ringkit.specs.Says.{CallPromise}
+use Rattle.ringkit.specs.Back.{MatrixToTableToMatrix, TableToMatrixToTable}
+use Rattle.ringkit.specs.Texts.{TableOf, MatrixOf, SomeMatrix, MatrixDue, MatrixGiven, of_fibres, of_matrix, SumsDue, SumsGiven, of_the_table, of_sums}
+use Rattle.ringkit.specs.declared.Reply.{Reply}
+use Rattle.ringkit.proofs.Calls.{Decided, is_due, is_given, One, call-promise}
+use Rattle.ringkit.proofs.TableCalls.{read_is, due-accepted, same-values}
+>>>>>>> 6329b182a606515a1d1ce761100c2bb088d9cd6b
 
 -- ---- reading
 
@@ -149,10 +156,6 @@ always-read fibres t old new r call f a room =
 
 -- ---- writing
 
--- the same text is the table of one ring and one list of rows
-same-values : {t : List ℕ} {ring other : Ring} {rs qs : List Row} → TableOf t ring rs → TableOf t other qs → (ring ≡ other) × (rs ≡ qs)
-same-values {ring} {other} {rs} {qs} a b = same-table desk desk-spelled ring other rs qs a.range b.range (sym a.text ∙ b.text)
-
 -- no reason is given to a text that is a table
 no-reason : {t : List ℕ} {ring : Ring} {rs : List Row} → TableOf t ring rs → {reason : Reason} {line byte : ℕ} → table.Given desk t reason line byte → ⊥
 no-reason {t} {ring} {rs} of {reason} {line} {byte} g = (due-accepted t write_table).1 (record { text = t; is = record { ring = ring; rs = rs; of = of; is = of.text } }) reason line g.holds
@@ -242,11 +245,10 @@ one-each-written t ring rs of each = (sums-fit desk rs).0 (one-each-fit ring rs 
 
 -- ---- there and back
 
--- matrix to table to matrix: the same bytes, for every accepted matrix, whatever the fibres
-pub matrix-there-and-back : (fibres : ℕ) (t text old new : List ℕ) (r : Reply) → Fills (matrix_read fibres t) old new r → Success text old new r
-    → (other after : List ℕ) (q : Reply) → Fills (matrix_written text) other after q → length t ≤ length other → Success t other after q
+-- the same bytes, for every accepted matrix, whatever the fibres
+pub matrix-there-and-back : MatrixToTableToMatrix
 matrix-there-and-back fibres t text old new r read done other after q written room =
-    let d = (((read-matrix-promise fibres t old new r read).succeeds text).0 done).0 in
+    let d = ((read.succeeds text).0 done).0 in
     let table = due-table fibres t text d in
     let one = one-each-fit (ring_of d.n fibres) (rows_of_matrix d.n d.m) table.range (rows-one-each d.n d.m) in
     let due : SumsDue text t =
@@ -257,13 +259,12 @@ matrix-there-and-back fibres t text old new r read done other after q written ro
       fit = (sums-fit desk (rows_of_matrix d.n d.m)).0 one;
       is = d.of.text ∙ sym (ap write_matrix (matrix-back desk d.n d.m d.of.range));
     } in
-    ((write-matrix-promise text other after q written).succeeds t).1 (due, room)
+    (written.succeeds t).1 (due, room)
 
--- table to matrix to table, read with the table's own fibres: the same bytes, for every accepted table with at most one row for a pair and none of amount 0
-pub table-there-and-back : (t : List ℕ) (ring : Ring) (rs : List Row) → TableOf t ring rs → OneEach rs → (text old new : List ℕ) (r : Reply) → Fills (matrix_written t) old new r → Success text old new r
-    → (other after : List ℕ) (q : Reply) → Fills (matrix_read ring.fibres text) other after q → length t ≤ length other → Success t other after q
+-- the same bytes, for every accepted table with at most one row for a pair and none of amount 0
+pub table-there-and-back : TableToMatrixToTable
 table-there-and-back t ring rs of each text old new r written done other after q read room =
-    let d = (((write-matrix-promise t old new r written).succeeds text).0 done).0 in
+    let d = ((written.succeeds text).0 done).0 in
     let same = same-values of d.of in
     let er = same.0 in
     let es = same.1 in
@@ -277,4 +278,4 @@ table-there-and-back t ring rs of each text old new r written done other after q
       of = due-matrix t text d;
       is = d.of.text ∙ sym (ap (write_table d.ring) back);
     } in
-    ((read-matrix-promise ring.fibres text other after q read).succeeds t).1 (subst (λ f. MatrixDue f text t) fibres due, room)
+    (read.succeeds t).1 (subst (λ f. MatrixDue f text t) fibres due, room)

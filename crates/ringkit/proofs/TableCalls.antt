@@ -20,7 +20,12 @@ use Rattle.sheet.specs.Range.{longest}
 use Rattle.sheet.proofs.Short.{plan-short}
 use Rattle.ringkit.specs.Outcome.{Fills}
 use Rattle.ringkit.specs.TableCalls.{of_table, table_afresh, table_routed}
+<<<<<<< HEAD
 use Rattle.ringkit.specs.Says.{CallPromise, Only}
+=======
+use Rattle.ringkit.specs.Says.{CallPromise}
+use Rattle.ringkit.specs.Back.{TableThereAndBack}
+>>>>>>> 6329b182a606515a1d1ce761100c2bb088d9cd6b
 use Rattle.ringkit.specs.Texts.{TableOf, TableDue, SomeDue, sheet_due, Itself}
 use Rattle.ringkit.specs.Promises.{RoutePromise, RewriteTablePromise}
 use Rattle.ringkit.specs.declared.Reply.{Reply}
@@ -59,6 +64,10 @@ module _ (t : List ℕ) where
           other = λ {r} {line} g. not-15 desk t line r g.holds;
         }
 
+-- the same text is the table of one ring and one list of rows
+pub same-values : {t : List ℕ} {ring other : Ring} {rs qs : List Row} → TableOf t ring rs → TableOf t other qs → (ring ≡ other) × (rs ≡ qs)
+same-values {ring} {other} {rs} {qs} a b = same-table desk desk-spelled ring other rs qs a.range b.range (sym a.text ∙ b.text)
+
 -- ---- rewriting
 
 afresh : (t : List ℕ) (x : Result) → table_of desk t ≡ x → Decided (Itself (Accepted desk t) t) (Given desk t) (of_table write_table x)
@@ -81,8 +90,21 @@ pub rewrite-promise : (t old new : List ℕ) (r : Reply) → Fills (table_afresh
 unfolding table_afresh
 rewrite-promise t old new r f = call-promise (one-itself t) (afresh t (table_of desk t) refl) f
 
+<<<<<<< HEAD
 pub rewrite-only : (t old new : List ℕ) (r : Reply) → Fills (table_afresh t) old new r → Only (RewriteTablePromise t old) new r
 rewrite-only t old new r f = call-only (rewrite-promise t old new r f) (one-itself t)
+=======
+-- what is read is written again as the same bytes, and what is written is read again as the same values
+pub table-rewritten : TableThereAndBack
+table-rewritten =
+    record {
+      read = λ t a. let d = ((due-accepted t write_table).0 a).is in record { ring = d.ring; rs = d.rs; of = d.of };
+      written = λ t ring rs of. (accepted-is desk t).0 (record { ring = ring; rs = rs; is = (read_is t ring rs).1 of });
+      same_ring = λ t ring other rs qs a b. (same-values a b).0;
+      same_rows = λ t ring other rs qs a b. (same-values a b).1;
+      rewritten = λ t old new r p a room. (p.succeeds t).1 (record { accepted = a; same = refl }, room);
+    }
+>>>>>>> 6329b182a606515a1d1ce761100c2bb088d9cd6b
 
 -- ---- routing
 

@@ -1,4 +1,4 @@
--- Internal: which field of its line a reason is about; its byte is where that field starts (02, K5).
+-- Internal: which field of its line a reason is about; its byte is where that field starts.
 use Rattle.std.specs.Prelude.{ℕ, cond}
 use Rattle.ring.specs.Ring.{Ring}
 use Rattle.text.specs.FieldByte.{ring_byte, row_byte}

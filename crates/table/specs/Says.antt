@@ -136,7 +136,7 @@ Says limits t NoRow line = ⊥
 Says limits t Full line = ⊥
 Says limits t NoRoom line = ⊥
 
--- ---- the byte of the line that is given with a reason (02, K5), counted from 1
+-- ---- the byte of the line that is given with a reason, counted from 1
 
 -- where a line is due: 1 where it is missing; else the byte at which its first fault is, by what a fault is there
 pub data DueByte (t : List ℕ) (line : ℕ) (Fault : List ℕ → ℕ → Type 0) : ℕ → Type 0 where

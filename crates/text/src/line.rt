@@ -49,7 +49,8 @@ pub(crate) fn read_line(s: &[u8], shape: &[u8], values: &mut [u32]) -> Line
 
 // Writes the line of a shape and its values from `at` on, and answers the place behind it.
 pub fn write_line(buf: &mut [u8], at: usize, shape: &[u8], values: &[u32]) -> usize
-    requires { (length shape.now ≤ length values.now) × (at + length (write_line shape.now values.now) ≤ length buf.old) }
+    requires has_values { length shape.now ≤ length values.now }
+    requires has_room { at + length (write_line shape.now values.now) ≤ length buf.old }
     ensures { Written buf.old at (write_line shape.now values.now) buf.new result }
 {
     let mut p = at;
@@ -63,7 +64,8 @@ pub fn write_line(buf: &mut [u8], at: usize, shape: &[u8], values: &[u32]) -> us
 // How many bytes the line of a shape and its values has. The sum fits since no shape is long.
 #[tactic(auto, unfolding(crate::specs::WriteLine::write_line))]
 pub fn line_length(shape: &[u8], values: &[u32]) -> usize
-    requires { (length shape.now ≤ 1000) × (length shape.now ≤ length values.now) }
+    requires short_shape { length shape.now ≤ 1000 }
+    requires has_values { length shape.now ≤ length values.now }
     ensures { result ≡ length (write_line shape.now values.now) }
 {
     let mut sum: usize = 0;
@@ -76,7 +78,9 @@ pub fn line_length(shape: &[u8], values: &[u32]) -> usize
 // The byte where the field behind k others starts, counted from 1. It is asked only of a line that is refused.
 #[tactic(auto, unfolding(crate::specs::FieldByte::field_byte))]
 pub(crate) fn field_byte(shape: &[u8], values: &[u32], k: usize) -> u32
-    requires { (length shape.now ≤ 1000) × (length shape.now ≤ length values.now) × (k ≤ length shape.now) }
+    requires short_shape { length shape.now ≤ 1000 }
+    requires has_values { length shape.now ≤ length values.now }
+    requires in_shape { k ≤ length shape.now }
     ensures { result ≡ field_byte shape.now values.now k }
 {
     line_length(&shape[..k], values) as u32 + 1

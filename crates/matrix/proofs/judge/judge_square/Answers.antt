@@ -1,11 +1,10 @@
 -- The lines of the square: those before i are fine (`Down`).
 use Rattle.matrix.proofs.JudgeSteps.{line-fault, line-fine, down-done}
 use Rattle.matrix.proofs.ByteSteps.{across-few}
-use Rattle.std.proofs.Common.{rules}
 use Rattle.matrix.proofs.judge.judge_square.Goals as goal
 
-pub square_byte-requires : goal.square_byte-requires
-square_byte-requires c = (search across-few, search rules, search rules, search rules)
+pub square_byte-requires-clause-in_line : goal.square_byte-requires-clause-in_line
+square_byte-requires-clause-in_line c = search across-few
 
 pub returns-in-At : goal.returns-in-At
 returns-in-At c = search line-fault

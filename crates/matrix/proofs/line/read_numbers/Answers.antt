@@ -1,5 +1,5 @@
--- A line of numbers: the values of the fields before t stand in the column, and what is left begins at p (`Reading-on`).
-use Rattle.matrix.proofs.LineSteps.{reading-starts, reading-stops, reads-number, values-long, reading-done, reading-over}
+-- A line of numbers: the values of the fields before t stand in the column, and what is left begins at p (`ReadingOn`).
+use Rattle.matrix.proofs.LineSteps.{reading-starts, reading-stops, reads-number, reading-done, reading-over}
 use Rattle.matrix.proofs.line.read_numbers.Goals as goal
 
 pub loop-t-init : goal.loop-t-init
@@ -7,9 +7,6 @@ loop-t-init c = search reading-starts
 
 pub returns-in-Bad : goal.returns-in-Bad
 returns-in-Bad c = search reading-stops
-
-pub put-requires : goal.put-requires
-put-requires c = search values-long
 
 pub loop-t-preserved : goal.loop-t-preserved
 loop-t-preserved c = search reads-number

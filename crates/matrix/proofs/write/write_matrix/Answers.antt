@@ -7,8 +7,8 @@ use Rattle.matrix.proofs.write.write_matrix.Goals as goal
 pub loop-k-init : goal.loop-k-init
 loop-k-init c = writing-lines-start _ _ (matrix-pieces _ _ (search rules)) _ _ _ (search rules)
 
-pub write_sums-p-requires : goal.write_sums-p-requires
-write_sums-p-requires c = (search rules, search rules, line-has-room _ _ _ _ _ _ _ _ c.loop-k.invariant (search rules))
+pub write_sums-p-requires-clause-has_room : goal.write_sums-p-requires-clause-has_room
+write_sums-p-requires-clause-has_room c = line-has-room _ _ _ _ _ _ _ _ c.loop-k.invariant (search rules)
 
 pub loop-k-preserved : goal.loop-k-preserved
 loop-k-preserved c = search writes_line
