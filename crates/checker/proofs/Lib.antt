@@ -8,4 +8,3 @@ pub mod PairTests
 pub mod PairSteps
 pub mod PairLaws
 pub mod OurPair
-pub mod Unique

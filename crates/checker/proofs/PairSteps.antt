@@ -3,7 +3,7 @@
 use Prim.Native.Nat.{ℕ, ◌+◌, ◌-◌, ◌≤◌, ◌<◌}
 use mathlib.Core.Bool.{Bool, true, false, cond}
 use mathlib.Core.List.{List}
-use mathlib.Core.Path.{◌≡◌, sym, ◌∙◌}
+use mathlib.Core.Path.{◌≡◌, refl, sym, ◌∙◌}
 use native.Mathlib.Omega.{arith}
 use lib.ListN.{get_or}
 use Rattle.ring.specs.Routing.{Sent, sent, is_split}
@@ -51,38 +51,42 @@ module _ (f : ℕ → Sent) (count : ℕ) where
 
 module _ (count : ℕ) (first second front back : List ℕ) where
   -- before first row a
-  pub record Firsts (a : ℕ) : Type 0 where
+  pub record Firsts (found : Pair) (a : ℕ) : Type 0 where
+    pub none : found ≡ None
     pub high : a ≤ count
     pub left : (amount : List ℕ) → first_pair (sents_in count first second amount front back) ≡ LeftFirsts (sent_at first second amount front back) count a
 
   -- before second row b of first row a
-  pub record Seconds (a b : ℕ) : Type 0 where
+  pub record Seconds (found : Pair) (a b : ℕ) : Type 0 where
+    pub none : found ≡ None
     pub order : a < b
     pub high : b ≤ count
     pub left : (amount : List ℕ) → first_pair (sents_in count first second amount front back) ≡ LeftSeconds (sent_at first second amount front back) count a b
 
-  pub firsts-start : Firsts 0
-  firsts-start = record { high = omega arith; left = λ amount. left-all (sent_at first second amount front back) count }
+  pub firsts-start : Firsts None 0
+  firsts-start = record { none = refl; high = omega arith; left = λ amount. left-all (sent_at first second amount front back) count }
 
-  pub seconds-start : (a : ℕ) → a < count → Firsts a → Seconds a (a + 1)
-  seconds-start a l o =
+  pub seconds-start : (found : Pair) (a : ℕ) → a < count → Firsts found a → Seconds found a (a + 1)
+  seconds-start found a l o =
       record {
+        none = o.none;
         order = omega arith;
         high = omega arith;
         left = λ amount. o.left amount ∙ left-enter (sent_at first second amount front back) count a l;
       }
 
   -- a turn, by what the two rows' test says
-  module _ (a b : ℕ) (c : Bool) (l : b < count) (o : Seconds a b)
+  module _ (found : Pair) (a b : ℕ) (c : Bool) (l : b < count) (o : Seconds found a b)
       (e : c ≡ clash (sent (get_or first a 0) (get_or second a 0) 0 (get_or front a 0) (get_or back a 0)) (sent (get_or first b 0) (get_or second b 0) 0 (get_or front b 0) (get_or back b 0))) where
     -- the test looks at no amount
     test : (amount : List ℕ) → clash (sent_at first second amount front back a) (sent_at first second amount front back b) ≡ c
     unfolding clash is_split parallel
     test amount = sym e
 
-    pub seconds-turn : c ≡ false → Seconds a (b + 1)
+    pub seconds-turn : c ≡ false → Seconds found a (b + 1)
     seconds-turn t =
         record {
+          none = o.none;
           order = omega (arith, o.order);
           high = omega arith;
           left = λ amount. o.left amount ∙ left-turn (sent_at first second amount front back) count a b l ∙ rw (test amount ∙ t);
@@ -92,12 +96,13 @@ module _ (count : ℕ) (first second front back : List ℕ) where
     unfolding or_next
     pair_found t amount = sym (o.left amount ∙ left-turn (sent_at first second amount front back) count a b l ∙ rw (test amount ∙ t))
 
-  pub seconds-done : (a b : ℕ) → count ≤ b → Seconds a b → Firsts (a + 1)
-  seconds-done a b l o =
+  pub seconds-done : (found : Pair) (a b : ℕ) → count ≤ b → Seconds found a b → Firsts found (a + 1)
+  seconds-done found a b l o =
       record {
+        none = o.none;
         high = omega (arith, o.order, o.high);
         left = λ amount. o.left amount ∙ left-leave (sent_at first second amount front back) count a b l;
       }
 
-  pub none_found : (a : ℕ) → count ≤ a → Firsts a → (amount : List ℕ) → None ≡ first_pair (sents_in count first second amount front back)
-  none_found a l o amount = sym (o.left amount ∙ left-none (sent_at first second amount front back) count a l)
+  pub none_found : (found : Pair) (a : ℕ) → count ≤ a → Firsts found a → (amount : List ℕ) → found ≡ first_pair (sents_in count first second amount front back)
+  none_found found a l o amount = o.none ∙ sym (o.left amount ∙ left-none (sent_at first second amount front back) count a l)

@@ -5,7 +5,7 @@ ghost use Rattle.ring.specs.Ring.{ring_of};
 ghost use Rattle.table.specs.Lines.{lines};
 ghost use Rattle.sheet.specs.Check.{refused, check_from, check};
 ghost use Rattle.sheet.specs.Says.{rows};
-ghost use Rattle.checker.specs.Arrays.{no_values, beside, checked_in};
+ghost use Rattle.checker.specs.Arrays.{beside, checked_in};
 
 use crate::ending::{Step, finish};
 use crate::next::next_end;
@@ -32,9 +32,12 @@ fn refusal(values: &mut SheetValues, reason: Reason, line: u32, byte: u32) -> An
 
 // A sheet of a ring of n nodes and so many fibres, from the place `from` behind its R line on.
 fn check_rows(s: &[u8], from: usize, n: u32, fibres: u32, values: &mut SheetValues) -> Answer
-    requires from_in_bounds { (from ≤ length s.now) × (length s.now ≤ desk.bytes) × ((desk.fewest ≤ n) × (n ≤ desk.nodes)) }
-    requires blank { values.old ≡ no_values }
-    ensures { beside result values.new ≡ checked_in (check_from desk true (rows (ring_of n fibres) []) 2 (lines (drop from s.now))) }
+    requires begins_inside { from ≤ length s.now }
+    requires text_fits { length s.now ≤ desk.bytes }
+    requires ring_suffices { desk.fewest ≤ n }
+    requires links_fit { n ≤ desk.nodes }
+    ensures { beside result values.new ≡ checked_in
+        (check_from desk true (rows (ring_of n fibres) []) 2 (lines (drop from s.now))) }
 {
     match read_rows(s, from, n, values) {
         RowsEnd::Refused(reason, line, byte) => refusal(values, reason, line, byte),
@@ -61,7 +64,6 @@ pub fn check_sheet(s: &[u8], values: &mut SheetValues) -> Answer
             if let Verdict::Fault(reason) = judge_ring(n, fibres) {
                 return refusal(values, reason, 1, ring_fault(n, fibres, reason));
             }
-            clear(values);
             check_rows(s, end, n, fibres, values)
         }
     }

@@ -31,7 +31,10 @@ fn check_links<'a>(
     split: &'a [u32; LINKS],
     unsplit: &'a [u32; LINKS],
 ) -> Step
-    requires { (from ≤ length s.now) × (length s.now ≤ desk.bytes) × ((n ≤ desk.nodes) × (from_line ≤ desk.bytes)) }
+    requires begins_inside { from ≤ length s.now }
+    requires text_fits { length s.now ≤ desk.bytes }
+    requires links_fit { n ≤ desk.nodes }
+    requires line_fits { from_line ≤ desk.bytes }
     ensures { LinksRead s.now from n from_line split.now unsplit.now result }
 {
     let links = wide(n);
@@ -58,7 +61,9 @@ fn check_links<'a>(
 
 // The Z line, held against the unsplit peak and its size; nothing may follow it.
 fn check_last(s: &[u8], at: usize, line: u32, peak: u32, size: u32) -> Step
-    requires { (at ≤ length s.now) × (length s.now ≤ desk.bytes) × (line ≤ desk.bytes) }
+    requires begins_inside { at ≤ length s.now }
+    requires text_fits { length s.now ≤ desk.bytes }
+    requires line_fits { line ≤ desk.bytes }
     ensures { LastRead s.now at line peak size result }
 {
     let end = next_end(s, at);
@@ -87,7 +92,9 @@ fn check_whole(
     size: u32,
     largest: u32,
 ) -> Step
-    requires { (at ≤ length s.now) × (length s.now ≤ desk.bytes) × (line ≤ desk.bytes) }
+    requires begins_inside { at ≤ length s.now }
+    requires text_fits { length s.now ≤ desk.bytes }
+    requires line_fits { line ≤ desk.bytes }
     ensures { WholeRead s.now at line number split_peak peak size largest result }
 {
     match check_last(s, at, line, peak, size) {
@@ -113,8 +120,12 @@ fn check_tail<'a>(
     size: u32,
     largest: u32,
 ) -> Step
-    requires { (at ≤ length s.now) × (length s.now ≤ desk.bytes) × ((n ≤ desk.nodes) × (line + n ≤ desk.bytes)) }
-    ensures { TailRead s.now at line n number split.now unsplit.now split_peak peak size largest result }
+    requires begins_inside { at ≤ length s.now }
+    requires text_fits { length s.now ≤ desk.bytes }
+    requires links_fit { n ≤ desk.nodes }
+    requires lines_fit { line + n ≤ desk.bytes }
+    ensures { TailRead s.now at line n number split.now unsplit.now
+        split_peak peak size largest result }
 {
     match check_links(s, at, n, line, split, unsplit) {
         Step::Refused(reason, place, byte) => Step::Refused(reason, place, byte),
@@ -144,10 +155,13 @@ fn weighed(
     number: u32,
     values: &mut SheetValues,
 ) -> Step
-    requires at_in_bounds { (at ≤ length s.now) × (length s.now ≤ desk.bytes) × (line + n ≤ desk.bytes) }
+    requires begins_inside { at ≤ length s.now }
+    requires text_fits { length s.now ≤ desk.bytes }
+    requires lines_fit { line + n ≤ desk.bytes }
     requires table { Table n count values.old.first values.old.second values.old.amount }
     requires halves { Halves count values.old.front values.old.back }
-    ensures { WeighedRead s.now at line (ring_of n fibres) count values.old g h number values.new result }
+    ensures { WeighedRead s.now at line (ring_of n fibres) count values.old g h number
+        values.new result }
 {
     let w = router::weigh(
         n,
@@ -201,7 +215,10 @@ pub(crate) fn finish(
     count: usize,
     values: &mut SheetValues,
 ) -> Step
-    requires at_in_bounds { (at ≤ length s.now) × (length s.now ≤ desk.bytes) × (no_row ≤ desk.bytes) × (line + n < desk.bytes) }
+    requires begins_inside { at ≤ length s.now }
+    requires text_fits { length s.now ≤ desk.bytes }
+    requires byte_fits { no_row ≤ desk.bytes }
+    requires lines_fit { line + n < desk.bytes }
     requires table { Table n count values.old.first values.old.second values.old.amount }
     requires halves { Halves count values.old.front values.old.back }
     ensures { EndRead s.now at line no_row (ring_of n fibres) count values.old values.new result }

@@ -128,7 +128,8 @@ pub(crate) fn judge_cut(
     number: u32,
 ) -> Verdict
     requires { Table n count first.now second.now amount.now }
-    ensures { result ≡ cut_verdict n (across (rows_in count first.now second.now amount.now) g h) g h number }
+    ensures { result ≡ cut_verdict n
+        (across (rows_in count first.now second.now amount.now) g h) g h number }
 {
     if no_cut(n, g, h) {
         return Verdict::Fault(Reason::WrongCut);

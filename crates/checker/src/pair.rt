@@ -66,17 +66,20 @@ pub fn first_pair<'a>(
     back: &'a [u32; ROWS],
 ) -> Pair
     requires { count ≤ desk.rows }
-    ensures { (amount : List ℕ) → result ≡ first_pair (sents_in count first.now second.now amount front.now back.now) }
+    ensures { (amount : List ℕ) → result ≡ first_pair
+        (sents_in count first.now second.now amount front.now back.now) }
 {
-    for a in 0..count {
+    let mut found = Pair::None;
+    'search: for a in 0..count {
         for b in a + 1..count {
             let clash = clashes(
                 first[a], second[a], front[a], back[a], first[b], second[b], front[b], back[b],
             );
             if clash {
-                return Pair::Are(a + 1, b + 1);
+                found = Pair::Are(a + 1, b + 1);
+                break 'search;
             }
         }
     }
-    Pair::None
+    found
 }

@@ -1,12 +1,11 @@
 // The D lines of a sheet, judged one by one and put into the columns of lent values.
-ghost use Rattle.std.specs.Prelude.{◌≤◌, ◌≡◌, length};
+ghost use Rattle.std.specs.Prelude.{◌≤◌, length};
 ghost use Rattle.ring.specs.Limits.{desk};
-ghost use Rattle.checker.specs.Arrays.{no_values};
 ghost use Rattle.checker.specs.Parts.{RowsRead};
 
 use crate::judge::judge_sent;
 use crate::next::next_end;
-use crate::values::SheetValues;
+use crate::values::{SheetValues, clear};
 use table::{Reason, Verdict, row_fault};
 use text::SentRow;
 
@@ -18,12 +17,15 @@ pub(crate) enum RowsEnd {
     Refused(Reason, u32, u32),
 }
 
-// The rows of a ring of n nodes, from the place `from` on: up to a line that is no D line, or to a fault, behind which the columns hold the rows before it.
+// The rows of a ring of n nodes, from the place `from` on: up to a line that is no D line, or to a fault. Values that are lent are cleared first,
+// since every figure and place that is read into none stays zero.
 pub(crate) fn read_rows(s: &[u8], from: usize, n: u32, values: &mut SheetValues) -> RowsEnd
-    requires from_in_bounds { (from ≤ length s.now) × ((desk.fewest ≤ n) × (n ≤ desk.nodes)) }
-    requires blank { values.old ≡ no_values }
+    requires begins_inside { from ≤ length s.now }
+    requires ring_suffices { desk.fewest ≤ n }
+    requires links_fit { n ≤ desk.nodes }
     ensures { RowsRead s.now from n values.new result }
 {
+    clear(values);
     let mut count: usize = 0;
     let mut line: u32 = 2;
     let mut at = from;

@@ -1,16 +1,13 @@
 -- Demands 2 and 3 of sheets: from the two laws of a sheet's text (`SheetText`) and of what judging finds (`Truth`).
-use Prim.Native.Nat.{ℕ, ◌+◌, ◌*◌, ◌≤◌}
+use Prim.Native.Nat.{ℕ, ◌+◌}
 use mathlib.Core.Bool.{true, false}
 use mathlib.Core.List.{List, [], ◌∷◌}
 use mathlib.Core.Logic.{◌↔◌}
 use mathlib.Core.Path.{◌≡◌, refl, ap, ◌∙◌, sym}
-use Rattle.ring.specs.Division.{Divides}
 use Rattle.ring.specs.Limits.{Limits, desk}
 use Rattle.ring.specs.Lists.{Each, none, more}
-use Rattle.ring.specs.Ring.{Ring}
-use Rattle.ring.specs.Row.{Row}
-use Rattle.ring.specs.Routing.{Sent, Routed, split_load, peak}
-use Rattle.ring.specs.Sheet.{Link, Sheet, sents, demands, plan}
+use Rattle.ring.specs.Routing.{Routed}
+use Rattle.ring.specs.Sheet.{Link, Sheet, plan}
 use Rattle.ring.specs.True.{TrueSheet}
 use Rattle.ring.proofs.NoLower.{no_lower}
 use Rattle.ring.proofs.OurPlan.{plan-true}
@@ -21,8 +18,10 @@ use Rattle.sheet.specs.WriteSheet.{write_sheet}
 use Rattle.sheet.specs.Range.{InRange}
 use Rattle.sheet.specs.Judge.{judge_halves}
 use Rattle.sheet.specs.Check.{accepted, when, check, form}
+use Rattle.sheet.specs.Laws.{SameSheet, TrueAccepted, PlanAccepted, NoLowerPeak}
 use Rattle.sheet.proofs.Short.{plan-in-range}
 use Rattle.sheet.proofs.Read.{LinksJudged, no_links, and_link, Judged}
+use Rattle.sheet.proofs.SheetReasons.{accepted-is}
 use Rattle.sheet.proofs.SheetText.{sheet-text}
 use Rattle.sheet.proofs.Truth.{judged-true}
 
@@ -65,27 +64,28 @@ module _ (limits : Limits) (limited : table.LimitsSpelled limits) (t : List ℕ)
   pub accepted-formed : check limits t ≡ accepted x → form limits t ≡ accepted x
   accepted-formed e = let h = check-text.0 e in form-text.1 (h.0, h.1.0)
 
-  module _ (e : check limits t ≡ accepted x) where
-    -- demand 2: written again, it has the same bytes
-    pub write_read : write_sheet x ≡ t
-    write_read = sym (check-text.0 e).0
-
-    -- demand 3: no division of the demands, however fine, has a lower peak
-    pub no-lower-peak : (q : ℕ) (ss : List Sent) → Divides q (demands (sents x.rows)) ss → q * x.cut.number ≤ 2 * peak (split_load ss) x.ring.n
-    no-lower-peak = no_lower x (check-text.0 e).1.1
-
 module _ (limits : Limits) (limited : table.LimitsSpelled limits) where
   -- demand 2: read again, a sheet that was written has the same values
-  pub read-written : (x : Sheet) → InRange limits x → TrueSheet x → check limits (write_sheet x) ≡ accepted x
+  read-written : (x : Sheet) → InRange limits x → TrueSheet x → check limits (write_sheet x) ≡ accepted x
   read-written x range true_sheet = (check-text limits limited (write_sheet x) x).1 (refl, (range, true_sheet))
 
-  -- two sheets written the same are the same sheet
-  pub same-sheet : (x y : Sheet) → InRange limits x → InRange limits y → write_sheet x ≡ write_sheet y → x ≡ y
+  pub true-accepted : TrueAccepted limits
+  true-accepted x range true_sheet = (accepted-is limits (write_sheet x)).0 (record { x = x; is = read-written x range true_sheet })
+
+  pub same-sheet : SameSheet limits
   same-sheet x y r s e =
       let f : accepted x ≡ accepted y =
       sym ((form-text limits limited (write_sheet x) x).1 (refl, r)) ∙ ap (form limits) e ∙ (form-text limits limited (write_sheet y) y).1 (refl, s) in
       cc
 
+  -- demand 3: no division of the demands, however fine, has a lower peak
+  pub no-lower-peak : NoLowerPeak limits
+  no-lower-peak x range a =
+      let reads = (accepted-is limits (write_sheet x)).1 a in
+      let text = (check-text limits limited (write_sheet x) reads.x).0 reads.is in
+      let e : x ≡ reads.x = same-sheet x reads.x range text.1.0 text.0 in
+      no_lower x (rw e text.1.1)
+
 -- demand 3: the sheet of a table's plan is accepted
-pub plan-accepted : (ring : Ring) (rs : List Row) → table.InRange desk ring rs → check desk (write_sheet (plan ring rs)) ≡ accepted (plan ring rs)
-plan-accepted ring rs h = read-written desk desk-spelled (plan ring rs) (plan-in-range ring rs h) (plan-true ring rs h.few h.rows)
+pub plan-accepted : PlanAccepted
+plan-accepted ring rs h = true-accepted desk desk-spelled (plan ring rs) (plan-in-range ring rs h) (plan-true ring rs h.few h.rows)

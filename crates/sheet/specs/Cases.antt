@@ -1,6 +1,6 @@
 -- Examples: 01's "Numbers to try" that are marked P, two cases of 02's K1 and those of K3: one list, each case by its texts and what is said besides; and the answers to them all, as
 -- they are stated and as the definitions have them.
-use Rattle.std.specs.Prelude.{ℕ, ◌+◌, ◌*◌, min, cond, List, [], ◌∷◌, ◌++◌, map, leb, eqb}
+use Rattle.std.specs.Prelude.{ℕ, ◌+◌, ◌*◌, min, cond, List, [], ◌∷◌, ◌++◌, map, leb, eqb, ◌≡◌}
 use Prim.Native.String.{String}
 use Rattle.ring.specs.Cut.{across}
 use Rattle.ring.specs.Limits.{desk}
@@ -209,3 +209,7 @@ computed (plan_of table sheet claims ∷ cs) =
     map (claiming (form desk (printed sheet))) claims ++ computed cs
 computed (refusal_of sheet reason line byte claims ∷ cs) =
     checking (check desk (printed sheet)) ∷ map (claiming (form desk (printed sheet))) claims ++ computed cs
+
+-- they are the same
+abbrev pub CasesHold : Type 0
+CasesHold = computed cases ≡ stated cases

@@ -2,8 +2,14 @@
 use Rattle.checker.proofs.CheckSteps.{rows-stop, place-within, no-row-within, lines_fit, rows-table, rows-halves, end-stops, sheet-ends}
 use Rattle.checker.proofs.check.check_rows.Goals as goal
 
-pub finish-requires-clause-at_in_bounds : goal.finish-requires-clause-at_in_bounds
-finish-requires-clause-at_in_bounds c = search (place-within, no-row-within, lines_fit)
+pub finish-requires-clause-begins_inside : goal.finish-requires-clause-begins_inside
+finish-requires-clause-begins_inside c = search place-within
+
+pub finish-requires-clause-byte_fits : goal.finish-requires-clause-byte_fits
+finish-requires-clause-byte_fits c = search no-row-within
+
+pub finish-requires-clause-lines_fit : goal.finish-requires-clause-lines_fit
+finish-requires-clause-lines_fit c = search lines_fit
 
 pub finish-requires-clause-table : goal.finish-requires-clause-table
 finish-requires-clause-table c = search rows-table

@@ -2,8 +2,8 @@
 use Rattle.checker.proofs.PairSteps.{firsts-start, seconds-start, seconds-turn, seconds-done, pair_found, none_found}
 use Rattle.checker.proofs.pair.first_pair.Goals as goal
 
-pub loop-a-init : goal.loop-a-init
-loop-a-init c = search firsts-start
+pub search-init : goal.search-init
+search-init c = search firsts-start
 
 pub loop-b-init : goal.loop-b-init
 loop-b-init c = search seconds-start
@@ -11,11 +11,11 @@ loop-b-init c = search seconds-start
 pub loop-b-preserved : goal.loop-b-preserved
 loop-b-preserved c = search seconds-turn
 
-pub loop-a-preserved : goal.loop-a-preserved
-loop-a-preserved c = search seconds-done
+pub search-preserved : goal.search-preserved
+search-preserved c = search seconds-done
 
-pub returns : goal.returns
-returns c = search none_found
+pub returns-after-search : goal.returns-after-search
+returns-after-search c = search none_found
 
 pub returns-then-clash : goal.returns-then-clash
 returns-then-clash c = search pair_found
