@@ -37,21 +37,13 @@ use Rattle.matrix.proofs.OneEach.{one-each-fit}
 use Rattle.ringkit.specs.Outcome.{write, Fills}
 use Rattle.ringkit.specs.TableCalls.{of_table}
 use Rattle.ringkit.specs.MatrixCalls.{matrix_read, unless_pass, of_rows, matrix_written}
-<<<<<<< HEAD
-use Rattle.ringkit.specs.Says.{Success, CallPromise, Only}
+use Rattle.ringkit.specs.Says.{CallPromise, Only}
+use Rattle.ringkit.specs.Back.{MatrixToTableToMatrix, TableToMatrixToTable}
 use Rattle.ringkit.specs.Texts.{TableOf, MatrixOf, SomeMatrix, MatrixDue, MatrixGiven, of_fibres, of_matrix, SumsDue, SumsFit, SumsGiven, of_the_table, of_sums}
 use Rattle.ringkit.specs.Promises.{ReadMatrixPromise, WriteMatrixPromise}
 use Rattle.ringkit.specs.declared.Reply.{Reply}
 use Rattle.ringkit.proofs.Calls.{Decided, is_due, is_given, One, call-promise, call-only, written-due, length-within}
-use Rattle.ringkit.proofs.TableCalls.{read_is, due-accepted}
-=======
-use Rattle.ringkit.specs.Says.{CallPromise}
-use Rattle.ringkit.specs.Back.{MatrixToTableToMatrix, TableToMatrixToTable}
-use Rattle.ringkit.specs.Texts.{TableOf, MatrixOf, SomeMatrix, MatrixDue, MatrixGiven, of_fibres, of_matrix, SumsDue, SumsGiven, of_the_table, of_sums}
-use Rattle.ringkit.specs.declared.Reply.{Reply}
-use Rattle.ringkit.proofs.Calls.{Decided, is_due, is_given, One, call-promise}
 use Rattle.ringkit.proofs.TableCalls.{read_is, due-accepted, same-values}
->>>>>>> 6329b182a606515a1d1ce761100c2bb088d9cd6b
 
 -- ---- reading
 

@@ -20,12 +20,8 @@ use Rattle.sheet.specs.Range.{longest}
 use Rattle.sheet.proofs.Short.{plan-short}
 use Rattle.ringkit.specs.Outcome.{Fills}
 use Rattle.ringkit.specs.TableCalls.{of_table, table_afresh, table_routed}
-<<<<<<< HEAD
 use Rattle.ringkit.specs.Says.{CallPromise, Only}
-=======
-use Rattle.ringkit.specs.Says.{CallPromise}
 use Rattle.ringkit.specs.Back.{TableThereAndBack}
->>>>>>> 6329b182a606515a1d1ce761100c2bb088d9cd6b
 use Rattle.ringkit.specs.Texts.{TableOf, TableDue, SomeDue, sheet_due, Itself}
 use Rattle.ringkit.specs.Promises.{RoutePromise, RewriteTablePromise}
 use Rattle.ringkit.specs.declared.Reply.{Reply}
@@ -90,10 +86,9 @@ pub rewrite-promise : (t old new : List ℕ) (r : Reply) → Fills (table_afresh
 unfolding table_afresh
 rewrite-promise t old new r f = call-promise (one-itself t) (afresh t (table_of desk t) refl) f
 
-<<<<<<< HEAD
 pub rewrite-only : (t old new : List ℕ) (r : Reply) → Fills (table_afresh t) old new r → Only (RewriteTablePromise t old) new r
 rewrite-only t old new r f = call-only (rewrite-promise t old new r f) (one-itself t)
-=======
+
 -- what is read is written again as the same bytes, and what is written is read again as the same values
 pub table-rewritten : TableThereAndBack
 table-rewritten =
@@ -104,7 +99,6 @@ table-rewritten =
       same_rows = λ t ring other rs qs a b. (same-values a b).1;
       rewritten = λ t old new r p a room. (p.succeeds t).1 (record { accepted = a; same = refl }, room);
     }
->>>>>>> 6329b182a606515a1d1ce761100c2bb088d9cd6b
 
 -- ---- routing
 
