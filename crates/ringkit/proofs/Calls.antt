@@ -13,7 +13,7 @@ use Rattle.table.specs.declared.reason.Reason.{Reason}
 use Rattle.table.specs.declared.reason.Reason.TheVariants.{NoRoom}
 use Rattle.table.proofs.ReasonNumbers.{same-reason, no-reason-0}
 use Rattle.ringkit.specs.Outcome.{Outcome, write, refuse, within, reply_of, buffer_after, Fills}
-use Rattle.ringkit.specs.Says.{Success, Refusal, CallSays, with_room, without_room, none_due, TooLarge, CallPromise}
+use Rattle.ringkit.specs.Says.{Success, Refusal, CallSays, with_room, without_room, none_due, TooLarge, CallPromise, Only}
 use Rattle.ringkit.specs.declared.Reply.{Reply}
 
 -- an outcome is a text that is due, or a refusal that is given
@@ -124,3 +124,51 @@ pub call-promise : {Due : List ℕ → Type 0} {Given : Reason → ℕ → ℕ �
 call-promise one decided f =
     let call = every_call decided f in
     record { cases = call; succeeds = succeeds one call; no_room = no_room one call; refuses = refuses one call }
+
+-- ---- what follows from a promise alone
+
+abbrev reply : ℕ → ℕ → ℕ → ℕ → Reply
+reply reason line byte size = record { reason = reason; line = line; byte = byte; length = size }
+
+-- a reply is its four numbers
+same-numbers : (a b c d w x y z : ℕ) → w ≡ a → x ≡ b → y ≡ c → z ≡ d → reply w x y z ≡ reply a b c d
+same-numbers a b c d w x y z e f g h = rw (e, f, g, h)
+
+same-reply : {r q : Reply} → q.reason ≡ r.reason → q.line ≡ r.line → q.byte ≡ r.byte → q.length ≡ r.length → q ≡ r
+same-reply {r} {q} = same-numbers r.reason r.line r.byte r.length q.reason q.line q.byte q.length
+
+-- two calls that say one success, or one refusal, reply the same and leave the same
+module _ {old new other : List ℕ} {r q : Reply} where
+  same-success : {text : List ℕ} → Success text old new r → Success text old other q → (other ≡ new) × (q ≡ r)
+  same-success a b = (b.buffer ∙ sym a.buffer, same-reply (b.reason ∙ sym a.reason) (b.line ∙ sym a.line) (b.byte ∙ sym a.byte) (b.size ∙ sym a.size))
+
+  same-refusal : {reason : Reason} {line byte : ℕ} → Refusal reason line byte old new r → Refusal reason line byte old other q → (other ≡ new) × (q ≡ r)
+  same-refusal a b = (b.buffer ∙ sym a.buffer, same-reply (b.number ∙ sym a.number) (b.at ∙ sym a.at) (b.on ∙ sym a.on) (b.none ∙ sym a.none))
+
+module _ {Due : List ℕ → Type 0} {Given : Reason → ℕ → ℕ → Type 0} {old new : List ℕ} {r : Reply} (call : CallPromise Due Given old new r) where
+  -- no other buffer and no other reply keep it, where 15 is never given to the text itself
+  pub call-only : One Due Given → Only (CallPromise Due Given old) new r
+  call-only one = record { buffer = λ other q p. (agrees p call.cases).0; reply = λ other q p. (agrees p call.cases).1 }
+    where
+      agrees : {other : List ℕ} {q : Reply} → CallPromise Due Given old other q → CallSays Due Given old new r → (other ≡ new) × (q ≡ r)
+      agrees p (with_room {text} due fits s) = same-success s ((p.succeeds text).1 (due, fits))
+      agrees p (without_room {text} due large s) = same-refusal s (p.no_room.1 (record { text = text; due = due; large = large }))
+      agrees p (none_due {reason} {line} {byte} g s) = same-refusal s ((p.refuses reason line byte (one.other g)).1 g)
+
+  -- with reason 0, the text at the buffer's start is the one that is due
+  pub written-due : r.reason ≡ 0 → Due (take r.length new)
+  written-due e = go call.cases
+    where
+      go : CallSays Due Given old new r → Due (take r.length new)
+      go (with_room {text} due fits s) = rw (s.size, s.buffer, take-append_seam text (drop (length text) old)) due
+      go (without_room due large s) = absurd (omega (arith, e, s.number))
+      go (none_due {reason} g s) = absurd (omega (arith, e, s.number, no-reason-0 reason))
+
+  -- no call says a greater length than its texts have
+  pub length-within : (most : ℕ) → ((text : List ℕ) → Due text → length text ≤ most) → r.length ≤ most
+  length-within most few = go call.cases
+    where
+      go : CallSays Due Given old new r → r.length ≤ most
+      go (with_room {text} due fits s) = omega (arith, s.size, few text due)
+      go (without_room due large s) = omega (arith, s.none)
+      go (none_due g s) = omega (arith, s.none)

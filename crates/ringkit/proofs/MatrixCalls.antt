@@ -5,7 +5,7 @@ use mathlib.Core.List.{List}
 use mathlib.Core.Logic.{◌↔◌}
 use mathlib.Core.Path.{◌≡◌, refl, ap, ◌∙◌, sym, subst}
 use native.Mathlib.Omega.{arith}
-use lib.ListN.{length}
+use lib.ListN.{length, take}
 use Rattle.ring.specs.Limits.{desk}
 use Rattle.ring.specs.LineSize.{IsFibres}
 use Rattle.ring.specs.Ring.{Ring, ring_of}
@@ -37,11 +37,12 @@ use Rattle.matrix.proofs.OneEach.{one-each-fit}
 use Rattle.ringkit.specs.Outcome.{write, Fills}
 use Rattle.ringkit.specs.TableCalls.{of_table}
 use Rattle.ringkit.specs.MatrixCalls.{matrix_read, unless_pass, of_rows, matrix_written}
-use Rattle.ringkit.specs.Says.{CallPromise}
+use Rattle.ringkit.specs.Says.{CallPromise, Only}
 use Rattle.ringkit.specs.Back.{MatrixToTableToMatrix, TableToMatrixToTable}
-use Rattle.ringkit.specs.Texts.{TableOf, MatrixOf, SomeMatrix, MatrixDue, MatrixGiven, of_fibres, of_matrix, SumsDue, SumsGiven, of_the_table, of_sums}
+use Rattle.ringkit.specs.Texts.{TableOf, MatrixOf, SomeMatrix, MatrixDue, MatrixGiven, of_fibres, of_matrix, SumsDue, SumsFit, SumsGiven, of_the_table, of_sums}
+use Rattle.ringkit.specs.Promises.{ReadMatrixPromise, WriteMatrixPromise}
 use Rattle.ringkit.specs.declared.Reply.{Reply}
-use Rattle.ringkit.proofs.Calls.{Decided, is_due, is_given, One, call-promise}
+use Rattle.ringkit.proofs.Calls.{Decided, is_due, is_given, One, call-promise, call-only, written-due, length-within}
 use Rattle.ringkit.proofs.TableCalls.{read_is, due-accepted, same-values}
 
 -- ---- reading
@@ -115,6 +116,9 @@ module _ (fibres : ℕ) (t : List ℕ) where
 pub read-matrix-promise : (fibres : ℕ) (t old new : List ℕ) (r : Reply) → Fills (matrix_read fibres t) old new r → CallPromise (MatrixDue fibres t) (MatrixGiven fibres t) old new r
 read-matrix-promise fibres t old new r f = call-promise (one-due fibres t) (all-decided fibres t) f
 
+pub read-matrix-only : (fibres : ℕ) (t old new : List ℕ) (r : Reply) → Fills (matrix_read fibres t) old new r → Only (ReadMatrixPromise fibres t old) new r
+read-matrix-only fibres t old new r f = call-only (read-matrix-promise fibres t old new r f) (one-due fibres t)
+
 module _ (fibres : ℕ) (t text : List ℕ) (d : MatrixDue fibres t text) where
   -- the table that is due is a table in range, so that it is accepted and can be routed
   due-table : TableOf text (ring_of d.n fibres) (rows_of_matrix d.n d.m)
@@ -126,6 +130,13 @@ module _ (fibres : ℕ) (t text : List ℕ) (d : MatrixDue fibres t text) where
   -- and no longer than `table_room`
   pub matrix-table-short : length text ≤ table_room desk
   matrix-table-short = omega (arith, ap length d.is, table-room d.n fibres d.m d.two_or_four d.of.range)
+
+-- what is written is an accepted table, and fits
+pub read-accepted : (fibres : ℕ) (t old new : List ℕ) (r : Reply) → Fills (matrix_read fibres t) old new r → r.reason ≡ 0 → table.Accepted desk (take r.length new)
+read-accepted fibres t old new r f e = matrix-table-accepted fibres t (take r.length new) (written-due (read-matrix-promise fibres t old new r f) e)
+
+pub read-fits : (fibres : ℕ) (t old new : List ℕ) (r : Reply) → Fills (matrix_read fibres t) old new r → r.length ≤ table_room desk
+read-fits fibres t old new r f = length-within (read-matrix-promise fibres t old new r f) (table_room desk) (matrix-table-short fibres t)
 
 -- so with that room every accepted matrix is read
 pub always-read : (fibres : ℕ) (t old new : List ℕ) (r : Reply) → Fills (matrix_read fibres t) old new r → IsFibres fibres → Accepted desk t → table_room desk ≤ length old → r.reason ≡ 0
@@ -187,6 +198,9 @@ pub write-matrix-promise : (t old new : List ℕ) (r : Reply) → Fills (matrix_
 unfolding matrix_written
 write-matrix-promise t old new r f = call-promise (one-sums t) (sums-decided t (table_of desk t) refl) f
 
+pub write-matrix-only : (t old new : List ℕ) (r : Reply) → Fills (matrix_written t) old new r → Only (WriteMatrixPromise t old) new r
+write-matrix-only t old new r f = call-only (write-matrix-promise t old new r f) (one-sums t)
+
 module _ (t text : List ℕ) (d : SumsDue t text) where
   fits : judge_sums desk d.rs ≡ Fit
   fits = (sums-fit desk d.rs).1 d.fit
@@ -203,12 +217,18 @@ module _ (t text : List ℕ) (d : SumsDue t text) where
   pub written-matrix-short : length text ≤ matrix_room desk
   written-matrix-short = omega (arith, ap length d.is, room-for-matrix d.ring d.rs d.of.range fits)
 
+-- what is written is an accepted matrix, and fits
+pub written-accepted : (t old new : List ℕ) (r : Reply) → Fills (matrix_written t) old new r → r.reason ≡ 0 → Accepted desk (take r.length new)
+written-accepted t old new r f e = written-matrix-accepted t (take r.length new) (written-due (write-matrix-promise t old new r f) e)
+
+pub written-fits : (t old new : List ℕ) (r : Reply) → Fills (matrix_written t) old new r → r.length ≤ matrix_room desk
+written-fits t old new r f = length-within (write-matrix-promise t old new r f) (matrix_room desk) (written-matrix-short t)
+
 -- so with that room every accepted table of which no sum passes is written
-pub always-written : (t : List ℕ) (ring : Ring) (rs : List Row) → TableOf t ring rs → ((k : ℕ) → Passes desk rs k → ⊥) → (old new : List ℕ) (r : Reply) → Fills (matrix_written t) old new r
-    → matrix_room desk ≤ length old → r.reason ≡ 0
-always-written t ring rs of fit old new r call room =
-    let text = write_matrix (matrix_of_rows ring.n rs) in
-    let d : SumsDue t text = record { ring = ring; rs = rs; of = of; fit = fit; is = refl } in
+pub always-written : (t old new : List ℕ) (r : Reply) → Fills (matrix_written t) old new r → SumsFit t → matrix_room desk ≤ length old → r.reason ≡ 0
+always-written t old new r call s room =
+    let text = write_matrix (matrix_of_rows s.ring.n s.rs) in
+    let d : SumsDue t text = record { ring = s.ring; rs = s.rs; of = s.of; fit = s.fit; is = refl } in
     (((write-matrix-promise t old new r call).succeeds text).1 (d, omega (arith, written-matrix-short t text d))).reason
 
 -- and none passes where there is at most one row for a pair

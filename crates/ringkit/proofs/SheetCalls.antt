@@ -29,13 +29,14 @@ use Rattle.checker.proofs.PairLaws.{low, first-pair-is, no-pair-is}
 use Rattle.ringkit.specs.Outcome.{Fills}
 use Rattle.ringkit.specs.TableCalls.{table_routed}
 use Rattle.ringkit.specs.SheetCalls.{verdict_reply, sheet_checked, pair_reply, question_reply, sheet_parallel, of_sheet, sheet_afresh}
-use Rattle.ringkit.specs.Says.{CallPromise}
+use Rattle.ringkit.specs.Says.{CallPromise, Only}
 use Rattle.ringkit.specs.Texts.{SheetOf, SomeSheet, SomeForm, TableDue, sheet_due, Itself}
 use Rattle.ringkit.specs.Answers.{yes, no, CheckSays, says_yes, says_no, CheckPromise, paired, not_asked, PairOf, NoPairOf, PairSays, a_pair, no_pair, refused as pair-refused, PairPromise}
+use Rattle.ringkit.specs.Promises.{RewriteSheetPromise}
 use Rattle.ringkit.specs.Demands.{FormedSheet, BestSheet, RoutedWell}
 use Rattle.ringkit.specs.declared.Reply.{Reply}
 use Rattle.ringkit.specs.declared.PairReply.{PairReply}
-use Rattle.ringkit.proofs.Calls.{Decided, is_due, is_given, One, call-promise}
+use Rattle.ringkit.proofs.Calls.{Decided, is_due, is_given, One, call-promise, call-only}
 use Rattle.ringkit.proofs.TableCalls.{due-accepted, route-promise}
 
 -- ---- what a sheet is read to
@@ -76,6 +77,9 @@ one-itself t =
 pub rewrite-sheet-promise : (t old new : List ℕ) (r : Reply) → Fills (sheet_afresh t) old new r → CallPromise (Itself (Accepted desk t) t) (Given desk t) old new r
 unfolding sheet_afresh
 rewrite-sheet-promise t old new r f = call-promise (one-itself t) (afresh t (check desk t) refl) f
+
+pub rewrite-sheet-only : (t old new : List ℕ) (r : Reply) → Fills (sheet_afresh t) old new r → Only (RewriteSheetPromise t old) new r
+rewrite-sheet-only t old new r f = call-only (rewrite-sheet-promise t old new r f) (one-itself t)
 
 -- ---- checking
 
@@ -121,6 +125,14 @@ module _ {t : List ℕ} where
 -- yes exactly where no reason holds of the sheet, and a refusal exactly where it is the first that holds
 pub check-promise : (t : List ℕ) (r : Reply) → r ≡ sheet_checked t → CheckPromise t r
 check-promise t r e = subst (CheckPromise t) (sym e) (check-laws (checked t))
+
+-- and no other reply keeps the promise
+pub check-only : (t : List ℕ) (r : Reply) → r ≡ sheet_checked t → (other : Reply) → CheckPromise t other → other ≡ r
+check-only t r e other p = go (check-promise t r e).cases p
+  where
+    go : {r : Reply} → CheckSays t r → CheckPromise t other → other ≡ r
+    go (says_yes a) p = p.accepts.1 a
+    go (says_no {reason} {line} {byte} g) p = (p.refuses reason line byte).1 g
 
 -- ---- demand 3 of a well-formed sheet, and of one that is accepted
 
@@ -214,6 +226,15 @@ parallel-promise t r e =
       none = (λ y. is_none t says y, λ h. e ∙ said-none t h);
       refuses = λ reason line byte. (λ y. is-refusal t reason line byte says y, λ g. e ∙ said-refusal t reason line byte g);
     }
+
+-- and no other reply keeps the promise
+pub parallel-only : (t : List ℕ) (r : PairReply) → r ≡ sheet_parallel t → (other : PairReply) → PairPromise t other → other ≡ r
+parallel-only t r e other p = go (parallel-promise t r e).cases p
+  where
+    go : {r : PairReply} → PairSays t r → PairPromise t other → other ≡ r
+    go (a_pair {p = a} {q = b} x l) p = ((p.pair a b).1 x).0
+    go (no_pair x) p = p.none.1 x
+    go (pair-refused {reason} {line} {byte} g) p = (p.refuses reason line byte).1 g
 
 -- ---- what routing writes
 

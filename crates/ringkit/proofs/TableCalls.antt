@@ -20,11 +20,12 @@ use Rattle.sheet.specs.Range.{longest}
 use Rattle.sheet.proofs.Short.{plan-short}
 use Rattle.ringkit.specs.Outcome.{Fills}
 use Rattle.ringkit.specs.TableCalls.{of_table, table_afresh, table_routed}
-use Rattle.ringkit.specs.Says.{CallPromise}
+use Rattle.ringkit.specs.Says.{CallPromise, Only}
 use Rattle.ringkit.specs.Back.{TableThereAndBack}
 use Rattle.ringkit.specs.Texts.{TableOf, TableDue, SomeDue, sheet_due, Itself}
+use Rattle.ringkit.specs.Promises.{RoutePromise, RewriteTablePromise}
 use Rattle.ringkit.specs.declared.Reply.{Reply}
-use Rattle.ringkit.proofs.Calls.{Decided, is_due, is_given, One, call-promise}
+use Rattle.ringkit.proofs.Calls.{Decided, is_due, is_given, One, call-promise, call-only, length-within}
 
 module _ (t : List ℕ) where
   -- a table is read to the values that it is the table of
@@ -85,6 +86,9 @@ pub rewrite-promise : (t old new : List ℕ) (r : Reply) → Fills (table_afresh
 unfolding table_afresh
 rewrite-promise t old new r f = call-promise (one-itself t) (afresh t (table_of desk t) refl) f
 
+pub rewrite-only : (t old new : List ℕ) (r : Reply) → Fills (table_afresh t) old new r → Only (RewriteTablePromise t old) new r
+rewrite-only t old new r f = call-only (rewrite-promise t old new r f) (one-itself t)
+
 -- what is read is written again as the same bytes, and what is written is read again as the same values
 pub table-rewritten : TableThereAndBack
 table-rewritten =
@@ -103,9 +107,15 @@ pub route-promise : (t old new : List ℕ) (r : Reply) → Fills (table_routed t
 unfolding table_routed
 route-promise t old new r f = call-promise (one-due t sheet_due) (decided t sheet_due (table_of desk t) refl) f
 
+pub route-only : (t old new : List ℕ) (r : Reply) → Fills (table_routed t) old new r → Only (RoutePromise t old) new r
+route-only t old new r f = call-only (route-promise t old new r f) (one-due t sheet_due)
+
 -- no sheet that is due is longer than `longest`
 pub due-short : (t text : List ℕ) → TableDue sheet_due t text → length text ≤ longest desk
 due-short t text d = omega (arith, ap length d.is, plan-short d.ring d.rs d.of.range)
+
+pub route-fits : (t old new : List ℕ) (r : Reply) → Fills (table_routed t) old new r → r.length ≤ longest desk
+route-fits t old new r f = length-within (route-promise t old new r f) (longest desk) (due-short t)
 
 -- so with `longest` bytes of room every accepted table is routed
 pub always-routed : (t old new : List ℕ) (r : Reply) → Fills (table_routed t) old new r → Accepted desk t → longest desk ≤ length old → r.reason ≡ 0

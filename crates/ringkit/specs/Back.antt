@@ -3,10 +3,11 @@ use Rattle.std.specs.Prelude.{ℕ, ◌≤◌, List, ◌≡◌, length}
 use Rattle.ring.specs.Limits.{desk}
 use Rattle.ring.specs.Ring.{Ring}
 use Rattle.ring.specs.Row.{Row}
-use Rattle.table.specs.Says.{Given, Accepted}
+use Rattle.table.specs.Says.{Accepted}
 use Rattle.matrix.specs.Demands.{OneEach}
-use Rattle.ringkit.specs.Says.{Success, CallPromise}
-use Rattle.ringkit.specs.Texts.{TableOf, Itself, MatrixDue, MatrixGiven, SumsDue, SumsGiven}
+use Rattle.ringkit.specs.Says.{Success}
+use Rattle.ringkit.specs.Texts.{TableOf}
+use Rattle.ringkit.specs.Promises.{RewriteTablePromise, ReadMatrixPromise, WriteMatrixPromise}
 use Rattle.ringkit.specs.declared.Reply.{Reply}
 
 -- a text is the table of some values
@@ -25,15 +26,15 @@ pub record TableThereAndBack : Type 0 where
   pub same_ring : (t : List ℕ) (ring other : Ring) (rs qs : List Row) → TableOf t ring rs → TableOf t other qs → ring ≡ other
   pub same_rows : (t : List ℕ) (ring other : Ring) (rs qs : List Row) → TableOf t ring rs → TableOf t other qs → rs ≡ qs
   -- the call that reads a table and writes its values afresh gives, with room, the same bytes
-  pub rewritten : (t old new : List ℕ) (r : Reply) → CallPromise (Itself (Accepted desk t) t) (Given desk t) old new r
+  pub rewritten : (t old new : List ℕ) (r : Reply) → RewriteTablePromise t old new r
       → Accepted desk t → length t ≤ length old → Success t old new r
 
 -- matrix to table to matrix: reading a matrix wrote a table, whatever the fibres; writing the matrix of that table gives, with room, the bytes of the matrix that was read
 abbrev pub MatrixToTableToMatrix : Type 0
 MatrixToTableToMatrix =
-    (fibres : ℕ) (t text old new : List ℕ) (r : Reply) → CallPromise (MatrixDue fibres t) (MatrixGiven fibres t) old new r
+    (fibres : ℕ) (t text old new : List ℕ) (r : Reply) → ReadMatrixPromise fibres t old new r
     → Success text old new r
-    → (other after : List ℕ) (q : Reply) → CallPromise (SumsDue text) (SumsGiven text) other after q
+    → (other after : List ℕ) (q : Reply) → WriteMatrixPromise text other after q
     → length t ≤ length other → Success t other after q
 
 -- table to matrix to table, of a table with at most one row for a pair and none of amount 0: writing its matrix wrote a text; reading that on the table's own fibres
@@ -41,6 +42,6 @@ MatrixToTableToMatrix =
 abbrev pub TableToMatrixToTable : Type 0
 TableToMatrixToTable =
     (t : List ℕ) (ring : Ring) (rs : List Row) → TableOf t ring rs → OneEach rs
-    → (text old new : List ℕ) (r : Reply) → CallPromise (SumsDue t) (SumsGiven t) old new r → Success text old new r
-    → (other after : List ℕ) (q : Reply) → CallPromise (MatrixDue ring.fibres text) (MatrixGiven ring.fibres text) other after q
+    → (text old new : List ℕ) (r : Reply) → WriteMatrixPromise t old new r → Success text old new r
+    → (other after : List ℕ) (q : Reply) → ReadMatrixPromise ring.fibres text other after q
     → length t ≤ length other → Success t other after q

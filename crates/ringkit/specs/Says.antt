@@ -43,3 +43,8 @@ pub record CallPromise (Due : List ℕ → Type 0) (Given : Reason → ℕ → �
   pub no_room : Refusal NoRoom 0 0 old new r ↔ TooLarge Due old
   -- every other reason, with its line and its byte, exactly when it is given to the text
   pub refuses : (reason : Reason) (line byte : ℕ) → (number_of reason ≡ number_of NoRoom → ⊥) → Refusal reason line byte old new r ↔ Given reason line byte
+
+-- and no other buffer or reply keeps such a promise: the promise leaves the call no choice
+pub record Only (Promise : List ℕ → Reply → Type 0) (new : List ℕ) (r : Reply) : Type 0 where
+  pub buffer : (other : List ℕ) (reply : Reply) → Promise other reply → other ≡ new
+  pub reply : (other : List ℕ) (reply : Reply) → Promise other reply → reply ≡ r

@@ -94,6 +94,13 @@ pub record SumsDue (t text : List ℕ) : Type 0 where
   pub fit : (k : ℕ) → Passes desk rs k → ⊥
   pub is : text ≡ write_matrix (matrix_of_rows ring.n rs)
 
+-- t is a table of which a matrix is due: no sum passes the limit
+pub record SumsFit (t : List ℕ) : Type 0 where
+  pub ring : Ring
+  pub rs : List Row
+  pub of : TableOf t ring rs
+  pub fit : (k : ℕ) → Passes desk rs k → ⊥
+
 -- what is given to a table of which a matrix is written: the table's own reasons; then 19, on the line of the first row at which a pair's sum passes 9,999, with byte 1
 pub data SumsGiven (t : List ℕ) : Reason → ℕ → ℕ → Type 0 where
   of_the_table : {reason : Reason} {line byte : ℕ} → Given desk t reason line byte → SumsGiven t reason line byte

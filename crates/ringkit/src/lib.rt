@@ -2,21 +2,30 @@
 // The public calls: byte slices and numbers in, a reply by value out. No call has a `requires`. `ringkit_c` gives them to C.
 mod working; // the calls of the working table
 
-ghost use Rattle.std.specs.Prelude.{◌≡◌, ◌≤◌};
+ghost use Rattle.std.specs.Prelude.{◌≡◌, ◌≤◌, length, take};
 ghost use Rattle.ring.specs.Limits.{desk};
+ghost use Rattle.ring.specs.LineSize.{IsFibres};
 ghost use Rattle.ring.specs.Ring.{ring_of};
 ghost use Rattle.ring.specs.Columns.{rows_in};
 ghost use Rattle.ring.specs.Row.{TableRows};
 ghost use Rattle.ring.specs.Sheet.{plan};
 ghost use Rattle.router.specs.Rows.{Table};
 ghost use Rattle.table.specs.Table.{write_table, table_room};
+ghost use Rattle.table.specs.Says.{Accepted as AcceptedTable};
 ghost use Rattle.matrix.specs.Matrix.{write_matrix};
 ghost use Rattle.matrix.specs.Demands.{matrix_of_rows};
 ghost use Rattle.matrix.specs.Arrays.{Amounts};
 ghost use Rattle.matrix.specs.Room.{matrix_room};
+ghost use Rattle.matrix.specs.Says.{Accepted as AcceptedMatrix};
 ghost use Rattle.sheet.specs.WriteSheet.{write_sheet};
 ghost use Rattle.sheet.specs.Arrays.{sheet_in};
 ghost use Rattle.sheet.specs.Range.{longest};
+ghost use Rattle.sheet.specs.Says.{WellFormed};
+ghost use Rattle.ringkit.specs.Says.{Only};
+ghost use Rattle.ringkit.specs.Texts.{SumsFit};
+ghost use Rattle.ringkit.specs.Promises.{RoutePromise, RewriteTablePromise, RewriteSheetPromise, ReadMatrixPromise, WriteMatrixPromise};
+ghost use Rattle.ringkit.specs.Answers.{yes, CheckPromise, PairPromise};
+ghost use Rattle.ringkit.specs.Demands.{FormedSheet, BestSheet, RoutedWell};
 ghost use Rattle.ringkit.specs.Outcome.{reply_of, refuse, write, Fills};
 ghost use Rattle.ringkit.specs.TableCalls.{table_afresh, table_routed};
 ghost use Rattle.ringkit.specs.MatrixCalls.{matrix_read, matrix_written};
@@ -92,7 +101,10 @@ fn put_table<'a>(
     amount: &'a [u32; ROWS],
 ) -> Reply
     requires { count ≤ desk.rows }
-    ensures { Fills (write (write_table (ring_of n fibres) (rows_in count first.now second.now amount.now))) buf.old buf.new result }
+    ensures {
+        let rows = rows_in count first.now second.now amount.now in
+        Fills (write (write_table (ring_of n fibres) rows)) buf.old buf.new result
+    }
 {
     let size = table::table_length(n, fibres, count, first, second, amount);
     if buf.len() < size {
@@ -107,8 +119,7 @@ fn put_table<'a>(
     }
 }
 
-// Reads a table and writes its values afresh.
-pub fn ringkit_rewrite_table(table: &[u8], buffer: &mut [u8]) -> Reply
+fn rewrite_table(table: &[u8], buffer: &mut [u8]) -> Reply
     ensures { Fills (table_afresh table.now) buffer.old buffer.new result }
 {
     let mut first = [0u32; ROWS];
@@ -123,8 +134,16 @@ pub fn ringkit_rewrite_table(table: &[u8], buffer: &mut [u8]) -> Reply
     }
 }
 
-// Reads a matrix and writes its table, on a ring of so many fibres, which a matrix does not say.
-pub fn ringkit_read_matrix(matrix: &[u8], fibres: u32, buffer: &mut [u8]) -> Reply
+// Reads a table and writes its values afresh.
+pub fn ringkit_rewrite_table(table: &[u8], buffer: &mut [u8]) -> Reply
+    ensures promise { RewriteTablePromise table.now buffer.old buffer.new result }
+    ensures only { Only (RewriteTablePromise table.now buffer.old) buffer.new result }
+    ensures value { Fills (table_afresh table.now) buffer.old buffer.new result }
+{
+    rewrite_table(table, buffer)
+}
+
+fn read_matrix(matrix: &[u8], fibres: u32, buffer: &mut [u8]) -> Reply
     ensures { Fills (matrix_read fibres matrix.now) buffer.old buffer.new result }
 {
     let other = table::other_fibres(fibres);
@@ -141,6 +160,21 @@ pub fn ringkit_read_matrix(matrix: &[u8], fibres: u32, buffer: &mut [u8]) -> Rep
     }
 }
 
+// Reads a matrix and writes its table, on a ring of so many fibres, which a matrix does not say.
+pub fn ringkit_read_matrix(matrix: &[u8], fibres: u32, buffer: &mut [u8]) -> Reply
+    ensures promise { ReadMatrixPromise fibres matrix.now buffer.old buffer.new result }
+    ensures only { Only (ReadMatrixPromise fibres matrix.now buffer.old) buffer.new result }
+    ensures accepted { result.reason ≡ 0 → AcceptedTable desk (take result.length buffer.new) }
+    ensures fits { result.length ≤ table_room desk }
+    ensures room {
+        IsFibres fibres → AcceptedMatrix desk matrix.now → table_room desk ≤ length buffer.old →
+        result.reason ≡ 0
+    }
+    ensures value { Fills (matrix_read fibres matrix.now) buffer.old buffer.new result }
+{
+    read_matrix(matrix, fibres, buffer)
+}
+
 // Writes the matrix of a table's rows, or refuses where the buffer is too short.
 fn put_matrix<'a>(
     buf: &mut [u8],
@@ -150,8 +184,12 @@ fn put_matrix<'a>(
     second: &'a [u32; ROWS],
     amount: &'a [u32; ROWS],
 ) -> Reply
-    requires { (n ≤ desk.nodes) × Amounts count amount.now }
-    ensures { Fills (write (write_matrix (matrix_of_rows n (rows_in count first.now second.now amount.now)))) buf.old buf.new result }
+    requires nodes { n ≤ desk.nodes }
+    requires amounts { Amounts count amount.now }
+    ensures {
+        let rows = rows_in count first.now second.now amount.now in
+        Fills (write (write_matrix (matrix_of_rows n rows))) buf.old buf.new result
+    }
 {
     let bytes = matrix::matrix_length(n, count, first, second, amount);
     if buf.len() < bytes {
@@ -166,8 +204,7 @@ fn put_matrix<'a>(
     }
 }
 
-// Reads a table and writes its matrix.
-pub fn ringkit_write_matrix(table: &[u8], buffer: &mut [u8]) -> Reply
+fn write_matrix(table: &[u8], buffer: &mut [u8]) -> Reply
     ensures { Fills (matrix_written table.now) buffer.old buffer.new result }
 {
     let mut first = [0u32; ROWS];
@@ -186,6 +223,18 @@ pub fn ringkit_write_matrix(table: &[u8], buffer: &mut [u8]) -> Reply
     }
 }
 
+// Reads a table and writes its matrix.
+pub fn ringkit_write_matrix(table: &[u8], buffer: &mut [u8]) -> Reply
+    ensures promise { WriteMatrixPromise table.now buffer.old buffer.new result }
+    ensures only { Only (WriteMatrixPromise table.now buffer.old) buffer.new result }
+    ensures accepted { result.reason ≡ 0 → AcceptedMatrix desk (take result.length buffer.new) }
+    ensures fits { result.length ≤ matrix_room desk }
+    ensures room { SumsFit table.now → matrix_room desk ≤ length buffer.old → result.reason ≡ 0 }
+    ensures value { Fills (matrix_written table.now) buffer.old buffer.new result }
+{
+    write_matrix(table, buffer)
+}
+
 // Writes a sheet, or refuses where the buffer is too short.
 fn put_sheet<'a>(
     buf: &mut [u8],
@@ -200,8 +249,13 @@ fn put_sheet<'a>(
     split: &'a [u32; LINKS],
     unsplit: &'a [u32; LINKS],
 ) -> Reply
-    requires { (count ≤ desk.rows) × (x.n ≤ desk.nodes) }
-    ensures { Fills (write (write_sheet (sheet_in x count first.now second.now amount.now front.now back.now way.now split.now unsplit.now))) buf.old buf.new result }
+    requires rows { count ≤ desk.rows }
+    requires nodes { x.n ≤ desk.nodes }
+    ensures {
+        let sheet = sheet_in x count first.now second.now amount.now front.now back.now way.now
+            split.now unsplit.now in
+        Fills (write (write_sheet sheet)) buf.old buf.new result
+    }
 {
     let need = sheet::sheet_length(
         x, count, first, second, amount, front, back, way, split, unsplit,
@@ -232,7 +286,10 @@ fn put_route<'a>(
 ) -> Reply
     requires table { Table n count first.now second.now amount.now }
     requires table_rows { TableRows n (rows_in count first.now second.now amount.now) }
-    ensures { Fills (write (write_sheet (plan (ring_of n fibres) (rows_in count first.now second.now amount.now)))) buf.old buf.new result }
+    ensures {
+        let rows = rows_in count first.now second.now amount.now in
+        Fills (write (write_sheet (plan (ring_of n fibres) rows))) buf.old buf.new result
+    }
 {
     let mut front = [0u32; ROWS];
     let mut back = [0u32; ROWS];
@@ -254,8 +311,7 @@ fn put_route<'a>(
     )
 }
 
-// Routes a table by rules A to D and writes its sheet.
-pub fn ringkit_route(table: &[u8], buffer: &mut [u8]) -> Reply
+fn route(table: &[u8], buffer: &mut [u8]) -> Reply
     ensures { Fills (table_routed table.now) buffer.old buffer.new result }
 {
     let mut first = [0u32; ROWS];
@@ -270,8 +326,23 @@ pub fn ringkit_route(table: &[u8], buffer: &mut [u8]) -> Reply
     }
 }
 
-// Checks a sheet, whatever tool it comes from.
-pub fn ringkit_check(sheet: &[u8]) -> Reply
+// Routes a table by rules A to D and writes its sheet.
+pub fn ringkit_route(table: &[u8], buffer: &mut [u8]) -> Reply
+    ensures promise { RoutePromise table.now buffer.old buffer.new result }
+    ensures only { Only (RoutePromise table.now buffer.old) buffer.new result }
+    ensures best {
+        AcceptedTable desk table.now → RoutedWell table.now buffer.old buffer.new result
+    }
+    ensures fits { result.length ≤ longest desk }
+    ensures room {
+        AcceptedTable desk table.now → longest desk ≤ length buffer.old → result.reason ≡ 0
+    }
+    ensures value { Fills (table_routed table.now) buffer.old buffer.new result }
+{
+    route(table, buffer)
+}
+
+fn check(sheet: &[u8]) -> Reply
     ensures { result ≡ sheet_checked sheet.now }
 {
     let mut values = checker::no_values();
@@ -287,6 +358,17 @@ pub fn ringkit_check(sheet: &[u8]) -> Reply
     }
 }
 
+// Checks a sheet, whatever tool it comes from.
+pub fn ringkit_check(sheet: &[u8]) -> Reply
+    ensures promise { CheckPromise sheet.now result }
+    ensures only { (other : Reply) → CheckPromise sheet.now other → other ≡ result }
+    ensures formed { WellFormed desk sheet.now → FormedSheet sheet.now result }
+    ensures best { result ≡ yes → BestSheet sheet.now }
+    ensures value { result ≡ sheet_checked sheet.now }
+{
+    check(sheet)
+}
+
 // reason 0 is success: two rows by their places, counted from 1; both are 0 where there is no pair, and on a refusal.
 #[repr(C)]
 #[derive(Drop)]
@@ -298,8 +380,7 @@ pub struct PairReply {
     pub second: usize,
 }
 
-// The first pair of split rows of a sheet that are parallel.
-pub fn ringkit_parallel(sheet: &[u8]) -> PairReply
+fn first_parallel(sheet: &[u8]) -> PairReply
     ensures { result ≡ sheet_parallel sheet.now }
 {
     let mut values = checker::no_values();
@@ -340,8 +421,16 @@ pub fn ringkit_parallel(sheet: &[u8]) -> PairReply
     }
 }
 
-// Reads a sheet and writes its values afresh.
-pub fn ringkit_rewrite_sheet(sheet: &[u8], buffer: &mut [u8]) -> Reply
+// The first pair of split rows of a sheet that are parallel.
+pub fn ringkit_parallel(sheet: &[u8]) -> PairReply
+    ensures promise { PairPromise sheet.now result }
+    ensures only { (other : PairReply) → PairPromise sheet.now other → other ≡ result }
+    ensures value { result ≡ sheet_parallel sheet.now }
+{
+    first_parallel(sheet)
+}
+
+fn rewrite_sheet(sheet: &[u8], buffer: &mut [u8]) -> Reply
     ensures { Fills (sheet_afresh sheet.now) buffer.old buffer.new result }
 {
     let mut values = checker::no_values();
@@ -365,4 +454,13 @@ pub fn ringkit_rewrite_sheet(sheet: &[u8], buffer: &mut [u8]) -> Reply
             )
         }
     }
+}
+
+// Reads a sheet and writes its values afresh.
+pub fn ringkit_rewrite_sheet(sheet: &[u8], buffer: &mut [u8]) -> Reply
+    ensures promise { RewriteSheetPromise sheet.now buffer.old buffer.new result }
+    ensures only { Only (RewriteSheetPromise sheet.now buffer.old) buffer.new result }
+    ensures value { Fills (sheet_afresh sheet.now) buffer.old buffer.new result }
+{
+    rewrite_sheet(sheet, buffer)
 }

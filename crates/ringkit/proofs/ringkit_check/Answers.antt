@@ -1,9 +1,15 @@
--- Checking a sheet: what the checker answers, as a reply (`SheetSteps`).
-use Rattle.ringkit.proofs.SheetSteps.{check-refused, check-accepted}
+-- Checking: each clause by one law of the reply (`SheetCalls`).
+use Rattle.ringkit.proofs.SheetCalls.{check-promise, check-only, formed-checked, yes-best}
 use Rattle.ringkit.proofs.ringkit_check.Goals as goal
 
-pub returns-in-Refused : goal.returns-in-Refused
-returns-in-Refused c = search check-refused
+pub returns-clause-promise : goal.returns-clause-promise
+returns-clause-promise c = search check-promise
 
-pub returns-in-Is : goal.returns-in-Is
-returns-in-Is c = search (check-refused, check-accepted)
+pub returns-clause-only : goal.returns-clause-only
+returns-clause-only c = search check-only
+
+pub returns-clause-formed : goal.returns-clause-formed
+returns-clause-formed c = search formed-checked
+
+pub returns-clause-best : goal.returns-clause-best
+returns-clause-best c = search yes-best

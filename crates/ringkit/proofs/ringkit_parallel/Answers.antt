@@ -1,15 +1,9 @@
--- The first parallel split pair of an accepted sheet: the rows in the checker's arrays are the sheet's (`SheetSteps`).
-use Rattle.ringkit.proofs.SheetSteps.{pair-refused, rows-have-room, pair_found, no-pair-found}
+-- The question: each clause by one law of the reply (`SheetCalls`).
+use Rattle.ringkit.proofs.SheetCalls.{parallel-promise, parallel-only}
 use Rattle.ringkit.proofs.ringkit_parallel.Goals as goal
 
-pub first_pair-pair-requires : goal.first_pair-pair-requires
-first_pair-pair-requires c = search rows-have-room
+pub returns-clause-promise : goal.returns-clause-promise
+returns-clause-promise c = search parallel-promise
 
-pub returns-in_default : goal.returns-in_default
-returns-in_default c = search (pair-refused, pair_found, no-pair-found)
-
-pub returns-in-Refused : goal.returns-in-Refused
-returns-in-Refused c = search pair-refused
-
-pub returns-in-Are : goal.returns-in-Are
-returns-in-Are c = search pair_found
+pub returns-clause-only : goal.returns-clause-only
+returns-clause-only c = search parallel-only

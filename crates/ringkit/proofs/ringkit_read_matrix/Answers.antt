@@ -1,15 +1,18 @@
--- Reading a matrix: 20 first; then what reading answers gives the outcome, and the outcome each way out (`RewriteSteps`).
-use Rattle.ringkit.proofs.RewriteSteps.{fibres-refused, matrix_refused, matrix-rows-have-room, matrix-fills}
+-- Reading a matrix: each clause by one law of the outcome (`MatrixCalls`).
+use Rattle.ringkit.proofs.MatrixCalls.{read-matrix-promise, read-matrix-only, read-accepted, read-fits, always-read}
 use Rattle.ringkit.proofs.ringkit_read_matrix.Goals as goal
 
-pub returns-then-other : goal.returns-then-other
-returns-then-other c = search (fibres-refused, matrix_refused, matrix-fills)
+pub returns-clause-promise : goal.returns-clause-promise
+returns-clause-promise c = search read-matrix-promise
 
-pub put_table-requires : goal.put_table-requires
-put_table-requires c = search matrix-rows-have-room
+pub returns-clause-only : goal.returns-clause-only
+returns-clause-only c = search read-matrix-only
 
-pub returns-in-Refused : goal.returns-in-Refused
-returns-in-Refused c = search (fibres-refused, matrix_refused, matrix-fills)
+pub returns-clause-accepted : goal.returns-clause-accepted
+returns-clause-accepted c = search read-accepted
 
-pub returns-in-Is : goal.returns-in-Is
-returns-in-Is c = search matrix-fills
+pub returns-clause-fits : goal.returns-clause-fits
+returns-clause-fits c = search read-fits
+
+pub returns-clause-room : goal.returns-clause-room
+returns-clause-room c = search always-read

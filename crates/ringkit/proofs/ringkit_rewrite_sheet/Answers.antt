@@ -1,12 +1,9 @@
--- Rewriting a sheet: the checker's arrays hold the sheet that it accepted (`SheetSteps`).
-use Rattle.ringkit.proofs.SheetSteps.{sheet-refused, rows-have-room, links-have-room, sheet-fills}
+-- Rewriting a sheet: each clause by one law of the outcome (`SheetCalls`).
+use Rattle.ringkit.proofs.SheetCalls.{rewrite-sheet-promise, rewrite-sheet-only}
 use Rattle.ringkit.proofs.ringkit_rewrite_sheet.Goals as goal
 
-pub put_sheet-requires : goal.put_sheet-requires
-put_sheet-requires c = search (rows-have-room, links-have-room)
+pub returns-clause-promise : goal.returns-clause-promise
+returns-clause-promise c = search rewrite-sheet-promise
 
-pub returns-in-Refused : goal.returns-in-Refused
-returns-in-Refused c = search (sheet-refused, sheet-fills)
-
-pub returns-in-Is : goal.returns-in-Is
-returns-in-Is c = search sheet-fills
+pub returns-clause-only : goal.returns-clause-only
+returns-clause-only c = search rewrite-sheet-only

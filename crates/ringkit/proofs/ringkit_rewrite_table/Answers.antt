@@ -1,12 +1,9 @@
--- Rewriting a table: what reading answers gives the outcome, and the outcome each way out (`RewriteSteps`).
-use Rattle.ringkit.proofs.RewriteSteps.{table_refused, rows-have-room, table-fills}
+-- Rewriting a table: each clause by one law of the outcome (`TableCalls`).
+use Rattle.ringkit.proofs.TableCalls.{rewrite-promise, rewrite-only}
 use Rattle.ringkit.proofs.ringkit_rewrite_table.Goals as goal
 
-pub put_table-requires : goal.put_table-requires
-put_table-requires c = search rows-have-room
+pub returns-clause-promise : goal.returns-clause-promise
+returns-clause-promise c = search rewrite-promise
 
-pub returns-in-Refused : goal.returns-in-Refused
-returns-in-Refused c = search (table_refused, table-fills)
-
-pub returns-in-Is : goal.returns-in-Is
-returns-in-Is c = search table-fills
+pub returns-clause-only : goal.returns-clause-only
+returns-clause-only c = search rewrite-only

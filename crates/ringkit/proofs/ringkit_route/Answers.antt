@@ -1,15 +1,19 @@
--- Routing a table: what reading answers is what the router takes, and its plan is the outcome's (`RouteSteps`).
-use Rattle.ringkit.proofs.RouteSteps.{route-refused, router-takes, rows-rise, route-fills}
+-- Routing: each clause by one law of the outcome (`TableCalls`, `SheetCalls`).
+use Rattle.ringkit.proofs.TableCalls.{route-promise, route-only, route-fits, always-routed}
+use Rattle.ringkit.proofs.SheetCalls.{demand-3}
 use Rattle.ringkit.proofs.ringkit_route.Goals as goal
 
-pub put_route-requires-clause-table : goal.put_route-requires-clause-table
-put_route-requires-clause-table c = search router-takes
+pub returns-clause-promise : goal.returns-clause-promise
+returns-clause-promise c = search route-promise
 
-pub put_route-requires-clause-table_rows : goal.put_route-requires-clause-table_rows
-put_route-requires-clause-table_rows c = search rows-rise
+pub returns-clause-only : goal.returns-clause-only
+returns-clause-only c = search route-only
 
-pub returns-in-Refused : goal.returns-in-Refused
-returns-in-Refused c = search (route-refused, route-fills)
+pub returns-clause-best : goal.returns-clause-best
+returns-clause-best c = search demand-3
 
-pub returns-in-Is : goal.returns-in-Is
-returns-in-Is c = search route-fills
+pub returns-clause-fits : goal.returns-clause-fits
+returns-clause-fits c = search route-fits
+
+pub returns-clause-room : goal.returns-clause-room
+returns-clause-room c = search always-routed

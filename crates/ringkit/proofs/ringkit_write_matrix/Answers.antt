@@ -1,18 +1,18 @@
--- Writing a table's matrix: what reading answers is what the sums and the writer take, and gives the outcome each way out (`MatrixSteps`).
-use Rattle.ringkit.proofs.MatrixSteps.{written-refused, sums-take, nodes-have-room, sums-refused, written-fills}
+-- Writing a matrix: each clause by one law of the outcome (`MatrixCalls`).
+use Rattle.ringkit.proofs.MatrixCalls.{write-matrix-promise, write-matrix-only, written-accepted, written-fits, always-written}
 use Rattle.ringkit.proofs.ringkit_write_matrix.Goals as goal
 
-pub judge_sums-sums-requires : goal.judge_sums-sums-requires
-judge_sums-sums-requires c = search sums-take
+pub returns-clause-promise : goal.returns-clause-promise
+returns-clause-promise c = search write-matrix-promise
 
-pub put_matrix-requires : goal.put_matrix-requires
-put_matrix-requires c = search (sums-take, nodes-have-room)
+pub returns-clause-only : goal.returns-clause-only
+returns-clause-only c = search write-matrix-only
 
-pub returns-in-Refused : goal.returns-in-Refused
-returns-in-Refused c = search (written-refused, sums-refused, written-fills)
+pub returns-clause-accepted : goal.returns-clause-accepted
+returns-clause-accepted c = search written-accepted
 
-pub returns-in-Pass : goal.returns-in-Pass
-returns-in-Pass c = search (written-refused, sums-refused, written-fills)
+pub returns-clause-fits : goal.returns-clause-fits
+returns-clause-fits c = search written-fits
 
-pub returns-in-Fit : goal.returns-in-Fit
-returns-in-Fit c = search written-fills
+pub returns-clause-room : goal.returns-clause-room
+returns-clause-room c = search always-written

@@ -1,0 +1,15 @@
+-- The first parallel split pair of an accepted sheet: the rows in the checker's arrays are the sheet's (`SheetSteps`).
+use Rattle.ringkit.proofs.SheetSteps.{pair-refused, rows-have-room, pair_found, no-pair-found}
+use Rattle.ringkit.proofs.first_parallel.Goals as goal
+
+pub first_pair-pair-requires : goal.first_pair-pair-requires
+first_pair-pair-requires c = search rows-have-room
+
+pub returns-in_default : goal.returns-in_default
+returns-in_default c = search (pair-refused, pair_found, no-pair-found)
+
+pub returns-in-Refused : goal.returns-in-Refused
+returns-in-Refused c = search pair-refused
+
+pub returns-in-Are : goal.returns-in-Are
+returns-in-Are c = search pair_found
