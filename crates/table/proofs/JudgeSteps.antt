@@ -1,12 +1,17 @@
--- What is found against a row, once its nodes are in order: the first reason that holds, by the numbers that it compares.
+-- What is found against a ring whose size is right, and against a row whose nodes are in order: the first reason that holds, by what is compared for it.
 use Prim.Native.Nat.{ℕ, ◌≤◌, ◌<◌}
 use mathlib.Core.Bool.{true, false}
 use mathlib.Core.Path.{◌≡◌, sym}
 use borrow.Author.Tests.{le-ltb, lt-ltb, le-leb, lt-leb}
 use Rattle.ring.specs.Limits.{desk}
-use Rattle.table.specs.Judge.{outside, is_below, judge_row}
-use Rattle.table.specs.declared.reason.Reason.TheVariants.{OutOfOrder, TooMany, TooMuch}
+use Rattle.ring.specs.Ring.{ring_of}
+use Rattle.table.specs.Judge.{wrong_size, other_fibres, judge_ring, outside, is_below, judge_row}
+use Rattle.table.specs.declared.reason.Reason.TheVariants.{Fibres, OutOfOrder, TooMany, TooMuch}
 use Rattle.table.specs.declared.judge.Verdict.TheVariants.{Fine, Fault}
+
+pub ring-fibres : (n fibres : ℕ) → wrong_size desk n ≡ false → other_fibres fibres ≡ true → Fault Fibres ≡ judge_ring desk (ring_of n fibres)
+unfolding judge_ring
+ring-fibres n fibres size other = sym (rw (size, other))
 
 module _ (n k a b i j d : ℕ) (first : outside n i ≡ false) (second : outside n j ≡ false) (up : i < j) where
   pub row-order : is_below a b i j ≡ true → Fault OutOfOrder ≡ judge_row desk n k a b i j d
