@@ -147,13 +147,16 @@ module _ {old new other : List ℕ} {r q : Reply} where
 
 module _ {Due : List ℕ → Type 0} {Given : Reason → ℕ → ℕ → Type 0} {old new : List ℕ} {r : Reply} (call : CallPromise Due Given old new r) where
   -- no other buffer and no other reply keep it, where 15 is never given to the text itself
-  pub call-only : One Due Given → Only (CallPromise Due Given old) new r
-  call-only one = record { buffer = λ other q p. (agrees p call.cases).0; reply = λ other q p. (agrees p call.cases).1 }
+  pub only-by : ((reason : Reason) (line byte : ℕ) → Given reason line byte → number_of reason ≡ number_of NoRoom → ⊥) → Only (CallPromise Due Given old) new r
+  only-by apart = record { buffer = λ other q p. (agrees p call.cases).0; reply = λ other q p. (agrees p call.cases).1 }
     where
       agrees : {other : List ℕ} {q : Reply} → CallPromise Due Given old other q → CallSays Due Given old new r → (other ≡ new) × (q ≡ r)
       agrees p (with_room {text} due fits s) = same-success s ((p.succeeds text).1 (due, fits))
       agrees p (without_room {text} due large s) = same-refusal s (p.no_room.1 (record { text = text; due = due; large = large }))
-      agrees p (none_due {reason} {line} {byte} g s) = same-refusal s ((p.refuses reason line byte (one.other g)).1 g)
+      agrees p (none_due {reason} {line} {byte} g s) = same-refusal s ((p.refuses reason line byte (apart reason line byte g)).1 g)
+
+  pub call-only : One Due Given → Only (CallPromise Due Given old) new r
+  call-only one = only-by (λ reason line byte g e. one.other g e)
 
   -- with reason 0, the text at the buffer's start is the one that is due
   pub written-due : r.reason ≡ 0 → Due (take r.length new)

@@ -3,9 +3,7 @@ pub mod RewriteSteps
 pub mod MatrixSteps
 pub mod RouteSteps
 pub mod SheetSteps
-pub mod Unique
 pub mod Calls
-pub mod OnlyOne
 pub mod TableCalls
 pub mod SheetCalls
 pub mod MatrixCalls

@@ -4,7 +4,7 @@ use Prim.Native.Nat.{ℕ, ◌≤◌}
 use mathlib.Core.List.{List}
 use mathlib.Core.Path.{◌≡◌, refl, sym, ◌∙◌, ap}
 use native.Mathlib.Omega.{arith}
-use lib.ListN.{length}
+use lib.ListN.{length, take}
 use Rattle.ring.specs.Limits.{desk}
 use Rattle.ring.specs.Sheet.{plan}
 use Rattle.table.specs.Table.{write_table, table_room}
@@ -21,14 +21,12 @@ use Rattle.work.proofs.OneOrder.{one-order}
 use Rattle.work.proofs.ByCalls.{made-keeps, made-writes-out, made-sized, made-bytes}
 use Rattle.work.proofs.Promised.{made-as-played}
 use Rattle.ringkit.specs.Outcome.{Fills}
-use Rattle.ringkit.specs.Says.{CallPromise}
+use Rattle.ringkit.specs.Says.{CallPromise, Only}
 use Rattle.ringkit.specs.TableCalls.{work_written}
 use Rattle.ringkit.specs.Texts.{TableOf, TableDue, sheet_due}
-use Rattle.ringkit.specs.WorkCalls.{WorkDue, NoRefusal, WritesAccepted, RoutedAsNamed}
-use Rattle.ringkit.specs.Only.{Only}
+use Rattle.ringkit.specs.WorkCalls.{WorkDue, NoRefusal, RoutedAsNamed}
 use Rattle.ringkit.specs.declared.Reply.{Reply}
-use Rattle.ringkit.proofs.Calls.{is_due, One, call-promise}
-use Rattle.ringkit.proofs.OnlyOne.{only-call}
+use Rattle.ringkit.proofs.Calls.{is_due, One, call-promise, only-by, written-due}
 use Rattle.ringkit.proofs.TableCalls.{due-accepted}
 
 -- ---- every struct
@@ -57,7 +55,7 @@ pub work-write-promise : (w : Work) → Sized w → IsBytes w.second → {old ne
 work-write-promise w s b f = filled-promise w s (bytes-of w s b) f
 
 pub work-write-only : {w : Work} {old new : List ℕ} {r : Reply} → CallPromise (WorkDue w) NoRefusal old new r → Only (CallPromise (WorkDue w) NoRefusal old) new r
-work-write-only p = only-call (λ reason line byte g e. g) p
+work-write-only p = only-by p (λ reason line byte g e. g)
 
 -- ---- one made by calls
 
@@ -74,8 +72,8 @@ module _ {cs : List Call} {w : Work} (m : Made cs w) where
     work-accepted = (due-accepted text write_table).1 (record { text = text; is = record { ring = ring_in w; rs = d.rs; of = work-table; is = d.is } })
 
   module _ {old new : List ℕ} {r : Reply} where
-    pub writes-accepted : CallPromise (WorkDue w) NoRefusal old new r → WritesAccepted old new r
-    writes-accepted p text s = work-accepted text ((p.succeeds text).0 s).0
+    pub writes-accepted : CallPromise (WorkDue w) NoRefusal old new r → r.reason ≡ 0 → Accepted desk (take r.length new)
+    writes-accepted p e = work-accepted (take r.length new) (written-due p e)
 
     -- with `table_room` bytes of room it is always written
     pub always-work-written : CallPromise (WorkDue w) NoRefusal old new r → table_room desk ≤ length old → r.reason ≡ 0

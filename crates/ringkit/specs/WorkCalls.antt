@@ -4,7 +4,7 @@ use Rattle.ring.specs.Limits.{desk}
 use Rattle.ring.specs.Row.{Row}
 use Rattle.ring.specs.Sheet.{Sheet}
 use Rattle.table.specs.Table.{write_table}
-use Rattle.table.specs.Says.{Given, Accepted}
+use Rattle.table.specs.Says.{Given}
 use Rattle.table.specs.declared.reason.Reason.{Reason}
 use Rattle.sheet.specs.Range.{longest}
 use Rattle.sheet.specs.WriteSheet.{write_sheet}
@@ -27,10 +27,6 @@ pub record WorkDue (w : Work) (text : List ℕ) : Type 0 where
 -- but for 15, writing it has no refusal
 abbrev pub NoRefusal : Reason → ℕ → ℕ → Type 0
 NoRefusal reason line byte = ⊥
-
--- what is written is an accepted table
-abbrev pub WritesAccepted : List ℕ → List ℕ → Reply → Type 0
-WritesAccepted old new r = (text : List ℕ) → Success text old new r → Accepted desk text
 
 -- ---- routing what was written
 

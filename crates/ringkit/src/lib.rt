@@ -101,10 +101,8 @@ fn put_table<'a>(
     amount: &'a [u32; ROWS],
 ) -> Reply
     requires { count ≤ desk.rows }
-    ensures {
-        let rows = rows_in count first.now second.now amount.now in
-        Fills (write (write_table (ring_of n fibres) rows)) buf.old buf.new result
-    }
+    ensures { let rows = rows_in count first.now second.now amount.now in
+        Fills (write (write_table (ring_of n fibres) rows)) buf.old buf.new result }
 {
     let size = table::table_length(n, fibres, count, first, second, amount);
     if buf.len() < size {
@@ -166,10 +164,8 @@ pub fn ringkit_read_matrix(matrix: &[u8], fibres: u32, buffer: &mut [u8]) -> Rep
     ensures only { Only (ReadMatrixPromise fibres matrix.now buffer.old) buffer.new result }
     ensures accepted { result.reason ≡ 0 → AcceptedTable desk (take result.length buffer.new) }
     ensures fits { result.length ≤ table_room desk }
-    ensures room {
-        IsFibres fibres → AcceptedMatrix desk matrix.now → table_room desk ≤ length buffer.old →
-        result.reason ≡ 0
-    }
+    ensures room { IsFibres fibres → AcceptedMatrix desk matrix.now → table_room desk ≤ length buffer.old →
+        result.reason ≡ 0 }
     ensures value { Fills (matrix_read fibres matrix.now) buffer.old buffer.new result }
 {
     read_matrix(matrix, fibres, buffer)
@@ -186,10 +182,8 @@ fn put_matrix<'a>(
 ) -> Reply
     requires nodes { n ≤ desk.nodes }
     requires amounts { Amounts count amount.now }
-    ensures {
-        let rows = rows_in count first.now second.now amount.now in
-        Fills (write (write_matrix (matrix_of_rows n rows))) buf.old buf.new result
-    }
+    ensures { let rows = rows_in count first.now second.now amount.now in
+        Fills (write (write_matrix (matrix_of_rows n rows))) buf.old buf.new result }
 {
     let bytes = matrix::matrix_length(n, count, first, second, amount);
     if buf.len() < bytes {
@@ -251,11 +245,9 @@ fn put_sheet<'a>(
 ) -> Reply
     requires rows { count ≤ desk.rows }
     requires nodes { x.n ≤ desk.nodes }
-    ensures {
-        let sheet = sheet_in x count first.now second.now amount.now front.now back.now way.now
-            split.now unsplit.now in
-        Fills (write (write_sheet sheet)) buf.old buf.new result
-    }
+    ensures { let sheet = sheet_in x count first.now second.now amount.now front.now back.now way.now
+        split.now unsplit.now in
+        Fills (write (write_sheet sheet)) buf.old buf.new result }
 {
     let need = sheet::sheet_length(
         x, count, first, second, amount, front, back, way, split, unsplit,
@@ -286,10 +278,8 @@ fn put_route<'a>(
 ) -> Reply
     requires table { Table n count first.now second.now amount.now }
     requires table_rows { TableRows n (rows_in count first.now second.now amount.now) }
-    ensures {
-        let rows = rows_in count first.now second.now amount.now in
-        Fills (write (write_sheet (plan (ring_of n fibres) rows))) buf.old buf.new result
-    }
+    ensures { let rows = rows_in count first.now second.now amount.now in
+        Fills (write (write_sheet (plan (ring_of n fibres) rows))) buf.old buf.new result }
 {
     let mut front = [0u32; ROWS];
     let mut back = [0u32; ROWS];
@@ -330,13 +320,9 @@ fn route(table: &[u8], buffer: &mut [u8]) -> Reply
 pub fn ringkit_route(table: &[u8], buffer: &mut [u8]) -> Reply
     ensures promise { RoutePromise table.now buffer.old buffer.new result }
     ensures only { Only (RoutePromise table.now buffer.old) buffer.new result }
-    ensures best {
-        AcceptedTable desk table.now → RoutedWell table.now buffer.old buffer.new result
-    }
+    ensures best { AcceptedTable desk table.now → RoutedWell table.now buffer.old buffer.new result }
     ensures fits { result.length ≤ longest desk }
-    ensures room {
-        AcceptedTable desk table.now → longest desk ≤ length buffer.old → result.reason ≡ 0
-    }
+    ensures room { AcceptedTable desk table.now → longest desk ≤ length buffer.old → result.reason ≡ 0 }
     ensures value { Fills (table_routed table.now) buffer.old buffer.new result }
 {
     route(table, buffer)

@@ -1,7 +1,8 @@
 // The calls of the working table: it is lent by `&mut`, and altered by functions by value.
-ghost use Rattle.std.specs.Prelude.{ℕ, ◌≡◌, ◌≤◌, List, [], ◌∷◌, length};
+ghost use Rattle.std.specs.Prelude.{ℕ, ◌≡◌, ◌≤◌, List, [], ◌∷◌, length, take};
 ghost use Rattle.ring.specs.Limits.{desk};
 ghost use Rattle.table.specs.Table.{table_room};
+ghost use Rattle.table.specs.Says.{Accepted};
 ghost use Rattle.work.specs.Calls.{Call, start, add, change, remove};
 ghost use Rattle.work.specs.Changes.{started_in, added_in, changed_in, removed_in, row_in};
 ghost use Rattle.work.specs.Kept.{Keeps, Answered};
@@ -9,10 +10,9 @@ ghost use Rattle.work.specs.Promises.{WorkPromise, OnlyThis, RowPromise, OnlyRow
 ghost use Rattle.work.specs.Made.{Made};
 ghost use Rattle.work.specs.Played.{AsPlayed, answer_after};
 ghost use Rattle.ringkit.specs.Outcome.{Fills};
-ghost use Rattle.ringkit.specs.Only.{Only};
-ghost use Rattle.ringkit.specs.Says.{CallPromise};
+ghost use Rattle.ringkit.specs.Says.{CallPromise, Only};
 ghost use Rattle.ringkit.specs.TableCalls.{work_written};
-ghost use Rattle.ringkit.specs.WorkCalls.{WorkDue, NoRefusal, WritesAccepted};
+ghost use Rattle.ringkit.specs.WorkCalls.{WorkDue, NoRefusal};
 
 use crate::{Reply, put_table};
 use ring::ROWS;
@@ -153,7 +153,7 @@ pub fn ringkit_work_write(work: &Work, buffer: &mut [u8]) -> Reply
 
     // On a struct made by calls.
     ensures accepted { (calls : List Call) → Made calls work.now →
-        WritesAccepted buffer.old buffer.new result }
+        result.reason ≡ 0 → Accepted desk (take result.length buffer.new) }
     ensures room { (calls : List Call) → Made calls work.now →
         table_room desk ≤ length buffer.old → result.reason ≡ 0 }
 {

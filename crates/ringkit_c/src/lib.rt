@@ -1,7 +1,7 @@
 #![tactic(auto)]
 // The public calls as C links them: each hands on to the call of the same name in `ringkit`, and promises the same. It is a crate of its own since no Rattle crate can
 // name a static library.
-ghost use Rattle.std.specs.Prelude.{◌≡◌, ◌≤◌, length, take};
+ghost use Rattle.std.specs.Prelude.{◌≡◌, ◌≤◌, List, [], ◌∷◌, length, take};
 ghost use Rattle.ring.specs.Limits.{desk};
 ghost use Rattle.ring.specs.LineSize.{IsFibres};
 ghost use Rattle.table.specs.Table.{table_room};
@@ -11,7 +11,13 @@ ghost use Rattle.matrix.specs.Says.{Accepted as AcceptedMatrix};
 ghost use Rattle.sheet.specs.Range.{longest};
 ghost use Rattle.sheet.specs.Says.{WellFormed};
 ghost use Rattle.work.specs.Changes.{started_in, added_in, changed_in, removed_in, row_in};
-ghost use Rattle.ringkit.specs.Says.{Only};
+ghost use Rattle.work.specs.Calls.{Call, start, add, change, remove};
+ghost use Rattle.work.specs.Kept.{Keeps, Answered};
+ghost use Rattle.work.specs.Promises.{WorkPromise, OnlyThis, RowPromise, OnlyRow};
+ghost use Rattle.work.specs.Made.{Made};
+ghost use Rattle.work.specs.Played.{AsPlayed, answer_after};
+ghost use Rattle.ringkit.specs.Says.{CallPromise, Only};
+ghost use Rattle.ringkit.specs.WorkCalls.{WorkDue, NoRefusal};
 ghost use Rattle.ringkit.specs.Texts.{SumsFit};
 ghost use Rattle.ringkit.specs.Promises.{RoutePromise, RewriteTablePromise, RewriteSheetPromise, ReadMatrixPromise, WriteMatrixPromise};
 ghost use Rattle.ringkit.specs.Answers.{yes, CheckPromise, PairPromise};
@@ -39,10 +45,8 @@ pub extern "C" fn ringkit_read_matrix(matrix: &[u8], fibres: u32, buffer: &mut [
     ensures only { Only (ReadMatrixPromise fibres matrix.now buffer.old) buffer.new result }
     ensures accepted { result.reason ≡ 0 → AcceptedTable desk (take result.length buffer.new) }
     ensures fits { result.length ≤ table_room desk }
-    ensures room {
-        IsFibres fibres → AcceptedMatrix desk matrix.now → table_room desk ≤ length buffer.old →
-        result.reason ≡ 0
-    }
+    ensures room { IsFibres fibres → AcceptedMatrix desk matrix.now → table_room desk ≤ length buffer.old →
+        result.reason ≡ 0 }
     ensures value { Fills (matrix_read fibres matrix.now) buffer.old buffer.new result }
 {
     ringkit::ringkit_read_matrix(matrix, fibres, buffer)
@@ -64,13 +68,9 @@ pub extern "C" fn ringkit_write_matrix(table: &[u8], buffer: &mut [u8]) -> Reply
 pub extern "C" fn ringkit_route(table: &[u8], buffer: &mut [u8]) -> Reply
     ensures promise { RoutePromise table.now buffer.old buffer.new result }
     ensures only { Only (RoutePromise table.now buffer.old) buffer.new result }
-    ensures best {
-        AcceptedTable desk table.now → RoutedWell table.now buffer.old buffer.new result
-    }
+    ensures best { AcceptedTable desk table.now → RoutedWell table.now buffer.old buffer.new result }
     ensures fits { result.length ≤ longest desk }
-    ensures room {
-        AcceptedTable desk table.now → longest desk ≤ length buffer.old → result.reason ≡ 0
-    }
+    ensures room { AcceptedTable desk table.now → longest desk ≤ length buffer.old → result.reason ≡ 0 }
     ensures value { Fills (table_routed table.now) buffer.old buffer.new result }
 {
     ringkit::ringkit_route(table, buffer)
@@ -107,7 +107,25 @@ pub extern "C" fn ringkit_rewrite_sheet(sheet: &[u8], buffer: &mut [u8]) -> Repl
 
 #[unsafe(no_mangle)]
 pub extern "C" fn ringkit_work_start(work: &mut Work, n: u32, fibres: u32) -> WorkReply
-    ensures { (result ≡ (started_in work.old n fibres).reply) × (work.new ≡ (started_in work.old n fibres).work) }
+    // On every struct.
+    ensures promise { WorkPromise work.old (start n fibres) result work.new }
+    ensures only { OnlyThis work.old (start n fibres) result work.new }
+    ensures any { Answered work.old (start n fibres) result work.new }
+    ensures answered { result ≡ answer_after [] (start n fibres) }
+    ensures reply { result ≡ (started_in work.old n fibres).reply }
+    ensures table { work.new ≡ (started_in work.old n fibres).work }
+
+    // Where it is accepted.
+    ensures made { result.reason ≡ 0 → Made (start n fibres ∷ []) work.new }
+    ensures kept { result.reason ≡ 0 → Keeps work.new }
+    ensures played { result.reason ≡ 0 → AsPlayed (start n fibres ∷ []) work.new }
+
+    // On a struct made by calls, accepted or refused.
+    ensures made_later { (calls : List Call) → Made calls work.old →
+        Made (start n fibres ∷ calls) work.new }
+    ensures kept_later { (calls : List Call) → Made calls work.old → Keeps work.new }
+    ensures played_later { (calls : List Call) → Made calls work.old →
+        AsPlayed (start n fibres ∷ calls) work.new }
 {
     ringkit::ringkit_work_start(work, n, fibres)
 }
@@ -119,7 +137,23 @@ pub extern "C" fn ringkit_work_add(
     second: u32,
     amount: u32,
 ) -> WorkReply
-    ensures { (result ≡ (added_in work.old first second amount).reply) × (work.new ≡ (added_in work.old first second amount).work) }
+    // On a struct made by calls.
+    ensures promise { (calls : List Call) → Made calls work.old →
+        WorkPromise work.old (add first second amount) result work.new }
+    ensures only { (calls : List Call) → Made calls work.old →
+        OnlyThis work.old (add first second amount) result work.new }
+    ensures made { (calls : List Call) → Made calls work.old →
+        Made (add first second amount ∷ calls) work.new }
+    ensures kept { (calls : List Call) → Made calls work.old → Keeps work.new }
+    ensures played { (calls : List Call) → Made calls work.old →
+        AsPlayed (add first second amount ∷ calls) work.new }
+    ensures answered { (calls : List Call) → Made calls work.old →
+        result ≡ answer_after calls (add first second amount) }
+
+    // On every struct.
+    ensures any { Answered work.old (add first second amount) result work.new }
+    ensures reply { result ≡ (added_in work.old first second amount).reply }
+    ensures table { work.new ≡ (added_in work.old first second amount).work }
 {
     ringkit::ringkit_work_add(work, first, second, amount)
 }
@@ -132,28 +166,72 @@ pub extern "C" fn ringkit_work_change(
     second: u32,
     amount: u32,
 ) -> WorkReply
-    ensures { (result ≡ (changed_in work.old place first second amount).reply) × (work.new ≡ (changed_in work.old place first second amount).work) }
+    // On a struct made by calls.
+    ensures promise { (calls : List Call) → Made calls work.old →
+        WorkPromise work.old (change place first second amount) result work.new }
+    ensures only { (calls : List Call) → Made calls work.old →
+        OnlyThis work.old (change place first second amount) result work.new }
+    ensures made { (calls : List Call) → Made calls work.old →
+        Made (change place first second amount ∷ calls) work.new }
+    ensures kept { (calls : List Call) → Made calls work.old → Keeps work.new }
+    ensures played { (calls : List Call) → Made calls work.old →
+        AsPlayed (change place first second amount ∷ calls) work.new }
+    ensures answered { (calls : List Call) → Made calls work.old →
+        result ≡ answer_after calls (change place first second amount) }
+
+    // On every struct.
+    ensures any { Answered work.old (change place first second amount) result work.new }
+    ensures reply { result ≡ (changed_in work.old place first second amount).reply }
+    ensures table { work.new ≡ (changed_in work.old place first second amount).work }
 {
     ringkit::ringkit_work_change(work, place, first, second, amount)
 }
 
 #[unsafe(no_mangle)]
 pub extern "C" fn ringkit_work_remove(work: &mut Work, place: u32) -> WorkReply
-    ensures { (result ≡ (removed_in work.old place).reply) × (work.new ≡ (removed_in work.old place).work) }
+    // On a struct made by calls.
+    ensures promise { (calls : List Call) → Made calls work.old →
+        WorkPromise work.old (remove place) result work.new }
+    ensures only { (calls : List Call) → Made calls work.old →
+        OnlyThis work.old (remove place) result work.new }
+    ensures made { (calls : List Call) → Made calls work.old →
+        Made (remove place ∷ calls) work.new }
+    ensures kept { (calls : List Call) → Made calls work.old → Keeps work.new }
+    ensures played { (calls : List Call) → Made calls work.old →
+        AsPlayed (remove place ∷ calls) work.new }
+    ensures answered { (calls : List Call) → Made calls work.old →
+        result ≡ answer_after calls (remove place) }
+
+    // On every struct.
+    ensures any { Answered work.old (remove place) result work.new }
+    ensures reply { result ≡ (removed_in work.old place).reply }
+    ensures table { work.new ≡ (removed_in work.old place).work }
 {
     ringkit::ringkit_work_remove(work, place)
 }
 
 #[unsafe(no_mangle)]
 pub extern "C" fn ringkit_work_row(work: &Work, place: u32) -> RowReply
-    ensures { result ≡ row_in work.now place }
+    // On every struct.
+    ensures promise { RowPromise work.now place result }
+    ensures only { OnlyRow work.now place result }
+    ensures value { result ≡ row_in work.now place }
 {
     ringkit::ringkit_work_row(work, place)
 }
 
 #[unsafe(no_mangle)]
 pub extern "C" fn ringkit_work_write(work: &Work, buffer: &mut [u8]) -> Reply
-    ensures { Fills (work_written work.now) buffer.old buffer.new result }
+    // On every struct.
+    ensures promise { CallPromise (WorkDue work.now) NoRefusal buffer.old buffer.new result }
+    ensures only { Only (CallPromise (WorkDue work.now) NoRefusal buffer.old) buffer.new result }
+    ensures value { Fills (work_written work.now) buffer.old buffer.new result }
+
+    // On a struct made by calls.
+    ensures accepted { (calls : List Call) → Made calls work.now →
+        result.reason ≡ 0 → AcceptedTable desk (take result.length buffer.new) }
+    ensures room { (calls : List Call) → Made calls work.now →
+        table_room desk ≤ length buffer.old → result.reason ≡ 0 }
 {
     ringkit::ringkit_work_write(work, buffer)
 }

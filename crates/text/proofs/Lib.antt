@@ -5,7 +5,6 @@ pub mod LineLaws
 pub mod AnswerLaws
 pub mod Spellings
 pub mod Starts
-pub mod Unique
 -- how they are shown
 pub mod Lists
 pub mod Apart
