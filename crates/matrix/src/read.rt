@@ -24,11 +24,9 @@ fn read_square(
 ) -> Answer
     requires few_nodes { n ≤ desk.nodes }
     requires short_text { length s.now ≤ desk.bytes }
-    ensures {
-        let read = lines_of desk n 1 n [] (lines s.now) in
+    ensures { let read = lines_of desk n 1 n [] (lines s.now) in
         beside result first.new second.new amount.new
-        ≡ table_in (table_from fibres (square_judged read))
-    }
+        ≡ table_in (table_from fibres (square_judged read)) }
 {
     let mut entries = [0u32; SQUARE];
     if let Lines::Refused(reason, line, byte) = read_lines(s, ring::wide(n), &mut entries) {
@@ -51,10 +49,8 @@ pub fn read_matrix(
     second: &mut [u32; ROWS],
     amount: &mut [u32; ROWS],
 ) -> Answer
-    ensures {
-        beside result first.new second.new amount.new
-        ≡ table_in (table_from fibres (matrix_of desk s.now))
-    }
+    ensures { beside result first.new second.new amount.new
+        ≡ table_in (table_from fibres (matrix_of desk s.now)) }
 {
     if BYTES < s.len() {
         return refusal(first, second, amount, Reason::TooLong, 0, 0);

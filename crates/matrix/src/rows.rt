@@ -22,10 +22,8 @@ pub(crate) fn rows_of(
 ) -> Answer
     requires few_nodes { n ≤ desk.nodes }
     requires no_rows { NoRows first.old second.old amount.old }
-    ensures {
-        beside result first.new second.new amount.new
-        ≡ table_in (accepted (ring_of n fibres) (rows_by n (at square.now)))
-    }
+    ensures { beside result first.new second.new amount.new
+        ≡ table_in (accepted (ring_of n fibres) (rows_by n (at square.now))) }
 {
     let mut count: usize = 0;
     let mut i: u32 = 1;

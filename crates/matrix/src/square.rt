@@ -57,10 +57,8 @@ pub(crate) fn read_lines(s: &[u8], n: usize, entries: &mut [u32; SQUARE]) -> Lin
     requires few_nodes { n ≤ desk.nodes }
     requires short_text { length s.now ≤ desk.bytes }
     requires no_entries { entries.old ≡ empty }
-    ensures {
-        beside_entries result entries.new
-        ≡ square_in (lines_of desk n 1 n [] (lines_in s.now))
-    }
+    ensures { beside_entries result entries.new
+        ≡ square_in (lines_of desk n 1 n [] (lines_in s.now)) }
 {
     let mut start: usize = 0;
     let mut count: usize = 0;

@@ -24,10 +24,8 @@ fn line_of(
 ) -> [u32; LINKS]
     requires few_nodes { n ≤ desk.nodes }
     requires amounts { Amounts count amount.now }
-    ensures {
-        let rs = rows_in count first.now second.now amount.now in
-        result ≡ values_in (listed (sum_of rs i) 1 n)
-    }
+    ensures { let rs = rows_in count first.now second.now amount.now in
+        result ≡ values_in (listed (sum_of rs i) 1 n) }
 {
     let mut values = [0u32; LINKS];
     for t in 0..n {
@@ -50,12 +48,8 @@ fn part_length(n: usize, shape: &[u8], values: &[u32]) -> usize
 fn write_part(buf: &mut [u8], at: usize, n: usize, shape: &[u8], values: &[u32]) -> usize
     requires in_shape { n ≤ length shape.now }
     requires has_values { n ≤ length values.now }
-    requires has_room {
-        at + length (write_line (take n shape.now) (take n values.now)) ≤ length buf.old
-    }
-    ensures {
-        Written buf.old at (write_line (take n shape.now) (take n values.now)) buf.new result
-    }
+    requires has_room { at + length (write_line (take n shape.now) (take n values.now)) ≤ length buf.old }
+    ensures { Written buf.old at (write_line (take n shape.now) (take n values.now)) buf.new result }
 {
     text::write_line(buf, at, &shape[0..n], &values[0..n])
 }
@@ -88,10 +82,8 @@ fn sums_length(
 ) -> usize
     requires few_nodes { n ≤ desk.nodes }
     requires amounts { Amounts count amount.now }
-    ensures {
-        let rs = rows_in count first.now second.now amount.now in
-        result ≡ length (numbers_line (listed (sum_of rs i) 1 n))
-    }
+    ensures { let rs = rows_in count first.now second.now amount.now in
+        result ≡ length (numbers_line (listed (sum_of rs i) 1 n)) }
 {
     let n = wide(n);
     numbers_length(n, &line_of(i, n, count, first, second, amount))
@@ -110,14 +102,10 @@ fn write_sums(
 ) -> usize
     requires few_nodes { n ≤ desk.nodes }
     requires amounts { Amounts count amount.now }
-    requires has_room {
-        let rs = rows_in count first.now second.now amount.now in
-        at + length (numbers_line (listed (sum_of rs i) 1 n)) ≤ length buf.old
-    }
-    ensures {
-        let rs = rows_in count first.now second.now amount.now in
-        Written buf.old at (numbers_line (listed (sum_of rs i) 1 n)) buf.new result
-    }
+    requires has_room { let rs = rows_in count first.now second.now amount.now in
+        at + length (numbers_line (listed (sum_of rs i) 1 n)) ≤ length buf.old }
+    ensures { let rs = rows_in count first.now second.now amount.now in
+        Written buf.old at (numbers_line (listed (sum_of rs i) 1 n)) buf.new result }
 {
     let nodes = wide(n);
     let values = line_of(i, nodes, count, first, second, amount);
@@ -134,10 +122,8 @@ pub fn matrix_length<'a>(
 ) -> usize
     requires few_nodes { n ≤ desk.nodes }
     requires amounts { Amounts count amount.now }
-    ensures {
-        let rs = rows_in count first.now second.now amount.now in
-        result ≡ length (write_matrix (matrix_of_rows n rs))
-    }
+    ensures { let rs = rows_in count first.now second.now amount.now in
+        result ≡ length (write_matrix (matrix_of_rows n rs)) }
 {
     let mut size: usize = 0;
     for k in 0..n {
@@ -157,14 +143,10 @@ pub fn write_matrix<'a>(
 ) -> usize
     requires few_nodes { n ≤ desk.nodes }
     requires amounts { Amounts count amount.now }
-    requires has_room {
-        let rs = rows_in count first.now second.now amount.now in
-        length (write_matrix (matrix_of_rows n rs)) ≤ length buf.old
-    }
-    ensures {
-        let rs = rows_in count first.now second.now amount.now in
-        Written buf.old 0 (write_matrix (matrix_of_rows n rs)) buf.new result
-    }
+    requires has_room { let rs = rows_in count first.now second.now amount.now in
+        length (write_matrix (matrix_of_rows n rs)) ≤ length buf.old }
+    ensures { let rs = rows_in count first.now second.now amount.now in
+        Written buf.old 0 (write_matrix (matrix_of_rows n rs)) buf.new result }
 {
     let mut p: usize = 0;
     for k in 0..n {
