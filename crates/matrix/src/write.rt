@@ -48,8 +48,10 @@ fn part_length(n: usize, shape: &[u8], values: &[u32]) -> usize
 fn write_part(buf: &mut [u8], at: usize, n: usize, shape: &[u8], values: &[u32]) -> usize
     requires in_shape { n ≤ length shape.now }
     requires has_values { n ≤ length values.now }
-    requires has_room { at + length (write_line (take n shape.now) (take n values.now)) ≤ length buf.old }
-    ensures { Written buf.old at (write_line (take n shape.now) (take n values.now)) buf.new result }
+    requires has_room { at + length (write_line (take n shape.now) (take n values.now)) ≤
+        length buf.old }
+    ensures { Written buf.old at
+        (write_line (take n shape.now) (take n values.now)) buf.new result }
 {
     text::write_line(buf, at, &shape[0..n], &values[0..n])
 }

@@ -164,7 +164,8 @@ pub fn ringkit_read_matrix(matrix: &[u8], fibres: u32, buffer: &mut [u8]) -> Rep
     ensures only { Only (ReadMatrixPromise fibres matrix.now buffer.old) buffer.new result }
     ensures accepted { result.reason ≡ 0 → AcceptedTable desk (take result.length buffer.new) }
     ensures fits { result.length ≤ table_room desk }
-    ensures room { IsFibres fibres → AcceptedMatrix desk matrix.now → table_room desk ≤ length buffer.old →
+    ensures room { IsFibres fibres → AcceptedMatrix desk matrix.now →
+        table_room desk ≤ length buffer.old →
         result.reason ≡ 0 }
     ensures value { Fills (matrix_read fibres matrix.now) buffer.old buffer.new result }
 {
@@ -245,7 +246,8 @@ fn put_sheet<'a>(
 ) -> Reply
     requires rows { count ≤ desk.rows }
     requires nodes { x.n ≤ desk.nodes }
-    ensures { let sheet = sheet_in x count first.now second.now amount.now front.now back.now way.now
+    ensures { let sheet = sheet_in x count first.now second.now amount.now front.now back.now
+        way.now
         split.now unsplit.now in
         Fills (write (write_sheet sheet)) buf.old buf.new result }
 {
@@ -320,9 +322,11 @@ fn route(table: &[u8], buffer: &mut [u8]) -> Reply
 pub fn ringkit_route(table: &[u8], buffer: &mut [u8]) -> Reply
     ensures promise { RoutePromise table.now buffer.old buffer.new result }
     ensures only { Only (RoutePromise table.now buffer.old) buffer.new result }
-    ensures best { AcceptedTable desk table.now → RoutedWell table.now buffer.old buffer.new result }
+    ensures best { AcceptedTable desk table.now →
+        RoutedWell table.now buffer.old buffer.new result }
     ensures fits { result.length ≤ longest desk }
-    ensures room { AcceptedTable desk table.now → longest desk ≤ length buffer.old → result.reason ≡ 0 }
+    ensures room { AcceptedTable desk table.now → longest desk ≤ length buffer.old →
+        result.reason ≡ 0 }
     ensures value { Fills (table_routed table.now) buffer.old buffer.new result }
 {
     route(table, buffer)

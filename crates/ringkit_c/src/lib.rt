@@ -45,7 +45,8 @@ pub extern "C" fn ringkit_read_matrix(matrix: &[u8], fibres: u32, buffer: &mut [
     ensures only { Only (ReadMatrixPromise fibres matrix.now buffer.old) buffer.new result }
     ensures accepted { result.reason ≡ 0 → AcceptedTable desk (take result.length buffer.new) }
     ensures fits { result.length ≤ table_room desk }
-    ensures room { IsFibres fibres → AcceptedMatrix desk matrix.now → table_room desk ≤ length buffer.old →
+    ensures room { IsFibres fibres → AcceptedMatrix desk matrix.now →
+        table_room desk ≤ length buffer.old →
         result.reason ≡ 0 }
     ensures value { Fills (matrix_read fibres matrix.now) buffer.old buffer.new result }
 {
@@ -68,9 +69,11 @@ pub extern "C" fn ringkit_write_matrix(table: &[u8], buffer: &mut [u8]) -> Reply
 pub extern "C" fn ringkit_route(table: &[u8], buffer: &mut [u8]) -> Reply
     ensures promise { RoutePromise table.now buffer.old buffer.new result }
     ensures only { Only (RoutePromise table.now buffer.old) buffer.new result }
-    ensures best { AcceptedTable desk table.now → RoutedWell table.now buffer.old buffer.new result }
+    ensures best { AcceptedTable desk table.now →
+        RoutedWell table.now buffer.old buffer.new result }
     ensures fits { result.length ≤ longest desk }
-    ensures room { AcceptedTable desk table.now → longest desk ≤ length buffer.old → result.reason ≡ 0 }
+    ensures room { AcceptedTable desk table.now → longest desk ≤ length buffer.old →
+        result.reason ≡ 0 }
     ensures value { Fills (table_routed table.now) buffer.old buffer.new result }
 {
     ringkit::ringkit_route(table, buffer)
