@@ -1,0 +1,3 @@
+-- What the contracts rest on.
+
+mod Checked
