@@ -1,5 +1,6 @@
 #![tactic(auto)]
 // The public calls: byte slices and numbers in, a reply by value out. No call has a `requires`. `ringkit_c` gives them to C.
+mod line; // what the programs print of a refusal
 mod working; // the calls of the working table
 
 ghost use Rattle.std.specs.Prelude.{◌≡◌, ◌≤◌, length, take};
@@ -32,6 +33,7 @@ ghost use Rattle.ringkit.specs.MatrixCalls.{matrix_read, matrix_written};
 ghost use Rattle.ringkit.specs.SheetCalls.{sheet_checked, sheet_parallel, sheet_afresh};
 
 use checker::{Answer as Judged, Pair};
+pub use line::RefusalLine;
 use matrix::Sums;
 use ring::{LINKS, ROWS};
 use sheet::Figures;
