@@ -60,15 +60,6 @@ module _ (op : ℕ → ℕ) (h low high : ℕ) (old : List ℕ) (fits : LineFits
             s.so_far.outside x k a b c (λ q. out (q.0, q.1, omega arith))
 
     module _ (line : ℕ) (l : g < high) (el : line ≡ offset h) where
-      pub line-in : line + (g - 1) < length now
-      line-in = omega (arith, place_in g h (omega arith) (omega arith) fits.last, s.so_far.size)
-
-      pub line-fits : Fits w64 (line + (g - 1))
-      line-fits = omega (arith, line-in, s.so_far.size)
-
-      pub line-bytes : Fits w64 ((line + (g - 1)) * 4)
-      line-bytes = omega (arith, line-in, s.so_far.size)
-
       pub line-turn : (z : ℕ) → z ≡ op (get_or now (line + (g - 1)) 0) → Lining op h low high old (set now (line + (g - 1)) z) (g + 1)
       line-turn z e = turn (line + (g - 1)) z l (ap (λ x. x + (g - 1)) el) e
 

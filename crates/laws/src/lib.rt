@@ -1,9 +1,11 @@
 #![tactic(auto)]
 // Laws over several calls: each the contract of a function that does nothing.
 
+ghost use Rattle.std.specs.Prelude.{◌≡◌, [], ◌∷◌};
 ghost use Rattle.ring.specs.Limits.{desk};
+ghost use Rattle.ring.specs.Rules.{places, pairs_of_places};
 ghost use Rattle.sheet.specs.Cases.{CasesHold};
-ghost use Rattle.sheet.specs.Laws.{SameSheet, PlanAccepted, NoLowerPeak};
+ghost use Rattle.sheet.specs.Laws.{SameSheet, TrueAccepted, PlanAccepted, NoLowerPeak};
 ghost use Rattle.ringkit.specs.Back.{TableThereAndBack, MatrixToTableToMatrix, TableToMatrixToTable};
 ghost use Rattle.ringkit.specs.WorkCalls.{RoutedAsNamed};
 ghost use Rattle.laws.specs.Calls.{SheetThereAndBack, RoutedChecked};
@@ -33,9 +35,20 @@ pub fn cases_hold()
     ensures { CasesHold }
 {}
 
+/// The pairs of places of four rows, the first before the second, by first and then by second.
+pub fn places_of_four()
+    ensures { pairs_of_places 4 ≡ places 1 2 ∷ places 1 3 ∷ places 1 4
+        ∷ places 2 3 ∷ places 2 4 ∷ places 3 4 ∷ [] }
+{}
+
 /// Two sheets in range that are written the same are the same.
 pub fn same_sheet()
     ensures { SameSheet desk }
+{}
+
+/// A true sheet in range, once it is written, is accepted.
+pub fn true_accepted()
+    ensures { TrueAccepted desk }
 {}
 
 /// No division of the demands of an accepted sheet, however fine, has a lower peak.

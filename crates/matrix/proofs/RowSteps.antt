@@ -158,9 +158,6 @@ module _ (n : ℕ) (a : ℕ → ℕ → ℕ) where
             room = omega (arith, g.room);
           }
 
-      pub row_room : count < desk.rows
-      row_room = omega (arith, g.room)
-
       -- an entry above 0
       pub adds-row : (d ≡ 0 → ⊥) → Gathering (set first count i) (set second count j) (set amount count d) (count + 1) i (j + 1)
       unfolding above_zero

@@ -46,9 +46,6 @@ module _ (old : List ℕ) (start n : ℕ) (values square : List ℕ) (t : ℕ) (
         within = omega arith;
       }
 
-  pub kept : n ≤ t → square ≡ sets old start (take n values)
-  kept l = let e : t ≡ n = omega (arith, keeping.within) in rw e at keeping.is
-
 -- ---- lines one below the other
 
 pub lay-more : (square : List ℕ) (k : ℕ) (m : List (List ℕ)) (vs : List ℕ) → lay_from square k (m ++ vs ∷ []) ≡ sets (lay_from square k m) (desk.nodes * (k + length m)) vs

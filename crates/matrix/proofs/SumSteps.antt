@@ -53,9 +53,6 @@ module _ (first second amount : List ℕ) where
       small-part : x ≤ desk.amount
       small-part = omega (arith, part_small (row_at first second amount k) i j, amounts.small k l)
 
-      pub sum_fits : Fits w32 (sum + x)
-      sum_fits = omega (arith, small-part, summing.small, amounts.room)
-
       pub sums-row : Summing i j count (sum + x) (k + 1)
       sums-row =
           record {
@@ -63,9 +60,6 @@ module _ (first second amount : List ℕ) where
             small = omega (arith, small-part, summing.small);
             within = omega arith;
           }
-
-    pub summed : count ≤ k → sum ≡ sum_of (rows_in count first second amount) i j
-    summed l = let e : k ≡ count = omega (arith, summing.within) in rw e at summing.is
 
   -- ---- judged
 

@@ -64,9 +64,6 @@ module _ (f : ℕ → ℕ) (n : ℕ) (values : List ℕ) (t : ℕ) (lining : Lin
         within = omega arith;
       }
 
-  pub lined : n ≤ t → values ≡ values_in (listed f 1 n)
-  lined l = let e : t ≡ n = omega (arith, lining.within) in rw e at lining.held
-
 -- a line's values are the first of its column
 module _ (f : ℕ → ℕ) (n nodes : ℕ) (few : n ≤ desk.nodes) (e : nodes ≡ n) (values : List ℕ) (held : values ≡ values_in (listed f 1 nodes)) where
   taken : take nodes values ≡ listed f 1 n

@@ -55,12 +55,6 @@ module _ (n fibres count : ℕ) (first second amount : List ℕ) (table : router
   many : length whole.rows ≡ count
   many = sym (demands-length whole.rows) ∙ ap length same ∙ listed-length (row_at first second amount) 0 count
 
-  pub rows-have-room : count ≤ desk.rows
-  rows-have-room = table.few
-
-  pub links-have-room : n ≤ desk.nodes
-  links-have-room = table.links
-
   module _ (p : Plan) (front back way : List ℕ) (routes : Routes whole front back way p) where
     abbrev pub sheet : Sheet
     sheet = sheet_in (record { n = n; fibres = fibres; g = p.g; h = p.h; across = p.across; peak = p.peak; size = p.size }) count first second amount front back way p.split p.unsplit

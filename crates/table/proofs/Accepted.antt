@@ -10,10 +10,6 @@ use Rattle.table.specs.ReadTable.{accepted, table_of}
 use Rattle.table.proofs.TableText.{table-text}
 
 module _ (limits : Limits) (spelled : LimitsSpelled limits) where
-  -- writing what was read gives the same bytes
-  pub write_read : (t : List ℕ) (ring : Ring) (rs : List Row) → table_of limits t ≡ accepted ring rs → write_table ring rs ≡ t
-  write_read t ring rs e = sym ((table-text limits spelled t ring rs).0 e).0
-
   -- reading what was written gives the same values
   pub read-written : (ring : Ring) (rs : List Row) → InRange limits ring rs → table_of limits (write_table ring rs) ≡ accepted ring rs
   read-written ring rs range = (table-text limits spelled (write_table ring rs) ring rs).1 (refl, range)
