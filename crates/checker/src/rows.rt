@@ -1,6 +1,7 @@
 // The D lines of a sheet, judged one by one and put into the columns of lent values.
-ghost use Rattle.std.specs.Prelude.{◌≤◌, length};
+ghost use Rattle.std.specs.Prelude.{◌≡◌, ◌≤◌, length};
 ghost use Rattle.ring.specs.Limits.{desk};
+ghost use Rattle.checker.specs.Arrays.{no_values as blank};
 ghost use Rattle.checker.specs.Parts.{RowsRead};
 
 use crate::judge::judge_sent;
@@ -17,15 +18,14 @@ pub(crate) enum RowsEnd {
     Refused(Reason, u32, u32),
 }
 
-// The rows of a ring of n nodes, from the place `from` on: up to a line that is no D line, or to a fault. Values that are lent are cleared first,
-// since every figure and place that is read into none stays zero.
-pub(crate) fn read_rows(s: &[u8], from: usize, n: u32, values: &mut SheetValues) -> RowsEnd
+// The rows of a ring of n nodes, from the place `from` on, into values of no sheet: up to a line that is no D line, or to a fault.
+fn fill_rows(s: &[u8], from: usize, n: u32, values: &mut SheetValues) -> RowsEnd
     requires begins_inside { from ≤ length s.now }
     requires ring_suffices { desk.fewest ≤ n }
     requires links_fit { n ≤ desk.nodes }
+    requires holds_nothing { values.old ≡ blank }
     ensures { RowsRead s.now from n values.new result }
 {
-    clear(values);
     let mut count: usize = 0;
     let mut line: u32 = 2;
     let mut at = from;
@@ -62,4 +62,15 @@ pub(crate) fn read_rows(s: &[u8], from: usize, n: u32, values: &mut SheetValues)
             }
         }
     }
+}
+
+// The same into whatever values are lent: they are cleared first, since every figure and place that is read into none stays zero.
+pub(crate) fn read_rows(s: &[u8], from: usize, n: u32, values: &mut SheetValues) -> RowsEnd
+    requires begins_inside { from ≤ length s.now }
+    requires ring_suffices { desk.fewest ≤ n }
+    requires links_fit { n ≤ desk.nodes }
+    ensures { RowsRead s.now from n values.new result }
+{
+    clear(values);
+    fill_rows(s, from, n, values)
 }
