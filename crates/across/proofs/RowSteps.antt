@@ -1,5 +1,5 @@
 -- The triangle under its loops: a line is changed link by link, and the lines of a row, from its first node on, are its share of every number.
-use Rattle.std.proofs.Common.{◌≡◌, ℕ, suc, ◌+◌, ◌-◌, ◌*◌, ◌<◌, ◌≤◌, Bool, true, false, cond, List, length, get_or, set, sym, refl, ap, ◌∙◌, arith, length-set, get_or-set_other, get_or-set_same, w32, w64, Fits, le-leb}
+use Rattle.std.proofs.Common.{◌≡◌, ℕ, suc, ◌+◌, ◌-◌, ◌<◌, ◌≤◌, Bool, true, false, cond, List, length, get_or, set, sym, refl, ap, ◌∙◌, arith, length-set, get_or-set_other, get_or-set_same, w32, Fits, le-leb}
 use mathlib.Core.Bool.{xor}
 use native.Mathlib.Decide.{ℕ_discrete, dec_lt, dec_le}
 use borrow.Author.Tests.{lt-leb}

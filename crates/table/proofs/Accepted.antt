@@ -1,5 +1,4 @@
 -- Reading and writing a table are each other's inverse, from `table-text` both ways.
-use Prim.Native.Nat.{ℕ}
 use mathlib.Core.List.{List}
 use mathlib.Core.Path.{◌≡◌, refl, ap, ◌∙◌, sym}
 use Rattle.ring.specs.Ring.{Ring}
