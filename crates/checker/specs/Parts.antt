@@ -115,10 +115,10 @@ pub record LinksRead (s : List ℕ) (from n line : ℕ) (split unsplit : List �
 
 -- the Z line, and nothing behind it
 pub record LastRead (s : List ℕ) (at line top size : ℕ) (r : Step) : Type 0 where
-  pub within : Within s r
   pub means : (ring : Ring) (rs : List Routed) (c : Cut) (ks : List Link) → ring.n ≤ length ks → top ≡ peak (unsplit_load rs) ring.n → size ≡ line_size sonet_sizes ring.fibres top →
       let x : Sheet = record { ring = ring; rows = rs; cut = c; links = ks; peak = top; size = size } in
       StepMeans s (check_from desk true (links ring rs c ks) line (lines (drop at s))) (λ p. whole_result x (judge_whole x)) r
+  pub within : Within s r
 
 -- the Z line, and then the whole sheet
 pub record WholeRead (s : List ℕ) (at line number split_peak top size largest : ℕ) (r : Step) : Type 0 where
