@@ -1,8 +1,8 @@
 -- Each way out of a function of the working table answers as its definition says: by the tests and the calls that lead there.
 use Prim.Native.Nat.{ℕ, ◌+◌, ◌-◌, ◌≤◌, ◌<◌}
-use mathlib.Core.Bool.{Bool, true, false}
+use mathlib.Core.Bool.{Bool, true, false, cond}
 use mathlib.Core.List.{List}
-use mathlib.Core.Path.{◌≡◌, sym, ◌∙◌, ap}
+use mathlib.Core.Path.{◌≡◌, refl, sym, ◌∙◌, ap}
 use native.Mathlib.Omega.{arith}
 use lib.ListN.{get_or}
 use borrow.Author.Tests.{lt-ltb, le-ltb}
@@ -22,8 +22,9 @@ use Rattle.table.specs.declared.reason.Reason.TheVariants.{NoRow, Full}
 use Rattle.table.specs.declared.judge.Verdict.{Verdict}
 use Rattle.table.specs.declared.judge.Verdict.TheVariants.{Fine, Fault}
 use Rattle.table.proofs.Judged.{RowJudged, no_such_node, not_below, out_of_order, too_many, too_much, row_fine, row-judged}
+use Rattle.work.proofs.PlaceSteps.{holding}
 use Rattle.work.specs.declared.place.RowReply.{RowReply}
-use Rattle.work.specs.Changes.{Fitting, ring_size, refused_in, kept_in, free_in, holds_in, row_in, with_row, put_in, cleared_in, unless_fault, fresh_in, started_in, judged, added_in, changed_in, removed_in}
+use Rattle.work.specs.Changes.{Fitting, ring_size, refused_in, kept_in, free_in, holds_in, row_in, with_row, put_in, cleared_in, unless_fault, fresh_in, started_in, judged, added_in, judged_at, changed_in, removed_in}
 use Rattle.work.specs.declared.Work.{Work}
 use Rattle.work.specs.declared.held.Changed.{Changed}
 
@@ -51,6 +52,25 @@ module _ (w : Work) where
   unfolding cleared_in
   clear-is k s n t es en e = ap (λ l. with_row w l k 0 0 0) (rw (← es, ← en) e)
 
+  -- a change is judged by its place, then by its row
+  module _ (p i j d : ℕ) (b : Bool) (eb : b ≡ holds_in w.first p) where
+    pub judge-taken : (s : ℕ) (v : Verdict) → s ≡ ring_size w.n → v ≡ judge_row desk s 0 0 0 i j d → b ≡ true → v ≡ judged_at w p i j d
+    judge-taken s v es ev t = rw (sym eb ∙ t, ← es) ev
+
+    pub judge-empty : b ≡ false → Fault NoRow ≡ judged_at w p i j d
+    judge-empty f = rw (sym eb ∙ f)
+
+  abbrev done-at : ℕ → ℕ → ℕ → ℕ → Changed
+  done-at p i j d = kept_in (put_in (cleared_in w (p - 1)) (p - 1) i j d) p
+
+  change-is : (p i j d : ℕ) → changed_in w p i j d ≡ unless_fault (judged_at w p i j d) w (done-at p i j d)
+  unfolding changed_in unless_fault
+  change-is p i j d = go (holds_in w.first p) (judged w i j d) (done-at p i j d)
+    where
+      go : (b : Bool) (v : Verdict) (next : Changed) → cond b (unless_fault v w next) (refused_in w (number_of NoRow)) ≡ unless_fault (cond b v (Fault NoRow)) w next
+      go true v next = refl
+      go false v next = refl
+
   -- a verdict that refuses
   module _ (r : Changed) (reason : Reason) (number : ℕ) (en : number ≡ number_of reason) (er : r ≡ refused_in w number) where
     fault : (v : Verdict) (next : Changed) → v ≡ Fault reason → r ≡ unless_fault v w next
@@ -61,14 +81,12 @@ module _ (w : Work) where
     unfolding started_in
     start-fault n fibres v ev e = fault (judge_ring desk (ring_of n fibres)) _ (sym ev ∙ e)
 
-    module _ (s i j d : ℕ) (v : Verdict) (es : s ≡ ring_size w.n) (ev : v ≡ judge_row desk s 0 0 0 i j d) (e : v ≡ Fault reason) where
-      pub add-fault : r ≡ added_in w i j d
-      unfolding added_in
-      add-fault = fault (judged w i j d) _ ((rw (← es)) ∙ sym ev ∙ e)
+    pub add-fault : (s i j d : ℕ) (v : Verdict) → s ≡ ring_size w.n → v ≡ judge_row desk s 0 0 0 i j d → v ≡ Fault reason → r ≡ added_in w i j d
+    unfolding added_in
+    add-fault s i j d v es ev e = fault (judged w i j d) _ ((rw (← es)) ∙ sym ev ∙ e)
 
-      pub change-fault : (p : ℕ) (b : Bool) → b ≡ holds_in w.first p → b ≡ true → r ≡ changed_in w p i j d
-      unfolding changed_in
-      change-fault p b eb t = rw (sym eb ∙ t) (fault (judged w i j d) _ ((rw (← es)) ∙ sym ev ∙ e))
+    pub change-fault : (p i j d : ℕ) (v : Verdict) → v ≡ judged_at w p i j d → v ≡ Fault reason → r ≡ changed_in w p i j d
+    change-fault p i j d v ev e = fault (judged_at w p i j d) (done-at p i j d) (sym ev ∙ e) ∙ sym (change-is p i j d)
 
   -- the largest cut, as the code answers it
   pub kept-is : (place s n : ℕ) (c : Cut) → s ≡ ring_size w.n → n ≡ s → c ≡ cut_in (largest_cut (at w.triangle) n) → kept_with w place c ≡ kept_in w place
@@ -81,20 +99,23 @@ module _ (w : Work) where
   start-done r n fibres v x ev e ex er = rw (sym ev ∙ e, ← ex) er
 
   -- a row that is fine
+  fine_fits : (i j d k : ℕ) → judged w i j d ≡ Fine → k < desk.rows → Fitting k i j d
+  fine_fits i j d k f l = go (judged w i j d) f (row-judged desk (ring_size w.n) 0 0 0 i j d)
+    where
+      go : (u : Verdict) → u ≡ Fine → RowJudged desk (ring_size w.n) 0 0 0 i j d u → Fitting k i j d
+      go u q (row_fine on up c m) = record { place = l; low = on.low; first = omega (arith, on.order, on.high); second = omega (arith, on.high); amount = omega arith }
+      go u q (no_such_node x) = absurd (never q)
+      go u q (not_below x y z) = absurd (never q)
+      go u q (out_of_order x y z o) = absurd (never q)
+      go u q (too_many x y z o c) = absurd (never q)
+      go u q (too_much x y z o c m) = absurd (never q)
+
   module _ (s i j d : ℕ) (v : Verdict) (es : s ≡ ring_size w.n) (ev : v ≡ judge_row desk s 0 0 0 i j d) (e : v ≡ Fine) where
     is-fine : judged w i j d ≡ Fine
     is-fine = (rw (← es)) ∙ sym ev ∙ e
 
     pub fitting : (k : ℕ) → k < desk.rows → Fitting k i j d
-    fitting k l = go (judged w i j d) is-fine (row-judged desk (ring_size w.n) 0 0 0 i j d)
-      where
-        go : (u : Verdict) → u ≡ Fine → RowJudged desk (ring_size w.n) 0 0 0 i j d u → Fitting k i j d
-        go u q (row_fine on up c m) = record { place = l; low = on.low; first = omega (arith, on.order, on.high); second = omega (arith, on.high); amount = omega arith }
-        go u q (no_such_node x) = absurd (never q)
-        go u q (not_below x y z) = absurd (never q)
-        go u q (out_of_order x y z o) = absurd (never q)
-        go u q (too_many x y z o c) = absurd (never q)
-        go u q (too_much x y z o c m) = absurd (never q)
+    fitting k l = fine_fits i j d k is-fine l
 
     module _ (r : Changed) (k : ℕ) (ek : k ≡ free_in w.first) where
       pub add-full : (number : ℕ) → desk.rows ≤ k → number ≡ number_of Full → r ≡ refused_in w number → r ≡ added_in w i j d
@@ -105,17 +126,34 @@ module _ (w : Work) where
       unfolding added_in unless_fault
       add_done x l ex er = rw (is-fine, lt-ltb (free_in w.first) desk.rows (omega arith), ← ek, ← ex) er
 
-    module _ (r : Changed) (p : ℕ) (b : Bool) (eb : b ≡ holds_in w.first p) (t : b ≡ true) where
-      pub change-done : (k : ℕ) (x y : Work) → k ≡ p - 1 → x ≡ cleared_in w k → y ≡ put_in x k i j d → r ≡ kept_in y p → r ≡ changed_in w p i j d
+  -- a place that holds a row, and a row that is fine
+  module _ (p i j d : ℕ) (v : Verdict) (ev : v ≡ judged_at w p i j d) (e : v ≡ Fine) where
+    both-fine : (holds_in w.first p ≡ true) × (judged w i j d ≡ Fine)
+    both-fine = go (holds_in w.first p) (judged w i j d) (sym ev ∙ e)
+      where
+        go : (b : Bool) (u : Verdict) → cond b u (Fault NoRow) ≡ Fine → (b ≡ true) × (u ≡ Fine)
+        go true u q = (refl, q)
+        go false u q = absurd (never q)
+
+    pub change-low : 1 ≤ p
+    change-low = (holding w.first p both-fine.0).low
+
+    module _ (k : ℕ) (ek : k ≡ p - 1) where
+      pub change-high : k < desk.rows
+      change-high = omega (arith, (holding w.first p both-fine.0).high)
+
+      pub change-row : 1 ≤ get_or w.first k 0
+      change-row = rw ek (holding w.first p both-fine.0).row
+
+      pub change-fits : Fitting k i j d
+      change-fits = fine_fits i j d k both-fine.1 change-high
+
+      pub change-done : (r : Changed) (x y : Work) → x ≡ cleared_in w k → y ≡ put_in x k i j d → r ≡ kept_in y p → r ≡ changed_in w p i j d
       unfolding changed_in unless_fault
-      change-done k x y ek ex ey er = rw (sym eb ∙ t, is-fine, ← ek, ← ex, ← ey) er
+      change-done r x y ex ey er = rw (both-fine.0, both-fine.1, ← ek, ← ex, ← ey) er
 
   -- whether the place holds a row
   module _ (r : Changed) (p : ℕ) (b : Bool) (eb : b ≡ holds_in w.first p) where
-    pub change-none : (i j d number : ℕ) → b ≡ false → number ≡ number_of NoRow → r ≡ refused_in w number → r ≡ changed_in w p i j d
-    unfolding changed_in
-    change-none i j d number t en er = rw (sym eb ∙ t, ← en) er
-
     pub remove-none : (number : ℕ) → b ≡ false → number ≡ number_of NoRow → r ≡ refused_in w number → r ≡ removed_in w p
     unfolding removed_in
     remove-none number t en er = rw (sym eb ∙ t, ← en) er

@@ -117,6 +117,10 @@ added_in w i j d =
     unless_fault (judged w i j d) w
     (cond (ltb (free_in w.first) desk.rows) (kept_in (put_in w (free_in w.first) i j d) (free_in w.first + 1)) (refused_in w (number_of Full)))
 
+-- a change's place first: 22; then its row
+abbrev pub judged_at : Work → ℕ → ℕ → ℕ → ℕ → Verdict
+judged_at w p i j d = cond (holds_in w.first p) (judged w i j d) (Fault NoRow)
+
 unfoldable pub changed_in : Work → ℕ → ℕ → ℕ → ℕ → Changed
 changed_in w p i j d =
     cond (holds_in w.first p)

@@ -1,7 +1,7 @@
 // A row added, changed or removed.
 ghost use Rattle.std.specs.Prelude.{◌≡◌, ◌≤◌, ◌<◌, get_or};
 ghost use Rattle.ring.specs.Limits.{desk};
-ghost use Rattle.work.specs.Changes.{Fitting, put_in, cleared_in, added_in, changed_in, removed_in};
+ghost use Rattle.work.specs.Changes.{Fitting, put_in, cleared_in, added_in, judged_at, changed_in, removed_in};
 
 use crate::held::{kept, refused, ring_size};
 use crate::place::{free_place, holds_row};
@@ -62,24 +62,31 @@ pub fn added(work: Work, first: u32, second: u32, amount: u32) -> Changed
     }
 }
 
+// What is found against another row at a place: that the place holds none, then what is found against the row.
+fn judge_change(work: &Work, place: u32, first: u32, second: u32, amount: u32) -> Verdict
+    ensures { result ≡ judged_at work.now place first second amount }
+{
+    let taken = holds_row(&work.first, place);
+    if taken {
+        judge_row(ring_size(work.n), 0, 0, 0, first, second, amount)
+    } else {
+        Verdict::Fault(Reason::NoRow)
+    }
+}
+
 // Another row in place of the one at a place.
 pub fn changed(work: Work, place: u32, first: u32, second: u32, amount: u32) -> Changed
     ensures { result ≡ changed_in work place first second amount }
 {
-    let holds = holds_row(&work.first, place);
-    if holds {
-        let verdict = judge_row(ring_size(work.n), 0, 0, 0, first, second, amount);
-        match verdict {
-            Verdict::Fault(reason) => refused(work, reason.number()),
-            Verdict::Fine => {
-                let k = wide(place - 1);
-                let off = cleared(work, k);
-                let w = put(off, k, first, second, amount);
-                kept(w, place)
-            }
+    let verdict = judge_change(&work, place, first, second, amount);
+    match verdict {
+        Verdict::Fault(reason) => refused(work, reason.number()),
+        Verdict::Fine => {
+            let k = wide(place - 1);
+            let off = cleared(work, k);
+            let w = put(off, k, first, second, amount);
+            kept(w, place)
         }
-    } else {
-        refused(work, Reason::NoRow.number())
     }
 }
 

@@ -12,7 +12,8 @@ pub(crate) fn free_place(first: &[u8; ROWS]) -> usize
     ensures { result ≡ free_in first.now }
 {
     for k in 0..ROWS {
-        if first[k] == 0 {
+        let free = first[k] == 0;
+        if free {
             return k;
         }
     }

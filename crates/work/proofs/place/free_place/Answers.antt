@@ -2,8 +2,8 @@
 use Rattle.work.proofs.PlaceSteps.{seek_found, seek-on, seek-none}
 use Rattle.work.proofs.place.free_place.Goals as goal
 
-pub returns-then-first-k-eq0 : goal.returns-then-first-k-eq0
-returns-then-first-k-eq0 c = search seek_found
+pub returns-then-free : goal.returns-then-free
+returns-then-free c = search seek_found
 
 pub loop-k-preserved : goal.loop-k-preserved
 loop-k-preserved c = search seek-on
