@@ -23,10 +23,6 @@ module _ (outcome : Outcome) (old : List ℕ) where
   refuses reason line byte r o e = record { reply = rw o e; buffer = rw o }
 
   module _ (t : List ℕ) (o : outcome ≡ write t) (size : ℕ) (is : size ≡ length t) where
-    pub too_short : (r : Reply) → length old < size → r ≡ reply_of (refuse NoRoom 0 0) → Fills outcome old old r
-    unfolding within buffer_after
-    too_short r l e = let k : length old < length t = omega arith in record { reply = rw (o, lt-ltb (length old) (length t) k) e; buffer = rw (o, lt-ltb (length old) (length t) k) }
-
     pub fills : (new : List ℕ) (n : ℕ) → size ≤ length old → Written old 0 t new n → Fills outcome old new (record { reason = 0; line = 0; byte = 0; length = n })
     unfolding within reply_of buffer_after
     fills new n l w =
@@ -38,13 +34,15 @@ module _ (outcome : Outcome) (old : List ℕ) where
           buffer = rw (o, le-ltb (length old) (length t) k) (w.buffer ∙ sets-eq t old 0 (omega arith) ∙ ap (λ m. t ++ drop m old) e);
         }
 
--- a text of `size` bytes, where the call goes by the size
-module _ (old t : List ℕ) (size : ℕ) (is : size ≡ length t) where
-  pub text-too-short : (r : Reply) → length old < size → r ≡ reply_of (refuse NoRoom 0 0) → Fills (write t) old old r
-  text-too-short = too_short (write t) old t refl size is
+-- a text that the buffer is too short for, whatever the call went by
+pub text-too-short : (old t : List ℕ) (r : Reply) → length old < length t → r ≡ reply_of (refuse NoRoom 0 0) → Fills (write t) old old r
+unfolding within buffer_after
+text-too-short old t r short e = record { reply = rw (lt-ltb (length old) (length t) short) e; buffer = rw (lt-ltb (length old) (length t) short) }
 
-  pub text-fills : (new : List ℕ) (n : ℕ) → size ≤ length old → Written old 0 t new n → Fills (write t) old new (record { reason = 0; line = 0; byte = 0; length = n })
-  text-fills = fills (write t) old t refl size is
+-- a text of `size` bytes, where the call goes by the size
+pub text-fills : (old t : List ℕ) (size : ℕ) → size ≡ length t → (new : List ℕ) (n : ℕ) → size ≤ length old → Written old 0 t new n
+    → Fills (write t) old new (record { reason = 0; line = 0; byte = 0; length = n })
+text-fills old t = fills (write t) old t refl
 
 -- a call that does what another outcome says does what an equal one says
 pub same-fills : {outcome other : Outcome} (old new : List ℕ) (r : Reply) → outcome ≡ other → Fills other old new r → Fills outcome old new r

@@ -1,9 +1,10 @@
 -- A sheet is written where it has room, else refused (`FillSteps`).
+use Rattle.std.proofs.Common.{rules}
 use Rattle.ringkit.proofs.FillSteps.{text-too-short, text-fills}
 use Rattle.ringkit.proofs.put_sheet.Goals as goal
 
 pub returns-then-buf-need : goal.returns-then-buf-need
-returns-then-buf-need c = search text-too-short
+returns-then-buf-need c = text-too-short _ _ _ (search rules) (search rules)
 
 pub returns : goal.returns
 returns c = search text-fills
