@@ -1,3 +1,4 @@
--- What the contracts rest on.
-
 mod Checked
+mod OneResult
+mod OfTables
+mod Promised

@@ -1,0 +1,91 @@
+-- What the rules give, of the rows of every table: the rules' theorems, with what `TableRows` says.
+use mathlib.Core.Bool.{true}
+use mathlib.Core.Path.{◌≡◌}
+use native.Mathlib.Omega.{arith}
+use Rattle.ring.specs.Routing.{Sent, is_split, Split}
+use Rattle.ring.proofs.LargestCut.{rule-A, one-best}
+use Rattle.ring.proofs.Move.{moved}
+use Rattle.ring.proofs.OurPlan.{rule-B, rule-B-peak, untangled, final-divides, rule-C-peak, split-rows-rise, directed, rule-D-peak, table-order, one-circuit-split}
+use Rattle.ring.proofs.Parallel.{disjoint-is, holds-is, parallel-is, parallel-either}
+use Rattle.ring.proofs.SameNodes.{first-is-outer}
+use Rattle.ring.proofs.Splits.{split, whole, splitting, is-split}
+use Rattle.laws.specs.Rules.{DisjointIs, HoldsIs, ParallelIs, ParallelEither, SplitIs, CutIsBest, CutIsOne}
+use Rattle.laws.specs.Rules.{RowsAreSent, SendingIsOne, SentPeakIsM, OneIsSplit}
+use Rattle.laws.specs.Rules.{MoveIs, EarlierIsOuter, RowsAreUntangled, UntangledDivides, UntangledPeakIsM}
+use Rattle.laws.specs.Rules.{SplitRowsRise, RowsAreDirected, DirectionsAreOne, DirectedPeak}
+use Rattle.laws.proofs.OneResult.{one-sending, one-run}
+
+-- ---- two rows
+
+pub disjoint-rows : DisjointIs
+disjoint-rows n a b oa ob = disjoint-is a b oa.order ob.order
+
+pub holding-rows : HoldsIs
+holding-rows n a b oa ob = holds-is a b oa.order ob.order
+
+pub parallel-rows : ParallelIs
+parallel-rows n a b oa ob = parallel-is a b oa.order ob.order
+
+pub either-parallel : ParallelEither
+either-parallel n a b oa ob = parallel-either a b oa.order ob.order
+
+-- ---- the test of a split row
+
+said-split : (s : Sent) → Split s → is_split s ≡ true
+said-split s p = elim (splitting s) [ split q e ↦ e | whole n e ↦ absurd (n p) ]
+
+pub split-is : SplitIs
+split-is s = (is-split s, said-split s)
+
+-- ---- A
+
+pub cut-best : CutIsBest
+cut-best n rs two table = rule-A n rs two
+
+pub cut-one : CutIsOne
+cut-one n rs two table c best = one-best _ _ c _ best (rule-A n rs two)
+
+-- ---- B
+
+pub rows-sent : RowsAreSent
+rows-sent n rs two table = rule-B n rs two table.nodes
+
+pub sending-one : SendingIsOne
+sending-one n rs two table ss sends = one-sending sends.each (rule-B n rs two table.nodes).each
+
+pub sent-peak : SentPeakIsM
+sent-peak n rs two table = rule-B-peak n rs two table.nodes
+
+pub one-is-split : OneIsSplit
+one-is-split n rs two table = one-circuit-split n rs two table
+
+-- ---- C
+
+pub move-is : MoveIs
+move-is n a b oa ob = moved a b oa.order ob.order
+
+pub earlier-outer : EarlierIsOuter
+earlier-outer n a b oa same p q = first-is-outer a b same oa.order (said-split a p) (said-split b q)
+
+pub rows-untangled : RowsAreUntangled
+rows-untangled n rs two table = untangled n rs two table.nodes
+
+pub untangled-divides : UntangledDivides
+untangled-divides n rs two table = final-divides n rs two table.nodes
+
+pub untangled-peak : UntangledPeakIsM
+untangled-peak n rs two table = rule-C-peak n rs two table.nodes
+
+-- ---- D
+
+pub rows-rise : SplitRowsRise
+rows-rise n rs two table = split-rows-rise n rs two table.nodes (table-order n rs two table)
+
+pub rows-directed : RowsAreDirected
+rows-directed n rs two table = directed n rs two table.nodes (table-order n rs two table)
+
+pub directions-one : DirectionsAreOne
+directions-one n rs two table routed d = one-run d.run (rows-directed n rs two table).run
+
+pub directed-peak : DirectedPeak
+directed-peak n rs two table = omega (arith, untangled-peak n rs two table, rule-D-peak n rs two table.nodes (table-order n rs two table))

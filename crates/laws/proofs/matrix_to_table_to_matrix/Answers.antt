@@ -1,6 +1,0 @@
--- A matrix there and back (`matrix-there-and-back`).
-use Rattle.ringkit.proofs.MatrixCalls.{matrix-there-and-back}
-use Rattle.laws.proofs.matrix_to_table_to_matrix.Goals as goal
-
-pub returns : goal.returns
-returns c = matrix-there-and-back

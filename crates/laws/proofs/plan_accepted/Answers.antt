@@ -1,6 +1,0 @@
--- The plan of an accepted table (`plan-accepted`).
-use Rattle.sheet.proofs.Demands.{plan-accepted}
-use Rattle.laws.proofs.plan_accepted.Goals as goal
-
-pub returns : goal.returns
-returns c = plan-accepted

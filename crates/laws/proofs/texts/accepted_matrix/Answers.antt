@@ -1,0 +1,6 @@
+-- Accepted matrices (`matrix-accepted`).
+use Rattle.ringkit.proofs.MatrixCalls.{matrix-accepted}
+use Rattle.laws.proofs.texts.accepted_matrix.Goals as goal
+
+pub returns : goal.returns
+returns c = matrix-accepted

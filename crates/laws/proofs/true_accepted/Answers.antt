@@ -1,8 +1,0 @@
--- A true sheet's text is accepted (`true-accepted`).
-use Rattle.ring.specs.Limits.{desk}
-use Rattle.table.proofs.TableText.{desk-spelled}
-use Rattle.sheet.proofs.Demands.{true-accepted}
-use Rattle.laws.proofs.true_accepted.Goals as goal
-
-pub returns : goal.returns
-returns c = true-accepted desk desk-spelled

@@ -1,0 +1,19 @@
+-- To believe: how numbers are spelled, and which texts are a sheet or a matrix: each the contract of a function that does nothing.
+use Rattle.std.specs.Prelude.{ℕ, ◌<◌, List, ◌↔◌, ◌≡◌}
+use Rattle.ring.specs.Limits.{desk}
+use Rattle.text.specs.Number.{limit, digits, Spelling}
+use Rattle.matrix.specs.Says as matrix
+use Rattle.sheet.specs.Says as sheet
+use Rattle.ringkit.specs.Texts.{SomeForm, SomeMatrix}
+
+-- bytes spell a number exactly where it is below the limit and they are its digits: 1 to 7 digits with no leading zero but 0 itself leave each number one spelling
+abbrev pub SpellingIs : Type 0
+SpellingIs = (number : ℕ) (bytes : List ℕ) → Spelling number bytes ↔ ((number < limit) × (bytes ≡ digits number))
+
+-- a text is well-formed exactly where it is a sheet of values in range, true or not
+abbrev pub WellFormedIs : Type 0
+WellFormedIs = (t : List ℕ) → sheet.WellFormed desk t ↔ SomeForm t
+
+-- a text is an accepted matrix exactly where it is n lines of n numbers in range, symmetric, with 0 on the diagonal
+abbrev pub AcceptedMatrixIs : Type 0
+AcceptedMatrixIs = (t : List ℕ) → matrix.Accepted desk t ↔ SomeMatrix t

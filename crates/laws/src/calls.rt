@@ -1,0 +1,34 @@
+// Laws over several calls.
+ghost use Rattle.ringkit.specs.Back.{TableThereAndBack, MatrixToTableToMatrix, TableToMatrixToTable};
+ghost use Rattle.ringkit.specs.WorkCalls.{RoutedAsNamed};
+ghost use Rattle.laws.specs.Calls.{SheetThereAndBack, RoutedChecked};
+
+/// A table there and back: an accepted table is read and written as the same bytes, values in range as a text of these values only.
+pub fn table_there_and_back()
+    ensures { TableThereAndBack }
+{}
+
+/// The matrix of the table that was made of a matrix is that matrix.
+pub fn matrix_to_table_to_matrix()
+    ensures { MatrixToTableToMatrix }
+{}
+
+/// The table made of a table's matrix is that table, where it has at most one row for a pair and none of amount 0.
+pub fn table_to_matrix_to_table()
+    ensures { TableToMatrixToTable }
+{}
+
+/// An accepted sheet, read and written afresh with room, is the same bytes.
+pub fn sheet_there_and_back()
+    ensures { SheetThereAndBack }
+{}
+
+/// A working table, written out and routed, has the cut that the last accepted reply named.
+pub fn routed_as_named()
+    ensures { RoutedAsNamed }
+{}
+
+/// What routing wrote for an accepted table, with room, is a sheet to which checking says yes.
+pub fn routed_checked()
+    ensures { RoutedChecked }
+{}

@@ -1,0 +1,51 @@
+// What texts are, and what holds of all sheets.
+ghost use Rattle.ring.specs.Limits.{desk};
+ghost use Rattle.sheet.specs.Cases.{CasesHold};
+ghost use Rattle.sheet.specs.Laws.{SameSheet, TrueAccepted, PlanAccepted, NoLowerPeak};
+ghost use Rattle.laws.specs.Texts.{SpellingIs, WellFormedIs, AcceptedMatrixIs};
+ghost use Rattle.laws.specs.Cases.{CasesPromised};
+
+/// Numbers are spelled in one way each: by 1 to 7 digits with no leading zero but 0 itself.
+pub fn numbers_spelled()
+    ensures { SpellingIs }
+{}
+
+/// A text is well-formed exactly where it is a sheet of values in range.
+pub fn well_formed_sheet()
+    ensures { WellFormedIs }
+{}
+
+/// A text is an accepted matrix exactly where it is the matrix of lines in range.
+pub fn accepted_matrix()
+    ensures { AcceptedMatrixIs }
+{}
+
+/// Two sheets in range that are written the same are the same.
+pub fn same_sheet()
+    ensures { SameSheet desk }
+{}
+
+/// A true sheet in range is accepted.
+pub fn true_sheet_accepted()
+    ensures { TrueAccepted desk }
+{}
+
+/// The plan of an accepted table is an accepted sheet.
+pub fn plan_accepted()
+    ensures { PlanAccepted }
+{}
+
+/// No division of the demands of an accepted sheet, however fine, has a lower peak.
+pub fn no_lower_peak()
+    ensures { NoLowerPeak desk }
+{}
+
+/// The listed cases hold.
+pub fn cases_hold()
+    ensures { CasesHold }
+{}
+
+/// They hold in the words of what the calls promise: each plan is due to its table and accepted, each refusal is given.
+pub fn cases_as_promised()
+    ensures { CasesPromised }
+{}
