@@ -1,12 +1,12 @@
-"""The tables that are tried: drawn as the two source papers say that they drew theirs, and the two rings they print in full."""
+"""The tables that are tried: drawn as by Schrijver, Seymour and Winkler and by Lee and Chang (Rules, papers), and the ring that each prints in full."""
 
 import random
 from typing import NamedTuple
 
-# 003, table 8.1: its ring sizes, all pairs. "Uniformly random data" is all it says of the amounts; its section 3 calls 0 to 100 typically adequate.
+# Schrijver, Seymour and Winkler, table 8.1: ring sizes, all pairs. Amounts are "uniformly random data"; section 3 has 0 to 100 typically adequate.
 PAIRS_SIZES = (8, 12, 16, 20, 24, 28, 32)
 PAIRS_AMOUNTS = (0, 100)
-# 002, section 4: its ring sizes, the chance in percent that a pair has a demand, and its amounts.
+# Lee and Chang, section 4: its ring sizes, the chance in percent that a pair has a demand, and its amounts.
 LEE_SIZES = (5, 10, 15, 20, 25, 30)
 LEE_SHARES = (25, 50, 100)
 LEE_AMOUNTS = (5, 100)
@@ -26,8 +26,8 @@ class Table(NamedTuple):
 
 
 PRINTED = (
-    Table("002, figure 2", 5, 100, 1, ((1, 2, 2), (1, 4, 5), (2, 3, 9), (2, 4, 11), (3, 4, 4), (3, 5, 3))),
-    Table("003, figure 4.1", 8, 100, 1, ((1, 4, 1), (2, 3, 1), (5, 8, 2), (6, 7, 2))),
+    Table("Lee and Chang, figure 2", 5, 100, 1, ((1, 2, 2), (1, 4, 5), (2, 3, 9), (2, 4, 11), (3, 4, 4), (3, 5, 3))),
+    Table("Schrijver et al., figure 4.1", 8, 100, 1, ((1, 4, 1), (2, 3, 1), (5, 8, 2), (6, 7, 2))),
 )
 
 

@@ -1,11 +1,11 @@
-"""What was measured, as tables in markdown and as plots, beside the figures that the two source papers print."""
+"""What was measured, as tables in markdown and as plots, beside the figures that Schrijver, Seymour and Winkler, and Lee and Chang print (Rules, papers)."""
 
 from dataclasses import dataclass, fields
 from statistics import mean, median
 
 import plots
 
-# 003, table 8.1: offices to C-B, B=C, A-C and A=C. A is its algorithm, B the linear program, C the optimum.
+# Schrijver, Seymour and Winkler, table 8.1: offices to C-B, B=C, A-C and A=C. A is its algorithm, B the linear program, C the optimum.
 TABLE_8_1 = {
     8: (0.0054, 63, 0.0110, 19.4),
     12: (0.0013, 85, 0.0036, 21.2),
@@ -15,9 +15,9 @@ TABLE_8_1 = {
     28: (0.00000, 99, 0.0004, 28.3),
     32: (0.00000, 99, 0.0002, 29.2),
 }
-# 003, section 3: how far above the optimum is good enough in most cases
+# Schrijver, Seymour and Winkler, section 3: how far above the optimum is good enough in most cases
 TARGET = 0.05
-# 002, tables 6 to 8: chance in percent and offices to the averages of the optimum, or of a lower bound, of DENS and of dual ascent.
+# Lee and Chang, tables 6 to 8: chance in percent and offices to the averages of the optimum, or of a lower bound, of DENS and of dual ascent.
 TABLES_6_TO_8 = {
     (25, 5): (75.8, 75.8, 75.8),
     (25, 10): (244.2, 244.8, 248.6),
@@ -93,7 +93,7 @@ def share_of(results, holds):
 
 
 def above(peaks, bests):
-    """How far the average of the peaks is above that of the best ones: so 002 prints it."""
+    """How far the average of the peaks is above that of the best ones: so Lee and Chang print it."""
     return ratio(mean(peaks), mean(bests)) - 1
 
 
@@ -108,7 +108,7 @@ def by_size(results, family):
 
 
 def cells(results):
-    """The results of each of 002's cells, in its order."""
+    """The results of each of Lee and Chang's cells, in their order."""
     drawn = [result for result in results if result.family == "lee"]
     tried = {(result.share, result.n) for result in drawn}
     return {cell: [result for result in drawn if (result.share, result.n) == cell] for cell in TABLES_6_TO_8 if cell in tried}
@@ -155,7 +155,7 @@ def times_row(n, some):
 
 
 def beside_8_1(results):
-    head = "offices", "A-C, 003", "A-C, here", "A=C, 003", "A=C, here", "C-B, 003", "C-B, here", "B=C, 003", "B=C, here"
+    head = "offices", "A-C, there", "A-C, here", "A=C, there", "A=C, here", "C-B, there", "C-B, here", "B=C, there", "B=C, here"
     return grid(head, *(beside_8_1_row(n, some) for n, some in by_size(results, "pairs").items()))
 
 
@@ -177,7 +177,7 @@ def beside_8_1_row(n, some):
 
 
 def beside_6_to_8(results):
-    head = "chance", "offices", "best, 002", "best, here", "DENS over best, 002", "dual ascent over best, 002", "ours over best, here", "at most", "ours = best", "proved best"
+    head = "chance", "offices", "best, there", "best, here", "DENS over best", "dual ascent over best", "ours over best, here", "at most", "ours = best", "proved best"
     return grid(head, *(beside_6_to_8_row(cell, some) for cell, some in cells(results).items()))
 
 
@@ -210,8 +210,8 @@ def text(results):
     parts = {
         "Peaks, all pairs": peaks,
         "Times, all pairs": times,
-        "Beside 003's table 8.1": beside_8_1,
-        "Beside 002's tables 6 to 8": beside_6_to_8,
+        "Beside table 8.1 of Schrijver, Seymour and Winkler": beside_8_1,
+        "Beside tables 6 to 8 of Lee and Chang": beside_6_to_8,
         "Rings that the papers print": printed,
     }
     return "\n\n".join(f"## {title}\n\n{part(results)}" for title, part in parts.items())
@@ -227,18 +227,18 @@ def plot(results, folder):
         [
             ("ours, largest", [(n, 100 * max(r.over for r in some)) for n, some in sizes.items()]),
             ("ours, average", [(n, 100 * mean(r.over for r in some)) for n, some in sizes.items()]),
-            ("A of 003, its tables", [(n, 100 * TABLE_8_1[n][2]) for n in sizes]),
+            ("A, Schrijver et al.", [(n, 100 * TABLE_8_1[n][2]) for n in sizes]),
         ],
     )
     drawn = cells(results)
     chances = sorted({share for share, _ in drawn})
     plots.chart(
         folder / "over-best-lee.svg",
-        "Unsplit peak over the best, drawn as in 002",
+        "Unsplit peak over the best, drawn as by Lee and Chang",
         "percent",
         [
             *((f"ours, chance {chance} %", [(n, 100 * ours_above(some)) for (share, n), some in drawn.items() if share == chance]) for chance in chances),
-            ("DENS of 002, its tables", dens_line()),
+            ("DENS, Lee and Chang", dens_line()),
         ],
     )
     plots.chart(

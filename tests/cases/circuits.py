@@ -1,4 +1,4 @@
-"""Tables and sheets of K1 in 02: several circuits between the same two offices, and as many rows as there may be, and more."""
+"""Tables and sheets with several circuits between the same two offices, and as many rows as there may be, and more."""
 import random
 
 import rules

@@ -1,4 +1,4 @@
-"""K5 of 02 by hand: texts with the reason, the line and the byte that they get. Where a field of a good line is spelled otherwise, the byte is stated as so many behind the field's start."""
+"""Bytes by hand (Rules, the byte): texts with the reason, the line and the byte that they get. Where a field of a good line is spelled otherwise, the byte is stated as so many behind the field's start."""
 import rules
 from matrix import write_matrix
 from pointing import byte_of
@@ -68,7 +68,7 @@ def shapes():
         yield from (("4", *one) for one in misshapen(MATRIX, at, at > 0))
 
 
-# 02's own, and more of the kind: what may stand behind `R|4|4` in a table and in a sheet, the byte in either, 0 where the line is good there or the reason another
+# the examples of Rules, the byte, and more of the kind: what may stand behind `R|4|4` in a table and in a sheet, the byte in either, 0 where the line is good there or the reason another
 BEHIND_R = [
     ("D \n", 2, 2), ("DD\n", 2, 2), ("X\n", 1, 1), ("\n", 1, 1), ("D", 2, 2), ("D\n", 2, 2), ("DC|1|2|3\n", 2, 2), ("CD|1|2|3\n", 1, 2), ("C\n", 1, 2), ("C|1|2|\n", 1, 7), ("C|1|2|3", 1, 8), ("L|1|2|3\n", 1, 1),
     ("D|1|2|1|1|1|FB\n", 8, 14), ("D|1|2|1|1|1|F \n", 8, 14), ("D|1|2|1|1|1|f\n", 8, 13), ("D|1|2|1|1|1|\n", 8, 13), ("D|1|2|1|1|1\n", 8, 12), ("D|1|2|1|1|1|F|\n", 8, 14), ("D|1|2|1|1|1|F", 8, 14),

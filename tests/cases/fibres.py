@@ -1,4 +1,4 @@
-"""K3 of 02 by hand: what an R line's second number may be and when 20 is given, beside 2, 3 and 1 too; and the size to buy on both sides of each size."""
+"""Fibres by hand (Rules, fibres): what an R line's second number may be and when 20 is given, beside 2, 3 and 1 too; and the size to buy on both sides of each size."""
 from matrix import first_reason_of_matrix
 from reading import first_reason, first_reason_of_sheet
 from sheets import t

@@ -1,5 +1,5 @@
 #!/usr/bin/env python3
-"""Writes crates/cases/stdin and stdout: stored cases for the public calls, and the answers that document 01 and K1 to K3 and K5 of 02 give them.
+"""Writes crates/cases/stdin and stdout: stored cases for the public calls, and the answers that the rules of docs/RULES.md give them.
 
 The answers come from the reading of these in reading.py, matrix.py, pointing.py and rules.py and from nothing else: no source of the project is used. Run it by hand after adding a
 case and look at the difference; the tests only compare what the program writes with what is stored."""
@@ -121,7 +121,7 @@ def single_faults():
 
 
 def rings():
-    """The first line, and the numbers of 01 on both sides."""
+    """The first line, and its limits from both sides."""
     for r in ["", "R", "R|", "R|0|4", "R|1|4", "R|2|4", "R|32|4", "R|33|4", "R|9999999|4", "R|10000000|4", "R|02|4", "R|2", "R|2|", "R|2|04", "R|2|4|4", "R|2|4|M", "r|2|4", "R 2 4", "R|2 4", "R|2|4 ", " R|2|4", "X|2|4", "D|1|2|3",
               "R|-2|4", "R||2|4", "R|2||4", "\tR|2|4", "R|2|2", "R|32|2", "R|2|0", "R|2|1", "R|2|3", "R|2|5", "R|2|24", "R|2|9999999", "R|2|10000000", "R|1|3", "R|33|3", "R|33|2", "R|4|0"]:
         yield t(r)
@@ -190,7 +190,7 @@ def by_chance(rng, k, text):
 
 
 def to_route():
-    """Tables to route: 01's "Numbers to try" with the figures it states, refusals, and full rings of 20 and 32 offices, with buffers of every kind."""
+    """Tables to route: the stated cases with their figures (Rules, stated cases), refusals, and full rings of 20 and 32 offices, with buffers of every kind."""
     stated = [
         (t("R|4|4", "D|1|3|1", "D|2|4|1"), t("C|1|3|2", "L|1|2|2", "L|2|2|1", "L|3|2|0", "L|4|2|1", "Z|2|3")),
         (t("R|2|4"), t("C|1|2|0", "L|1|0|0", "L|2|0|0", "Z|0|3")),

@@ -1,4 +1,4 @@
-"""Matrices to be read and tables to be written as matrices, of K2 in 02: each refusal on first, middle and last lines, two faults at once, limits, and the way
+"""Matrices to be read and tables to be written as matrices: each refusal on first, middle and last lines, two faults at once, limits, and the way
 there and back."""
 import itertools
 import random
@@ -244,7 +244,7 @@ def drawn_circuits(rng):
 
 
 def stated():
-    """Matrices and their tables by hand: document 002's ring, no demand at all, one at either end, and one pair alone."""
+    """Matrices and their tables by hand: the ring of five, no demand at all, one at either end, and one pair alone."""
     return [
         (t("0|2|0|5|0", "2|0|9|11|0", "0|9|0|4|3", "5|11|4|0|0", "0|0|3|0|0"), t("R|5|4", "D|1|2|2", "D|1|4|5", "D|2|3|9", "D|2|4|11", "D|3|4|4", "D|3|5|3")),
         (t("0|0", "0|0"), t("R|2|4")),

@@ -1,4 +1,4 @@
-"""A matrix of K2 and K3 in 02, read from their sentences alone: which refusal it gets, the table that it is read into, and the matrix that a table is written as."""
+"""A matrix, read from the rule alone (Rules, matrices): which refusal it gets, the table that it is read into, and the matrix that a table is written as."""
 from reading import LONGEST, fields, first_of, first_reason, lines_of, number, those
 
 

@@ -1,5 +1,5 @@
-"""To which byte of its line a refusal points, read from K5 of 02 alone: of a line of the wrong shape by the longest beginning that a pattern of its shape has, of a field by
-where it starts."""
+"""To which byte of its line a refusal points, read from the rule alone (Rules, the byte): of a line of the wrong shape by the longest beginning that a
+pattern of its shape has, of a field by where it starts."""
 import re
 
 from matrix import Matrix

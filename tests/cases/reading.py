@@ -1,9 +1,9 @@
-"""Which refusal a table or a sheet gets, read from 01 and K1 and K3 of 02 alone: the reasons that hold of each line are collected, each judged by its own
+"""Which refusal a table or a sheet gets, read from the rules alone: the reasons that hold of each line are collected, each judged by its own
 words, and the one that their order puts first is given."""
 import rules
 
 LONGEST, MOST_ROWS = 32768, 496
-# by rising number, but K1's 16 stands between 6 and 7 and K3's 20 behind 3
+# by rising number, but 16 stands between 6 and 7 and 20 behind 3 (Rules, the order of reasons)
 ORDER = (1, 2, 3, 20, 4, 5, 6, 16, 7, 8, 9, 10, 11, 12, 13, 14)
 # what follows the letter of a sheet's line: numbers, and for a row its way
 SHEET = {"R": 2, "D": 5, "C": 3, "L": 3, "Z": 2}

@@ -1,5 +1,5 @@
-"""Rules A to D of document 01, the figures of a sheet and its text, read from 01 and K1 of 02 alone: sums are taken afresh wherever a rule speaks
-of one."""
+"""Rules A to D, the figures of a sheet and its text, read from the rules alone, as docs/RULES.md has them: sums are taken afresh wherever
+a rule speaks of one."""
 
 import functools
 
@@ -38,7 +38,7 @@ def rule_b(n, rows, m):
 
 
 def rule_c(rows, sent):
-    """Of two rows with the same nodes the earlier is the outer (K1)."""
+    """Of two rows with the same nodes the earlier is the outer (Rules, parallel pairs)."""
     for a in range(len(rows)):
         for b in range(a + 1, len(rows)):
             if not (all(sent[a]) and all(sent[b])):
@@ -86,7 +86,7 @@ def unsplit_load(rows, ways, k):
 
 
 def size_for(peak, fibres):
-    """With two fibres half of the line is kept for protection, so that twice the peak has to fit (02, K3)."""
+    """With two fibres half of the line is kept for protection, so that twice the peak has to fit (Rules, fibres)."""
     due = 2 * peak if fibres == 2 else peak
     return min((size for size in SIZES if size >= due), default=0)
 

@@ -1,4 +1,4 @@
-"""Sheets to be checked: 01's own, each refusal on first, middle and last lines, two faults at once, and sheets of other tools."""
+"""Sheets to be checked: the stated ones, each refusal on first, middle and last lines, two faults at once, and sheets of other tools."""
 import random
 
 import rules
@@ -28,7 +28,7 @@ def full(n, amount):
 
 
 def stated():
-    """The sheets of 01's "Numbers to try", with the reason, the line and the pair that it states."""
+    """The sheets of the stated cases (Rules, stated cases), with the reason, the line and the pair of each."""
     crossing = ["D|%d|%d|1|1|1|F" % (k, k + 4) for k in range(1, 5)]
     loads = ["L|%d|4|%d" % (k, u) for k, u in enumerate((1, 2, 3, 4, 3, 2, 1, 0), 1)]
     yes, z = (0, 0, 0, 0), ("L|1|0|0", "L|2|0|0", "Z|0|3")
@@ -81,7 +81,7 @@ def by_hand():
 
 
 def two_fibres():
-    """What K3 of 02 says of two fibres: the size is for twice the peak, and 0 where none is large enough for that."""
+    """What two fibres change (Rules, fibres): the size is for twice the peak, and 0 where none is large enough for that."""
     yes, zeros = (0, 0, 0, 0), ("L|1|0|0", "L|2|0|0")
     out = [(yes, t("R|2|2", "C|1|2|0", *zeros, "Z|0|3")), ((20, 1, 0, 0), t("R|2|3", "C|1|2|0", *zeros, "Z|0|3")), ((2, 1, 0, 0), t("R|2", "C|1|2|0", *zeros, "Z|0|3"))]
     for peak, four, two in ((1, 3, 3), (2, 3, 12), (6, 12, 12), (7, 12, 48), (24, 48, 48), (25, 48, 192), (96, 192, 192), (97, 192, 768), (384, 768, 768), (385, 768, 0), (768, 768, 0), (769, 0, 0)):

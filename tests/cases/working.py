@@ -1,5 +1,5 @@
 #!/usr/bin/env python3
-"""Writes tests/cases/working.calls: stored sequences of calls of the working table, each with the reply that K4 of 02 gives it.
+"""Writes tests/cases/working.calls: stored sequences of calls of the working table, each with the reply that the rule gives it (Rules, the working table).
 
 The replies come from a list of 496 places and nothing kept beside it: the largest cut is rule A's over the rows held, summed afresh. No source of the project is used.
 Run it by hand after adding a sequence and look at the difference; tests/desk/sequences.c makes the calls and compares."""
@@ -126,7 +126,7 @@ def by_hand():
     assert s.remove(3) == (22, 0, 0, 0, 0, 0)
     s.write_all_ways()
     yield s
-    s = begun("by hand: 01's ring of five", n=5)
+    s = begun("by hand: the ring of five", n=5)
     for row in [(1, 2, 2), (1, 4, 5), (2, 3, 9), (2, 4, 11), (3, 4, 4), (3, 5, 3)]:
         reply = s.add(*row)
     assert reply == (0, 0, 6, 2, 4, 28)

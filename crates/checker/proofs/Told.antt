@@ -21,7 +21,7 @@ use Rattle.checker.specs.declared.values.SheetValues.{SheetValues}
 use Rattle.checker.specs.declared.check.Answer.{Answer}
 use Rattle.checker.specs.declared.check.Answer.TheVariants.{Is, Refused}
 use Rattle.sheet.proofs.Back.{links-back}
-use Rattle.sheet.proofs.Demands.{check-text}
+use Rattle.sheet.proofs.Promised.{check-text}
 use Rattle.checker.proofs.RowsSteps.{columns-back}
 
 pub record Told (s : List ℕ) (v : SheetValues) (count : ℕ) : Type 0 where

@@ -1,4 +1,4 @@
--- To believe: the first pair of split rows that are parallel, in rule C's order, or that there is none.
+-- To believe: the first parallel pair of split rows (Rules, the parallel question), or that none is.
 use Rattle.std.specs.Prelude.{ℕ, ◌+◌, ◌<◌, true, List, ◌∷◌, ◌≡◌}
 use Rattle.ring.specs.Row.{PairBefore}
 use Rattle.ring.specs.Routing.{Sent, Split}

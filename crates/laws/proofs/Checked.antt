@@ -4,7 +4,7 @@ use mathlib.Core.List.{List}
 use native.Mathlib.Omega.{arith}
 use Rattle.ring.specs.Limits.{desk}
 use Rattle.sheet.specs.Says as sheet
-use Rattle.sheet.proofs.Demands.{plan-accepted}
+use Rattle.sheet.proofs.Promised.{plan-accepted}
 use Rattle.ringkit.specs.Texts.{TableDue, SomeDue, sheet_due}
 use Rattle.ringkit.proofs.TableCalls.{due-accepted, due-short}
 use Rattle.laws.specs.Calls.{RoutedChecked}

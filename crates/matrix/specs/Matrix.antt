@@ -1,4 +1,4 @@
--- To believe: what a matrix of demands is and how it is written, n lines of n numbers parted by tabs, symmetric and with 0 on the diagonal.
+-- To believe: what a matrix is and how it is written (Rules, matrices), n lines of n numbers parted by tabs, symmetric and 0 on the diagonal.
 use Rattle.std.specs.Prelude.{ℕ, ◌+◌, ◌-◌, ◌≤◌, List, [], ◌∷◌, ◌++◌, ◌≡◌, length, get_or, take}
 use Rattle.ring.specs.Limits.{Limits}
 use Rattle.ring.specs.Lists.{Each}

@@ -1,4 +1,4 @@
--- To believe: what each reason says of a matrix's text, by its lines and the writer alone, and the byte that goes with it; which reason is given; and what an accepted matrix is.
+-- To believe: what each reason says of a matrix's text (Rules, reasons), by its lines and the writer alone, and the byte that goes with it; which reason is given; and what an accepted matrix is.
 use Rattle.std.specs.Prelude.{ℕ, ◌+◌, ◌-◌, ◌≤◌, ◌<◌, List, ◌⊎◌, ◌≡◌, length, get_or}
 use Rattle.ring.specs.Limits.{Limits}
 use Rattle.ring.specs.Lists.{Each, Some}
@@ -197,7 +197,7 @@ stage NoRow = 0
 stage Full = 0
 stage NoRoom = 0
 
--- reason 1, with line 0, is tried first; then lines in order, and in a line the reasons in their order; then 17 or 18
+-- what is tried earlier: 1, before all lines; then the line before, and on the same line the reason before; 17 and 18 behind all lines
 abbrev pub Earlier : Reason → ℕ → Reason → ℕ → Type 0
 Earlier r line s other =
     (stage r < stage s) ⊎ ((stage r ≡ stage s) × ((line < other) ⊎ ((line ≡ other) × (rank_of r < rank_of s))))
@@ -208,6 +208,6 @@ pub record Given (limits : Limits) (t : List ℕ) (r : Reason) (line byte : ℕ)
   pub first : (s : Reason) (other : ℕ) → Earlier s other r line → Says limits t s other → ⊥
   pub byte_is : ByteIs limits t r line byte
 
--- a matrix is accepted when no reason that judges its own length or lines holds of it
+-- a matrix is accepted when no reason holds that judges its own length or lines; the 20 that its reader is told is not in `Says`
 abbrev pub Accepted : Limits → List ℕ → Type 0
 Accepted limits t = (r : Reason) (line : ℕ) → Says limits t r line → ⊥

@@ -1,4 +1,4 @@
--- A call that fills a buffer does what 01 says, whatever its outcome is made of: by the cases of the outcome, and of whether the text fits.
+-- A call that fills a buffer keeps its promise, whatever its outcome is made of: by the cases of the outcome, and of whether the text fits.
 use Prim.Native.Nat.{ℕ, ◌≤◌, ◌<◌}
 use mathlib.Core.List.{List, ◌++◌}
 use mathlib.Core.Logic.{◌↔◌}

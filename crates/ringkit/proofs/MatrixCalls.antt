@@ -1,4 +1,4 @@
--- The calls that read or write a matrix do what 02 says (`Calls`), by the laws of reading a matrix and of sums; and a matrix comes back from its table, a table from
+-- The calls that read or write a matrix keep their promise (`Calls`), by the laws of reading a matrix and of sums; and a matrix comes back from its table, a table from
 -- its matrix, over both calls.
 use Prim.Native.Nat.{ℕ, ◌≤◌}
 use mathlib.Core.List.{List}

@@ -1,5 +1,5 @@
--- The calls that read a sheet do what 01 says (`Calls`), by the laws of checking a sheet; and what routing writes, the checker accepts and finds no parallel
--- split pair in (demand 3's last sentence).
+-- The calls that read a sheet keep their promise (`Calls`), by the laws of checking a sheet; and what routing writes, the checker accepts and finds no
+-- parallel split pair in.
 use Prim.Native.Nat.{ℕ, ◌≤◌}
 use mathlib.Core.List.{List}
 use mathlib.Core.Logic.{◌↔◌}
@@ -18,7 +18,7 @@ use Rattle.table.proofs.ReasonNumbers.{same-reason, no-reason-0}
 use Rattle.table.proofs.TableText.{desk-spelled}
 use Rattle.sheet.specs.Check.{Result, accepted, refused, check, form}
 use Rattle.sheet.specs.Says.{Says, Given, Accepted, WellFormed}
-use Rattle.sheet.proofs.Demands.{form-text, check-text, accepted-true, accepted-formed}
+use Rattle.sheet.proofs.Promised.{form-text, check-text, accepted-true, accepted-formed}
 use Rattle.sheet.proofs.SheetReasons.{one-given, given, accepted-is, well-formed-is}
 use Rattle.sheet.proofs.Short.{plan-in-range}
 use Rattle.checker.specs.FindPair.{first_pair}
@@ -33,7 +33,7 @@ use Rattle.ringkit.specs.Says.{CallPromise, Only}
 use Rattle.ringkit.specs.Texts.{SheetOf, SomeSheet, SomeForm, TableDue, sheet_due, Itself}
 use Rattle.ringkit.specs.Answers.{yes, no, CheckSays, says_yes, says_no, CheckPromise, paired, not_asked, PairOf, NoPairOf, PairSays, a_pair, no_pair, refused as pair-refused, PairPromise}
 use Rattle.ringkit.specs.Promises.{RewriteSheetPromise}
-use Rattle.ringkit.specs.Demands.{FormedSheet, BestSheet, RoutedWell}
+use Rattle.ringkit.specs.Sheets.{FormedSheet, BestSheet, RoutedWell}
 use Rattle.ringkit.specs.declared.Reply.{Reply}
 use Rattle.ringkit.specs.declared.PairReply.{PairReply}
 use Rattle.ringkit.proofs.Calls.{Decided, is_due, is_given, One, call-promise, call-only}
@@ -134,7 +134,7 @@ check-only t r e other p = go (check-promise t r e).cases p
     go (says_yes a) p = p.accepts.1 a
     go (says_no {reason} {line} {byte} g) p = (p.refuses reason line byte).1 g
 
--- ---- demand 3 of a well-formed sheet, and of one that is accepted
+-- ---- a well-formed sheet is accepted exactly when it is true, and an accepted one is the best
 
 -- a text is well-formed exactly when it is a sheet of some values in range, written
 pub well-formed-sheet : (t : List ℕ) → WellFormed desk t ↔ SomeForm t
@@ -262,10 +262,10 @@ module _ (t text : List ℕ) (due : TableDue sheet_due t text) where
         none = (no-pair-is (sents (plan due.ring due.rs).rows)).0 (plan-no-pair due.ring due.rs due.of.range.few due.of.range.rows);
       }
 
--- demands 2 and 3 of each accepted table
-pub demand-3 : (t old new : List ℕ) (r : Reply) → Fills (table_routed t) old new r → table.Accepted desk t → RoutedWell t old new r
+-- an accepted table has a sheet, which is written where there is room, is the best, and is accepted
+pub routed-well : (t old new : List ℕ) (r : Reply) → Fills (table_routed t) old new r → table.Accepted desk t → RoutedWell t old new r
 unfolding best_of
-demand-3 t old new r call a =
+routed-well t old new r call a =
     let s = (due-accepted t sheet_due).0 a in
     let d = s.is in
     record {

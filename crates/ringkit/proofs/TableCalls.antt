@@ -1,4 +1,4 @@
--- The calls that read a table do what 01 says (`Calls`): what is due to a table's values is due to its text, by the laws of reading a table. A text is
+-- The calls that read a table keep their promise (`Calls`): what is due to a table's values is due to its text, by the laws of reading a table. A text is
 -- accepted exactly when something is due to it; an accepted table is rewritten as the same bytes; and `longest` is room for every sheet.
 use Prim.Native.Nat.{ℕ, ◌≤◌}
 use mathlib.Core.List.{List}

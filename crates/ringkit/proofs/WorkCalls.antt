@@ -1,4 +1,4 @@
--- Writing a working table out does what 01 says of a call that fills a buffer, on every struct; of one made by calls the table is an accepted one, `table_room` is room for it, and routing it names
+-- Writing a working table out keeps the promise of a call that fills a buffer, on every struct; of one made by calls the table is an accepted one, `table_room` is room for it, and routing it names
 -- the cut that the last accepted reply named: by the rows that are written, and the promise of routing.
 use Prim.Native.Nat.{ℕ, ◌≤◌}
 use mathlib.Core.List.{List}

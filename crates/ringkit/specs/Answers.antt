@@ -1,4 +1,4 @@
--- To believe: what the two calls answer that read a sheet and fill no buffer, in 01's words.
+-- To believe: what the two calls answer that read a sheet and fill no buffer (Rules, the calls).
 use Rattle.std.specs.Prelude.{ℕ, ◌≤◌, List, ◌↔◌, ◌≡◌}
 use Rattle.ring.specs.Limits.{desk}
 use Rattle.ring.specs.Sheet.{Sheet, sents}

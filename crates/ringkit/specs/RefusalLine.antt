@@ -1,4 +1,4 @@
--- To believe: the line that the programs print of a refusal.
+-- To believe: the line that the programs print of a refusal (Rules, the programs).
 use Rattle.std.specs.Prelude.{ℕ, List, ◌++◌, decimal, codes}
 
 -- the letter E, then the reason's number, the line and the byte, each behind a tab

@@ -1,4 +1,4 @@
--- To believe: what a call that fills a buffer says, in 01's words: success, 15, or a refusal of the text itself.
+-- To believe: what a call that fills a buffer says (Rules, the calls): success, 15, or a refusal of the text itself.
 use Rattle.std.specs.Prelude.{ℕ, ◌≤◌, ◌<◌, List, ◌++◌, ◌↔◌, ◌≡◌, length, drop}
 use Rattle.table.specs.Reasons.{number_of}
 use Rattle.table.specs.declared.reason.Reason.{Reason}
@@ -21,7 +21,7 @@ pub record Refusal (reason : Reason) (line byte : ℕ) (old new : List ℕ) (r :
   pub none : r.length ≡ 0
   pub buffer : new ≡ old
 
--- the three cases of 01, by which text is due and which refusal is given
+-- one of three cases, by which text is due and which refusal is given
 pub data CallSays (Due : List ℕ → Type 0) (Given : Reason → ℕ → ℕ → Type 0) (old new : List ℕ) (r : Reply) : Type 0 where
   with_room : {text : List ℕ} → Due text → length text ≤ length old → Success text old new r → CallSays Due Given old new r
   without_room : {text : List ℕ} → Due text → length old < length text → Refusal NoRoom 0 0 old new r → CallSays Due Given old new r

@@ -25,7 +25,7 @@ sheet_checked t = verdict_reply (check desk t)
 
 -- ---- the question: the first pair of split rows that are parallel
 
--- 01's numbers for each of the answer's cases: two places, counted from 1; or none
+-- numbers for each of the answer's cases: two places, counted from 1; or 0 and 0, which are none
 unfoldable pub pair_reply : Pair → PairReply
 pair_reply (Are p q) = record { reason = 0; line = 0; byte = 0; first = p; second = q }
 pair_reply None = record { reason = 0; line = 0; byte = 0; first = 0; second = 0 }

@@ -21,7 +21,7 @@ ghost use Rattle.ringkit.specs.WorkCalls.{WorkDue, NoRefusal};
 ghost use Rattle.ringkit.specs.Texts.{SumsFit};
 ghost use Rattle.ringkit.specs.Promises.{RoutePromise, RewriteTablePromise, RewriteSheetPromise, ReadMatrixPromise, WriteMatrixPromise};
 ghost use Rattle.ringkit.specs.Answers.{yes, CheckPromise, PairPromise};
-ghost use Rattle.ringkit.specs.Demands.{FormedSheet, BestSheet, RoutedWell};
+ghost use Rattle.ringkit.specs.Sheets.{FormedSheet, BestSheet, RoutedWell};
 ghost use Rattle.ringkit.specs.Outcome.{Fills};
 ghost use Rattle.ringkit.specs.TableCalls.{table_afresh, table_routed, work_written};
 ghost use Rattle.ringkit.specs.MatrixCalls.{matrix_read, matrix_written};

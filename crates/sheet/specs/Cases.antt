@@ -1,5 +1,5 @@
--- Examples: rings small enough to be worked out by hand: one list, each case by its texts and what is said besides; and the answers to them all, as they are
--- stated and as the definitions have them.
+-- Examples: rings small enough to be worked out by hand (Rules, stated cases): one list, each case by its texts and what is said besides; and the answers to
+-- them all, as they are stated and as the definitions have them.
 use Rattle.std.specs.Prelude.{ℕ, ◌+◌, ◌*◌, min, cond, List, [], ◌∷◌, ◌++◌, map, leb, eqb, ◌≡◌}
 use Prim.Native.String.{String}
 use Rattle.ring.specs.Cut.{across}

@@ -1,4 +1,4 @@
--- To believe: what each reason says of a sheet's text, by its lines and the writer alone, and which byte of the line goes with it; which reason is given; and what accepted and well-formed sheets are.
+-- To believe: what each reason says of a sheet's text (Rules, reasons), by its lines and the writer alone, and which byte of the line goes with it; which reason is given; and what accepted and well-formed sheets are.
 use Rattle.std.specs.Prelude.{ℕ, ◌+◌, ◌*◌, ◌≤◌, ◌<◌, List, [], ◌∷◌, ◌++◌, ◌⊎◌, ◌≡◌, length}
 use Rattle.sonet.specs.Size.{sonet_sizes}
 use Rattle.ring.specs.Cut.{Cut, IsCut, across}
@@ -127,13 +127,13 @@ pub record WrongHalves (t : List ℕ) (line : ℕ) : Type 0 where
   pub row : RowAt t line r
   pub wrong : SumsTo2d r.sent → ⊥
 
--- 9: direction of an unsplit row differs from rule D
+-- 9: the row is not split and goes another way than rule D says; a split row may go either way (`Kept`)
 pub record WrongDirection (t : List ℕ) (line : ℕ) : Type 0 where
   pub r : Routed
   pub row : RowAt t line r
   pub wrong : Kept r → ⊥
 
--- 10: not 1 <= g < h <= n, or across number false
+-- 10: the links are no cut, or the across number is not that of the sheet's own rows
 pub record WrongCutLine (t : List ℕ) (line : ℕ) : Type 0 where
   pub ring : Ring
   pub rs : List Routed
@@ -142,7 +142,7 @@ pub record WrongCutLine (t : List ℕ) (line : ℕ) : Type 0 where
   pub is : CutIs t line c
   pub wrong : (IsCut ring.n c → ⊥) ⊎ (c.number ≡ across (demands (sents rs)) c.g c.h → ⊥)
 
--- 11: link out of order, or either load false
+-- 11: the link is not the next one, or a load is not that of the sheet's own rows
 pub record WrongLinkLine (t : List ℕ) (line : ℕ) : Type 0 where
   pub ring : Ring
   pub rs : List Routed
@@ -154,7 +154,7 @@ pub record WrongLinkLine (t : List ℕ) (line : ℕ) : Type 0 where
   pub is : LinkIs t line l
   pub wrong : (l.link ≡ length ks + 1 → ⊥) ⊎ ((l.split ≡ split_load (sents rs) (length ks + 1) → ⊥) ⊎ (l.unsplit ≡ unsplit_load rs (length ks + 1) → ⊥))
 
--- 12: unsplit peak or size false
+-- 12: the unsplit peak is not that of the sheet's own rows, or the size is not that of their peak and the fibres
 pub record WrongLastLine (t : List ℕ) (line : ℕ) : Type 0 where
   pub ring : Ring
   pub rs : List Routed
@@ -173,13 +173,13 @@ pub record WholeIs (t : List ℕ) (x : Sheet) : Type 0 where
   pub due : At t line (end x)
   pub none : (l : List ℕ) → LineIs (lines t) line l → ⊥
 
--- 13: split peak (halves) is not the across number
+-- 13: the split peak, in halves, is not the across number of the cut that the sheet names; no other cut is looked for
 pub record WrongPeak (t : List ℕ) : Type 0 where
   pub x : Sheet
   pub whole : WholeIs t x
   pub wrong : split_peak x ≡ x.cut.number → ⊥
 
--- 14: the bound of rule D broken
+-- 14: in halves, the unsplit peak is above the split peak by more than 3D (Rules, the bound of the directions)
 pub record WrongBound (t : List ℕ) : Type 0 where
   pub x : Sheet
   pub whole : WholeIs t x
@@ -298,7 +298,7 @@ stage NoRow = 0
 stage Full = 0
 stage NoRoom = 0
 
--- reason 1, with line 0, is tried first; then lines in order, and in a line the reasons in their order; then 13, then 14
+-- what is tried earlier: 1, before all lines; then the line before, and on the same line the reason before; 13 and 14 behind all lines
 abbrev pub Earlier : Reason → ℕ → Reason → ℕ → Type 0
 Earlier r line s other =
     (stage r < stage s) ⊎ ((stage r ≡ stage s) × ((line < other) ⊎ ((line ≡ other) × (rank_of r < rank_of s))))
@@ -325,7 +325,7 @@ OfForm r = rank_of r < rank_of WrongSum
 abbrev pub Given : Limits → List ℕ → Reason → ℕ → ℕ → Type 0
 Given = GivenAmong Any
 
--- a sheet is accepted when no reason holds of it, and well-formed when it would not be refused if 8 to 14 were never given
+-- a sheet is accepted when no reason holds of it; it is well-formed when none but 8 to 14 may hold, which judge what its figures say
 abbrev pub Accepted : Limits → List ℕ → Type 0
 Accepted = NoneAmong Any
 

@@ -1,4 +1,4 @@
--- To believe: a sheet as text: R n fibres; D lines; the C line; L lines; Z unsplit-peak size.
+-- To believe: a sheet as text (Rules, sheets): R n fibres; D lines; the C line; L lines; Z unsplit-peak size.
 use Rattle.std.specs.Prelude.{ℕ, List, [], ◌∷◌, ◌++◌}
 use Rattle.ring.specs.Routing.{way_number, Routed}
 use Rattle.ring.specs.Sheet.{Link, Sheet}

@@ -1,4 +1,4 @@
--- To believe: what each reason says of a table's text, by its lines and the writer alone, and which byte of the line goes with it; which reason is given; and what an accepted table is.
+-- To believe: what each reason says of a table's text (Rules, reasons), by its lines and the writer alone, and which byte of the line goes with it; which reason is given; and what an accepted table is.
 use Rattle.std.specs.Prelude.{ℕ, ◌+◌, ◌≤◌, ◌<◌, List, ◌∷◌, ◌⊎◌, ◌≡◌, length}
 use Rattle.text.specs.Number.{limit}
 use Rattle.text.specs.FieldByte.{ring_byte, row_byte}
@@ -198,7 +198,7 @@ ByteIs t NoRoom line byte = ⊥
 
 -- ---- which is given
 
--- reason 1, with line 0, is tried first; then lines in order, and in a line the reasons in their order
+-- what is tried earlier: the line before, which is 0 for reason 1, and on the same line the reason before (Rules, the order of reasons)
 abbrev pub Earlier : Reason → ℕ → Reason → ℕ → Type 0
 Earlier r line s other = (line < other) ⊎ ((line ≡ other) × (rank_of r < rank_of s))
 
@@ -208,6 +208,6 @@ pub record Given (limits : Limits) (t : List ℕ) (r : Reason) (line byte : ℕ)
   pub first : (s : Reason) (other : ℕ) → Earlier s other r line → Says limits t s other → ⊥
   pub byte_is : ByteIs t r line byte
 
--- a table is accepted when no reason that judges its own length or lines holds of it
+-- a table is accepted when no reason holds that judges its own length or lines; what a call refuses besides, such as 15, is not in `Says`
 abbrev pub Accepted : Limits → List ℕ → Type 0
 Accepted limits t = (r : Reason) (line : ℕ) → Says limits t r line → ⊥

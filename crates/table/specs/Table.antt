@@ -1,4 +1,4 @@
--- To believe: a table as text, what a table can hold, and how many bytes suffice for every table.
+-- To believe: a table as text (Rules, tables), what it can hold, and how many bytes always suffice.
 use Rattle.std.specs.Prelude.{ℕ, ◌+◌, ◌*◌, ◌≤◌, ◌<◌, List, [], ◌∷◌, ◌++◌, length}
 use Rattle.ring.specs.Limits.{Limits}
 use Rattle.ring.specs.Ring.{Ring}

@@ -1,4 +1,4 @@
--- To believe: the bytes that a table or a sheet is spelled with, each named once.
+-- To believe: bytes of tables and sheets (Rules, the grammar), each named once.
 use Rattle.std.specs.Prelude.{ℕ}
 
 -- fields are parted by one tab

@@ -1,4 +1,4 @@
--- To believe: the first faulty byte of a text that is no line of a shape, by the writer alone.
+-- To believe: the first faulty byte of what is no line of a shape (Rules, the byte), by the writer alone.
 use Rattle.std.specs.Prelude.{ℕ, ◌+◌, ◌≡◌, List, take}
 use Rattle.text.specs.WriteLine.{write_line, FitsShape}
 

@@ -1,4 +1,4 @@
--- To believe: the six lines of a table and a sheet, and a line of numbers alone: the shape of each, and its text.
+-- To believe: the six lines of a table and a sheet, and a line of numbers (Rules, the grammar): shape and text.
 use Rattle.std.specs.Prelude.{ℕ, List, [], ◌∷◌, length, replicate}
 use Rattle.text.specs.Bytes.{letter_r, letter_d, letter_c, letter_l, letter_z, number, way}
 use Rattle.text.specs.WriteLine.{write_line}

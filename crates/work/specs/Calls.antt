@@ -1,4 +1,4 @@
--- To believe: what each call does to the list of places, what it refuses and in which order, and what it answers.
+-- To believe: what each call does to the list of places (Rules, the working table), what it refuses first, and its answer.
 use Rattle.std.specs.Prelude.{ℕ, ◌+◌, ◌-◌, cond, ◌||◌, ltb, leb, eqb, length, get_or, set, replicate}
 use Rattle.ring.specs.Limits.{desk}
 use Rattle.ring.specs.LineSize.{two_fibres, four_fibres}

@@ -1,4 +1,4 @@
-//! Faults of the byte that goes with a refusal (02, K5): what mutant.rs lists. Each
+//! Faults of the byte that goes with a refusal: what mutant.rs lists. Each
 //! keeps reason and line, and points to another byte.
 
 use crate::byte_tally::{due, Due};

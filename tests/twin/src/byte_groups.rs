@@ -1,4 +1,4 @@
-//! Groups for the byte of a refusal (02, K5): in tables, sheets and matrices of 20
+//! Groups for the byte of a refusal: in tables, sheets and matrices of 20
 //! and of 32 offices, each field of first, middle and last lines spelled in many
 //! ways, lines missing and left over, and several faults in one line.
 

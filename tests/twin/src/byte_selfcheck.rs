@@ -1,4 +1,4 @@
-//! The twin's own checks of 02's K5, by hand: to which byte a refusal points. And the
+//! The twin's own checks of the byte to which a refusal points, by hand. And the
 //! rule for a badly shaped line once more, by trying how a line might go on.
 
 use crate::rng::Rng;

@@ -1,4 +1,4 @@
-//! What the bytes of refusals pointed to (02, K5): counted by reason, line and
+//! What the bytes of refusals pointed to (Rules, the byte): by reason, line and
 //! field, and what must have been seen.
 
 use crate::table::{self, Line};

@@ -1,6 +1,5 @@
-//! Checking a sheet: 01, "Table and sheet text" and "Reasons and their order",
-//! reasons 1 to 14, 02's reasons 16 and 20 and K5's bytes, and the question for a
-//! parallel pair.
+//! Checking a sheet: reasons 1 to 14, 16 and 20, with their bytes, in their order
+//! (Rules, the order of reasons); and the question for a parallel pair.
 
 use crate::rules::{self, Cut, Plan, Sent, Way};
 use crate::shape::{self, Shape};

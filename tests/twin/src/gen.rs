@@ -265,7 +265,7 @@ pub fn sequence<'a>(choices: &[&'a str], longest: u32, mut number: u64) -> Optio
     None
 }
 
-/// Numbers at the boundaries of what 01 allows, good and bad spellings.
+/// Numbers at the boundaries of what is allowed, good and bad spellings.
 pub const BOUNDARY: [&str; 11] = [
     "0", "1", "2", "32", "33", "9999", "10000", "19998", "9999999", "10000000", "00",
 ];

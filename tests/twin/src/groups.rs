@@ -35,7 +35,7 @@ pub const SHARES: u64 = {
 };
 
 pub const GROUPS: [Group; 73] = [
-    group("numbers to try of 01, K1 and K3", 0, numbers_to_try),
+    group("stated tables", 0, stated),
     group("all small tables", 0, all_small),
     group("about 496 rows", 0, about_496),
     group("every byte of the square", 0, every_byte),
@@ -60,11 +60,11 @@ pub const GROUPS: [Group; 73] = [
     group("damaged several times", 240, damaged_often),
     group("padded texts", 104, padded),
     group("noise", 56, noise),
-    group("sheets: of 01, K1 and K3", 0, sheets::sheets_of_01),
+    group("sheets: the stated ones", 0, sheets::stated),
     group("sheets: all small ones", 0, sheets::all_small),
     group("sheets: every byte of the square's", 0, sheets::every_byte),
     group(
-        "sheets: every field of document 002's",
+        "sheets: every field of the ring of five's",
         0,
         sheets::every_field,
     ),
@@ -215,8 +215,8 @@ pub fn of_text(text: &str, trials: Vec<(Call, Lend)>) -> Option<Case> {
     })
 }
 
-/// Tables of 01's numbers to try, circuits of 02's K1 and fibres of K3, tabs
-/// shown as |.
+/// Tables of the stated cases (Rules, stated cases), more of circuits and of
+/// fibres, tabs shown as |.
 pub const NUMBERS: [&str; 42] = [
     "R|4|4\nD|1|3|1\nD|2|4|1\n",
     "R|2|4\n",
@@ -262,7 +262,7 @@ pub const NUMBERS: [&str; 42] = [
     "R|4|3\nx\n",
 ];
 
-fn numbers_to_try(_: &mut Rng, case: u64) -> Option<Case> {
+fn stated(_: &mut Rng, case: u64) -> Option<Case> {
     let text = NUMBERS.get(case as usize)?;
     of_text(text, all_trials())
 }

@@ -1,6 +1,6 @@
 //! The twin: ring routing, the checking of sheets and the reading and writing of
-//! matrices written once more from the sentences of 01 and of 02's K1 to K5
-//! alone, the working table among them, and compared with the library call by call and byte by byte.
+//! matrices written once more from the rules alone, as docs/RULES.md has them,
+//! the working table among them, and compared with the library call by call and byte by byte.
 //!
 //! `twin [SEED [COUNT]]` compares: the lists in full and COUNT random
 //! comparisons. The exit status is 0 only when nothing failed.
@@ -263,8 +263,8 @@ impl Run<'_> {
 fn self_checks(seed: u64) -> (u64, u64) {
     passed_and_failed(&[
         ("self-check: the square", selfcheck::square()),
-        ("self-check: document 002", selfcheck::document_002()),
-        ("self-check: figure 4.1", selfcheck::figure_4_1()),
+        ("self-check: the ring of five", selfcheck::ring_of_five()),
+        ("self-check: the ring of eight", selfcheck::ring_of_eight()),
         ("self-check: small rings", selfcheck::small_rings()),
         ("self-check: refusals", selfcheck::refusals()),
         ("self-check: sheets", selfcheck::sheets()),

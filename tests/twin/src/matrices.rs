@@ -44,7 +44,7 @@ fn read_trials(rng: &mut Rng) -> Vec<(Call, Lend)> {
     some_trials(rng, Call::ReadMatrix(fibres))
 }
 
-/// Document 002's ring, zeros, the limits of n and of an entry, each reason, and
+/// The ring of five, zeros, the limits of n and of an entry, each reason, and
 /// two at once, tabs shown as |.
 pub const MATRICES: [&str; 36] = [
     "0|2|0|5|0\n2|0|9|11|0\n0|9|0|4|3\n5|11|4|0|0\n0|0|3|0|0\n",

@@ -1,4 +1,4 @@
-//! A matrix, read into a table and written from one: 02, K2, K3 and K5.
+//! A matrix, read into a table and written from one (Rules, matrices).
 
 use crate::shape;
 use crate::table::{self, misshapen, refuse, start_of, Line, Refusal, Row, Table};

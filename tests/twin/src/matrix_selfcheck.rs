@@ -1,4 +1,4 @@
-//! The twin's own checks of 02's K2, by hand: which refusal a matrix and a table
+//! The twin's own checks of matrices, by hand: which refusal a matrix and a table
 //! get, and what is made of those that are accepted.
 
 use crate::selfcheck::{same, Outcome};

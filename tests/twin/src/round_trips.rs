@@ -1,4 +1,4 @@
-//! The way there and back, on what answers the calls and nothing else: 02, K2.
+//! The way there and back, on what answers the calls and nothing else.
 //! Matrix to table to matrix gives the same bytes; table to matrix to table gives
 //! the same table where it has at most one row per pair and no row of amount 0.
 
@@ -54,7 +54,7 @@ fn table(rng: &mut Rng, case: u64) -> Table {
 pub fn of_tables(kit: Kit, seed: u64) -> Outcome {
     for case in 0..CASES {
         let table = table(&mut Rng::for_case(seed, 2_000, case), case);
-        // Read with the table's own number (02, K3).
+        // Read with the table's own number, as a matrix says none.
         let read = Call::ReadMatrix(table.fibres as u32);
         there_and_back(kit, &table_text(&table), Call::WriteMatrix, read)?;
     }

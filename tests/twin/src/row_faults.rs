@@ -15,7 +15,7 @@ pub const MANY_AT_496: [RowReason; 5] = {
     [OFF_RING, NOT_BELOW, FALLEN, at_496, TOO_MUCH]
 };
 
-/// 01's reason 6, before K1.
+/// Reason 6 of circuits between the same two offices too.
 pub const NOT_ABOVE: [RowReason; 5] = {
     let not_above: RowReason = (6, |row, above| {
         above

@@ -1,5 +1,4 @@
-//! The four routing rules of 01, and K1 of 02, sentence by sentence, in the
-//! plainest way.
+//! The four routing rules, sentence by sentence, in the plainest way.
 
 use crate::table::{Row, Table};
 
@@ -155,7 +154,7 @@ pub fn move_pair(rows: &[Row], sent: &mut [Sent], first: usize, second: usize) {
         return;
     }
     // One front lies inside the other. Of two rows with the same nodes the
-    // earlier is the outer (02, K1).
+    // earlier is the outer.
     let (outer, inner) = if front_inside(&rows[second], &rows[first]) {
         (first, second)
     } else {
@@ -244,7 +243,7 @@ pub fn size(least: i64) -> i64 {
 }
 
 /// What the size has to be at least: with 4 fibres the unsplit peak, with 2
-/// twice the unsplit peak (02, K3).
+/// twice the unsplit peak (Rules, fibres).
 pub fn least_size(table: &Table, peak: i64) -> i64 {
     if table.fibres == 2 {
         return 2 * peak;

@@ -1,7 +1,7 @@
 //! The twin's own checks, run before any comparison. The figures are those of
-//! 01's "Numbers to try" and, for 02's K1, worked out by hand; the theorems are
-//! those that 01 states of its rules. A failure here means that the twin
-//! misreads 01 or 02.
+//! the stated cases (Rules, stated cases) and, of circuits, worked out by hand;
+//! the theorems are those that the rules state. A failure here means that the
+//! twin misreads the rules.
 
 use crate::check;
 use crate::foreign;
@@ -60,8 +60,8 @@ pub fn square() -> Outcome {
     theorems(&table(text)?)
 }
 
-/// Document 002's ring.
-pub fn document_002() -> Outcome {
+/// The ring of five.
+pub fn ring_of_five() -> Outcome {
     let table = table("R|5|4\nD|1|2|2\nD|1|4|5\nD|2|3|9\nD|2|4|11\nD|3|4|4\nD|3|5|3\n")?;
     let plan = rules::plan(&table);
     same("cut", cut(&plan), (2, 4, 28))?;
@@ -77,8 +77,8 @@ pub fn document_002() -> Outcome {
     theorems(&table)
 }
 
-/// Document 003's figure 4.1.
-pub fn figure_4_1() -> Outcome {
+/// The ring of eight.
+pub fn ring_of_eight() -> Outcome {
     let table = table("R|8|4\nD|1|4|1\nD|2|3|1\nD|5|8|2\nD|6|7|2\n")?;
     let plan = rules::plan(&table);
     same("cut", cut(&plan), (2, 6, 6))?;
@@ -120,7 +120,7 @@ pub fn small_rings() -> Outcome {
     same("1-2 of 1", plan.peak, 1)
 }
 
-/// The refusals among the numbers to try.
+/// The refusals among the stated cases.
 pub fn refusals() -> Outcome {
     let wanted = [
         ("", 2, 1),
@@ -147,7 +147,7 @@ pub fn refusals() -> Outcome {
     Ok(())
 }
 
-/// The sheets of 01, of K1 and of K3: reason, line, byte, and the parallel pair.
+/// The stated sheets: reason, line, byte, and the parallel pair.
 pub fn sheets() -> Outcome {
     let accepted = [0, 1, 2, 3, 4, 5, 6, 7, 10, 14, 20, 25, 26, 27];
     let refused = [
@@ -199,7 +199,7 @@ fn text_of(rows: &str, end: &str) -> Vec<u8> {
         .into_bytes()
 }
 
-/// K1 of 02: rows with the same nodes, the order of 6, 16 and 7, and 496 rows.
+/// Rows with the same nodes, the order of 6, 16 and 7, and 496 rows.
 pub fn circuits() -> Outcome {
     let wanted = [
         ("1|2|1 1|2|1 1|2|0", 0, None),

@@ -1,4 +1,4 @@
-//! The shape of a line, and the byte at which a line leaves it: 02, K5, of
+//! The shape of a line, and the byte at which a line leaves it: the byte of
 //! reason 2. The rule is asked of each beginning of the line by itself.
 
 use crate::table::{number, Line};

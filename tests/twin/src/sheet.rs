@@ -1,4 +1,4 @@
-//! Writing a table and a sheet: 01, "Table and sheet text".
+//! Writing a table and a sheet (Rules, tables; Rules, sheets).
 
 use crate::rules::{Plan, Way};
 use crate::table::Table;

@@ -48,10 +48,10 @@ fn of_plan(table: &Table, plan: &Plan, trials: Vec<(Call, Lend)>) -> Option<Case
     })
 }
 
-/// 01's square, its ring with no rows, its ring of 5, its n = 4 with 1-2 of 1,
-/// document 002's ring and document 003's figure 4.1; sizes 768 and 0; 13 and
-/// 14; amount 0 with F and with B; rings of 1, 33 and 32; a parallel pair. Then
-/// 02's K1: two circuits whole, both split, split behind a whole one and behind
+/// The square, two offices with no rows and with 1-2 of 5, four with 1-2 of 1,
+/// the ring of five and the ring of eight; sizes 768 and 0; 13 and 14; amount 0
+/// with F and with B; rings of 1, 33 and 32; a parallel pair. Then circuits of
+/// the same offices: two whole, both split, split behind a whole one and behind
 /// a row that crosses them; and a row below them.
 pub const SHEETS: [&str; 34] = [
     "R|4|4\nD|1|3|1|1|1|F\nD|2|4|1|1|1|B\nC|1|3|2\nL|1|2|2\nL|2|2|1\nL|3|2|0\nL|4|2|1\nZ|2|3\n",
@@ -94,7 +94,7 @@ pub const SHEETS: [&str; 34] = [
     "R|2|4|4\nC|1|2|0\nL|1|0|0\nL|2|0|0\nZ|0|3\n",
 ];
 
-pub fn sheets_of_01(_: &mut Rng, case: u64) -> Option<Case> {
+pub fn stated(_: &mut Rng, case: u64) -> Option<Case> {
     let text = SHEETS.get(case as usize)?;
     of_text(text, all_trials())
 }
@@ -213,7 +213,7 @@ pub fn every_byte(_: &mut Rng, case: u64) -> Option<Case> {
     })
 }
 
-/// Each field of document 002's sheet replaced by each boundary number and by
+/// Each field of the ring of five's sheet replaced by each boundary number and by
 /// each odd spelling.
 pub fn every_field(_: &mut Rng, case: u64) -> Option<Case> {
     let new = [gen::BOUNDARY.as_slice(), &gen::ODD].concat();

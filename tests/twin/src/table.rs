@@ -1,6 +1,5 @@
-//! A table and its reading: 01, "Table and sheet text" and "Reasons and their
-//! order", reasons 1 to 7; 02, K1, reasons 6 and 16, K3, reason 20, and K5, the
-//! byte that goes with each.
+//! A table and its reading: reasons 1 to 7, 16 and 20, with their bytes, in their
+//! order (Rules, the order of reasons).
 
 use crate::shape::{self, first_fault, Shape};
 
@@ -12,7 +11,7 @@ pub struct Row {
     pub d: i64,
 }
 
-/// Nodes 1..n, the fibres (02, K3) and the rows in table order.
+/// Nodes 1..n, the fibres and the rows in table order.
 #[derive(Clone, PartialEq, Eq, Debug)]
 pub struct Table {
     pub n: i64,
@@ -20,7 +19,7 @@ pub struct Table {
     pub rows: Vec<Row>,
 }
 
-/// A refusal returns only reason, line and, since K5 of 02, the byte in the line,
+/// A refusal returns only reason, line and the byte in the line,
 /// counted from 1; 0 where the line is 0.
 #[derive(Clone, Copy, PartialEq, Eq, Debug)]
 pub struct Refusal {
@@ -64,12 +63,12 @@ pub const OFF_RING: RowReason = (4, |row, above| {
 });
 /// First node not below second.
 pub const NOT_BELOW: RowReason = (5, |row, _| row[0] >= row[1]);
-/// Row's nodes below the row before, by first node, then second (02, K1).
+/// Row's nodes below the row before, by first node, then second.
 pub const FALLEN: RowReason = (6, |row, above| {
     let before = above.rows.last().map(|before| (before.i, before.j));
     before.is_some_and(|before| (row[0], row[1]) < before)
 });
-/// More than 496 rows (02, K1).
+/// More than 496 rows.
 pub const TOO_MANY: RowReason = (16, |_, above| above.rows.len() + 1 > 496);
 /// Amount over 9,999.
 pub const TOO_MUCH: RowReason = (7, |row, _| row[2] > 9_999);

@@ -1,4 +1,4 @@
-//! The working table of 02's K4 in the plainest way: a list of 496 places, each
+//! The working table in the plainest way: a list of 496 places, each
 //! with a row or with none. Nothing is kept beside the rows: the cut is rule A's
 //! over the rows held, summed afresh for every reply.
 

@@ -1,5 +1,5 @@
 //! Tables that no calls made: bytes at random, sound tables with some bytes
-//! damaged, all zeros, all ones. 02 says no more than that a call still ends with
+//! damaged, all zeros, all ones. No rule says more than that a call still ends with
 //! one fixed answer, so every call is made twice on equal bytes, and must answer
 //! and leave the same; a refused call changes nothing here too.
 

@@ -1,7 +1,8 @@
 //! The comparison of a sequence of calls of the working table. The library's
 //! table lives in lent bytes and the twin's in its list, so a call that leaves
-//! the two apart shows in the calls behind it. Its bytes are looked at where 02
-//! says what they are: a refused call changes none, nor does one that only reads.
+//! the two apart shows in the calls behind it. Its bytes are looked at where it
+//! is known what they are: a refused call changes none, nor does one that only
+//! reads.
 
 use crate::compare::{pattern, Lend};
 use crate::kit::Kit;

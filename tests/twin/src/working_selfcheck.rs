@@ -1,4 +1,4 @@
-//! The twin's own checks of 02's K4, by hand.
+//! The twin's own checks of the working table, by hand.
 
 use crate::compare::Lend;
 use crate::selfcheck::{same, Outcome};
@@ -21,7 +21,7 @@ fn text(table: &mut Working) -> String {
     }
 }
 
-/// The square of 01, a row at a time, and what is refused on the way.
+/// The square, a row at a time, and what is refused on the way.
 pub fn square() -> Outcome {
     let table = &mut Working::fresh(2, 4);
     let calls = [

@@ -1,7 +1,7 @@
 -- A text is the sheet of one list of values (`same-sheet`).
 use Rattle.ring.specs.Limits.{desk}
 use Rattle.table.proofs.TableText.{desk-spelled}
-use Rattle.sheet.proofs.Demands.{same-sheet}
+use Rattle.sheet.proofs.Promised.{same-sheet}
 use Rattle.laws.proofs.texts.same_sheet.Goals as goal
 
 pub returns : goal.returns

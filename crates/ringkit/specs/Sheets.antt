@@ -1,4 +1,4 @@
--- To believe: what holds of sheets that are well-formed, accepted or routed (demands 2 and 3).
+-- To believe: what holds of sheets that are well-formed, accepted or routed (Rules, promises).
 use Rattle.std.specs.Prelude.{ℕ, ◌*◌, ◌≤◌, List, ◌↔◌, ◌≡◌, length}
 use Rattle.ring.specs.Division.{Divides}
 use Rattle.ring.specs.Limits.{desk}
@@ -21,15 +21,15 @@ pub record FormedSheet (t : List ℕ) (r : Reply) : Type 0 where
   pub range : sheet_range.InRange desk x
   pub says_yes : (r ≡ yes) ↔ TrueSheet x
 
--- an accepted sheet: its figures are the paper's, and no division of its demands, however fine, has a lower peak
+-- an accepted sheet: its figures are those of Schrijver, Seymour and Winkler (ring/Paper), and no division of its demands, however fine, has a lower peak
 pub record BestSheet (t : List ℕ) : Type 0 where
   pub x : Sheet
   pub of : SheetOf t x
   pub figures : PaperFigures x
   pub no_lower : (q : ℕ) (ss : List Sent) → Divides q (demands (sents x.rows)) ss → q * x.cut.number ≤ 2 * peak (split_load ss) x.ring.n
 
--- a table has a sheet; with room for it, it is written; its demands are the table's rows; the checker accepts it, its figures are the paper's, and it has no
--- parallel split pair
+-- a table has a sheet; with room for it, it is written; its demands are the table's rows; the checker accepts it, it is the best, and it has no parallel
+-- split pair
 pub record RoutedWell (t old new : List ℕ) (r : Reply) : Type 0 where
   pub sheet : List ℕ
   pub due : TableDue sheet_due t sheet
