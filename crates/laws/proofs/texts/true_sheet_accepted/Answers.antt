@@ -1,7 +1,7 @@
 -- True sheets in range (`true-accepted`).
 use Rattle.ring.specs.Limits.{desk}
 use Rattle.table.proofs.TableText.{desk-spelled}
-use Rattle.sheet.proofs.Demands.{true-accepted}
+use Rattle.sheet.proofs.Promised.{true-accepted}
 use Rattle.laws.proofs.texts.true_sheet_accepted.Goals as goal
 
 pub returns : goal.returns
