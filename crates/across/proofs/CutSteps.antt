@@ -1,11 +1,10 @@
 -- Rule A's two loops end with the largest cut: where they stand, the scan of what is left from the best so far is the scan of all. Over any
 -- across number; and two that agree on the pairs of the ring have the same largest cut.
 use Rattle.std.proofs.Common.{◌≡◌, ℕ, zero, suc, ◌+◌, ◌-◌, ◌<◌, ◌≤◌, refl, ap, ◌∙◌, arith, le-ltb, lt-ltb}
-use Rattle.ring.specs.Cut.{Cut}
+use Rattle.ring.specs.declared.types.Cut.{Cut}
 use Rattle.ring.specs.RuleA.{cut_at, better, scan_seconds, scan_firsts, largest_cut}
 use Rattle.ring.proofs.LargestCut.{largest-cut}
 use Rattle.across.specs.Lines.{Pairwise}
-use Rattle.across.specs.Answers.{cut_in}
 
 abbrev cut : ℕ → ℕ → ℕ → Cut
 cut a b m = record { g = a; h = b; number = m }
@@ -71,8 +70,8 @@ module _ (number : ℕ → ℕ → ℕ) (n : ℕ) where
     all_seen : cut a b m ≡ largest_cut number n
     all_seen = let e : n - g ≡ 0 = omega arith in (rw e (unfold scan_firsts in refl)) ∙ f.left
 
-    pub cut-done : record { g = a; h = b; number = m } ≡ cut_in (largest_cut number n)
-    cut-done = ap cut_in all_seen
+    pub cut-done : record { g = a; h = b; number = m } ≡ (largest_cut number n)
+    cut-done = all_seen
 
     -- both links are links of the ring
     pub cut-first-link : 2 ≤ n → a ≤ n

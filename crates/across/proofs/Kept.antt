@@ -1,6 +1,6 @@
 -- What a row leaves on a triangle, pair by pair: each number is its own step.
 use Rattle.std.proofs.Common.{◌≡◌, ℕ, ◌≤◌, Bool, List, length, ◌∙◌, arith, le-leb}
-use Rattle.ring.specs.Row.{Row}
+use Rattle.ring.specs.declared.types.Row.{Row}
 use Rattle.ring.specs.Cut.{part}
 use Rattle.across.specs.Triangle.{most_links, most_pairs, at}
 use Rattle.across.specs.Step.{step, stepped, step_row}

@@ -3,7 +3,8 @@ use Rattle.std.proofs.Common.{◌≡◌, ℕ, suc, ◌+◌, ◌-◌, ◌<◌, �
 use mathlib.Core.Bool.{xor}
 use native.Mathlib.Decide.{ℕ_discrete, dec_lt, dec_le}
 use borrow.Author.Tests.{lt-leb}
-use Rattle.ring.specs.Row.{Row, row, in_front}
+use Rattle.ring.specs.Row.{row, in_front}
+use Rattle.ring.specs.declared.types.Row.{Row}
 use Rattle.ring.specs.Cut.{part}
 use Rattle.ring.proofs.Side.{Side, before, within, after, side, in-front, before-front, after_front}
 use Rattle.across.specs.Triangle.{most_links, most_pairs, offset, place_of, at}
@@ -65,7 +66,7 @@ module _ (op : ℕ → ℕ) (h low high : ℕ) (old : List ℕ) (fits : LineFits
 
 -- ---- a row's lines
 
-part_of : (r : Row) (g h : ℕ) (x y : Bool) → in_front r g ≡ x → in_front r h ≡ y → part r g h ≡ cond (xor x y) r.d 0
+part_of : (r : Row) (g h : ℕ) (x y : Bool) → in_front r g ≡ x → in_front r h ≡ y → part r g h ≡ cond (xor x y) r.amount 0
 unfolding part xor
 part_of r g h x y p q = rw (p, q)
 
@@ -76,8 +77,8 @@ step-none false y l = omega arith
 
 -- where the loop stands: the lines before h are changed by the row's share
 pub record Rowing (add : Bool) (n : ℕ) (r : Row) (old now : List ℕ) (h : ℕ) : Type 0 where
-  pub past : r.i ≤ h
-  pub reached : r.i < h → h ≤ n + 1
+  pub past : r.first ≤ h
+  pub reached : r.first < h → h ≤ n + 1
   pub size : length now ≡ length old
   pub changed : Pairwise most_links (λ g k. k < h → at now g k ≡ step add (at old g k) (part r g k))
   pub kept : Pairwise most_links (λ g k. h ≤ k → at now g k ≡ at old g k)

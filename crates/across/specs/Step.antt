@@ -1,6 +1,6 @@
 -- To believe: a row is put on a triangle, or taken off it: each pair's number is raised or lowered by the row's share of it.
 use Rattle.std.specs.Prelude.{ℕ, ◌+◌, ◌-◌, ◌%◌, Bool, cond, List, nat_le}
-use Rattle.ring.specs.Row.{Row}
+use Rattle.ring.specs.declared.types.Row.{Row}
 use Rattle.ring.specs.Cut.{part}
 use Rattle.across.specs.Triangle.{most_links, at, triangle}
 

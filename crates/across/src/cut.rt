@@ -2,22 +2,15 @@
 ghost use Rattle.std.specs.Prelude.{◌≡◌, ◌≤◌};
 ghost use Rattle.ring.specs.RuleA.{largest_cut};
 ghost use Rattle.across.specs.Triangle.{most_links, at};
-ghost use Rattle.across.specs.Answers.{cut_in};
 
 use crate::PAIRS;
 use crate::place::get;
-
-#[derive(Drop)]
-pub struct Cut {
-    pub g: u32,
-    pub h: u32,
-    pub number: u32,
-}
+use ring::Cut;
 
 pub fn largest_cut(triangle: &[u32; PAIRS], n: usize) -> Cut
     requires two { 2 ≤ n }
     requires few { n ≤ most_links }
-    ensures { result ≡ cut_in (largest_cut (at triangle.now) n) }
+    ensures { result ≡ (largest_cut (at triangle.now) n) }
 {
     let mut best_g: usize = 1;
     let mut best_h: usize = 2;

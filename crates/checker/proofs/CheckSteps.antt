@@ -7,14 +7,18 @@ use native.Mathlib.Omega.{arith}
 use lib.ListN.{length, get_or, take, drop, length-take}
 use borrow.Author.Tests.{lt-ltb, le-ltb}
 use Rattle.sonet.specs.Size.{sonet_size}
-use Rattle.ring.specs.Ring.{Ring, ring_of}
+use Rattle.ring.specs.Ring.{ring_of}
+use Rattle.ring.specs.declared.types.Ring.{Ring}
 use Rattle.ring.specs.LineSize.{needed}
 use Rattle.ring.proofs.SizeRules.{size-in-steps}
 use Rattle.ring.specs.Columns.{column, rows_in, routed_at}
 use Rattle.ring.specs.Cut.{across}
 use Rattle.ring.specs.Limits.{desk}
-use Rattle.ring.specs.Routing.{Sent, Routed, split_load, unsplit_load}
-use Rattle.ring.specs.Sheet.{Link, sents, demands, numbers_from}
+use Rattle.ring.specs.Routing.{split_load, unsplit_load}
+use Rattle.ring.specs.declared.types.Sent.{Sent}
+use Rattle.ring.specs.declared.types.Routed.{Routed}
+use Rattle.ring.specs.Sheet.{sents, demands, numbers_from}
+use Rattle.ring.specs.declared.types.Link.{Link}
 use Rattle.ring.proofs.Laid.{laid}
 use Rattle.ring.proofs.Listed.{listed-map}
 use Rattle.router.specs.Rows.{Table}
@@ -158,7 +162,7 @@ record RowsEnded (s : List ℕ) (ring : Ring) (result : Result) (v : SheetValues
   within : at ≤ length s
   inside : no_row ≤ length s
   lined : line ≡ count + 2
-  table : Table ring.n count v.first v.second v.amount
+  table : Table ring.nodes count v.first v.second v.amount
   halves : Halves count v.front v.back
 
 rows-ended : {s : List ℕ} {ring : Ring} {result : Result} {v : SheetValues} {end : RowsEnd} {count at line no_row : ℕ} →

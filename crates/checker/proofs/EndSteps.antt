@@ -8,14 +8,17 @@ use native.Mathlib.Omega.{arith}
 use lib.ListN.{length, get_or, take, drop, drop_of_length-le, length-drop, length-take}
 use borrow.Author.Tests.{lt-ltb, le-ltb}
 use Rattle.sonet.specs.Size.{sonet_sizes}
-use Rattle.ring.specs.Ring.{Ring, ring_of}
+use Rattle.ring.specs.Ring.{ring_of}
+use Rattle.ring.specs.declared.types.Ring.{Ring}
 use Rattle.ring.specs.LineSize.{line_size}
 use Rattle.ring.specs.Columns.{column, listed}
-use Rattle.ring.specs.Cut.{Cut}
+use Rattle.ring.specs.declared.types.Cut.{Cut}
 use Rattle.ring.specs.Limits.{desk}
-use Rattle.ring.specs.Routing.{Routed, split_load, unsplit_load, peak}
+use Rattle.ring.specs.Routing.{split_load, unsplit_load, peak}
+use Rattle.ring.specs.declared.types.Routed.{Routed}
 use Rattle.ring.specs.RuleD.{largest_split}
-use Rattle.ring.specs.Sheet.{Link, Sheet, sents, numbers_from}
+use Rattle.ring.specs.Sheet.{Sheet, sents, numbers_from}
+use Rattle.ring.specs.declared.types.Link.{Link}
 use Rattle.ring.proofs.Listed.{listed-snoc, listed-length}
 use Rattle.text.specs.Answers.{two_in, three_in}
 use Rattle.text.specs.ReadLine.{read_line}
@@ -175,10 +178,10 @@ unfolding check_from at_end when lines
 no_line s to h x line = rw (drop_of_length-le s h)
 
 module _ (s : List ℕ) (at line top size : ℕ) (to : ℕ) (ends : NextEnds s at to) (x : TwoNumbers) (ex : x ≡ two_in (read_line last_shape (take (to - at) (drop at s)))) where
-  module _ (ring : Ring) (rs : List Routed) (c : Cut) (ks : List Link) (all : ring.n ≤ length ks) where
+  module _ (ring : Ring) (rs : List Routed) (c : Cut) (ks : List Link) (all : ring.nodes ≤ length ks) where
     last-led : check_from desk true (links ring rs c ks) line (lines (drop at s)) ≡ after (last_turn true ring rs c ks x) line (λ next. check_from desk true next (line + 1) (lines (drop to s)))
     unfolding turn
-    last-led = step-at desk true s at to ends (links ring rs c ks) tt line ∙ rw (le-ltb (length ks) ring.n all, ← ex)
+    last-led = step-at desk true s at to ends (links ring rs c ks) tt line ∙ rw (le-ltb (length ks) ring.nodes all, ← ex)
 
   pub last-place : (p : ℕ) → x ≡ NotTwo p → length s ≤ desk.bytes → p ≤ desk.bytes
   last-place p q short = omega (arith, two-within last_shape (take (to - at) (drop at s)) p (sym ex ∙ q), length-take (to - at) (drop at s), ends.within)
@@ -188,7 +191,7 @@ module _ (s : List ℕ) (at line top size : ℕ) (to : ℕ) (ends : NextEnds s a
   no_last p byte q b = record { within = not_on; means = λ ring rs c ks all et ez. step_refused {reason = Misshapen} {line = line} {byte = byte} (last-led ring rs c ks all ∙ rw (q, b)) }
 
   module _ (p z : ℕ) (is : x ≡ AreTwo p z) (v : Verdict) (ev : v ≡ last_verdict top size p z) where
-    last_judged : (ring : Ring) (rs : List Routed) → top ≡ peak (unsplit_load rs) ring.n → size ≡ line_size sonet_sizes ring.fibres top → judge_last ring rs p z ≡ v
+    last_judged : (ring : Ring) (rs : List Routed) → top ≡ peak (unsplit_load rs) ring.nodes → size ≡ line_size sonet_sizes ring.fibres top → judge_last ring rs p z ≡ v
     unfolding judge_last
     last_judged ring rs et ez = sym (ev ∙ rw (ez, et))
 
@@ -201,7 +204,7 @@ module _ (s : List ℕ) (at line top size : ℕ) (to : ℕ) (ends : NextEnds s a
         }
 
     module _ (q : v ≡ Fine) where
-      ended : (ring : Ring) (rs : List Routed) (c : Cut) (ks : List Link) → ring.n ≤ length ks → top ≡ peak (unsplit_load rs) ring.n → size ≡ line_size sonet_sizes ring.fibres top →
+      ended : (ring : Ring) (rs : List Routed) (c : Cut) (ks : List Link) → ring.nodes ≤ length ks → top ≡ peak (unsplit_load rs) ring.nodes → size ≡ line_size sonet_sizes ring.fibres top →
           check_from desk true (links ring rs c ks) line (lines (drop at s))
           ≡ check_from desk true (end (record { ring = ring; rows = rs; cut = c; links = ks; peak = top; size = size })) (line + 1) (lines (drop to s))
       unfolding last_turn unless after when
@@ -249,7 +252,7 @@ module _ (s : List ℕ) (at line number split_peak top size largest : ℕ) (r : 
   whole-stops reason place byte q = record { means = λ ring rs g h ks all es et el ez. step-stops (last.means ring rs (cut_of g h number) ks all et ez) q }
 
   module _ (to : ℕ) (q : r ≡ On to) (v : Verdict) (ev : v ≡ whole_verdict split_peak number largest top) where
-    module _ (ring : Ring) (rs : List Routed) (g h : ℕ) (ks : List Link) (all : ring.n ≤ length ks) (es : split_peak ≡ peak (split_load (sents rs)) ring.n) (et : top ≡ peak (unsplit_load rs) ring.n)
+    module _ (ring : Ring) (rs : List Routed) (g h : ℕ) (ks : List Link) (all : ring.nodes ≤ length ks) (es : split_peak ≡ peak (split_load (sents rs)) ring.nodes) (et : top ≡ peak (unsplit_load rs) ring.nodes)
         (el : largest ≡ largest_split (sents rs)) (ez : size ≡ line_size sonet_sizes ring.fibres top) where
       abbrev x : Sheet
       x = record { ring = ring; rows = rs; cut = cut_of g h number; links = ks; peak = top; size = size }

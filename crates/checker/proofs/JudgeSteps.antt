@@ -9,7 +9,8 @@ use lib.Dec.{eqb}
 use lib.ListN.{get_or}
 use borrow.Author.Tests.{eq-eqb, ne_eqb, lt-ltb, le-ltb}
 use Rattle.ring.specs.Columns.{listed, row_at}
-use Rattle.ring.specs.Routing.{way_number, F, B, sent, is_split}
+use Rattle.ring.specs.Routing.{way_number, sent, is_split}
+use Rattle.ring.specs.declared.types.Way.TheVariants.{Front, Back}
 use Rattle.ring.specs.Cut.{if_one, part, across}
 use Rattle.ring.specs.Limits.{desk}
 use Rattle.ring.specs.Row.{row, in_front}
@@ -42,7 +43,7 @@ module _ (f k w : ℕ) (split : Bool) (es : split ≡ is_split (sent 0 0 0 f k))
   unfolding wrong_way whole_way
   goes-front n z = rw (sym es ∙ n, eq-eqb k 0 z) (go (eqb w 0))
     where
-      go : (t : Bool) → not t ≡ not (eqb (way_number (cond t F B)) 0)
+      go : (t : Bool) → not t ≡ not (eqb (way_number (cond t Front Back)) 0)
       go true = refl
       go false = refl
 
@@ -50,7 +51,7 @@ module _ (f k w : ℕ) (split : Bool) (es : split ≡ is_split (sent 0 0 0 f k))
   unfolding wrong_way whole_way
   goes_back n z = rw (sym es ∙ n, ne_eqb k 0 z) (go (eqb w 0))
     where
-      go : (t : Bool) → t ≡ not (eqb (way_number (cond t F B)) 1)
+      go : (t : Bool) → t ≡ not (eqb (way_number (cond t Front Back)) 1)
       go true = refl
       go false = refl
 

@@ -63,7 +63,7 @@ module _ (limits : Limits) (judging : Bool) where
   unfolding turn ring_turn row_turn cut_turn link_turn last_turn two_in three_in sent_in read_line fields_from field_then field_at mark_at mark_from
   no-shape start g = refl
   no-shape (rows ring rs) g = refl
-  no-shape (links ring rs c ks) g = go (ltb (length ks) ring.n)
+  no-shape (links ring rs c ks) g = go (ltb (length ks) ring.nodes)
     where
       go : (t : Bool) → cond t (stop Misshapen 1) (stop Misshapen 1) ≡ stop Misshapen 1
       go true = refl

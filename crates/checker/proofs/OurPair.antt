@@ -5,9 +5,10 @@ use mathlib.Core.Bool.{true≢false}
 use mathlib.Core.List.{List}
 use mathlib.Core.Path.{◌≡◌, sym, ◌∙◌, subst}
 use Rattle.ring.specs.Lists.{Each, more, Pairs, no_pair, and_pairs, none}
-use Rattle.ring.specs.Ring.{Ring}
-use Rattle.ring.specs.Row.{Row, TableRows}
-use Rattle.ring.specs.Routing.{Sent}
+use Rattle.ring.specs.declared.types.Ring.{Ring}
+use Rattle.ring.specs.Row.{TableRows}
+use Rattle.ring.specs.declared.types.Row.{Row}
+use Rattle.ring.specs.declared.types.Sent.{Sent}
 use Rattle.ring.specs.Sheet.{sents, plan}
 use Rattle.ring.specs.Rules.{Quiet}
 use Rattle.ring.proofs.OurPlan.{untangled, directed, table-order}
@@ -32,10 +33,10 @@ quiet_none k (and_pairs {a = s} {l = ss} e h) p q x = go (quiet_none (k + 1) h p
     go m (with_head i r c) = not-both (each_at e r) c
     go m (in_tail y) = m y
 
-pub plan-no-pair : (ring : Ring) (rs : List Row) → 2 ≤ ring.n → TableRows ring.n rs → first_pair (sents (plan ring rs).rows) ≡ None
+pub plan-no-pair : (ring : Ring) (rs : List Row) → 2 ≤ ring.nodes → TableRows ring.nodes rs → first_pair (sents (plan ring rs).rows) ≡ None
 unfolding plan
 plan-no-pair ring rs two table =
-    let n = ring.n in
+    let n = ring.nodes in
     let quiet = (untangled n rs two table.nodes).quiet in
     let same = (directed n rs two table.nodes (table-order n rs two table)).same in
     (no-pair-is (sents (plan ring rs).rows)).1 (subst NoPair (sym same) (quiet_none 1 quiet))

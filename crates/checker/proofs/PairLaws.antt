@@ -9,7 +9,7 @@ use native.Mathlib.Omega.{arith}
 use native.Mathlib.Decide.{dec_lt}
 use native.Mathlib.Nat.{le_refl}
 use Rattle.ring.specs.Row.{PairBefore}
-use Rattle.ring.specs.Routing.{Sent}
+use Rattle.ring.specs.declared.types.Sent.{Sent}
 use Rattle.ring.specs.Crossing.{parallel}
 use Rattle.ring.specs.RuleC.{clash}
 use Rattle.ring.proofs.Splits.{Splitting, split, whole, splitting}

@@ -9,11 +9,14 @@ use native.Mathlib.Omega.{arith}
 use lib.ListN.{length, get_or, replicate, set, take, drop, length-append, length-take}
 use lib.Seq.{sets}
 use Rattle.ring.specs.Columns.{column, routed_in}
-use Rattle.ring.specs.Routing.{way_number, way_of, Routed, sent, routed, F}
+use Rattle.ring.specs.Routing.{way_number, way_of, sent, routed}
+use Rattle.ring.specs.declared.types.Routed.{Routed}
+use Rattle.ring.specs.declared.types.Way.TheVariants.{Front}
 use Rattle.ring.specs.Limits.{desk}
 use Rattle.ring.specs.Ring.{ring_of}
 use Rattle.ring.specs.Lists.{Each, none, more}
-use Rattle.ring.specs.Row.{Row, row, OnRing}
+use Rattle.ring.specs.Row.{row, OnRing}
+use Rattle.ring.specs.declared.types.Row.{Row}
 use Rattle.ring.specs.Sheet.{sents, demands}
 use Rattle.ring.specs.True.{SumsTo2d}
 use Rattle.ring.proofs.Figures.{demands-length}
@@ -54,7 +57,7 @@ use Rattle.sheet.proofs.Truth.{row-true}
 
 pub record FineSent (n : ℕ) (r : Routed) : Type 0 where
   pub on : OnRing n r.sent.row
-  pub amount : r.sent.row.d ≤ desk.amount
+  pub amount : r.sent.row.amount ≤ desk.amount
   pub sums : SumsTo2d r.sent
 
 -- behind `count` rows
@@ -75,7 +78,7 @@ fine_row n count a b i j d f k w v e q =
 -- ---- rows in columns
 
 no_row : Routed
-no_row = routed (sent 0 0 0 0 0) F
+no_row = routed (sent 0 0 0 0 0) Front
 
 each_at : {A : Type 0} {P : A → Type 0} {l : List A} (d : A) → Each P l → (k : ℕ) → k < length l → P (get_or l k d)
 each_at d none k h = absurd (omega arith)
@@ -92,14 +95,14 @@ demand-column f rs = ap (λ l. sets (replicate {A = ℕ} desk.rows 0) 0 l) (go r
     go (r ∷ rs) = ap (λ l. f r.sent.row ∷ l) (go rs)
 
 -- the rows of the columns are the rows
-pub columns-back : (rs : List Routed) → length rs ≤ desk.rows → routed_in (length rs) (column (λ (r : Routed). r.sent.row.i) desk.rows rs) (column (λ (r : Routed). r.sent.row.j) desk.rows rs) (column (λ (r : Routed). r.sent.row.d) desk.rows rs)
+pub columns-back : (rs : List Routed) → length rs ≤ desk.rows → routed_in (length rs) (column (λ (r : Routed). r.sent.row.first) desk.rows rs) (column (λ (r : Routed). r.sent.row.second) desk.rows rs) (column (λ (r : Routed). r.sent.row.amount) desk.rows rs)
     (column (λ (r : Routed). r.sent.front) desk.rows rs) (column (λ (r : Routed). r.sent.back) desk.rows rs) (column (λ (r : Routed). way_number r.way) desk.rows rs) ≡ rs
 columns-back rs few =
     let long = demands-length rs in
-    let i = demand-column (λ (r : Row). r.i) rs in
-    let j = demand-column (λ (r : Row). r.j) rs in
-    let d = demand-column (λ (r : Row). r.d) rs in
-    back-law.rows_back rs (column (λ (r : Routed). r.sent.row.i) desk.rows rs) (column (λ (r : Routed). r.sent.row.j) desk.rows rs) (column (λ (r : Routed). r.sent.row.d) desk.rows rs) few
+    let i = demand-column (λ (r : Row). r.first) rs in
+    let j = demand-column (λ (r : Row). r.second) rs in
+    let d = demand-column (λ (r : Row). r.amount) rs in
+    back-law.rows_back rs (column (λ (r : Routed). r.sent.row.first) desk.rows rs) (column (λ (r : Routed). r.sent.row.second) desk.rows rs) (column (λ (r : Routed). r.sent.row.amount) desk.rows rs) few
     (rw (i, j, d, ← long) (sym (rows_back desk.rows (demands (sents rs)) (omega arith))))
 
 module _ (n : ℕ) (rs : List Routed) (few : length rs ≤ desk.rows) (fine : Each (FineSent n) rs) where
@@ -107,23 +110,23 @@ module _ (n : ℕ) (rs : List Routed) (few : length rs ≤ desk.rows) (fine : Ea
   at_column f k = get_or (column f desk.rows rs) k 0
 
   demand-at : (k : ℕ) → k < length rs →
-      row (at_column (λ (r : Routed). r.sent.row.i) k) (at_column (λ (r : Routed). r.sent.row.j) k) (at_column (λ (r : Routed). r.sent.row.d) k) ≡ (get_or rs k no_row).sent.row
+      row (at_column (λ (r : Routed). r.sent.row.first) k) (at_column (λ (r : Routed). r.sent.row.second) k) (at_column (λ (r : Routed). r.sent.row.amount) k) ≡ (get_or rs k no_row).sent.row
   demand-at k h =
       rw (
-        column-at (λ (r : Routed). r.sent.row.i) desk.rows rs no_row k few h,
-        column-at (λ (r : Routed). r.sent.row.j) desk.rows rs no_row k few h,
-        column-at (λ (r : Routed). r.sent.row.d) desk.rows rs no_row k few h,
+        column-at (λ (r : Routed). r.sent.row.first) desk.rows rs no_row k few h,
+        column-at (λ (r : Routed). r.sent.row.second) desk.rows rs no_row k few h,
+        column-at (λ (r : Routed). r.sent.row.amount) desk.rows rs no_row k few h,
       )
 
   pub fine-table : desk.fewest ≤ n → n ≤ desk.nodes →
-      Table n (length rs) (column (λ (r : Routed). r.sent.row.i) desk.rows rs) (column (λ (r : Routed). r.sent.row.j) desk.rows rs) (column (λ (r : Routed). r.sent.row.d) desk.rows rs)
+      Table n (length rs) (column (λ (r : Routed). r.sent.row.first) desk.rows rs) (column (λ (r : Routed). r.sent.row.second) desk.rows rs) (column (λ (r : Routed). r.sent.row.amount) desk.rows rs)
   fine-table two many =
       record {
         two = two;
         links = many;
         few = few;
         nodes = λ k h. let e = demand-at k h in rw e (each_at no_row fine k h).on;
-        small = λ k h. let e = column-at (λ (r : Routed). r.sent.row.d) desk.rows rs no_row k few h in rw e (each_at no_row fine k h).amount;
+        small = λ k h. let e = column-at (λ (r : Routed). r.sent.row.amount) desk.rows rs no_row k few h in rw e (each_at no_row fine k h).amount;
       }
 
   halves_small : (k : ℕ) → at_column (λ (r : Routed). r.sent.front) k + at_column (λ (r : Routed). r.sent.back) k ≤ most_halves
@@ -165,11 +168,11 @@ whole s n from fibres = check_from desk true (rows (ring_of n fibres) []) 2 (lin
 pub record RowsReading (s : List ℕ) (n from line a b count at : ℕ) (first second amount front back way : List ℕ) : Type 0 where
   pub rs : List Routed
   pub rest : (fibres : ℕ) → whole s n from fibres ≡ check_from desk true (rows (ring_of n fibres) rs) line (lines (drop at s))
-  pub last : ((last_of rs).i ≡ a) × ((last_of rs).j ≡ b)
+  pub last : ((last_of rs).first ≡ a) × ((last_of rs).second ≡ b)
   pub many : count ≡ length rs
-  pub firsts : first ≡ column (λ (r : Routed). r.sent.row.i) desk.rows rs
-  pub seconds : second ≡ column (λ (r : Routed). r.sent.row.j) desk.rows rs
-  pub amounts : amount ≡ column (λ (r : Routed). r.sent.row.d) desk.rows rs
+  pub firsts : first ≡ column (λ (r : Routed). r.sent.row.first) desk.rows rs
+  pub seconds : second ≡ column (λ (r : Routed). r.sent.row.second) desk.rows rs
+  pub amounts : amount ≡ column (λ (r : Routed). r.sent.row.amount) desk.rows rs
   pub fronts : front ≡ column (λ (r : Routed). r.sent.front) desk.rows rs
   pub backs : back ≡ column (λ (r : Routed). r.sent.back) desk.rows rs
   pub ways : way ≡ column (λ (r : Routed). way_number r.way) desk.rows rs
@@ -263,7 +266,7 @@ module _ (s : List ℕ) (n from line a b count at : ℕ) (v : SheetValues) (read
           let e = reading.many in
           let u = reading.last.0 in
           let w' = reading.last.1 in
-          let q : sent_verdict desk n (length reading.rs) (last_of reading.rs).i (last_of reading.rs).j (routed_of i j d f k w) ≡ found = rw (← e, u, w') (sym ef) in
+          let q : sent_verdict desk n (length reading.rs) (last_of reading.rs).first (last_of reading.rs).second (routed_of i j d f k w) ≡ found = rw (← e, u, w') (sym ef) in
           reading.rest fibres ∙ step-at desk true s at to ends (rows (ring_of n fibres) reading.rs) tt line ∙ rw (← ex, is, q)
 
       pub row-stops : (reason : Reason) (byte : ℕ) → found ≡ Fault reason → byte ≡ row_fault n i j d reason → RowsRead s from n v (Refused reason line byte)
@@ -300,11 +303,11 @@ module _ (s : List ℕ) (n from line a b count at : ℕ) (v : SheetValues) (read
             record {
               rs = rs ++ r ∷ [];
               rest = λ fibres. led fibres ∙ rw fine;
-              last = (ap (λ (q : Row). q.i) (last_more rs r), ap (λ (q : Row). q.j) (last_more rs r));
+              last = (ap (λ (q : Row). q.first) (last_more rs r), ap (λ (q : Row). q.second) (last_more rs r));
               many = omega (arith, e, length-append rs (r ∷ []));
-              firsts = ap (λ l. set l count i) reading.firsts ∙ column-more (λ (r : Routed). r.sent.row.i) desk.rows rs r count e;
-              seconds = ap (λ l. set l count j) reading.seconds ∙ column-more (λ (r : Routed). r.sent.row.j) desk.rows rs r count e;
-              amounts = ap (λ l. set l count d) reading.amounts ∙ column-more (λ (r : Routed). r.sent.row.d) desk.rows rs r count e;
+              firsts = ap (λ l. set l count i) reading.firsts ∙ column-more (λ (r : Routed). r.sent.row.first) desk.rows rs r count e;
+              seconds = ap (λ l. set l count j) reading.seconds ∙ column-more (λ (r : Routed). r.sent.row.second) desk.rows rs r count e;
+              amounts = ap (λ l. set l count d) reading.amounts ∙ column-more (λ (r : Routed). r.sent.row.amount) desk.rows rs r count e;
               fronts = ap (λ l. set l count f) reading.fronts ∙ column-more (λ (r : Routed). r.sent.front) desk.rows rs r count e;
               backs = ap (λ l. set l count k) reading.backs ∙ column-more (λ (r : Routed). r.sent.back) desk.rows rs r count e;
               ways = ap (λ l. set l count w) reading.ways ∙ ap (λ m. set (column (λ (r : Routed). way_number r.way) desk.rows rs) count m) ew

@@ -6,7 +6,8 @@ use mathlib.Core.Path.{◌≡◌, refl, ap, ◌∙◌, sym}
 use native.Mathlib.Omega.{arith}
 use lib.ListN.{length}
 use Rattle.ring.specs.Columns.{column, sents_in, routed_at, routed_in}
-use Rattle.ring.specs.Routing.{way_number, Routed}
+use Rattle.ring.specs.Routing.{way_number}
+use Rattle.ring.specs.declared.types.Routed.{Routed}
 use Rattle.ring.specs.Limits.{desk}
 use Rattle.ring.specs.Sheet.{Sheet, sents}
 use Rattle.ring.proofs.Listed.{listed-map}
@@ -45,8 +46,8 @@ module _ (s : List ℕ) (answer : Answer) (v : SheetValues) where
       let h = ((check-text desk desk-spelled s x).0 q).1 in
       let few : length x.rows ≤ desk.rows = h.0.count in
       let rows = columns-back x.rows few in
-      let links = links-back x.ring.n x.links h.0.many h.1.links in
-      let first = sents-in (length x.rows) (column (λ (r : Routed). r.sent.row.i) desk.rows x.rows) (column (λ (r : Routed). r.sent.row.j) desk.rows x.rows) (column (λ (r : Routed). r.sent.row.d) desk.rows x.rows)
+      let links = links-back x.ring.nodes x.links h.0.many h.1.links in
+      let first = sents-in (length x.rows) (column (λ (r : Routed). r.sent.row.first) desk.rows x.rows) (column (λ (r : Routed). r.sent.row.second) desk.rows x.rows) (column (λ (r : Routed). r.sent.row.amount) desk.rows x.rows)
       (column (λ (r : Routed). r.sent.front) desk.rows x.rows) (column (λ (r : Routed). r.sent.back) desk.rows x.rows) (column (λ (r : Routed). way_number r.way) desk.rows x.rows) in
       record {
         x = x;

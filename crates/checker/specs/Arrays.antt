@@ -1,9 +1,10 @@
 -- Internal: what checking a text gives: the sheet's values in arrays, zero behind them and zero after a refusal.
 use Rattle.std.specs.Prelude.{ℕ, List, [], length}
 use Rattle.ring.specs.Columns.{column, routed_in}
-use Rattle.ring.specs.Routing.{way_number, Routed}
+use Rattle.ring.specs.Routing.{way_number}
+use Rattle.ring.specs.declared.types.Routed.{Routed}
 use Rattle.ring.specs.Limits.{desk}
-use Rattle.ring.specs.Sheet.{Link}
+use Rattle.ring.specs.declared.types.Link.{Link}
 use Rattle.sheet.specs.WriteSheet.{figures_of}
 use Rattle.sheet.specs.Check.{Result, accepted, refused}
 use Rattle.sheet.specs.declared.Figures.{Figures}
@@ -20,9 +21,9 @@ abbrev pub values_of : Figures → List Routed → List Link → SheetValues
 values_of figures rs ls =
     record {
       figures = figures;
-      first = column (λ (r : Routed). r.sent.row.i) desk.rows rs;
-      second = column (λ (r : Routed). r.sent.row.j) desk.rows rs;
-      amount = column (λ (r : Routed). r.sent.row.d) desk.rows rs;
+      first = column (λ (r : Routed). r.sent.row.first) desk.rows rs;
+      second = column (λ (r : Routed). r.sent.row.second) desk.rows rs;
+      amount = column (λ (r : Routed). r.sent.row.amount) desk.rows rs;
       front = column (λ (r : Routed). r.sent.front) desk.rows rs;
       back = column (λ (r : Routed). r.sent.back) desk.rows rs;
       way = column (λ (r : Routed). way_number r.way) desk.rows rs;

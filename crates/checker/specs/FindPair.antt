@@ -1,6 +1,6 @@
 -- Internal: the scans for the first pair of split rows that are parallel, by first and then by second.
 use Rattle.std.specs.Prelude.{ℕ, ◌+◌, cond, List, [], ◌∷◌}
-use Rattle.ring.specs.Routing.{Sent}
+use Rattle.ring.specs.declared.types.Sent.{Sent}
 use Rattle.ring.specs.RuleC.{clash}
 use Rattle.checker.specs.declared.pair.Pair.{Pair}
 use Rattle.checker.specs.declared.pair.Pair.TheVariants.{Are, None}

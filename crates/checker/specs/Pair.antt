@@ -1,7 +1,8 @@
 -- To believe: the first parallel pair of split rows (Rules, the parallel question), or that none is.
 use Rattle.std.specs.Prelude.{ℕ, ◌+◌, ◌<◌, true, List, ◌∷◌, ◌≡◌}
 use Rattle.ring.specs.Row.{PairBefore}
-use Rattle.ring.specs.Routing.{Sent, Split}
+use Rattle.ring.specs.Routing.{Split}
+use Rattle.ring.specs.declared.types.Sent.{Sent}
 use Rattle.ring.specs.Crossing.{parallel}
 
 -- of rows whose places are counted from k, the one at place p

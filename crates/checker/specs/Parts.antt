@@ -1,14 +1,17 @@
 -- Internal: the parts of the checker's code: each reads some lines and says from where, and in which state, checking goes on.
 use Rattle.std.specs.Prelude.{ℕ, ◌+◌, ◌≤◌, true, List, [], ◌∷◌, ◌≡◌, length, drop}
 use Rattle.sonet.specs.Size.{sonet_sizes}
-use Rattle.ring.specs.Ring.{Ring, ring_of}
+use Rattle.ring.specs.Ring.{ring_of}
+use Rattle.ring.specs.declared.types.Ring.{Ring}
 use Rattle.ring.specs.LineSize.{line_size}
 use Rattle.ring.specs.Columns.{column}
-use Rattle.ring.specs.Routing.{way_number, Routed, split_load, unsplit_load, peak}
-use Rattle.ring.specs.Cut.{Cut}
+use Rattle.ring.specs.Routing.{way_number, split_load, unsplit_load, peak}
+use Rattle.ring.specs.declared.types.Routed.{Routed}
+use Rattle.ring.specs.declared.types.Cut.{Cut}
 use Rattle.ring.specs.Limits.{Limits, desk}
 use Rattle.ring.specs.RuleD.{largest_split}
-use Rattle.ring.specs.Sheet.{Link, Sheet, sents, numbers_from}
+use Rattle.ring.specs.Sheet.{Sheet, sents, numbers_from}
+use Rattle.ring.specs.declared.types.Link.{Link}
 use Rattle.router.specs.Rows.{Table}
 use Rattle.router.specs.Arrays.{Halves}
 use Rattle.text.specs.Answers.{three_in}
@@ -54,7 +57,7 @@ behind_first (l ∷ ls) = ls
 -- 4 to 9 and 16 of a D line, behind k rows of which the last is a, b
 unfoldable pub sent_verdict : Limits → ℕ → ℕ → ℕ → ℕ → Routed → Verdict
 unfolding or_else
-sent_verdict limits n k a b r = or_else (judge_row limits n k a b r.sent.row.i r.sent.row.j r.sent.row.d) (judge_halves r)
+sent_verdict limits n k a b r = or_else (judge_row limits n k a b r.sent.row.first r.sent.row.second r.sent.row.amount) (judge_halves r)
 
 -- from the C line on, which is no D line, whose first faulty byte is at the place q
 unfoldable pub cut_from : Ring → List Routed → ℕ → ℕ → List (List ℕ) → Result
@@ -64,9 +67,9 @@ cut_from ring rs line q ls = after (cut_turn true ring rs q (three_in (read_line
 -- the rows rs stand in columns, from place 0 on, and zeros behind them
 pub record Columns (rs : List Routed) (count : ℕ) (v : SheetValues) : Type 0 where
   pub many : count ≡ length rs
-  pub firsts : v.first ≡ column (λ (r : Routed). r.sent.row.i) desk.rows rs
-  pub seconds : v.second ≡ column (λ (r : Routed). r.sent.row.j) desk.rows rs
-  pub amounts : v.amount ≡ column (λ (r : Routed). r.sent.row.d) desk.rows rs
+  pub firsts : v.first ≡ column (λ (r : Routed). r.sent.row.first) desk.rows rs
+  pub seconds : v.second ≡ column (λ (r : Routed). r.sent.row.second) desk.rows rs
+  pub amounts : v.amount ≡ column (λ (r : Routed). r.sent.row.amount) desk.rows rs
   pub fronts : v.front ≡ column (λ (r : Routed). r.sent.front) desk.rows rs
   pub backs : v.back ≡ column (λ (r : Routed). r.sent.back) desk.rows rs
   pub ways : v.way ≡ column (λ (r : Routed). way_number r.way) desk.rows rs
@@ -75,7 +78,7 @@ pub record Columns (rs : List Routed) (count : ℕ) (v : SheetValues) : Type 0 w
 -- what the rows that were read lead to, and what is known of their columns
 pub data RowsMean (s : List ℕ) (ring : Ring) (result : Result) (v : SheetValues) : RowsEnd → Type 0 where
   rows_at : {count at line q : ℕ} (rs : List Routed) → Columns rs count v → result ≡ cut_from ring rs line q (lines (drop at s))
-      → at ≤ length s → q ≤ length s → line ≡ count + 2 → Table ring.n count v.first v.second v.amount → Halves count v.front v.back → RowsMean s ring result v (At count at line q)
+      → at ≤ length s → q ≤ length s → line ≡ count + 2 → Table ring.nodes count v.first v.second v.amount → Halves count v.front v.back → RowsMean s ring result v (At count at line q)
   rows_refused : {reason : Reason} {line byte : ℕ} → result ≡ refused reason line byte → RowsMean s ring result v (RowsRefused reason line byte)
 
 -- whatever the fibres: rows are judged by the number of nodes alone
@@ -104,7 +107,7 @@ pub record Within (s : List ℕ) (r : Step) : Type 0 where
 
 -- the sheet of rows, of a cut and of true figures
 abbrev pub sheet_with : Ring → List Routed → Cut → List ℕ → List ℕ → ℕ → ℕ → Sheet
-sheet_with ring rs c split unsplit top size = record { ring = ring; rows = rs; cut = c; links = links_in ring.n split unsplit; peak = top; size = size }
+sheet_with ring rs c split unsplit top size = record { ring = ring; rows = rs; cut = c; links = links_in ring.nodes split unsplit; peak = top; size = size }
 
 -- the L lines: behind the cut and no link, to behind the last link
 pub record LinksRead (s : List ℕ) (from n line : ℕ) (split unsplit : List ℕ) (r : Step) : Type 0 where
@@ -115,14 +118,14 @@ pub record LinksRead (s : List ℕ) (from n line : ℕ) (split unsplit : List �
 
 -- the Z line, and nothing behind it
 pub record LastRead (s : List ℕ) (at line top size : ℕ) (r : Step) : Type 0 where
-  pub means : (ring : Ring) (rs : List Routed) (c : Cut) (ks : List Link) → ring.n ≤ length ks → top ≡ peak (unsplit_load rs) ring.n → size ≡ line_size sonet_sizes ring.fibres top →
+  pub means : (ring : Ring) (rs : List Routed) (c : Cut) (ks : List Link) → ring.nodes ≤ length ks → top ≡ peak (unsplit_load rs) ring.nodes → size ≡ line_size sonet_sizes ring.fibres top →
       let x : Sheet = record { ring = ring; rows = rs; cut = c; links = ks; peak = top; size = size } in
       StepMeans s (check_from desk true (links ring rs c ks) line (lines (drop at s))) (λ p. whole_result x (judge_whole x)) r
   pub within : Within s r
 
 -- the Z line, and then the whole sheet
 pub record WholeRead (s : List ℕ) (at line number split_peak top size largest : ℕ) (r : Step) : Type 0 where
-  pub means : (ring : Ring) (rs : List Routed) (g h : ℕ) (ks : List Link) → ring.n ≤ length ks → split_peak ≡ peak (split_load (sents rs)) ring.n → top ≡ peak (unsplit_load rs) ring.n →
+  pub means : (ring : Ring) (rs : List Routed) (g h : ℕ) (ks : List Link) → ring.nodes ≤ length ks → split_peak ≡ peak (split_load (sents rs)) ring.nodes → top ≡ peak (unsplit_load rs) ring.nodes →
       largest ≡ largest_split (sents rs) → size ≡ line_size sonet_sizes ring.fibres top →
       let x : Sheet = record { ring = ring; rows = rs; cut = cut_of g h number; links = ks; peak = top; size = size } in
       StepMeans s (check_from desk true (links ring rs (cut_of g h number) ks) line (lines (drop at s))) (λ p. accepted x) r
@@ -152,8 +155,8 @@ ended v figures split unsplit =
 pub data EndMeans (ring : Ring) (rs : List Routed) (result : Result) (old new : SheetValues) : Step → Type 0 where
   ends_with : {at : ℕ} (c : Cut) (top size : ℕ) (split unsplit : List ℕ) → result ≡ accepted (sheet_with ring rs c split unsplit top size)
       → new ≡ ended old (figures_of (sheet_with ring rs c split unsplit top size)) split unsplit
-      → split ≡ column (λ (l : Link). l.split) desk.nodes (links_in ring.n split unsplit)
-      → unsplit ≡ column (λ (l : Link). l.unsplit) desk.nodes (links_in ring.n split unsplit) → EndMeans ring rs result old new (On at)
+      → split ≡ column (λ (l : Link). l.split) desk.nodes (links_in ring.nodes split unsplit)
+      → unsplit ≡ column (λ (l : Link). l.unsplit) desk.nodes (links_in ring.nodes split unsplit) → EndMeans ring rs result old new (On at)
   end_refused : {reason : Reason} {line byte : ℕ} → result ≡ refused reason line byte → EndMeans ring rs result old new (StepRefused reason line byte)
 
 -- from the C line on

@@ -2,7 +2,8 @@
 use mathlib.Core.Bool.{true}
 use mathlib.Core.Path.{◌≡◌}
 use native.Mathlib.Omega.{arith}
-use Rattle.ring.specs.Routing.{Sent, is_split, Split}
+use Rattle.ring.specs.Routing.{is_split, Split}
+use Rattle.ring.specs.declared.types.Sent.{Sent}
 use Rattle.ring.proofs.LargestCut.{rule-A, one-best}
 use Rattle.ring.proofs.Move.{moved}
 use Rattle.ring.proofs.OurPlan.{rule-B, rule-B-peak, untangled, final-divides, rule-C-peak, split-rows-rise, directed, rule-D-peak, table-order, one-circuit-split}

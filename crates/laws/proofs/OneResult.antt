@@ -3,8 +3,9 @@ use Prim.Native.Nat.{ℕ, ◌*◌, ◌/◌, min}
 use mathlib.Core.List.{List, ◌∷◌}
 use mathlib.Core.Path.{◌≡◌, refl, sym, ◌∙◌, ap, ap₂, subst}
 use native.Mathlib.Omega.{arith}
-use Rattle.ring.specs.Row.{Row}
-use Rattle.ring.specs.Routing.{Sent, Routed}
+use Rattle.ring.specs.declared.types.Row.{Row}
+use Rattle.ring.specs.declared.types.Sent.{Sent}
+use Rattle.ring.specs.declared.types.Routed.{Routed}
 use Rattle.ring.specs.RuleB.{Room, room_after}
 use Rattle.ring.specs.Rules.{LeastOf, RowSent, RowsSent, all_sent, sent_then, Step, goes_F, goes_B, stays_F, stays_B, Run, done, next}
 
@@ -21,7 +22,7 @@ one-row : (n : ℕ) (room : Room) (r : Row) (rest : List Row) (t u : Sent) → R
 one-row n room r rest t u a b = same (a.row ∙ sym b.row) fronts (omega (arith, fronts, a.back, b.back))
   where
     fronts : t.front ≡ u.front
-    fronts = a.front ∙ ap (λ s. min (2 * r.d) (s / 2)) (one-least room _ r a.s b.s a.least b.least) ∙ sym b.front
+    fronts = a.front ∙ ap (λ s. min (2 * r.amount) (s / 2)) (one-least room _ r a.s b.s a.least b.least) ∙ sym b.front
 
     same : t.row ≡ u.row → t.front ≡ u.front → t.back ≡ u.back → t ≡ u
     same e f g i = record { row = e i; front = f i; back = g i }

@@ -2,9 +2,11 @@
 -- function that does nothing.
 use Rattle.std.specs.Prelude.{ℕ, ◌*◌, ◌≤◌, List, ◌≡◌}
 use Rattle.ring.specs.Lists.{Each}
-use Rattle.ring.specs.Row.{Row}
+use Rattle.ring.specs.declared.types.Row.{Row}
 use Rattle.ring.specs.Cut.{across}
-use Rattle.ring.specs.Routing.{Sent, Routed, split_load, unsplit_load}
+use Rattle.ring.specs.Routing.{split_load, unsplit_load}
+use Rattle.ring.specs.declared.types.Sent.{Sent}
+use Rattle.ring.specs.declared.types.Routed.{Routed}
 use Rattle.ring.specs.True.{SumsTo2d}
 use Rattle.ring.specs.Paper.{paper_d, paper_l, Fraction, paper_star, Routes, Fractions}
 

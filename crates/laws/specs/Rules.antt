@@ -3,9 +3,13 @@
 use Rattle.std.specs.Prelude.{ℕ, ◌+◌, ◌*◌, ◌≤◌, true, not, List, ◌⊎◌, ◌↔◌, ◌≡◌}
 use Rattle.sonet.specs.Size.{sonet_sizes, sonet_size, rises, Answers}
 use Rattle.ring.specs.Lists.{Pairs}
-use Rattle.ring.specs.Row.{Row, OnRing, in_front, Leads, TableRows}
-use Rattle.ring.specs.Cut.{Cut, IsCut, across}
-use Rattle.ring.specs.Routing.{Sent, Routed, is_split, Split, split_load, unsplit_load, peak, Attains}
+use Rattle.ring.specs.Row.{OnRing, in_front, Leads, TableRows}
+use Rattle.ring.specs.declared.types.Row.{Row}
+use Rattle.ring.specs.Cut.{IsCut, across}
+use Rattle.ring.specs.declared.types.Cut.{Cut}
+use Rattle.ring.specs.Routing.{is_split, Split, split_load, unsplit_load, peak, Attains}
+use Rattle.ring.specs.declared.types.Sent.{Sent}
+use Rattle.ring.specs.declared.types.Routed.{Routed}
 use Rattle.ring.specs.Crossing.{parallel, disjoint, holds, Disjoint, Holds}
 use Rattle.ring.specs.Division.{Divides}
 use Rattle.ring.specs.LineSize.{line_size, SizeRule}
@@ -27,11 +31,11 @@ OfTwoRows Holding = (n : ℕ) (a b : Row) → OnRing n a → OnRing n b → Hold
 
 -- over its front a row's first node leads to its second
 abbrev pub FrontLeads : Type 0
-FrontLeads = (n : ℕ) (r : Row) → OnRing n r → Leads n (in_front r) r.i r.j
+FrontLeads = (n : ℕ) (r : Row) → OnRing n r → Leads n (in_front r) r.first r.second
 
 -- over its back its second node leads on round to its first: up to node n, by link n to node 1, and on from there
 abbrev pub BackLeads : Type 0
-BackLeads = (n : ℕ) (r : Row) → OnRing n r → Leads n (λ k. not (in_front r k)) r.j r.i
+BackLeads = (n : ℕ) (r : Row) → OnRing n r → Leads n (λ k. not (in_front r k)) r.second r.first
 
 -- the test of disjoint fronts says that no link is in both
 abbrev pub DisjointIs : Type 0

@@ -6,9 +6,10 @@ use native.Mathlib.Omega.{arith}
 use native.Mathlib.Decide.{ℕ_discrete}
 use lib.ListN.{length, get_or, take}
 use Rattle.ring.specs.Limits.{desk}
-use Rattle.ring.specs.Ring.{Ring}
+use Rattle.ring.specs.declared.types.Ring.{Ring}
 use Rattle.ring.specs.Lists.{Each, none, more}
-use Rattle.ring.specs.Row.{Row, row, OnRing}
+use Rattle.ring.specs.Row.{row, OnRing}
+use Rattle.ring.specs.declared.types.Row.{Row}
 use Rattle.table.specs.Table.{InRange as TableInRange}
 use Rattle.matrix.specs.Demands.{sum_of, OneEach, Passes}
 use Rattle.matrix.specs.Judged.{judge_sums}
@@ -26,19 +27,19 @@ take-small zero rs i j = omega arith
 take-small (suc k) [] i j = omega arith
 take-small (suc k) (r ∷ rs) i j = omega (arith, take-small k rs i j)
 
-rising-small : {n a b : ℕ} {rs : List Row} (most : ℕ) → Each (OnRing n) rs → Each (λ r. r.d ≤ most) rs → Rising a b rs → (i j : ℕ) → i < j → sum_of rs i j ≤ most
+rising-small : {n a b : ℕ} {rs : List Row} (most : ℕ) → Each (OnRing n) rs → Each (λ r. r.amount ≤ most) rs → Rising a b rs → (i j : ℕ) → i < j → sum_of rs i j ≤ most
 unfolding sum_of
 rising-small most none none no_row i j l = omega arith
 rising-small most (more {a = r} {l = rs} o os) (more d ds) (next_row p rest) i j l =
-    elim (ℕ_discrete r.i i) [
-      | yes e ↦ elim (ℕ_discrete r.j j) [ yes f ↦ own e f | no f ↦ other (λ z. f z.1) (rising-small most os ds rest i j l) ]
+    elim (ℕ_discrete r.first i) [
+      | yes e ↦ elim (ℕ_discrete r.second j) [ yes f ↦ own e f | no f ↦ other (λ z. f z.1) (rising-small most os ds rest i j l) ]
       | no e ↦ other (λ z. e z.0) (rising-small most os ds rest i j l)
     ]
   where
-    own : r.i ≡ i → r.j ≡ j → part_of r i j + sum_of rs i j ≤ most
+    own : r.first ≡ i → r.second ≡ j → part_of r i j + sum_of rs i j ≤ most
     own e f = omega (arith, part-own r i j e f, rw (e, f) at (sum-none o.order os rest))
 
-    other : ((r.i ≡ i) × (r.j ≡ j) → ⊥) → sum_of rs i j ≤ most → part_of r i j + sum_of rs i j ≤ most
+    other : ((r.first ≡ i) × (r.second ≡ j) → ⊥) → sum_of rs i j ≤ most → part_of r i j + sum_of rs i j ≤ most
     other h small = omega (arith, part-other r i j h (λ z. omega (arith, z.0, z.1, o.order)))
 
 each_at : {P : Row → Type 0} {l : List Row} → Each P l → (d : Row) (k : ℕ) → k < length l → P (get_or l k d)
@@ -52,10 +53,10 @@ one-each-fit ring rs table each = (sums-fit desk rs).1 never
     never : (k : ℕ) → Passes desk rs k → ⊥
     never k p =
         let r : Row = get_or rs (k - 1) (row 0 0 0) in
-        let o : OnRing ring.n r = each_at table.rows.nodes (row 0 0 0) (k - 1) (omega (arith, p.low, p.high)) in
+        let o : OnRing ring.nodes r = each_at table.rows.nodes (row 0 0 0) (k - 1) (omega (arith, p.low, p.high)) in
         omega (
           arith,
           p.wrong,
-          take-small k rs r.i r.j,
-          rising-small desk.amount table.rows.nodes table.amounts (rising-rows table.rows.nodes table.rows.order each.one) r.i r.j o.order,
+          take-small k rs r.first r.second,
+          rising-small desk.amount table.rows.nodes table.amounts (rising-rows table.rows.nodes table.rows.order each.one) r.first r.second o.order,
         )

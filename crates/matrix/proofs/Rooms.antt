@@ -5,10 +5,10 @@ use mathlib.Core.Path.{◌≡◌, ◌∙◌, sym}
 use native.Mathlib.Omega.{arith}
 use native.Mathlib.Decide.{dec_lt}
 use lib.ListN.{length, length-append}
-use Rattle.ring.specs.Ring.{Ring}
+use Rattle.ring.specs.declared.types.Ring.{Ring}
 use Rattle.ring.specs.Limits.{desk}
 use Rattle.ring.specs.Lists.{Each, none, more}
-use Rattle.ring.specs.Row.{Row}
+use Rattle.ring.specs.declared.types.Row.{Row}
 use Rattle.ring.specs.Columns.{listed}
 use Rattle.ring.proofs.Listed.{listed-length, each-listed}
 use Rattle.text.specs.Number.{base, digits}
@@ -57,28 +57,28 @@ matrix-room n m few square amounts = omega (arith, matrix-bytes n m few square.w
 -- ---- the matrix of a table
 
 module _ (ring : Ring) (rs : List Row) (table : TableInRange desk ring rs) (fit : judge_sums desk rs ≡ Fit) where
-  square-of-rows : IsSquare ring.n (matrix_of_rows ring.n rs)
+  square-of-rows : IsSquare ring.nodes (matrix_of_rows ring.nodes rs)
   square-of-rows = record {
-    tall = listed-length (λ i. listed (sum_of rs i) 1 ring.n) 1 ring.n;
-    wide = each-listed (λ i. listed (sum_of rs i) 1 ring.n) 1 ring.n (λ i p q. listed-length (sum_of rs i) 1 ring.n);
+    tall = listed-length (λ i. listed (sum_of rs i) 1 ring.nodes) 1 ring.nodes;
+    wide = each-listed (λ i. listed (sum_of rs i) 1 ring.nodes) 1 ring.nodes (λ i p q. listed-length (sum_of rs i) 1 ring.nodes);
   }
 
-  amounts-of-rows : Each (Each (λ v. v ≤ desk.amount)) (matrix_of_rows ring.n rs)
-  amounts-of-rows = each-listed (λ i. listed (sum_of rs i) 1 ring.n) 1 ring.n (λ i p q. each-listed (sum_of rs i) 1 ring.n (λ j u v. fit_small desk rs fit i j))
+  amounts-of-rows : Each (Each (λ v. v ≤ desk.amount)) (matrix_of_rows ring.nodes rs)
+  amounts-of-rows = each-listed (λ i. listed (sum_of rs i) 1 ring.nodes) 1 ring.nodes (λ i p q. each-listed (sum_of rs i) 1 ring.nodes (λ j u v. fit_small desk rs fit i j))
 
   -- it is accepted
-  pub matrix-in-range : InRange desk ring.n (matrix_of_rows ring.n rs)
+  pub matrix-in-range : InRange desk ring.nodes (matrix_of_rows ring.nodes rs)
   matrix-in-range =
       record {
         few = table.few;
         many = table.many;
         square = square-of-rows;
         amounts = amounts-of-rows;
-        zeros = λ i p. entry-sum ring.n rs i i p p ∙ sum-diagonal table.rows.nodes i;
-        symmetric = λ i j p q. entry-sum ring.n rs i j p q ∙ sum-either rs i j ∙ sym (entry-sum ring.n rs j i q p);
-        short = omega (arith, matrix-room ring.n (matrix_of_rows ring.n rs) table.many square-of-rows amounts-of-rows);
+        zeros = λ i p. entry-sum ring.nodes rs i i p p ∙ sum-diagonal table.rows.nodes i;
+        symmetric = λ i j p q. entry-sum ring.nodes rs i j p q ∙ sum-either rs i j ∙ sym (entry-sum ring.nodes rs j i q p);
+        short = omega (arith, matrix-room ring.nodes (matrix_of_rows ring.nodes rs) table.many square-of-rows amounts-of-rows);
       }
 
   -- and has room
-  pub room-for-matrix : length (write_matrix (matrix_of_rows ring.n rs)) ≤ matrix_room desk
-  room-for-matrix = matrix-room ring.n (matrix_of_rows ring.n rs) table.many square-of-rows amounts-of-rows
+  pub room-for-matrix : length (write_matrix (matrix_of_rows ring.nodes rs)) ≤ matrix_room desk
+  room-for-matrix = matrix-room ring.nodes (matrix_of_rows ring.nodes rs) table.many square-of-rows amounts-of-rows

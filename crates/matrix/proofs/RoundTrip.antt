@@ -11,7 +11,8 @@ use Rattle.ring.specs.LineSize.{IsFibres}
 use Rattle.ring.specs.Ring.{ring_of}
 use Rattle.ring.specs.Limits.{Limits, desk}
 use Rattle.ring.specs.Lists.{Each, none, more, Steps, no_member, one_member, step, Pairs, no_pair, and_pairs}
-use Rattle.ring.specs.Row.{Row, OnRing, PairBefore, PairUpTo, InTableOrder, TableRows}
+use Rattle.ring.specs.Row.{OnRing, PairBefore, PairUpTo, InTableOrder, TableRows}
+use Rattle.ring.specs.declared.types.Row.{Row}
 use Rattle.ring.specs.Columns.{listed}
 use Rattle.ring.proofs.Listed.{listed_same, listed-shift}
 use Rattle.table.specs.Table.{write_table, table_room, InRange as TableInRange}
@@ -87,7 +88,7 @@ module _ (limits : Limits) (n : ℕ) (m : List (List ℕ)) (range : InRange limi
       let k : length (get_or m (i - 1) []) ≡ n = each_at range.square.wide [] (i - 1) (omega (arith, range.square.tall, p.0, p.1)) in
       each_at (each_at range.amounts [] (i - 1) (omega (arith, range.square.tall, p.0, p.1))) 0 (j - 1) (omega (arith, q.0, q.1))
 
-  pub rows-small : Each (λ r. r.d ≤ limits.amount) (rows_of_matrix n m)
+  pub rows-small : Each (λ r. r.amount ≤ limits.amount) (rows_of_matrix n m)
   rows-small = rows-each (entry m) n (λ x y p q r. entry-small x y (p, omega arith) (omega arith, r))
 
 -- ---- rows that rise are a table's rows, one for a pair, and back
@@ -102,27 +103,27 @@ rising-steps (next_row p (next_row q rest)) = step (up_to q) (rising-steps (next
     up_to (inr l) = inr (l.0, omega (arith, l.1))
 
 -- a row not behind the pair a, b is apart from all rows that rise behind it
-rising-apart : (r : Row) {a b : ℕ} {rs : List Row} → PairUpTo r.i r.j a b → Rising a b rs → Each (λ s. (r.i ≡ s.i) × (r.j ≡ s.j) → ⊥) rs
+rising-apart : (r : Row) {a b : ℕ} {rs : List Row} → PairUpTo r.first r.second a b → Rising a b rs → Each (λ s. (r.first ≡ s.first) × (r.second ≡ s.second) → ⊥) rs
 rising-apart r u no_row = none
 rising-apart r u (next_row {r = s} p rest) = more (λ e. not_same u p e) (rising-apart r (further u p) rest)
   where
-    not_same : {a b : ℕ} → PairUpTo r.i r.j a b → PairBefore a b s.i s.j → (r.i ≡ s.i) × (r.j ≡ s.j) → ⊥
+    not_same : {a b : ℕ} → PairUpTo r.first r.second a b → PairBefore a b s.first s.second → (r.first ≡ s.first) × (r.second ≡ s.second) → ⊥
     not_same (inl l) (inl m) e = omega (arith, e.0)
     not_same (inl l) (inr m) e = omega (arith, m.0, e.0)
     not_same (inr l) (inl m) e = omega (arith, l.0, e.0)
     not_same (inr l) (inr m) e = omega (arith, l.1, m.1, e.1)
 
-    further : {a b : ℕ} → PairUpTo r.i r.j a b → PairBefore a b s.i s.j → PairUpTo r.i r.j s.i s.j
+    further : {a b : ℕ} → PairUpTo r.first r.second a b → PairBefore a b s.first s.second → PairUpTo r.first r.second s.first s.second
     further (inl l) (inl m) = inl (omega arith)
     further (inl l) (inr m) = inl (omega (arith, m.0))
     further (inr l) (inl m) = inl (omega (arith, l.0))
     further (inr l) (inr m) = inr (l.0 ∙ m.0, omega (arith, l.1, m.1))
 
-pub rising-pairs : {a b : ℕ} {rs : List Row} → Rising a b rs → Pairs (λ r s. (r.i ≡ s.i) × (r.j ≡ s.j) → ⊥) rs
+pub rising-pairs : {a b : ℕ} {rs : List Row} → Rising a b rs → Pairs (λ r s. (r.first ≡ s.first) × (r.second ≡ s.second) → ⊥) rs
 rising-pairs no_row = no_pair
 rising-pairs (next_row {r = r} p rest) = and_pairs (rising-apart r (inr (refl, omega arith)) rest) (rising-pairs rest)
 
-pub rising-rows : {n : ℕ} {rs : List Row} → Each (OnRing n) rs → Steps InTableOrder rs → Pairs (λ r s. (r.i ≡ s.i) × (r.j ≡ s.j) → ⊥) rs → Rising 0 0 rs
+pub rising-rows : {n : ℕ} {rs : List Row} → Each (OnRing n) rs → Steps InTableOrder rs → Pairs (λ r s. (r.first ≡ s.first) × (r.second ≡ s.second) → ⊥) rs → Rising 0 0 rs
 rising-rows none ups apart = no_row
 rising-rows (more o os) ups apart = next_row (inl o.low) (behind ups apart)
   where
@@ -130,7 +131,7 @@ rising-rows (more o os) ups apart = next_row (inl o.low) (behind ups apart)
     strictly (inl l) n = inl l
     strictly {b = b} {d = d} (inr l) n = elim (ℕ_discrete b d) [ yes e ↦ absurd (n (l.0, e)) | no e ↦ inr (l.0, omega (arith, l.1)) ]
 
-    behind : {r : Row} {rs : List Row} → Steps InTableOrder (r ∷ rs) → Pairs (λ r s. (r.i ≡ s.i) × (r.j ≡ s.j) → ⊥) (r ∷ rs) → Rising r.i r.j rs
+    behind : {r : Row} {rs : List Row} → Steps InTableOrder (r ∷ rs) → Pairs (λ r s. (r.first ≡ s.first) × (r.second ≡ s.second) → ⊥) (r ∷ rs) → Rising r.first r.second rs
     behind one_member apart = no_row
     behind (step up ups) (and_pairs (more x xs) rest) = next_row (strictly up x) (behind ups rest)
 
@@ -141,7 +142,7 @@ unfolding sum_of
 sum-off none i j l h = refl
 sum-off {n} (more {a = r} o os) i j l h = omega (arith, part-other r i j (λ e. off h e.0 e.1) (λ e. omega (arith, e.0, e.1, o.order)), sum-off os i j l h)
   where
-    off : (i < 1) ⊎ (n < j) → r.i ≡ i → r.j ≡ j → ⊥
+    off : (i < 1) ⊎ (n < j) → r.first ≡ i → r.second ≡ j → ⊥
     off (inl x) e f = omega (arith, o.low)
     off (inr x) e f = omega (arith, o.high)
 

@@ -11,7 +11,8 @@ use lib.ListN.{length, length-append}
 use borrow.Author.Tests.{eqb-true, eqb-false}
 use Rattle.ring.specs.Limits.{desk}
 use Rattle.ring.specs.Lists.{Each, none, more}
-use Rattle.ring.specs.Row.{Row, row, OnRing, PairBefore}
+use Rattle.ring.specs.Row.{row, OnRing, PairBefore}
+use Rattle.ring.specs.declared.types.Row.{Row}
 use Rattle.ring.specs.Columns.{listed}
 use Rattle.ring.proofs.Listed.{each-listed, listed-length}
 use Rattle.matrix.specs.Demands.{pairs_from, above_zero, rows_by, sum_of}
@@ -25,43 +26,43 @@ use Rattle.matrix.proofs.SumLaws.{part-own, part-other, Rising, no_row, next_row
 pub above-each : {P : Row → Type 0} {rs : List Row} → Each P rs → Each P (above_zero rs)
 unfolding above_zero
 above-each none = none
-above-each {P} (more {a = r} {l = rs} h hs) = go (eqb r.d 0) (above-each hs)
+above-each {P} (more {a = r} {l = rs} h hs) = go (eqb r.amount 0) (above-each hs)
   where
     go : (z : Bool) → Each P (above_zero rs) → Each P (cond z (above_zero rs) (r ∷ above_zero rs))
     go true ih = ih
     go false ih = more h ih
 
-pub above-some : (rs : List Row) → Each (λ r. 1 ≤ r.d) (above_zero rs)
+pub above-some : (rs : List Row) → Each (λ r. 1 ≤ r.amount) (above_zero rs)
 unfolding above_zero
 above-some [] = none
-above-some (r ∷ rs) = go (eqb r.d 0) refl (above-some rs)
+above-some (r ∷ rs) = go (eqb r.amount 0) refl (above-some rs)
   where
-    go : (z : Bool) → eqb r.d 0 ≡ z → Each (λ r. 1 ≤ r.d) (above_zero rs) → Each (λ r. 1 ≤ r.d) (cond z (above_zero rs) (r ∷ above_zero rs))
+    go : (z : Bool) → eqb r.amount 0 ≡ z → Each (λ r. 1 ≤ r.amount) (above_zero rs) → Each (λ r. 1 ≤ r.amount) (cond z (above_zero rs) (r ∷ above_zero rs))
     go true e ih = ih
-    go false e ih = let n : r.d ≡ 0 → ⊥ = eqb-false r.d 0 e in let q : 1 ≤ r.d = omega arith in more q ih
+    go false e ih = let n : r.amount ≡ 0 → ⊥ = eqb-false r.amount 0 e in let q : 1 ≤ r.amount = omega arith in more q ih
 
 pub above-rising : {a b : ℕ} {rs : List Row} → Rising a b rs → Rising a b (above_zero rs)
 unfolding above_zero
 above-rising no_row = no_row
-above-rising {a} {b} (next_row {r = r} {rs = rs} p rest) = go (eqb r.d 0) (above-rising rest)
+above-rising {a} {b} (next_row {r = r} {rs = rs} p rest) = go (eqb r.amount 0) (above-rising rest)
   where
-    go : (z : Bool) → Rising r.i r.j (above_zero rs) → Rising a b (cond z (above_zero rs) (r ∷ above_zero rs))
+    go : (z : Bool) → Rising r.first r.second (above_zero rs) → Rising a b (cond z (above_zero rs) (r ∷ above_zero rs))
     go true ih = rising-from p ih
     go false ih = next_row p ih
 
 pub above-sum : (rs : List Row) (i j : ℕ) → sum_of (above_zero rs) i j ≡ sum_of rs i j
 unfolding above_zero sum_of
 above-sum [] i j = refl
-above-sum (r ∷ rs) i j = go (eqb r.d 0) refl (above-sum rs i j)
+above-sum (r ∷ rs) i j = go (eqb r.amount 0) refl (above-sum rs i j)
   where
-    go : (z : Bool) → eqb r.d 0 ≡ z → sum_of (above_zero rs) i j ≡ sum_of rs i j → sum_of (cond z (above_zero rs) (r ∷ above_zero rs)) i j ≡ part_of r i j + sum_of rs i j
-    go true e ih = omega (arith, eqb-true r.d 0 e, part_small r i j)
+    go : (z : Bool) → eqb r.amount 0 ≡ z → sum_of (above_zero rs) i j ≡ sum_of rs i j → sum_of (cond z (above_zero rs) (r ∷ above_zero rs)) i j ≡ part_of r i j + sum_of rs i j
+    go true e ih = omega (arith, eqb-true r.amount 0 e, part_small r i j)
     go false e ih = omega arith
 
 pub above-short : (rs : List Row) → length (above_zero rs) ≤ length rs
 unfolding above_zero
 above-short [] = omega arith
-above-short (r ∷ rs) = go (eqb r.d 0) (above-short rs)
+above-short (r ∷ rs) = go (eqb r.amount 0) (above-short rs)
   where
     go : (z : Bool) → length (above_zero rs) ≤ length rs → length (cond z (above_zero rs) (r ∷ above_zero rs)) ≤ suc (length rs)
     go true ih = omega arith
@@ -151,7 +152,7 @@ module _ (a : ℕ → ℕ → ℕ) where
     pub rows_on : Each (OnRing n) (rows_by n a)
     rows_on = rows-each (λ x y p q r. record { low = p; order = q; high = r })
 
-    pub rows-some : Each (λ r. 1 ≤ r.d) (rows_by n a)
+    pub rows-some : Each (λ r. 1 ≤ r.amount) (rows_by n a)
     unfolding rows_by
     rows-some = above-some (pairs_from a n 1 n)
 

@@ -10,7 +10,8 @@ use lib.ListN.{length, set, length-append}
 use borrow.Author.Tests.{eq-eqb, ne_eqb}
 use Rattle.ring.specs.Limits.{desk}
 use Rattle.ring.specs.Ring.{ring_of}
-use Rattle.ring.specs.Row.{Row, row}
+use Rattle.ring.specs.Row.{row}
+use Rattle.ring.specs.declared.types.Row.{Row}
 use Rattle.ring.specs.Columns.{listed, column}
 use Rattle.table.specs.ReadTable.{accepted}
 use Rattle.table.specs.Arrays.{NoRows, beside, table_in}
@@ -38,7 +39,7 @@ count_small n l =
 pub above-append : (rs ss : List Row) → above_zero (rs ++ ss) ≡ above_zero rs ++ above_zero ss
 unfolding above_zero
 above-append [] ss = refl
-above-append (r ∷ rs) ss = go (eqb r.d 0) (above-append rs ss)
+above-append (r ∷ rs) ss = go (eqb r.amount 0) (above-append rs ss)
   where
     go : (z : Bool) → above_zero (rs ++ ss) ≡ above_zero rs ++ above_zero ss
         → cond z (above_zero (rs ++ ss)) (r ∷ above_zero (rs ++ ss)) ≡ cond z (above_zero rs) (r ∷ above_zero rs) ++ above_zero ss
@@ -54,9 +55,9 @@ module _ (n : ℕ) (a : ℕ → ℕ → ℕ) where
     pub rows : List Row
     pub rest : rows_by n a ≡ rows ++ (above_zero (across i j) ++ above_zero (pairs_from a n (i + 1) (n - i)))
     pub many : count ≡ length rows
-    pub firsts : first ≡ column (λ (r : Row). r.i) desk.rows rows
-    pub seconds : second ≡ column (λ (r : Row). r.j) desk.rows rows
-    pub amounts : amount ≡ column (λ (r : Row). r.d) desk.rows rows
+    pub firsts : first ≡ column (λ (r : Row). r.first) desk.rows rows
+    pub seconds : second ≡ column (λ (r : Row). r.second) desk.rows rows
+    pub amounts : amount ≡ column (λ (r : Row). r.amount) desk.rows rows
     pub low : 1 ≤ i
     pub order : i < j
     pub end : i ≤ n + 1
@@ -166,9 +167,9 @@ module _ (n : ℕ) (a : ℕ → ℕ → ℕ) where
             rows = g.rows ++ row i j d ∷ [];
             rest = g.rest ∙ rw (pair-next i j l, ← ed, ne_eqb d 0 z) (sym (append_assoc g.rows (row i j d ∷ []) _));
             many = omega (arith, g.many, length-append g.rows (row i j d ∷ []));
-            firsts = rw g.firsts (column-more (λ (r : Row). r.i) desk.rows g.rows (row i j d) count g.many);
-            seconds = rw g.seconds (column-more (λ (r : Row). r.j) desk.rows g.rows (row i j d) count g.many);
-            amounts = rw g.amounts (column-more (λ (r : Row). r.d) desk.rows g.rows (row i j d) count g.many);
+            firsts = rw g.firsts (column-more (λ (r : Row). r.first) desk.rows g.rows (row i j d) count g.many);
+            seconds = rw g.seconds (column-more (λ (r : Row). r.second) desk.rows g.rows (row i j d) count g.many);
+            amounts = rw g.amounts (column-more (λ (r : Row). r.amount) desk.rows g.rows (row i j d) count g.many);
             low = g.low;
             order = omega (arith, g.order);
             end = g.end;

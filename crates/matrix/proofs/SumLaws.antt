@@ -8,7 +8,8 @@ use native.Mathlib.Omega.{arith}
 use native.Mathlib.Decide.{dec_lt, ℕ_discrete}
 use borrow.Author.Tests.{eq-eqb, ne_eqb}
 use Rattle.ring.specs.Lists.{Each, none, more}
-use Rattle.ring.specs.Row.{Row, row, OnRing, PairBefore}
+use Rattle.ring.specs.Row.{row, OnRing, PairBefore}
+use Rattle.ring.specs.declared.types.Row.{Row}
 use Rattle.matrix.specs.Demands.{same_pair, sum_of}
 use Rattle.matrix.proofs.SumSteps.{part_of}
 
@@ -27,11 +28,11 @@ other-pair a b i j h =
     ]
 
 module _ (r : Row) (i j : ℕ) where
-  pub part-own : r.i ≡ i → r.j ≡ j → part_of r i j ≡ r.d
-  part-own e f = rw (same-pair r.i r.j i j e f)
+  pub part-own : r.first ≡ i → r.second ≡ j → part_of r i j ≡ r.amount
+  part-own e f = rw (same-pair r.first r.second i j e f)
 
-  pub part-other : ((r.i ≡ i) × (r.j ≡ j) → ⊥) → ((r.i ≡ j) × (r.j ≡ i) → ⊥) → part_of r i j ≡ 0
-  part-other h k = rw (other-pair r.i r.j i j h, other-pair r.i r.j j i k)
+  pub part-other : ((r.first ≡ i) × (r.second ≡ j) → ⊥) → ((r.first ≡ j) × (r.second ≡ i) → ⊥) → part_of r i j ≡ 0
+  part-other h k = rw (other-pair r.first r.second i j h, other-pair r.first r.second j i k)
 
   or-either : (x y : Bool) → (x || y) ≡ (y || x)
   or-either true true = refl
@@ -40,7 +41,7 @@ module _ (r : Row) (i j : ℕ) where
   or-either false false = refl
 
   pub part-either : part_of r i j ≡ part_of r j i
-  part-either = ap (λ b. cond b r.d 0) (or-either (same_pair r.i r.j i j) (same_pair r.i r.j j i))
+  part-either = ap (λ b. cond b r.amount 0) (or-either (same_pair r.first r.second i j) (same_pair r.first r.second j i))
 
 -- ---- all rows
 
@@ -59,7 +60,7 @@ sum-diagonal (more {a = r} o os) i =
 
 pub data Rising : ℕ → ℕ → List Row → Type 0 where
   no_row : {a b : ℕ} → Rising a b []
-  next_row : {a b : ℕ} {r : Row} {rs : List Row} → PairBefore a b r.i r.j → Rising r.i r.j rs → Rising a b (r ∷ rs)
+  next_row : {a b : ℕ} {r : Row} {rs : List Row} → PairBefore a b r.first r.second → Rising r.first r.second rs → Rising a b (r ∷ rs)
 
 before-trans : {a b c d e f : ℕ} → PairBefore a b c d → PairBefore c d e f → PairBefore a b e f
 before-trans (inl l) (inl m) = inl (omega arith)
@@ -102,28 +103,28 @@ order a b c d =
       ]
     ]
 
-same_row : (r s : Row) → r.i ≡ s.i → r.j ≡ s.j → r.d ≡ s.d → r ≡ s
-same_row r s e f g = ap (λ i. row i r.j r.d) e ∙ ap (λ j. row s.i j r.d) f ∙ ap (λ d. row s.i s.j d) g
+same_row : (r s : Row) → r.first ≡ s.first → r.second ≡ s.second → r.amount ≡ s.amount → r ≡ s
+same_row r s e f g = ap (λ i. row i r.second r.amount) e ∙ ap (λ j. row s.first j r.amount) f ∙ ap (λ d. row s.first s.second d) g
 
-pub same-sums : {n a b : ℕ} (rs ss : List Row) → Each (OnRing n) rs → Each (OnRing n) ss → Each (λ r. 1 ≤ r.d) rs → Each (λ r. 1 ≤ r.d) ss
+pub same-sums : {n a b : ℕ} (rs ss : List Row) → Each (OnRing n) rs → Each (OnRing n) ss → Each (λ r. 1 ≤ r.amount) rs → Each (λ r. 1 ≤ r.amount) ss
     → Rising a b rs → Rising a b ss → ((i j : ℕ) → i < j → sum_of rs i j ≡ sum_of ss i j) → rs ≡ ss
 unfolding sum_of
 same-sums [] [] none none none none no_row no_row h = refl
 same-sums (r ∷ rs) [] (more o os) none (more d ds) none (next_row p ps) no_row h =
-    absurd (omega (arith, h r.i r.j o.order, part-own r r.i r.j refl refl))
+    absurd (omega (arith, h r.first r.second o.order, part-own r r.first r.second refl refl))
 same-sums [] (s ∷ ss) none (more o os) none (more d ds) no_row (next_row p ps) h =
-    absurd (omega (arith, h s.i s.j o.order, part-own s s.i s.j refl refl))
+    absurd (omega (arith, h s.first s.second o.order, part-own s s.first s.second refl refl))
 same-sums (r ∷ rs) (s ∷ ss) (more o os) (more q qs) (more d ds) (more e es) (next_row p ps) (next_row u us) h =
-    go (order r.i r.j s.i s.j) (λ rising. same-sums rs ss os qs ds es ps rising)
+    go (order r.first r.second s.first s.second) (λ rising. same-sums rs ss os qs ds es ps rising)
   where
-    go : Order r.i r.j s.i s.j → (Rising r.i r.j ss → ((i j : ℕ) → i < j → sum_of rs i j ≡ sum_of ss i j) → rs ≡ ss) → r ∷ rs ≡ s ∷ ss
+    go : Order r.first r.second s.first s.second → (Rising r.first r.second ss → ((i j : ℕ) → i < j → sum_of rs i j ≡ sum_of ss i j) → rs ≡ ss) → r ∷ rs ≡ s ∷ ss
     go (first_before l) ih =
-        absurd (omega (arith, h r.i r.j o.order, part-own r r.i r.j refl refl, sum-none o.order (more q qs) (next_row l us)))
+        absurd (omega (arith, h r.first r.second o.order, part-own r r.first r.second refl refl, sum-none o.order (more q qs) (next_row l us)))
     go (second_before l) ih =
-        absurd (omega (arith, h s.i s.j q.order, part-own s s.i s.j refl refl, sum-none q.order (more o os) (next_row l ps)))
+        absurd (omega (arith, h s.first s.second q.order, part-own s s.first s.second refl refl, sum-none q.order (more o os) (next_row l ps)))
     go (the_same x y) ih =
-        let rising : Rising r.i r.j ss = subst (λ k. Rising k r.j ss) (sym x) (subst (λ k. Rising s.i k ss) (sym y) us) in
-        let own : r.d ≡ s.d = omega (arith, h r.i r.j o.order, part-own r r.i r.j refl refl, part-own s r.i r.j (sym x) (sym y), sum-none o.order os ps, sum-none o.order qs rising) in
+        let rising : Rising r.first r.second ss = subst (λ k. Rising k r.second ss) (sym x) (subst (λ k. Rising s.first k ss) (sym y) us) in
+        let own : r.amount ≡ s.amount = omega (arith, h r.first r.second o.order, part-own r r.first r.second refl refl, part-own s r.first r.second (sym x) (sym y), sum-none o.order os ps, sum-none o.order qs rising) in
         let k : r ≡ s = same_row r s x y own in
         let parts : (i j : ℕ) → part_of r i j ≡ part_of s i j = λ i j. ap (λ (z : Row). part_of z i j) k in
         rw k (ap (λ l. s ∷ l) (ih rising (λ i j l. omega (arith, h i j l, parts i j))))

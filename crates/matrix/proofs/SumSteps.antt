@@ -7,7 +7,7 @@ use native.Mathlib.Omega.{arith}
 use lib.ListN.{get_or}
 use borrow.Author.Tests.{lt-ltb, le-ltb}
 use Rattle.ring.specs.Limits.{desk}
-use Rattle.ring.specs.Row.{Row}
+use Rattle.ring.specs.declared.types.Row.{Row}
 use Rattle.ring.specs.Columns.{listed, row_at, rows_in}
 use Rattle.ring.proofs.Side.{cond-elim}
 use Rattle.ring.proofs.Listed.{listed-snoc, listed_cons, listed-none}
@@ -23,14 +23,14 @@ sum-append (r ∷ rs) ss i j = omega (arith, sum-append rs ss i j)
 
 -- what a row adds
 abbrev pub part_of : Row → ℕ → ℕ → ℕ
-part_of r i j = cond (joins r i j) r.d 0
+part_of r i j = cond (joins r i j) r.amount 0
 
 pub sum_more : (rs : List Row) (r : Row) (i j : ℕ) → sum_of (rs ++ r ∷ []) i j ≡ sum_of rs i j + part_of r i j
 unfolding sum_of
 sum_more rs r i j = omega (arith, sum-append rs (r ∷ []) i j)
 
-pub part_small : (r : Row) (i j : ℕ) → part_of r i j ≤ r.d
-part_small r i j = cond-elim (λ x. x ≤ r.d) (joins r i j) r.d 0 (λ e. omega arith) (λ e. omega arith)
+pub part_small : (r : Row) (i j : ℕ) → part_of r i j ≤ r.amount
+part_small r i j = cond-elim (λ x. x ≤ r.amount) (joins r i j) r.amount 0 (λ e. omega arith) (λ e. omega arith)
 
 module _ (first second amount : List ℕ) where
   rows_more : (k : ℕ) → rows_in (k + 1) first second amount ≡ rows_in k first second amount ++ row_at first second amount k ∷ []

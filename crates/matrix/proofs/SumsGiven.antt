@@ -8,7 +8,8 @@ use native.Mathlib.Decide.{dec_lt, ℕ_discrete}
 use lib.ListN.{length, get_or, take}
 use borrow.Author.Tests.{lt-ltb, le-ltb}
 use Rattle.ring.specs.Limits.{Limits}
-use Rattle.ring.specs.Row.{Row, row}
+use Rattle.ring.specs.Row.{row}
+use Rattle.ring.specs.declared.types.Row.{Row}
 use Rattle.text.proofs.Apart.{clash}
 use Rattle.matrix.specs.Demands.{sum_of, Passes, PassesAt}
 use Rattle.matrix.specs.Judged.{sums_from, judge_sums}
@@ -23,7 +24,7 @@ use Rattle.matrix.proofs.SumLaws.{part-other, sum-either}
 record PassesIn (limits : Limits) (before rs : List Row) (k : ℕ) : Type 0 where
   pub low : 1 ≤ k
   pub high : k ≤ length rs
-  pub wrong : limits.amount < sum_of (before ++ take k rs) (get_or rs (k - 1) (row 0 0 0)).i (get_or rs (k - 1) (row 0 0 0)).j
+  pub wrong : limits.amount < sum_of (before ++ take k rs) (get_or rs (k - 1) (row 0 0 0)).first (get_or rs (k - 1) (row 0 0 0)).second
 
 data SumsRead (limits : Limits) (line : ℕ) (before rs : List Row) : Sums → Type 0 where
   passes : {found : ℕ} (k : ℕ) → found + 1 ≡ line + k → PassesIn limits before rs k → ((other : ℕ) → other < k → PassesIn limits before rs other → ⊥)
@@ -40,23 +41,23 @@ module _ (limits : Limits) (before : List Row) (r : Row) (rs : List Row) where
       let e : suc k - 1 ≡ k = omega arith in
       let f : suc (suc k) - 1 ≡ suc k = omega arith in
       let w = rw e at p.wrong in
-      record { low = omega arith; high = omega (arith, p.high); wrong = rw f (omega (arith, sum-next (suc k) (get_or rs k (row 0 0 0)).i (get_or rs k (row 0 0 0)).j)) }
+      record { low = omega arith; high = omega (arith, p.high); wrong = rw f (omega (arith, sum-next (suc k) (get_or rs k (row 0 0 0)).first (get_or rs k (row 0 0 0)).second)) }
 
   passes-back : (k : ℕ) → PassesIn limits before (r ∷ rs) (suc (suc k)) → PassesIn limits (before ++ r ∷ []) rs (suc k)
   passes-back k p =
       let e : suc k - 1 ≡ k = omega arith in
       let f : suc (suc k) - 1 ≡ suc k = omega arith in
       let w = rw f at p.wrong in
-      record { low = omega arith; high = omega (arith, p.high); wrong = rw e (omega (arith, sum-next (suc k) (get_or rs k (row 0 0 0)).i (get_or rs k (row 0 0 0)).j)) }
+      record { low = omega arith; high = omega (arith, p.high); wrong = rw e (omega (arith, sum-next (suc k) (get_or rs k (row 0 0 0)).first (get_or rs k (row 0 0 0)).second)) }
 
-  not_first : (sum_of (before ++ r ∷ []) r.i r.j ≤ limits.amount) → (k : ℕ) → PassesIn limits before (r ∷ rs) k
+  not_first : (sum_of (before ++ r ∷ []) r.first r.second ≤ limits.amount) → (k : ℕ) → PassesIn limits before (r ∷ rs) k
       → ((k : ℕ) → PassesIn limits (before ++ r ∷ []) rs k → ⊥) → ⊥
   not_first fit zero p none = omega (arith, p.low)
   not_first fit (suc zero) p none = omega (arith, p.wrong)
   not_first fit (suc (suc k)) p none = none (suc k) (passes-back k p)
 
   -- none before row k of the rest, none before row k + 1 of all
-  none_before : sum_of (before ++ r ∷ []) r.i r.j ≤ limits.amount → (k : ℕ) → ((other : ℕ) → other < k → PassesIn limits (before ++ r ∷ []) rs other → ⊥)
+  none_before : sum_of (before ++ r ∷ []) r.first r.second ≤ limits.amount → (k : ℕ) → ((other : ℕ) → other < k → PassesIn limits (before ++ r ∷ []) rs other → ⊥)
       → (other : ℕ) → other < suc k → PassesIn limits before (r ∷ rs) other → ⊥
   none_before fit k first zero l p = omega (arith, p.low)
   none_before fit k first (suc zero) l p = omega (arith, p.wrong)
@@ -66,12 +67,12 @@ sums-read : (limits : Limits) (rs before : List Row) (line : ℕ) → SumsRead l
 unfolding sums_from
 sums-read limits [] before line = all_fit (λ k p. omega (arith, p.low, p.high))
 sums-read limits (r ∷ rs) before line =
-    elim (dec_lt limits.amount (sum_of (before ++ r ∷ []) r.i r.j)) [
+    elim (dec_lt limits.amount (sum_of (before ++ r ∷ []) r.first r.second)) [
       | yes l ↦ rw (lt-ltb _ _ l) (passes {found = line} 1 (omega arith) (record { low = omega arith; high = omega arith; wrong = l }) (λ other h p. omega (arith, p.low)))
-      | no l ↦ let f : sum_of (before ++ r ∷ []) r.i r.j ≤ limits.amount = omega arith in rw (le-ltb _ _ f) (go f (sums-read limits rs (before ++ r ∷ []) (line + 1)))
+      | no l ↦ let f : sum_of (before ++ r ∷ []) r.first r.second ≤ limits.amount = omega arith in rw (le-ltb _ _ f) (go f (sums-read limits rs (before ++ r ∷ []) (line + 1)))
     ]
   where
-    go : {x : Sums} → sum_of (before ++ r ∷ []) r.i r.j ≤ limits.amount → SumsRead limits (line + 1) (before ++ r ∷ []) rs x → SumsRead limits line before (r ∷ rs) x
+    go : {x : Sums} → sum_of (before ++ r ∷ []) r.first r.second ≤ limits.amount → SumsRead limits (line + 1) (before ++ r ∷ []) rs x → SumsRead limits line before (r ∷ rs) x
     go f (passes {found} k e p first) = passes {found = found} (suc k) (omega arith) (passes-next limits before r rs k p) (none_before limits before r rs f k first)
     go f (all_fit none) = all_fit (λ k p. not_first limits before r rs f k p none)
 
@@ -112,17 +113,17 @@ module _ (limits : Limits) (rs : List Row) where
 
 -- ---- then every sum is an amount
 
-own-sum : (rs : List Row) (r : Row) (i j : ℕ) (most : ℕ) → sum_of (rs ++ r ∷ []) r.i r.j ≤ most → sum_of rs i j ≤ most → sum_of (rs ++ r ∷ []) i j ≤ most
+own-sum : (rs : List Row) (r : Row) (i j : ℕ) (most : ℕ) → sum_of (rs ++ r ∷ []) r.first r.second ≤ most → sum_of rs i j ≤ most → sum_of (rs ++ r ∷ []) i j ≤ most
 own-sum rs r i j most own h =
-    elim (ℕ_discrete r.i i) [
-      | yes a ↦ elim (ℕ_discrete r.j j) [ yes b ↦ rw (← a, ← b) own | no b ↦ crossed (λ e. b e.1) ]
+    elim (ℕ_discrete r.first i) [
+      | yes a ↦ elim (ℕ_discrete r.second j) [ yes b ↦ rw (← a, ← b) own | no b ↦ crossed (λ e. b e.1) ]
       | no a ↦ crossed (λ e. a e.0)
     ]
   where
-    crossed : ((r.i ≡ i) × (r.j ≡ j) → ⊥) → sum_of (rs ++ r ∷ []) i j ≤ most
+    crossed : ((r.first ≡ i) × (r.second ≡ j) → ⊥) → sum_of (rs ++ r ∷ []) i j ≤ most
     crossed n =
-        elim (ℕ_discrete r.i j) [
-          | yes a ↦ elim (ℕ_discrete r.j i) [
+        elim (ℕ_discrete r.first j) [
+          | yes a ↦ elim (ℕ_discrete r.second i) [
             | yes b ↦ rw (sum-either (rs ++ r ∷ []) i j) (rw (← a, ← b) own)
             | no b ↦ omega (arith, sum_more rs r i j, part-other r i j n (λ e. b e.1))
           ]
@@ -134,10 +135,10 @@ sums-small : (limits : Limits) (rs before : List Row) (line : ℕ) → ((i j : �
 unfolding sums_from
 sums-small limits [] before line small e i j = rw (append-nil before) (small i j)
 sums-small limits (r ∷ rs) before line small e i j =
-    elim (dec_lt limits.amount (sum_of (before ++ r ∷ []) r.i r.j)) [
+    elim (dec_lt limits.amount (sum_of (before ++ r ∷ []) r.first r.second)) [
       | yes l ↦ clash (let q : Pass line ≡ Fit = sym (rw (lt-ltb _ _ l)) ∙ e in cc)
       | no l ↦
-          let f : sum_of (before ++ r ∷ []) r.i r.j ≤ limits.amount = omega arith in
+          let f : sum_of (before ++ r ∷ []) r.first r.second ≤ limits.amount = omega arith in
           let q = rw (le-ltb _ _ f) at e in
           subst (λ l. sum_of l i j ≤ limits.amount) (append_assoc before (r ∷ []) rs)
           (sums-small limits rs (before ++ r ∷ []) (line + 1) (λ x y. own-sum before r x y limits.amount f (small x y)) q i j)

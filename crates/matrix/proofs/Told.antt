@@ -6,7 +6,7 @@ use native.Mathlib.Omega.{arith}
 use lib.ListN.{length}
 use Rattle.ring.specs.Limits.{desk}
 use Rattle.ring.specs.Lists.{Each, none, more}
-use Rattle.ring.specs.Row.{Row}
+use Rattle.ring.specs.declared.types.Row.{Row}
 use Rattle.ring.specs.Columns.{listed, column, row_at, rows_in}
 use Rattle.text.proofs.Apart.{clash}
 use Rattle.table.specs.Arrays.{Table, table_in}
@@ -35,9 +35,9 @@ module _ (s : List ℕ) (fibres : ℕ) (t : Table) where
       let kn : n ≡ k = cc in
       let kc : count ≡ length rs = cc in
       let h : length rs ≤ desk.rows = rows_few (entry m) k ((matrix-text desk desk-possible s k m).0 q).1.many in
-      let ef : t.first ≡ column (λ (r : Row). r.i) desk.rows rs = ap (λ (x : Table). x.first) e in
-      let es : t.second ≡ column (λ (r : Row). r.j) desk.rows rs = ap (λ (x : Table). x.second) e in
-      let ea : t.amount ≡ column (λ (r : Row). r.d) desk.rows rs = ap (λ (x : Table). x.amount) e in
+      let ef : t.first ≡ column (λ (r : Row). r.first) desk.rows rs = ap (λ (x : Table). x.first) e in
+      let es : t.second ≡ column (λ (r : Row). r.second) desk.rows rs = ap (λ (x : Table). x.second) e in
+      let ea : t.amount ≡ column (λ (r : Row). r.amount) desk.rows rs = ap (λ (x : Table). x.amount) e in
       record { m = m; is = rw kn q; rows = rw (kn, kc, ef, es, ea) (rows_back desk.rows rs h); room = omega arith }
   a-matrix (no_matrix reason line byte) q e n same count a = clash (let p : Is n same count ≡ Refused reason line byte = sym a ∙ ap (λ (x : Table). x.answer) e in cc)
 
@@ -66,6 +66,6 @@ listed-each f k zero none x l = absurd (omega arith)
 listed-each {P} f k (suc m) (more h hs) zero l = let e : k + 0 ≡ k = omega arith in rw e h
 listed-each {P} f k (suc m) (more h hs) (suc x) l = let e : k + suc x ≡ suc k + x = omega arith in rw e (listed-each f (suc k) m hs x (omega arith))
 
-pub amounts-in : (count : ℕ) (first second amount : List ℕ) → count ≤ desk.rows → Each (λ r. r.d ≤ desk.amount) (rows_in count first second amount) → Amounts count amount
+pub amounts-in : (count : ℕ) (first second amount : List ℕ) → count ≤ desk.rows → Each (λ r. r.amount ≤ desk.amount) (rows_in count first second amount) → Amounts count amount
 amounts-in count first second amount room each =
     record { room = room; small = λ k l. let e : 0 + k ≡ k = omega arith in rw e at (listed-each (row_at first second amount) 0 count each k l) }

@@ -6,7 +6,7 @@ use native.Mathlib.Omega.{arith}
 use lib.ListN.{length, set, take, replicate, length-replicate}
 use lib.Seq.{length-take-le}
 use Rattle.ring.specs.Limits.{desk}
-use Rattle.ring.specs.Row.{Row}
+use Rattle.ring.specs.declared.types.Row.{Row}
 use Rattle.ring.specs.Columns.{listed, column}
 use Rattle.ring.proofs.Listed.{listed-snoc, listed-length}
 use Rattle.text.specs.Bytes.{number}

@@ -2,7 +2,8 @@
 use Rattle.std.specs.Prelude.{ℕ, zero, suc, ◌+◌, ◌-◌, ◌≤◌, ◌<◌, Bool, cond, ◌&&◌, ◌||◌, List, [], ◌∷◌, ◌++◌, ◌≡◌, eqb, length, get_or, take}
 use Rattle.ring.specs.Limits.{Limits}
 use Rattle.ring.specs.Lists.{Each, Pairs}
-use Rattle.ring.specs.Row.{Row, row}
+use Rattle.ring.specs.Row.{row}
+use Rattle.ring.specs.declared.types.Row.{Row}
 use Rattle.ring.specs.Lists.{listed}
 use Rattle.matrix.specs.Matrix.{entry}
 
@@ -17,7 +18,7 @@ pairs_from a n i (suc k) = listed (λ j. row i j (a i j)) (i + 1) (n - i) ++ pai
 -- the rows whose amount is above 0
 unfoldable pub above_zero : List Row → List Row
 above_zero [] = []
-above_zero (r ∷ rs) = cond (eqb r.d 0) (above_zero rs) (r ∷ above_zero rs)
+above_zero (r ∷ rs) = cond (eqb r.amount 0) (above_zero rs) (r ∷ above_zero rs)
 
 -- the rows of the entries a of a ring of n nodes
 unfoldable pub rows_by : ℕ → (ℕ → ℕ → ℕ) → List Row
@@ -35,12 +36,12 @@ same_pair a b i j = eqb a i && eqb b j
 
 -- whether a row is one of the pair i, j, in either order
 abbrev pub joins : Row → ℕ → ℕ → Bool
-joins r i j = same_pair r.i r.j i j || same_pair r.i r.j j i
+joins r i j = same_pair r.first r.second i j || same_pair r.first r.second j i
 
 -- the sum of the amounts of the rows of a pair
 unfoldable pub sum_of : List Row → ℕ → ℕ → ℕ
 sum_of [] i j = 0
-sum_of (r ∷ rs) i j = cond (joins r i j) r.d 0 + sum_of rs i j
+sum_of (r ∷ rs) i j = cond (joins r i j) r.amount 0 + sum_of rs i j
 
 -- the matrix of a table's rows
 abbrev pub matrix_of_rows : ℕ → List Row → List (List ℕ)
@@ -50,7 +51,7 @@ matrix_of_rows n rs = listed (λ i. listed (sum_of rs i) 1 n) 1 n
 pub record Passes (limits : Limits) (rs : List Row) (k : ℕ) : Type 0 where
   pub low : 1 ≤ k
   pub high : k ≤ length rs
-  pub wrong : limits.amount < sum_of (take k rs) (get_or rs (k - 1) (row 0 0 0)).i (get_or rs (k - 1) (row 0 0 0)).j
+  pub wrong : limits.amount < sum_of (take k rs) (get_or rs (k - 1) (row 0 0 0)).first (get_or rs (k - 1) (row 0 0 0)).second
 
 -- the first such row; row k stands on line k + 1
 pub record PassesAt (limits : Limits) (rs : List Row) (line : ℕ) : Type 0 where
@@ -63,5 +64,5 @@ pub record PassesAt (limits : Limits) (rs : List Row) (line : ℕ) : Type 0 wher
 
 -- at most one row for a pair, and none of amount 0
 pub record OneEach (rs : List Row) : Type 0 where
-  pub one : Pairs (λ r s. (r.i ≡ s.i) × (r.j ≡ s.j) → ⊥) rs
-  pub some : Each (λ r. 1 ≤ r.d) rs
+  pub one : Pairs (λ r s. (r.first ≡ s.first) × (r.second ≡ s.second) → ⊥) rs
+  pub some : Each (λ r. 1 ≤ r.amount) rs

@@ -8,8 +8,9 @@ use native.Mathlib.Omega.{arith}
 use lib.ListN.{length, take}
 use Rattle.ring.specs.Limits.{desk}
 use Rattle.ring.specs.LineSize.{IsFibres}
-use Rattle.ring.specs.Ring.{Ring, ring_of}
-use Rattle.ring.specs.Row.{Row}
+use Rattle.ring.specs.Ring.{ring_of}
+use Rattle.ring.specs.declared.types.Ring.{Ring}
+use Rattle.ring.specs.declared.types.Row.{Row}
 use Rattle.table.specs.Reasons.{number_of}
 use Rattle.table.specs.Table.{write_table, table_room}
 use Rattle.table.specs.ReadTable.{Result, accepted, refused, table_of}
@@ -157,7 +158,7 @@ module _ (t : List ℕ) where
   unfolding of_rows unless_pass
   sums-decided (accepted ring rs) e = go (judge_sums desk rs) refl
     where
-      go : (x : Sums) → judge_sums desk rs ≡ x → Decided (SumsDue t) (SumsGiven t) (unless_pass x (write (write_matrix (matrix_of_rows ring.n rs))))
+      go : (x : Sums) → judge_sums desk rs ≡ x → Decided (SumsDue t) (SumsGiven t) (unless_pass x (write (write_matrix (matrix_of_rows ring.nodes rs))))
       go Fit f = is_due (record { ring = ring; rs = rs; of = (read_is t ring rs).0 e; fit = (sums-fit desk rs).0 f; is = refl })
       go (Pass line) f = is_given (of_sums ((read_is t ring rs).0 e) ((sums-given desk rs line).0 f))
   sums-decided (refused reason line byte) e = is_given (of_the_table ((table-given.given desk t reason line byte).0 e))
@@ -186,7 +187,7 @@ module _ (t : List ℕ) where
             let e = same-values a.of b.of in
             let en = e.0 in
             let er = e.1 in
-            let d : write_matrix (matrix_of_rows a.ring.n a.rs) ≡ write_matrix (matrix_of_rows b.ring.n b.rs) = rw (en, er) in
+            let d : write_matrix (matrix_of_rows a.ring.nodes a.rs) ≡ write_matrix (matrix_of_rows b.ring.nodes b.rs) = rw (en, er) in
             a.is ∙ d ∙ sym b.is;
         refusal = λ f g. one-refusal f g;
         apart = λ d g. due-or-given d g;
@@ -206,12 +207,12 @@ module _ (t text : List ℕ) (d : SumsDue t text) where
   fits = (sums-fit desk d.rs).1 d.fit
 
   -- the matrix that is due is a matrix in range, so that it is accepted
-  due-matrix : MatrixOf text d.ring.n (matrix_of_rows d.ring.n d.rs)
+  due-matrix : MatrixOf text d.ring.nodes (matrix_of_rows d.ring.nodes d.rs)
   due-matrix = record { text = d.is; range = matrix-in-range d.ring d.rs d.of.range fits }
 
   pub written-matrix-accepted : Accepted desk text
   written-matrix-accepted =
-      (accepted-is desk text).0 (record { n = d.ring.n; m = matrix_of_rows d.ring.n d.rs; is = (matrix_is text d.ring.n (matrix_of_rows d.ring.n d.rs)).1 due-matrix })
+      (accepted-is desk text).0 (record { n = d.ring.nodes; m = matrix_of_rows d.ring.nodes d.rs; is = (matrix_is text d.ring.nodes (matrix_of_rows d.ring.nodes d.rs)).1 due-matrix })
 
   -- and no longer than `matrix_room`
   pub written-matrix-short : length text ≤ matrix_room desk
@@ -227,7 +228,7 @@ written-fits t old new r f = length-within (write-matrix-promise t old new r f) 
 -- so with that room every accepted table of which no sum passes is written
 pub always-written : (t old new : List ℕ) (r : Reply) → Fills (matrix_written t) old new r → SumsFit t → matrix_room desk ≤ length old → r.reason ≡ 0
 always-written t old new r call s room =
-    let text = write_matrix (matrix_of_rows s.ring.n s.rs) in
+    let text = write_matrix (matrix_of_rows s.ring.nodes s.rs) in
     let d : SumsDue t text = record { ring = s.ring; rs = s.rs; of = s.of; fit = s.fit; is = refl } in
     (((write-matrix-promise t old new r call).succeeds text).1 (d, omega (arith, written-matrix-short t text d))).reason
 
@@ -260,13 +261,13 @@ table-there-and-back t ring rs of each text old new r written done other after q
     let same = same-values of d.of in
     let er = same.0 in
     let es = same.1 in
-    let back = table-back d.ring.n d.rs d.of.range.rows (rw es at each) in
+    let back = table-back d.ring.nodes d.rs d.of.range.rows (rw es at each) in
     let fibres : d.ring.fibres ≡ ring.fibres = ap (λ (x : Ring). x.fibres) (sym er) in
     let due : MatrixDue d.ring.fibres text t =
     record {
       two_or_four = d.of.range.fibres;
-      n = d.ring.n;
-      m = matrix_of_rows d.ring.n d.rs;
+      n = d.ring.nodes;
+      m = matrix_of_rows d.ring.nodes d.rs;
       of = due-matrix t text d;
       is = d.of.text ∙ sym (ap (write_table d.ring) back);
     } in

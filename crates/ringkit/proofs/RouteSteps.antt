@@ -8,7 +8,8 @@ use lib.ListN.{length}
 use Rattle.ring.specs.Limits.{desk}
 use Rattle.ring.specs.Ring.{ring_of}
 use Rattle.ring.specs.Lists.{Each, more}
-use Rattle.ring.specs.Row.{Row, OnRing, TableRows}
+use Rattle.ring.specs.Row.{OnRing, TableRows}
+use Rattle.ring.specs.declared.types.Row.{Row}
 use Rattle.ring.specs.Sheet.{Sheet, plan, sents, demands}
 use Rattle.ring.specs.Columns.{listed, row_at, rows_in}
 use Rattle.ring.proofs.Listed.{listed-length}
@@ -89,7 +90,7 @@ module _ (s old : List ℕ) (answer : Answer) (first second amount : List ℕ) (
           links = range.many;
           few = told.room;
           nodes = λ k l. each_at (OnRing n) (row_at first second amount) 0 count range.rows.nodes k (omega arith) (omega arith);
-          small = λ k l. each_at (λ r. r.d ≤ desk.amount) (row_at first second amount) 0 count range.amounts k (omega arith) (omega arith);
+          small = λ k l. each_at (λ r. r.amount ≤ desk.amount) (row_at first second amount) 0 count range.amounts k (omega arith) (omega arith);
         }
 
     pub rows-rise : TableRows n (rows_in count first second amount)

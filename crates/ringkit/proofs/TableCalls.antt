@@ -7,8 +7,8 @@ use mathlib.Core.Path.{◌≡◌, refl, ap, ◌∙◌, sym}
 use native.Mathlib.Omega.{arith}
 use lib.ListN.{length}
 use Rattle.ring.specs.Limits.{desk}
-use Rattle.ring.specs.Ring.{Ring}
-use Rattle.ring.specs.Row.{Row}
+use Rattle.ring.specs.declared.types.Ring.{Ring}
+use Rattle.ring.specs.declared.types.Row.{Row}
 use Rattle.table.specs.Table.{write_table}
 use Rattle.table.specs.ReadTable.{Result, accepted, refused, table_of}
 use Rattle.table.specs.Says.{Given, Accepted}

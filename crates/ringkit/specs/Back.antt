@@ -1,8 +1,8 @@
 -- To believe: there and back: what one call wrote, read by another, gives what was there before.
 use Rattle.std.specs.Prelude.{ℕ, ◌≤◌, List, ◌≡◌, length}
 use Rattle.ring.specs.Limits.{desk}
-use Rattle.ring.specs.Ring.{Ring}
-use Rattle.ring.specs.Row.{Row}
+use Rattle.ring.specs.declared.types.Ring.{Ring}
+use Rattle.ring.specs.declared.types.Row.{Row}
 use Rattle.table.specs.Says.{Accepted}
 use Rattle.matrix.specs.Demands.{OneEach}
 use Rattle.ringkit.specs.Says.{Success}

@@ -26,7 +26,7 @@ unless_pass (Pass line) next = refuse SumTooMuch line 1
 
 unfoldable pub of_rows : Result → Outcome
 unfolding unless_pass
-of_rows (accepted ring rs) = unless_pass (judge_sums desk rs) (write (write_matrix (matrix_of_rows ring.n rs)))
+of_rows (accepted ring rs) = unless_pass (judge_sums desk rs) (write (write_matrix (matrix_of_rows ring.nodes rs)))
 of_rows (refused reason line byte) = refuse reason line byte
 
 -- reading a table and writing its matrix

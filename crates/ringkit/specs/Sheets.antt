@@ -3,7 +3,8 @@ use Rattle.std.specs.Prelude.{ℕ, ◌*◌, ◌≤◌, List, ◌↔◌, ◌≡�
 use Rattle.ring.specs.Division.{Divides}
 use Rattle.ring.specs.Limits.{desk}
 use Rattle.ring.specs.Paper.{PaperFigures}
-use Rattle.ring.specs.Routing.{Sent, split_load, peak}
+use Rattle.ring.specs.Routing.{split_load, peak}
+use Rattle.ring.specs.declared.types.Sent.{Sent}
 use Rattle.ring.specs.Sheet.{Sheet, sents, demands}
 use Rattle.ring.specs.True.{TrueSheet}
 use Rattle.sheet.specs.Range as sheet_range
@@ -26,7 +27,7 @@ pub record BestSheet (t : List ℕ) : Type 0 where
   pub x : Sheet
   pub of : SheetOf t x
   pub figures : PaperFigures x
-  pub no_lower : (q : ℕ) (ss : List Sent) → Divides q (demands (sents x.rows)) ss → q * x.cut.number ≤ 2 * peak (split_load ss) x.ring.n
+  pub no_lower : (q : ℕ) (ss : List Sent) → Divides q (demands (sents x.rows)) ss → q * x.cut.number ≤ 2 * peak (split_load ss) x.ring.nodes
 
 -- a table has a sheet; with room for it, it is written; its demands are the table's rows; the checker accepts it, it is the best, and it has no parallel
 -- split pair

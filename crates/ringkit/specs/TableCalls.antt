@@ -1,8 +1,8 @@
 -- Internal: the outcome of the calls that read a table: its refusals (then 15), or the text that is due to its values; and of writing a working table out.
 use Rattle.std.specs.Prelude.{ℕ, List}
 use Rattle.ring.specs.Limits.{desk}
-use Rattle.ring.specs.Ring.{Ring}
-use Rattle.ring.specs.Row.{Row}
+use Rattle.ring.specs.declared.types.Ring.{Ring}
+use Rattle.ring.specs.declared.types.Row.{Row}
 use Rattle.table.specs.Table.{write_table}
 use Rattle.table.specs.ReadTable.{Result, accepted, refused, table_of}
 use Rattle.work.specs.Places.{ring_in}

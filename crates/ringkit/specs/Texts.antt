@@ -2,8 +2,9 @@
 use Rattle.std.specs.Prelude.{ℕ, List, ◌≡◌}
 use Rattle.ring.specs.Limits.{desk}
 use Rattle.ring.specs.LineSize.{IsFibres}
-use Rattle.ring.specs.Ring.{Ring, ring_of}
-use Rattle.ring.specs.Row.{Row}
+use Rattle.ring.specs.Ring.{ring_of}
+use Rattle.ring.specs.declared.types.Ring.{Ring}
+use Rattle.ring.specs.declared.types.Row.{Row}
 use Rattle.ring.specs.Sheet.{Sheet, plan}
 use Rattle.ring.specs.True.{TrueSheet}
 use Rattle.sheet.specs.Range as sheet_range
@@ -92,7 +93,7 @@ pub record SumsDue (t text : List ℕ) : Type 0 where
   pub rs : List Row
   pub of : TableOf t ring rs
   pub fit : (k : ℕ) → Passes desk rs k → ⊥
-  pub is : text ≡ write_matrix (matrix_of_rows ring.n rs)
+  pub is : text ≡ write_matrix (matrix_of_rows ring.nodes rs)
 
 -- t is a table of which a matrix is due: no sum passes the limit
 pub record SumsFit (t : List ℕ) : Type 0 where

@@ -1,7 +1,7 @@
 -- To believe: the text that is due to a working table, and what routing it gives: a sheet whose C line is the cut that the last accepted reply named.
 use Rattle.std.specs.Prelude.{ℕ, ◌≤◌, List, ◌≡◌, length}
 use Rattle.ring.specs.Limits.{desk}
-use Rattle.ring.specs.Row.{Row}
+use Rattle.ring.specs.declared.types.Row.{Row}
 use Rattle.ring.specs.Sheet.{Sheet}
 use Rattle.table.specs.Table.{write_table}
 use Rattle.table.specs.Says.{Given}

@@ -8,7 +8,8 @@ use native.Mathlib.Omega.{arith}
 use native.Mathlib.Decide.{ℕ_discrete}
 use borrow.Author.Tests.{eq-eqb, ne_eqb}
 use lib.ListN.{get_or}
-use Rattle.ring.specs.Row.{Row, row}
+use Rattle.ring.specs.Row.{row}
+use Rattle.ring.specs.declared.types.Row.{Row}
 use Rattle.ring.specs.Cut.{across}
 use Rattle.ring.specs.Columns.{listed, row_at}
 use Rattle.ring.proofs.Across.{one_link}
@@ -33,7 +34,7 @@ pair_is n rs triangle s g h a b c =
 -- ---- one row
 
 module _ (n : ℕ) (r : Row) (rs : List Row) (old : List ℕ) (few : n ≤ most_links) where
-  pub put_on : Triangle n rs old → Pairwise n (λ g h. at old g h + r.d ≤ most_load) → Triangle n (r ∷ rs) (step_row true n r old)
+  pub put_on : Triangle n rs old → Pairwise n (λ g h. at old g h + r.amount ≤ most_load) → Triangle n (r ∷ rs) (step_row true n r old)
   unfolding across
   put_on s small =
       record {

@@ -5,9 +5,15 @@ use mathlib.Core.Path.{◌≡◌, refl, ap, ◌∙◌, sym}
 use native.Mathlib.Omega.{arith}
 use lib.ListN.{length, get_or, length-map}
 use Rattle.ring.specs.Limits.{desk}
-use Rattle.ring.specs.Row.{Row, row}
-use Rattle.ring.specs.Routing.{Sent, sent, Routed, routed, Way, F, B, way_number, way_of}
-use Rattle.ring.specs.Sheet.{Link, Sheet, sents, demands, numbers_from}
+use Rattle.ring.specs.Row.{row}
+use Rattle.ring.specs.declared.types.Row.{Row}
+use Rattle.ring.specs.Routing.{sent, routed, way_number, way_of}
+use Rattle.ring.specs.declared.types.Sent.{Sent}
+use Rattle.ring.specs.declared.types.Routed.{Routed}
+use Rattle.ring.specs.declared.types.Way.{Way}
+use Rattle.ring.specs.declared.types.Way.TheVariants.{Front, Back}
+use Rattle.ring.specs.Sheet.{Sheet, sents, demands, numbers_from}
+use Rattle.ring.specs.declared.types.Link.{Link}
 use Rattle.ring.specs.Columns.{listed, column, row_at, rows_in, routed_at, routed_in}
 use Rattle.ring.proofs.Listed.{listed_same}
 use Rattle.table.proofs.Columns.{column-at, listed-members}
@@ -18,7 +24,7 @@ use Rattle.sheet.specs.Arrays.{link_at, links_in, sheet_in}
 same-members : {A : Type 0} (none : A) (l : List A) (f : ℕ → A) → ((k : ℕ) → k < length l → f k ≡ get_or l k none) → listed f 0 (length l) ≡ l
 same-members none l f same = listed_same f (λ k. get_or l k none) 0 (length l) (λ k a b. same k (omega arith)) ∙ listed-members none l
 
-get_or-map : {A B : Type 0} (f : A → B) (l : List A) (a : A) (b : B) (k : ℕ) → k < length l → get_or (map f l) k b ≡ f (get_or l k a)
+get_or-map : {A Back : Type 0} (f : A → Back) (l : List A) (a : A) (b : Back) (k : ℕ) → k < length l → get_or (map f l) k b ≡ f (get_or l k a)
 get_or-map f [] a b k h = absurd (omega arith)
 get_or-map f (x ∷ l) a b zero h = refl
 get_or-map f (x ∷ l) a b (suc k) h = get_or-map f l a b k (omega arith)
@@ -30,13 +36,13 @@ at_listed f none m (suc n) zero h = let e : m + 0 ≡ m = omega arith in rw e
 at_listed f none m (suc n) (suc k) h = let e : m + suc k ≡ suc m + k = omega arith in rw e (at_listed f none (suc m) n k (omega arith))
 
 pub way_back : (w : Way) → way_of (way_number w) ≡ w
-way_back F = refl
-way_back B = refl
+way_back Front = refl
+way_back Back = refl
 
 -- ---- rows
 
 no_row : Routed
-no_row = routed (sent 0 0 0 0 0) F
+no_row = routed (sent 0 0 0 0 0) Front
 
 module _ (rs : List Routed) (first second amount : List ℕ) (few : length rs ≤ desk.rows) (same : demands (sents rs) ≡ rows_in (length rs) first second amount) where
   demand-at : (k : ℕ) → k < length rs → row_at first second amount k ≡ (get_or rs k no_row).sent.row
@@ -86,10 +92,10 @@ module _ (n : ℕ) (ls : List Link) (few : n ≤ desk.nodes) (same : map (λ (l 
 
 -- ---- the sheet
 
-pub sheet-back : (x : Sheet) (count : ℕ) (first second amount : List ℕ) → length x.rows ≡ count → count ≤ desk.rows → x.ring.n ≤ desk.nodes →
-    demands (sents x.rows) ≡ rows_in count first second amount → map (λ (l : Link). l.link) x.links ≡ numbers_from 1 x.ring.n →
+pub sheet-back : (x : Sheet) (count : ℕ) (first second amount : List ℕ) → length x.rows ≡ count → count ≤ desk.rows → x.ring.nodes ≤ desk.nodes →
+    demands (sents x.rows) ≡ rows_in count first second amount → map (λ (l : Link). l.link) x.links ≡ numbers_from 1 x.ring.nodes →
     sheet_in (figures_of x) count first second amount (column (λ (r : Routed). r.sent.front) desk.rows x.rows) (column (λ (r : Routed). r.sent.back) desk.rows x.rows) (column (λ (r : Routed). way_number r.way) desk.rows x.rows)
     (column (λ (l : Link). l.split) desk.nodes x.links) (column (λ (l : Link). l.unsplit) desk.nodes x.links) ≡ x
 unfolding sheet_in
 sheet-back x count first second amount long few small same numbers =
-    rw (← long, rows_back x.rows first second amount (omega arith) (same ∙ ap (λ m. rows_in m first second amount) (sym long)), links-back x.ring.n x.links small numbers)
+    rw (← long, rows_back x.rows first second amount (omega arith) (same ∙ ap (λ m. rows_in m first second amount) (sym long)), links-back x.ring.nodes x.links small numbers)

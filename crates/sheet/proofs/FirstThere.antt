@@ -8,11 +8,12 @@ use mathlib.Core.Path.{refl, ◌∙◌, sym, subst}
 use native.Mathlib.Omega.{arith}
 use lib.ListN.{length}
 use borrow.Author.Tests.{ltb-true, ltb-false}
-use Rattle.ring.specs.Cut.{Cut}
+use Rattle.ring.specs.declared.types.Cut.{Cut}
 use Rattle.ring.specs.Limits.{Limits}
-use Rattle.ring.specs.Ring.{Ring, ring_of}
-use Rattle.ring.specs.Routing.{Routed}
-use Rattle.ring.specs.Sheet.{Link}
+use Rattle.ring.specs.Ring.{ring_of}
+use Rattle.ring.specs.declared.types.Ring.{Ring}
+use Rattle.ring.specs.declared.types.Routed.{Routed}
+use Rattle.ring.specs.declared.types.Link.{Link}
 use Rattle.ring.proofs.Side.{cond-elim}
 use Rattle.text.specs.declared.TwoNumbers.{TwoNumbers}
 use Rattle.text.specs.declared.ThreeNumbers.{ThreeNumbers}
@@ -104,7 +105,7 @@ module _ (limits : Limits) (judging : Bool) {t l : List ℕ} where
       (ring-byte ring (ring-judged limits (ring_of n fibres)))
       (behind_ring ring)
   ring-turned at_start here (no_ring none fault) =
-      stops (unfit-first limits judging at_start (λ ring r. none ring.n ring.fibres (line-one here r.text refl) r.spelled)) (ring_due at_start (line_faulty here fault))
+      stops (unfit-first limits judging at_start (λ ring r. none ring.nodes ring.fibres (line-one here r.text refl) r.spelled)) (ring_due at_start (line_faulty here fault))
 
   module _ {line : ℕ} (here : LineIs (lines t) line l) where
     -- C g h across, where the line is no D line
@@ -113,7 +114,7 @@ module _ (limits : Limits) (judging : Bool) {t l : List ℕ} where
     unfolding cut_turn Says ByteIs
     cut-turned {ring} {rs} at none fault (is_cut {g} {h} {m} e u v w) =
         let is : CutIs t line (cut_of g h m) = record { text = subst (LineIs (lines t) line) e here; pair = (u, v); number = w } in
-        values-turned limits judging (when-first judging (λ s o. omega (arith, only-rank o)) (cut-first ring.n rs (cut_of g h m))) at (λ s. said-of-cut is)
+        values-turned limits judging (when-first judging (λ s o. omega (arith, only-rank o)) (cut-first ring.nodes rs (cut_of g h m))) at (λ s. said-of-cut is)
         (λ w. record { ring = ring; rs = rs; due = at; c = cut_of g h m; is = is; wrong = w })
         refl
         (behind_cut at is)
@@ -133,13 +134,13 @@ module _ (limits : Limits) (judging : Bool) {t l : List ℕ} where
           amount = h.amount;
           halves = (h.front, h.back);
         } in
-        unless-turned limits judging (row_fault ring.n i j d) (sent-first limits at is judging) (sent-row-bytes at is limits judging) (behind_row at is)
+        unless-turned limits judging (row_fault ring.nodes i j d) (sent-first limits at is judging) (sent-row-bytes at is limits judging) (behind_row at is)
     row-turned at (no_sent none fault) c =
         cut-turned at (λ r s. none _ _ _ _ _ _ (line-one here s.text refl) (sent-spelled s)) fault c
 
     module _ {ring : Ring} {rs : List Routed} {c : Cut} {ks : List Link} (at : At t line (links ring rs c ks)) where
       -- L link split-load unsplit-load
-      link-turned : {x : ThreeNumbers} → length ks < ring.n → LinkRead l x → Turned limits judging t line (link_turn judging ring rs c ks x)
+      link-turned : {x : ThreeNumbers} → length ks < ring.nodes → LinkRead l x → Turned limits judging t line (link_turn judging ring rs c ks x)
       unfolding link_turn Says ByteIs
       link-turned few (is_link {k} {s} {u} e p q o) =
           let is : LinkIs t line (link_of k s u) = record { text = subst (LineIs (lines t) line) e here; link = p; loads = (q, o) } in
@@ -153,7 +154,7 @@ module _ (limits : Limits) (judging : Bool) {t l : List ℕ} where
           (link_due at few (line_faulty here fault))
 
       -- Z unsplit-peak size
-      last-turned : {x : TwoNumbers} → ring.n ≤ length ks → LastRead l x → Turned limits judging t line (last_turn judging ring rs c ks x)
+      last-turned : {x : TwoNumbers} → ring.nodes ≤ length ks → LastRead l x → Turned limits judging t line (last_turn judging ring rs c ks x)
       unfolding last_turn Says ByteIs
       last-turned all (is_last {p} {z} e v w) =
           let is : LastIs t line p z = record { text = subst (LineIs (lines t) line) e here; spelled = (v, w) } in
@@ -172,6 +173,6 @@ module _ (limits : Limits) (judging : Bool) {t l : List ℕ} where
   turned {state = rows ring rs} at here = row-turned here at (sent-read l) (cut-read l)
   turned {state = links ring rs c ks} {line} at here =
       cond-elim (Turned limits judging t line) _ _ _
-      (λ e. link-turned here at (ltb-true (length ks) ring.n e) (link-read l))
-      (λ e. last-turned here at (ltb-false (length ks) ring.n e) (last-read l))
+      (λ e. link-turned here at (ltb-true (length ks) ring.nodes e) (link-read l))
+      (λ e. last-turned here at (ltb-false (length ks) ring.nodes e) (last-read l))
   turned {state = end x} at here = stops (unfit-first limits judging at (l, here)) (none_due at refl)

@@ -6,7 +6,8 @@ use mathlib.Core.Path.{◌≡◌, refl, ap, ◌∙◌, sym}
 use native.Mathlib.Omega.{arith}
 use lib.Dec.{eqb}
 use lib.ListN.{get_or}
-use Rattle.ring.specs.Routing.{F, B, way_number, way_of}
+use Rattle.ring.specs.Routing.{way_number, way_of}
+use Rattle.ring.specs.declared.types.Way.TheVariants.{Front, Back}
 use Rattle.ring.specs.Columns.{listed, routed_at, routed_in}
 use Rattle.ring.proofs.Listed.{listed-snoc}
 use Rattle.text.specs.Mark.{mark_byte}
@@ -34,7 +35,7 @@ pub way-spelled : (i j d f b w : ℕ) → sent_line i j d f b (way_number (way_o
 unfolding write_line spell mark_byte
 way-spelled i j d f b w = go (eqb w 0) refl
   where
-    go : (t : Bool) → eqb w 0 ≡ t → sent_line i j d f b (way_number (cond t F B)) ≡ sent_line i j d f b w
+    go : (t : Bool) → eqb w 0 ≡ t → sent_line i j d f b (way_number (cond t Front Back)) ≡ sent_line i j d f b w
     go true e = rw e
     go false e = rw e
 

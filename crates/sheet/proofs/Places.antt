@@ -5,10 +5,14 @@ use mathlib.Core.List.{List, [], ◌∷◌, ◌++◌}
 use mathlib.Core.Path.{◌≡◌, refl, ap, ap₂, ◌∙◌, sym, subst, subst₂}
 use native.Mathlib.Omega.{arith}
 use lib.ListN.{length, get_or}
-use Rattle.ring.specs.Routing.{way_number, Routed, Way, F, B, routed}
-use Rattle.ring.specs.Cut.{Cut}
-use Rattle.ring.specs.Ring.{Ring}
-use Rattle.ring.specs.Sheet.{Link, Sheet}
+use Rattle.ring.specs.Routing.{way_number, routed}
+use Rattle.ring.specs.declared.types.Routed.{Routed}
+use Rattle.ring.specs.declared.types.Way.{Way}
+use Rattle.ring.specs.declared.types.Way.TheVariants.{Front, Back}
+use Rattle.ring.specs.declared.types.Cut.{Cut}
+use Rattle.ring.specs.declared.types.Ring.{Ring}
+use Rattle.ring.specs.Sheet.{Sheet}
+use Rattle.ring.specs.declared.types.Link.{Link}
 use Rattle.text.specs.Field.{spell}
 use Rattle.text.specs.Mark.{mark_byte}
 use Rattle.text.specs.WriteLine.{write_line}
@@ -31,11 +35,11 @@ use Rattle.sheet.proofs.SheetLines.{SentSpelled, sent-line-read, cut-line-read, 
 -- ---- one reading
 
 way_small : (w : Way) → way_number w < 2
-way_small F = omega arith
-way_small B = omega arith
+way_small Front = omega arith
+way_small Back = omega arith
 
 pub sent-spelled : {t : List ℕ} {line : ℕ} {r : Routed} → SentIs t line r
-    → SentSpelled r.sent.row.i r.sent.row.j r.sent.row.d r.sent.front r.sent.back (way_number r.way)
+    → SentSpelled r.sent.row.first r.sent.row.second r.sent.row.amount r.sent.front r.sent.back (way_number r.way)
 sent-spelled {r} s =
     record { first = s.nodes.0; second = s.nodes.1; amount = s.amount; front = s.halves.0; back = s.halves.1; way = way_small r.way }
 
@@ -96,9 +100,9 @@ data Leads (t : List ℕ) (line : ℕ) : State → State → Type 0 where
   by_ring : {ring : Ring} → RingIs t ring → Leads t line start (rows ring [])
   by_row : {ring : Ring} {rs : List Routed} {r : Routed} → SentIs t line r → Leads t line (rows ring rs) (rows ring (rs ++ r ∷ []))
   by_cut : {ring : Ring} {rs : List Routed} {c : Cut} → CutIs t line c → Leads t line (rows ring rs) (links ring rs c [])
-  by_link : {ring : Ring} {rs : List Routed} {c : Cut} {ks : List Link} {l : Link} → length ks < ring.n → LinkIs t line l
+  by_link : {ring : Ring} {rs : List Routed} {c : Cut} {ks : List Link} {l : Link} → length ks < ring.nodes → LinkIs t line l
       → Leads t line (links ring rs c ks) (links ring rs c (ks ++ l ∷ []))
-  by_last : {ring : Ring} {rs : List Routed} {c : Cut} {ks : List Link} {p z : ℕ} → ring.n ≤ length ks → LastIs t line p z
+  by_last : {ring : Ring} {rs : List Routed} {c : Cut} {ks : List Link} {p z : ℕ} → ring.nodes ≤ length ks → LastIs t line p z
       → Leads t line (links ring rs c ks) (end (record { ring = ring; rows = rs; cut = c; links = ks; peak = p; size = z }))
 
 leads_one : {t : List ℕ} {line : ℕ} {q x y : State} → Leads t line q x → Leads t line q y → x ≡ y

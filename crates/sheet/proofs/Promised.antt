@@ -6,8 +6,9 @@ use mathlib.Core.Logic.{◌↔◌}
 use mathlib.Core.Path.{◌≡◌, refl, ap, ◌∙◌, sym}
 use Rattle.ring.specs.Limits.{Limits, desk}
 use Rattle.ring.specs.Lists.{Each, none, more}
-use Rattle.ring.specs.Routing.{Routed}
-use Rattle.ring.specs.Sheet.{Link, Sheet, plan}
+use Rattle.ring.specs.declared.types.Routed.{Routed}
+use Rattle.ring.specs.Sheet.{Sheet, plan}
+use Rattle.ring.specs.declared.types.Link.{Link}
 use Rattle.ring.specs.True.{TrueSheet}
 use Rattle.ring.proofs.NoLower.{no_lower}
 use Rattle.ring.proofs.OurPlan.{plan-true}

@@ -5,13 +5,14 @@ use mathlib.Core.List.{List, [], ◌∷◌, ◌++◌, append_assoc, append-nil}
 use mathlib.Core.Path.{◌≡◌, refl, ap, ◌∙◌, sym, subst}
 use native.Mathlib.Omega.{arith}
 use lib.ListN.{length, length-append}
-use Rattle.ring.specs.Cut.{Cut}
+use Rattle.ring.specs.declared.types.Cut.{Cut}
 use Rattle.ring.specs.Limits.{Limits}
-use Rattle.ring.specs.Ring.{Ring}
+use Rattle.ring.specs.declared.types.Ring.{Ring}
 use Rattle.ring.specs.LineSize.{IsFibres}
 use Rattle.ring.specs.Lists.{Each, none, more}
-use Rattle.ring.specs.Routing.{Routed}
-use Rattle.ring.specs.Sheet.{Link, Sheet, sents, demands}
+use Rattle.ring.specs.declared.types.Routed.{Routed}
+use Rattle.ring.specs.Sheet.{Sheet, sents, demands}
+use Rattle.ring.specs.declared.types.Link.{Link}
 use Rattle.text.specs.Number.{limit}
 use Rattle.text.specs.Shapes.{ring_line, sent_line, cut_line, link_line, last_line}
 use Rattle.table.specs.declared.judge.Verdict.TheVariants.{Fine}
@@ -38,7 +39,7 @@ pub data LinksJudged (judging : Bool) (rs : List Routed) : ℕ → List Link →
 -- nor against the rest of a sheet
 pub record Judged (judging : Bool) (x : Sheet) : Type 0 where
   pub halves : Each (λ r. when judging (judge_halves r) ≡ Fine) x.rows
-  pub cut : when judging (judge_cut x.ring.n x.rows x.cut) ≡ Fine
+  pub cut : when judging (judge_cut x.ring.nodes x.rows x.cut) ≡ Fine
   pub links : LinksJudged judging x.rows 0 x.links
   pub last : when judging (judge_last x.ring x.rows x.peak x.size) ≡ Fine
   pub whole : when judging (judge_whole x) ≡ Fine
@@ -59,14 +60,14 @@ module _ (judging : Bool) (x : Sheet) where
     later : List Link
     same : x ≡ record { ring = ring; rows = rs; cut = c; links = ks ++ later; peak = x.peak; size = x.size }
     is_text : text ≡ lines_of load_line later ++ last_line x.peak x.size
-    many : length ks + length later ≡ ring.n
+    many : length ks + length later ≡ ring.nodes
     spelled : Each LinkSpelled later
     last : (x.peak < limit) × (x.size < limit)
     judged : LinksJudged judging rs (length ks) later
     last_judged : when judging (judge_last ring rs x.peak x.size) ≡ Fine
     whole : when judging (judge_whole x) ≡ Fine
 
-  last-from : {ring : Ring} {rs : List Routed} {c : Cut} {ks : List Link} {p z : ℕ} {text : List ℕ} → length ks ≤ ring.n → ring.n ≤ length ks → p < limit → z < limit
+  last-from : {ring : Ring} {rs : List Routed} {c : Cut} {ks : List Link} {p z : ℕ} {text : List ℕ} → length ks ≤ ring.nodes → ring.nodes ≤ length ks → p < limit → z < limit
       → when judging (judge_last ring rs p z) ≡ Fine → AtEnd (record { ring = ring; rows = rs; cut = c; links = ks; peak = p; size = z }) text
       → FromLinks ring rs c ks (last_line p z ++ text)
   unfolding lines_of
@@ -104,7 +105,7 @@ module _ (judging : Bool) (x : Sheet) where
         whole = f.whole;
       }
 
-  from-links : {limits : Limits} {ring : Ring} {rs : List Routed} {c : Cut} {ks : List Link} {text : List ℕ} → length ks ≤ ring.n → Rest limits judging x (links ring rs c ks) text
+  from-links : {limits : Limits} {ring : Ring} {rs : List Routed} {c : Cut} {ks : List Link} {text : List ℕ} → length ks ≤ ring.nodes → Rest limits judging x (links ring rs c ks) text
       → FromLinks ring rs c ks text
   from-links within (rest_last all a b v rest) = last-from within all a b v (at-end rest)
   from-links {ks = ks} within (rest_link {k = k} {s = s} {u = u} few a b d v rest) =
@@ -117,15 +118,15 @@ module _ (judging : Bool) (x : Sheet) where
     later : List Routed
     same : x.rows ≡ rs ++ later
     is_text : text ≡ lines_of routed_line later ++ end_text (figures_of x) x.links
-    fine : FineRows limits ring.n (length rs) (last_of rs).i (last_of rs).j (demands (sents later))
+    fine : FineRows limits ring.nodes (length rs) (last_of rs).first (last_of rs).second (demands (sents later))
     halves : Each RowSpelled later
     judged : Each (λ r. when judging (judge_halves r) ≡ Fine) later
     cut : (x.cut.g < limit) × ((x.cut.h < limit) × (x.cut.number < limit))
-    cut_judged : when judging (judge_cut ring.n x.rows x.cut) ≡ Fine
+    cut_judged : when judging (judge_cut ring.nodes x.rows x.cut) ≡ Fine
     behind : FromLinks ring x.rows x.cut [] (lines_of load_line x.links ++ last_line x.peak x.size)
 
   cut-from : {limits : Limits} {ring : Ring} {rs : List Routed} {g h m : ℕ} {text : List ℕ} → g < limit → h < limit → m < limit
-      → when judging (judge_cut ring.n rs (cut_of g h m)) ≡ Fine → FromLinks ring rs (cut_of g h m) [] text → FromRows limits ring rs (cut_line g h m ++ text)
+      → when judging (judge_cut ring.nodes rs (cut_of g h m)) ≡ Fine → FromLinks ring rs (cut_of g h m) [] text → FromRows limits ring rs (cut_line g h m ++ text)
   unfolding lines_of end_text
   cut-from {ring = ring} {rs = rs} {g = g} {h = h} {m = m} {text = text} p q r v f =
       let er : x.rows ≡ rs = ap (λ (y : Sheet). y.rows) f.same in
@@ -147,7 +148,7 @@ module _ (judging : Bool) (x : Sheet) where
       }
 
   -- what holds of a row that nothing is found against
-  row_from : {limits : Limits} {ring : Ring} {rs : List Routed} {i j d f k w : ℕ} {text : List ℕ} → SentSpelled i j d f k w → judge_next limits ring.n rs i j d ≡ Fine
+  row_from : {limits : Limits} {ring : Ring} {rs : List Routed} {i j d f k w : ℕ} {text : List ℕ} → SentSpelled i j d f k w → judge_next limits ring.nodes rs i j d ≡ Fine
       → when judging (judge_halves (routed_of i j d f k w)) ≡ Fine → FromRows limits ring (rs ++ routed_of i j d f k w ∷ []) text
       → FromRows limits ring rs (sent_line i j d f k w ++ text)
   unfolding lines_of
@@ -158,7 +159,7 @@ module _ (judging : Bool) (x : Sheet) where
         is_text =
             ap (λ (t : List ℕ). sent_line i j d f k w ++ t) from.is_text ∙ ap (λ (t : List ℕ). t ++ (lines_of routed_line from.later ++ end_text (figures_of x) x.links)) (sym (way-spelled i j d f k w))
             ∙ sym (append_assoc (routed_line r) (lines_of routed_line from.later) (end_text (figures_of x) x.links));
-        fine = fine (rw v at (row-judged limits ring.n (length rs) (last_of rs).i (last_of rs).j i j d));
+        fine = fine (rw v at (row-judged limits ring.nodes (length rs) (last_of rs).first (last_of rs).second i j d));
         halves = more (record { front = spelled.front; back = spelled.back }) from.halves;
         judged = more u from.judged;
         cut = from.cut;
@@ -169,9 +170,9 @@ module _ (judging : Bool) (x : Sheet) where
       r : Routed
       r = routed_of i j d f k w
 
-      fine : RowJudged limits ring.n (length rs) (last_of rs).i (last_of rs).j i j d Fine → FineRows limits ring.n (length rs) (last_of rs).i (last_of rs).j (demands (sents (r ∷ from.later)))
+      fine : RowJudged limits ring.nodes (length rs) (last_of rs).first (last_of rs).second i j d Fine → FineRows limits ring.nodes (length rs) (last_of rs).first (last_of rs).second (demands (sents (r ∷ from.later)))
       fine (row_fine on up room most) =
-          fine_row on up room most (subst (λ m. FineRows limits ring.n m i j (demands (sents from.later))) (length-append rs (r ∷ [])) (rw (last_more rs r) at from.fine))
+          fine_row on up room most (subst (λ m. FineRows limits ring.nodes m i j (demands (sents from.later))) (length-append rs (r ∷ [])) (rw (last_more rs r) at from.fine))
 
   from-rows : {limits : Limits} {ring : Ring} {rs : List Routed} {text : List ℕ} → Rest limits judging x (rows ring rs) text → FromRows limits ring rs text
   from-rows (rest_cut p q r v rest) = cut-from p q r v (from-links (omega arith) rest)
@@ -182,16 +183,16 @@ module _ (judging : Bool) (x : Sheet) where
 -- it is written as t, in range, and nothing is found against it
 pub record IsSheet (limits : Limits) (judging : Bool) (t : List ℕ) (x : Sheet) : Type 0 where
   pub text : t ≡ write_sheet x
-  pub few : limits.fewest ≤ x.ring.n
-  pub many : x.ring.n ≤ limits.nodes
+  pub few : limits.fewest ≤ x.ring.nodes
+  pub many : x.ring.nodes ≤ limits.nodes
   pub fibres : IsFibres x.ring.fibres
-  pub fine : FineRows limits x.ring.n 0 0 0 (demands (sents x.rows))
+  pub fine : FineRows limits x.ring.nodes 0 0 0 (demands (sents x.rows))
   pub spelled : Spelled x
-  pub links : length x.links ≡ x.ring.n
+  pub links : length x.links ≡ x.ring.nodes
   pub judged : Judged judging x
 
 sheet-from : (limits : Limits) (judging : Bool) (t : List ℕ) (x : Sheet) (ring : Ring) → RingJudged limits ring Fine → FromRows judging x limits ring [] t
-    → IsSheet limits judging (ring_line ring.n ring.fibres ++ t) x
+    → IsSheet limits judging (ring_line ring.nodes ring.fibres ++ t) x
 unfolding write_sheet
 sheet-from limits judging t x ring (right_ring few many fibres) f =
     let b = f.behind in
@@ -199,13 +200,13 @@ sheet-from limits judging t x ring (right_ring few many fibres) f =
     let el : x.links ≡ b.later = ap (λ (y : Sheet). y.links) b.same in
     let er : x.rows ≡ f.later = f.same in
     record {
-      text = rw (en, er) (ap (λ (s : List ℕ). ring_line ring.n ring.fibres ++ s) f.is_text);
+      text = rw (en, er) (ap (λ (s : List ℕ). ring_line ring.nodes ring.fibres ++ s) f.is_text);
       few = rw en few;
       many = rw en many;
       fibres = rw en fibres;
       fine = rw (en, er) f.fine;
       spelled = record { halves = rw er f.halves; cut = f.cut; loads = rw el b.spelled; last = b.last };
-      links = omega (arith, b.many, ap length el, ap (λ (r : Ring). r.n) en);
+      links = omega (arith, b.many, ap length el, ap (λ (r : Ring). r.nodes) en);
       judged =
           record {
             halves = rw er f.judged;

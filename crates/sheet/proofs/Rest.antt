@@ -8,12 +8,14 @@ use native.Mathlib.Omega.{arith}
 use native.Mathlib.Decide.{dec_lt}
 use lib.ListN.{length, get_or}
 use borrow.Author.Tests.{lt-ltb, le-ltb}
-use Rattle.ring.specs.Cut.{Cut}
+use Rattle.ring.specs.declared.types.Cut.{Cut}
 use Rattle.ring.specs.Limits.{Limits}
-use Rattle.ring.specs.Ring.{Ring, ring_of}
+use Rattle.ring.specs.Ring.{ring_of}
+use Rattle.ring.specs.declared.types.Ring.{Ring}
 use Rattle.ring.specs.Lists.{Each, none, more}
-use Rattle.ring.specs.Routing.{Routed}
-use Rattle.ring.specs.Sheet.{Link, Sheet}
+use Rattle.ring.specs.declared.types.Routed.{Routed}
+use Rattle.ring.specs.Sheet.{Sheet}
+use Rattle.ring.specs.declared.types.Link.{Link}
 use Rattle.text.specs.Number.{limit}
 use Rattle.text.specs.Answers.{three_in}
 use Rattle.text.specs.Bytes.{letter_c, letter_d, letter_l, number}
@@ -43,20 +45,20 @@ use Rattle.sheet.proofs.SheetLines.{SentSpelled, SentRead, is_sent, no_sent, sen
 -- the rest `text` leads from a state to the sheet x; where `judging`, nothing is found against it
 pub data Rest (limits : Limits) (judging : Bool) (x : Sheet) : State → List ℕ → Type 0 where
   rest_end : when judging (judge_whole x) ≡ Fine → Rest limits judging x (end x) []
-  rest_last : {ring : Ring} {rs : List Routed} {c : Cut} {ks : List Link} {p z : ℕ} {text : List ℕ} → ring.n ≤ length ks → p < limit → z < limit
+  rest_last : {ring : Ring} {rs : List Routed} {c : Cut} {ks : List Link} {p z : ℕ} {text : List ℕ} → ring.nodes ≤ length ks → p < limit → z < limit
       → when judging (judge_last ring rs p z) ≡ Fine → Rest limits judging x (end (record { ring = ring; rows = rs; cut = c; links = ks; peak = p; size = z })) text
       → Rest limits judging x (links ring rs c ks) (last_line p z ++ text)
-  rest_link : {ring : Ring} {rs : List Routed} {c : Cut} {ks : List Link} {k s u : ℕ} {text : List ℕ} → length ks < ring.n → k < limit → s < limit → u < limit
+  rest_link : {ring : Ring} {rs : List Routed} {c : Cut} {ks : List Link} {k s u : ℕ} {text : List ℕ} → length ks < ring.nodes → k < limit → s < limit → u < limit
       → when judging (judge_link rs (length ks + 1) (link_of k s u)) ≡ Fine → Rest limits judging x (links ring rs c (ks ++ link_of k s u ∷ [])) text
       → Rest limits judging x (links ring rs c ks) (link_line k s u ++ text)
   rest_cut : {ring : Ring} {rs : List Routed} {g h m : ℕ} {text : List ℕ} → g < limit → h < limit → m < limit
-      → when judging (judge_cut ring.n rs (cut_of g h m)) ≡ Fine → Rest limits judging x (links ring rs (cut_of g h m) []) text
+      → when judging (judge_cut ring.nodes rs (cut_of g h m)) ≡ Fine → Rest limits judging x (links ring rs (cut_of g h m) []) text
       → Rest limits judging x (rows ring rs) (cut_line g h m ++ text)
-  rest_row : {ring : Ring} {rs : List Routed} {i j d f k w : ℕ} {text : List ℕ} → SentSpelled i j d f k w → judge_next limits ring.n rs i j d ≡ Fine
+  rest_row : {ring : Ring} {rs : List Routed} {i j d f k w : ℕ} {text : List ℕ} → SentSpelled i j d f k w → judge_next limits ring.nodes rs i j d ≡ Fine
       → when judging (judge_halves (routed_of i j d f k w)) ≡ Fine → Rest limits judging x (rows ring (rs ++ routed_of i j d f k w ∷ [])) text
       → Rest limits judging x (rows ring rs) (sent_line i j d f k w ++ text)
-  rest_ring : {ring : Ring} {text : List ℕ} → RingSpelled ring.n ring.fibres → judge_ring limits ring ≡ Fine → Rest limits judging x (rows ring []) text
-      → Rest limits judging x start (ring_line ring.n ring.fibres ++ text)
+  rest_ring : {ring : Ring} {text : List ℕ} → RingSpelled ring.nodes ring.fibres → judge_ring limits ring ≡ Fine → Rest limits judging x (rows ring []) text
+      → Rest limits judging x start (ring_line ring.nodes ring.fibres ++ text)
 
 -- ---- a line that leads on
 
@@ -86,27 +88,27 @@ module _ (limits : Limits) (judging : Bool) (x : Sheet) where
     cut-leads : (l : List ℕ) (o : ℕ) {y : ThreeNumbers} → CutRead l y → Leads (rows ring rs) l (cut_turn judging ring rs o y)
     unfolding cut_turn
     cut-leads l o (is_cut {g} {h} {m} e p q r) next t text rest =
-        let u = unless-on (when judging (judge_cut ring.n rs (cut_of g h m))) whole_line (links ring rs (cut_of g h m) []) next t in
+        let u = unless-on (when judging (judge_cut ring.nodes rs (cut_of g h m))) whole_line (links ring rs (cut_of g h m) []) next t in
         rw e (rest_cut p q r u.0 (subst (λ s. Rest limits judging x s text) (sym u.1) rest))
     cut-leads l o (no_cut misread fault) next t text rest = clash (cc)
 
     row-leads : (l : List ℕ) {y : SentRow} {z : ThreeNumbers} → SentRead l y → CutRead l z → Leads (rows ring rs) l (row_turn limits judging ring rs y z)
     unfolding row_turn
     row-leads l (is_sent {i} {j} {d} {f} {b = k} {w} e spelled) other next t text rest =
-        let u = unless-on (or_else (judge_next limits ring.n rs i j d) (when judging (judge_halves (routed_of i j d f k w)))) (row_fault ring.n i j d) (rows ring (rs ++ routed_of i j d f k w ∷ [])) next t in
-        let v = or-fine (judge_next limits ring.n rs i j d) (when judging (judge_halves (routed_of i j d f k w))) u.0 in
+        let u = unless-on (or_else (judge_next limits ring.nodes rs i j d) (when judging (judge_halves (routed_of i j d f k w)))) (row_fault ring.nodes i j d) (rows ring (rs ++ routed_of i j d f k w ∷ [])) next t in
+        let v = or-fine (judge_next limits ring.nodes rs i j d) (when judging (judge_halves (routed_of i j d f k w))) u.0 in
         rw e (rest_row spelled v.0 v.1 (subst (λ s. Rest limits judging x s text) (sym u.1) rest))
     row-leads l (no_sent {p} misread fault) other next t text rest = cut-leads l p other next t text rest
 
     module _ (c : Cut) (ks : List Link) where
-      link-leads : (l : List ℕ) {y : ThreeNumbers} → length ks < ring.n → LinkRead l y → Leads (links ring rs c ks) l (link_turn judging ring rs c ks y)
+      link-leads : (l : List ℕ) {y : ThreeNumbers} → length ks < ring.nodes → LinkRead l y → Leads (links ring rs c ks) l (link_turn judging ring rs c ks y)
       unfolding link_turn
       link-leads l few (is_link {k} {s} {u} e p q r) next t text rest =
           let v = unless-on (when judging (judge_link rs (length ks + 1) (link_of k s u))) whole_line (links ring rs c (ks ++ link_of k s u ∷ [])) next t in
           rw e (rest_link few p q r v.0 (subst (λ s. Rest limits judging x s text) (sym v.1) rest))
       link-leads l few (no_link misread fault) next t text rest = clash (cc)
 
-      last-leads : (l : List ℕ) {y : TwoNumbers} → ring.n ≤ length ks → LastRead l y → Leads (links ring rs c ks) l (last_turn judging ring rs c ks y)
+      last-leads : (l : List ℕ) {y : TwoNumbers} → ring.nodes ≤ length ks → LastRead l y → Leads (links ring rs c ks) l (last_turn judging ring rs c ks y)
       unfolding last_turn
       last-leads l all (is_last {p} {z} e a b) next t text rest =
           let u = unless-on (when judging (judge_last ring rs p z)) whole_line (end (record { ring = ring; rows = rs; cut = c; links = ks; peak = p; size = z })) next t in
@@ -118,9 +120,9 @@ module _ (limits : Limits) (judging : Bool) (x : Sheet) where
   turn-leads start l = ring-leads l (ring-read l)
   turn-leads (rows ring rs) l = row-leads ring rs l (sent-read l) (cut-read l)
   turn-leads (links ring rs c ks) l =
-      elim (dec_lt (length ks) ring.n) [
-        | yes h ↦ rw (lt-ltb (length ks) ring.n h) (link-leads ring rs c ks l h (link-read l))
-        | no h ↦ let k : ring.n ≤ length ks = omega arith in rw (le-ltb (length ks) ring.n k) (last-leads ring rs c ks l k (last-read l))
+      elim (dec_lt (length ks) ring.nodes) [
+        | yes h ↦ rw (lt-ltb (length ks) ring.nodes h) (link-leads ring rs c ks l h (link-read l))
+        | no h ↦ let k : ring.nodes ≤ length ks = omega arith in rw (le-ltb (length ks) ring.nodes k) (last-leads ring rs c ks l k (last-read l))
       ]
   turn-leads (end y) l = λ next t text rest. clash (cc)
 
@@ -188,12 +190,12 @@ module _ (limits : Limits) (judging : Bool) (x : Sheet) where
   unfolding check_from turn after at_end whole_result lines ring_turn row_turn cut_turn link_turn last_turn unless or_else
   rest_read (rest_end v) line = rw v
   rest_read (rest_last {ring} {rs} {c} {ks} {p} {z} {text} all a b v rest) line =
-      rw (last-first p z a b text, le-ltb (length ks) ring.n all, last-line-read p z a b, v) (rest_read rest (line + 1))
+      rw (last-first p z a b text, le-ltb (length ks) ring.nodes all, last-line-read p z a b, v) (rest_read rest (line + 1))
   rest_read (rest_link {ring} {rs} {c} {ks} {k} {s} {u} {text} few a b d v rest) line =
-      rw (link-first k s u a b d text, lt-ltb (length ks) ring.n few, link-line-read k s u a b d, v) (rest_read rest (line + 1))
+      rw (link-first k s u a b d text, lt-ltb (length ks) ring.nodes few, link-line-read k s u a b d, v) (rest_read rest (line + 1))
   rest_read (rest_cut {ring} {rs} {g} {h} {m} {text} p q r v rest) line =
       rw (cut-first g h m p q r text, (cut-not-sent g h m (sent-read (cut_line g h m)) limits judging ring rs (three_in (read_line cut_shape (cut_line g h m)))).1, cut-line-read g h m p q r, v)
       (rest_read rest (line + 1))
   rest_read (rest_row {ring} {rs} {i} {j} {d} {f} {k} {w} {text} spelled v u rest) line =
       rw (sent-first i j d f k w spelled text, sent-line-read i j d f k w spelled, v, u) (rest_read rest (line + 1))
-  rest_read (rest_ring {ring} {text} h v rest) line = rw (ring-first ring.n ring.fibres h text, ring-line-read ring.n ring.fibres h, v) (rest_read rest (line + 1))
+  rest_read (rest_ring {ring} {text} h v rest) line = rw (ring-first ring.nodes ring.fibres h text, ring-line-read ring.nodes ring.fibres h, v) (rest_read rest (line + 1))

@@ -8,9 +8,9 @@ use mathlib.Core.Path.{refl}
 use native.Mathlib.Omega.{arith}
 use lib.ListN.{length}
 use Rattle.ring.specs.Limits.{Limits}
-use Rattle.ring.specs.Ring.{Ring}
+use Rattle.ring.specs.declared.types.Ring.{Ring}
 use Rattle.ring.specs.Row.{PairBefore}
-use Rattle.ring.specs.Routing.{Routed}
+use Rattle.ring.specs.declared.types.Routed.{Routed}
 use Rattle.table.specs.Reasons.{rank_of}
 use Rattle.table.specs.declared.reason.Reason.{Reason}
 use Rattle.table.specs.declared.reason.Reason.TheVariants.{WrongSum}
@@ -37,8 +37,8 @@ abbrev pub row_at : {t : List ℕ} {line : ℕ} {ring : Ring} {rs : List Routed}
 row_at {ring} {rs} at is = record { ring = ring; rs = rs; due = at; is = is }
 
 -- a row that has a first node is not below the pair 0, 0, so there is a row before
-order-holds : {t : List ℕ} {line : ℕ} {ring : Ring} {rs : List Routed} {r : Routed} → At t line (rows ring rs) → RowAt t line r → 1 ≤ r.sent.row.i
-    → PairBefore r.sent.row.i r.sent.row.j (last_of rs).i (last_of rs).j → WrongOrder t line
+order-holds : {t : List ℕ} {line : ℕ} {ring : Ring} {rs : List Routed} {r : Routed} → At t line (rows ring rs) → RowAt t line r → 1 ≤ r.sent.row.first
+    → PairBefore r.sent.row.first r.sent.row.second (last_of rs).first (last_of rs).second → WrongOrder t line
 order-holds (behind_ring ring) row low (inl l) = absurd (omega arith)
 order-holds (behind_ring ring) row low (inr l) = absurd (omega (arith, l.0))
 order-holds {r} (behind_row {line} {rs} {r = q} at is) row low wrong =
@@ -46,15 +46,15 @@ order-holds {r} (behind_row {line} {rs} {r = q} at is) row low wrong =
 
 module _ (limits : Limits) {t : List ℕ} {line : ℕ} {ring : Ring} {rs : List Routed} {r : Routed} (at : At t line (rows ring rs)) (is : SentIs t line r) where
   -- 4 to 7 and 16
-  demand-first : First (λ s. AgainstDemand limits ring.n rs r.sent.row s × Says limits t s line)
-      (judge_next limits ring.n rs r.sent.row.i r.sent.row.j r.sent.row.d)
+  demand-first : First (λ s. AgainstDemand limits ring.nodes rs r.sent.row s × Says limits t s line)
+      (judge_next limits ring.nodes rs r.sent.row.first r.sent.row.second r.sent.row.amount)
   unfolding Says
   demand-first =
-      let judged = row-judged limits ring.n (length rs) (last_of rs).i (last_of rs).j r.sent.row.i r.sent.row.j r.sent.row.d in
+      let judged = row-judged limits ring.nodes (length rs) (last_of rs).first (last_of rs).second r.sent.row.first r.sent.row.second r.sent.row.amount in
       record { holds = go judged; least = λ s p. row-least judged p.0 }
     where
-      go : {v : Verdict} → RowJudged limits ring.n (length rs) (last_of rs).i (last_of rs).j r.sent.row.i r.sent.row.j r.sent.row.d v
-          → HoldsAs (λ s. AgainstDemand limits ring.n rs r.sent.row s × Says limits t s line) v
+      go : {v : Verdict} → RowJudged limits ring.nodes (length rs) (last_of rs).first (last_of rs).second r.sent.row.first r.sent.row.second r.sent.row.amount v
+          → HoldsAs (λ s. AgainstDemand limits ring.nodes rs r.sent.row s × Says limits t s line) v
       go (no_such_node w) = (by_nodes w, record { r = r; row = row_at at is; wrong = w })
       go (not_below h k w) = (by_pair w, record { r = r; row = row_at at is; wrong = w })
       go (out_of_order h k l w) = (by_order w, order-holds at (row_at at is) h.0 w)
@@ -69,14 +69,14 @@ module _ (limits : Limits) {t : List ℕ} {line : ℕ} {ring : Ring} {rs : List 
   halves-said s (inr o) = only_then (λ s. Says limits t s line) (λ w. record { r = r; row = row_at at is; wrong = w }) s o
 
   pub sent-first : (judging : Bool) → First (Counted limits judging t line)
-      (or_else (judge_next limits ring.n rs r.sent.row.i r.sent.row.j r.sent.row.d) (when judging (judge_halves r)))
+      (or_else (judge_next limits ring.nodes rs r.sent.row.first r.sent.row.second r.sent.row.amount) (when judging (judge_halves r)))
   sent-first judging =
       first-as (λ s. ⊎_elim (λ p. (p.0, p.1.1)) (λ p. (p.0, halves-said s p.1))) (λ s c. go c (said-of-row is (said_here at (said s c.1))))
       (or-else-first (λ x y p q. omega (arith, early p.1.0, halves-late r y q.1))
       (form-first judging (λ s p. early p.0) demand-first)
       (when-first judging (halves-late r) (halves-first r)))
     where
-      go : {s : Reason} → Counted limits judging t line s → AgainstSent limits ring.n rs r s
-          → (Counts judging s × (AgainstDemand limits ring.n rs r.sent.row s × Says limits t s line)) ⊎ (Counts judging s × AgainstHalves r s)
+      go : {s : Reason} → Counted limits judging t line s → AgainstSent limits ring.nodes rs r s
+          → (Counts judging s × (AgainstDemand limits ring.nodes rs r.sent.row s × Says limits t s line)) ⊎ (Counts judging s × AgainstHalves r s)
       go c (inl p) = inl (c.0, (p, c.1))
       go c (inr p) = inr (c.0, p)

@@ -9,10 +9,11 @@ use native.Mathlib.Omega.{arith}
 use native.Mathlib.Decide.{dec_le}
 use lib.ListN.{length}
 use Rattle.ring.specs.Limits.{Limits}
-use Rattle.ring.specs.Ring.{Ring}
-use Rattle.ring.specs.Routing.{way_number, Routed}
-use Rattle.ring.specs.Cut.{Cut}
-use Rattle.ring.specs.Sheet.{Link}
+use Rattle.ring.specs.declared.types.Ring.{Ring}
+use Rattle.ring.specs.Routing.{way_number}
+use Rattle.ring.specs.declared.types.Routed.{Routed}
+use Rattle.ring.specs.declared.types.Cut.{Cut}
+use Rattle.ring.specs.declared.types.Link.{Link}
 use Rattle.text.specs.FieldByte.{field_byte, row_byte}
 use Rattle.text.specs.FirstFault.{Agrees, FirstFault}
 use Rattle.text.specs.Shapes.{sent_shape, cut_shape}
@@ -59,21 +60,21 @@ ring-byte here (right_ring l m f) = tt
 
 module _ {t : List ℕ} {line : ℕ} {ring : Ring} {rs : List Routed} {r : Routed} (at : At t line (rows ring rs)) (is : SentIs t line r) where
   -- a table's row and a sheet's have their first fields at the same bytes
-  field-byte : (k : ℕ) → k ≤ 3 → row_byte r.sent.row.i r.sent.row.j r.sent.row.d k ≡ routed_byte r k
-  field-byte k h = sent-row-byte r.sent.row.i r.sent.row.j r.sent.row.d r.sent.front r.sent.back (way_number r.way) k h
+  field-byte : (k : ℕ) → k ≤ 3 → row_byte r.sent.row.first r.sent.row.second r.sent.row.amount k ≡ routed_byte r k
+  field-byte k h = sent-row-byte r.sent.row.first r.sent.row.second r.sent.row.amount r.sent.front r.sent.back (way_number r.way) k h
 
   abbrev byte : Reason → ℕ
-  byte = row_fault ring.n r.sent.row.i r.sent.row.j r.sent.row.d
+  byte = row_fault ring.nodes r.sent.row.first r.sent.row.second r.sent.row.amount
 
-  node-byte : Node ring.n r.sent.row.i → NoNode ring.n r.sent.row.i ⊎ NoNode ring.n r.sent.row.j → NodeByte t line (byte NoSuchNode)
+  node-byte : Node ring.nodes r.sent.row.first → NoNode ring.nodes r.sent.row.first ⊎ NoNode ring.nodes r.sent.row.second → NodeByte t line (byte NoSuchNode)
   unfolding row_fault node_field
   node-byte (no_node w e) out = first_node (row_at at is) w (rw e (field-byte 1 (omega arith)))
   node-byte (has_node h e) (inl w) = absurd (no-node-there h w)
   node-byte (has_node h e) (inr w) = second_node (row_at at is) (no-node-there h) w (rw e (field-byte 2 (omega arith)))
 
-  demand-byte : {limits : Limits} {k a b : ℕ} {v : Verdict} → RowJudged limits ring.n k a b r.sent.row.i r.sent.row.j r.sent.row.d v → ByteOn t line byte v
+  demand-byte : {limits : Limits} {k a b : ℕ} {v : Verdict} → RowJudged limits ring.nodes k a b r.sent.row.first r.sent.row.second r.sent.row.amount v → ByteOn t line byte v
   unfolding ByteIs row_fault field_byte write_line
-  demand-byte (no_such_node w) = node-byte (node ring.n r.sent.row.i) w
+  demand-byte (no_such_node w) = node-byte (node ring.nodes r.sent.row.first) w
   demand-byte (not_below h p l) = refl
   demand-byte (out_of_order h p l o) = refl
   demand-byte (too_many h p l o c) = refl
@@ -102,10 +103,10 @@ module _ {t : List ℕ} {line : ℕ} {ring : Ring} {rs : List Routed} {r : Route
   when-byte false v b = tt
 
   pub sent-row-bytes : (limits : Limits) (judging : Bool)
-      → ByteOn t line byte (or_else (judge_next limits ring.n rs r.sent.row.i r.sent.row.j r.sent.row.d) (when judging (judge_halves r)))
+      → ByteOn t line byte (or_else (judge_next limits ring.nodes rs r.sent.row.first r.sent.row.second r.sent.row.amount) (when judging (judge_halves r)))
   sent-row-bytes limits judging =
-      or-else-byte (judge_next limits ring.n rs r.sent.row.i r.sent.row.j r.sent.row.d) (when judging (judge_halves r))
-      (demand-byte (row-judged limits ring.n (length rs) (last_of rs).i (last_of rs).j r.sent.row.i r.sent.row.j r.sent.row.d))
+      or-else-byte (judge_next limits ring.nodes rs r.sent.row.first r.sent.row.second r.sent.row.amount) (when judging (judge_halves r))
+      (demand-byte (row-judged limits ring.nodes (length rs) (last_of rs).first (last_of rs).second r.sent.row.first r.sent.row.second r.sent.row.amount))
       (when-byte judging (judge_halves r) halves-byte)
 
 -- ---- a line that is neither D nor C
@@ -141,7 +142,7 @@ module _ {t : List ℕ} {line : ℕ} where
   one-due a b = ap due (place-one a b refl)
 
   -- a link is due or the last line, by how many links were read
-  one-count : {ring other : Ring} {rs os : List Routed} {c d : Cut} {ks ls : List Link} → At t line (links ring rs c ks) → At t line (links other os d ls) → length ks < ring.n → other.n ≤ length ls → ⊥
+  one-count : {ring other : Ring} {rs os : List Routed} {c d : Cut} {ks ls : List Link} → At t line (links ring rs c ks) → At t line (links other os d ls) → length ks < ring.nodes → other.nodes ≤ length ls → ⊥
   one-count {ring} {other} {rs} {os} {c} {d} {ks} {ls} a b few all =
       let e : left (links ring rs c ks) ≡ left (links other os d ls) = ap left (place-one a b refl) in
       let f : full (links ring rs c ks) ≡ full (links other os d ls) = ap full (place-one a b refl) in
@@ -156,7 +157,7 @@ module _ {t : List ℕ} {line : ℕ} where
       full : State → ℕ
       full start = 0
       full (rows ring rs) = 0
-      full (links ring rs c ks) = ring.n
+      full (links ring rs c ks) = ring.nodes
       full (end x) = 0
 
   one-line-byte : {b c : ℕ} → LineByte t line b → LineByte t line c → b ≡ c
@@ -187,12 +188,12 @@ module _ {t : List ℕ} {line : ℕ} where
   one-line-byte (none_due a x) (none_due b y) = x ∙ sym y
 
   -- a row that is due stands on one ring
-  ring-nodes : {r q : Routed} (x : RowAt t line r) (y : RowAt t line q) → x.ring.n ≡ y.ring.n
+  ring-nodes : {r q : Routed} (x : RowAt t line r) (y : RowAt t line q) → x.ring.nodes ≡ y.ring.nodes
   ring-nodes x y = ap nodes (place-one x.due y.due refl)
     where
       nodes : State → ℕ
       nodes start = 0
-      nodes (rows ring rs) = ring.n
+      nodes (rows ring rs) = ring.nodes
       nodes (links ring rs c ks) = 0
       nodes (end x) = 0
 

@@ -8,12 +8,18 @@ use native.Mathlib.Omega.{arith}
 use native.Mathlib.Decide.{ℕ_discrete}
 use borrow.Author.Tests.{eq-eqb, ne_eqb}
 use Rattle.sonet.specs.Size.{sonet_sizes}
-use Rattle.ring.specs.Ring.{Ring}
+use Rattle.ring.specs.declared.types.Ring.{Ring}
 use Rattle.ring.specs.LineSize.{line_size}
-use Rattle.ring.specs.Routing.{way_number, way_of, Sent, Routed, Way, F, B, is_split, split_load, unsplit_load, peak}
-use Rattle.ring.specs.Cut.{Cut, IsCut, across}
+use Rattle.ring.specs.Routing.{way_number, way_of, is_split, split_load, unsplit_load, peak}
+use Rattle.ring.specs.declared.types.Sent.{Sent}
+use Rattle.ring.specs.declared.types.Routed.{Routed}
+use Rattle.ring.specs.declared.types.Way.{Way}
+use Rattle.ring.specs.declared.types.Way.TheVariants.{Front, Back}
+use Rattle.ring.specs.Cut.{IsCut, across}
+use Rattle.ring.specs.declared.types.Cut.{Cut}
 use Rattle.ring.specs.RuleD.{whole_way}
-use Rattle.ring.specs.Sheet.{Link, Sheet, sents, demands, split_peak, unsplit_peak, largest_split_of}
+use Rattle.ring.specs.Sheet.{Sheet, sents, demands, split_peak, unsplit_peak, largest_split_of}
+use Rattle.ring.specs.declared.types.Link.{Link}
 use Rattle.ring.specs.True.{SumsTo2d, Kept}
 use Rattle.table.specs.Reasons.{rank_of}
 use Rattle.table.specs.declared.reason.Reason.{Reason}
@@ -29,11 +35,11 @@ use Rattle.sheet.proofs.FirstReason.{First, or-else-first, Only, only-rank, eith
 way_same : (a b : Way) → way_number a ≡ way_number b → a ≡ b
 way_same a b e = sym (way_back a) ∙ ap way_of e ∙ way_back b
 
-whole-front : (s : Sent) → s.back ≡ 0 → whole_way s ≡ F
+whole-front : (s : Sent) → s.back ≡ 0 → whole_way s ≡ Front
 unfolding whole_way
 whole-front s e = rw (eq-eqb s.back 0 e)
 
-whole_back : (s : Sent) → (s.back ≡ 0 → ⊥) → whole_way s ≡ B
+whole_back : (s : Sent) → (s.back ≡ 0 → ⊥) → whole_way s ≡ Back
 unfolding whole_way
 whole_back s n = rw (ne_eqb s.back 0 n)
 
@@ -74,7 +80,7 @@ pub halves-first : (r : Routed) → First (AgainstHalves r) (judge_halves r)
 unfolding judge_halves wrong_sum
 halves-first r =
     or-else-first (λ a b p q. omega (arith, only-rank p, only-rank q))
-    (fault-first WrongSum (test-other (r.sent.front + r.sent.back) (2 * r.sent.row.d)))
+    (fault-first WrongSum (test-other (r.sent.front + r.sent.back) (2 * r.sent.row.amount)))
     (fault-first WrongWay (test-way r))
 
 -- ---- 10: the cut
@@ -117,12 +123,12 @@ link-first rs k l =
 -- ---- 12: the unsplit peak and the size
 
 abbrev pub LastWrong : Ring → List Routed → ℕ → ℕ → Type 0
-LastWrong ring rs p z = (p ≡ peak (unsplit_load rs) ring.n → ⊥) ⊎ (z ≡ line_size sonet_sizes ring.fibres (peak (unsplit_load rs) ring.n) → ⊥)
+LastWrong ring rs p z = (p ≡ peak (unsplit_load rs) ring.nodes → ⊥) ⊎ (z ≡ line_size sonet_sizes ring.fibres (peak (unsplit_load rs) ring.nodes) → ⊥)
 
 pub last-first : (ring : Ring) (rs : List Routed) (p z : ℕ) → First (Only WrongLast (LastWrong ring rs p z)) (judge_last ring rs p z)
 unfolding judge_last last_verdict
 last-first ring rs p z =
-    fault-first WrongLast (test-or (test-other p (peak (unsplit_load rs) ring.n)) (test-other z (line_size sonet_sizes ring.fibres (peak (unsplit_load rs) ring.n))))
+    fault-first WrongLast (test-or (test-other p (peak (unsplit_load rs) ring.nodes)) (test-other z (line_size sonet_sizes ring.fibres (peak (unsplit_load rs) ring.nodes))))
 
 -- ---- 13 and 14: the whole sheet
 

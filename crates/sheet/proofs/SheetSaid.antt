@@ -8,12 +8,13 @@ use mathlib.Core.Path.{◌≡◌, refl, subst}
 use native.Mathlib.Omega.{arith}
 use native.Mathlib.Decide.{dec_le}
 use lib.ListN.{length}
-use Rattle.ring.specs.Cut.{Cut}
+use Rattle.ring.specs.declared.types.Cut.{Cut}
 use Rattle.ring.specs.Limits.{Limits}
-use Rattle.ring.specs.Ring.{Ring}
-use Rattle.ring.specs.Row.{Row}
-use Rattle.ring.specs.Routing.{Routed}
-use Rattle.ring.specs.Sheet.{Link, Sheet}
+use Rattle.ring.specs.declared.types.Ring.{Ring}
+use Rattle.ring.specs.declared.types.Row.{Row}
+use Rattle.ring.specs.declared.types.Routed.{Routed}
+use Rattle.ring.specs.Sheet.{Sheet}
+use Rattle.ring.specs.declared.types.Link.{Link}
 use Rattle.table.specs.Lines.{lines}
 use Rattle.table.specs.Reasons.{rank_of}
 use Rattle.table.specs.Says.{LineIs, RingIs}
@@ -36,7 +37,7 @@ abbrev pub Unfit : List ℕ → ℕ → State → Type 0
 Unfit t line start = (ring : Ring) → RingIs t ring → ⊥
 Unfit t line (rows ring rs) = ((r : Routed) → SentIs t line r → ⊥) × ((c : Cut) → CutIs t line c → ⊥)
 Unfit t line (links ring rs c ks) =
-    ((length ks < ring.n) × ((l : Link) → LinkIs t line l → ⊥)) ⊎ ((ring.n ≤ length ks) × ((p z : ℕ) → LastIs t line p z → ⊥))
+    ((length ks < ring.nodes) × ((l : Link) → LinkIs t line l → ⊥)) ⊎ ((ring.nodes ≤ length ks) × ((p z : ℕ) → LastIs t line p z → ⊥))
 Unfit t line (end x) = (l : List ℕ) × LineIs (lines t) line l
 
 pub unfit-wrong : {t : List ℕ} {line : ℕ} {state : State} → At t line state → Unfit t line state → WrongLine t line
@@ -48,7 +49,7 @@ unfit-wrong {state = end x} at left = left_over at left.1
 
 -- 4 to 7 and 16, of a demand behind the rows rs
 abbrev pub AgainstDemand : Limits → ℕ → List Routed → Row → Reason → Type 0
-AgainstDemand limits n rs q = AgainstRow limits n (length rs) (last_of rs).i (last_of rs).j q.i q.j q.d
+AgainstDemand limits n rs q = AgainstRow limits n (length rs) (last_of rs).first (last_of rs).second q.first q.second q.amount
 
 -- and 8 and 9, of what is sent
 abbrev pub AgainstSent : Limits → ℕ → List Routed → Routed → Reason → Type 0
@@ -57,11 +58,11 @@ AgainstSent limits n rs r s = AgainstDemand limits n rs r.sent.row s ⊎ Against
 pub data SaidAt (limits : Limits) (t : List ℕ) (line : ℕ) : State → Reason → Type 0 where
   of_shape : {state : State} → Unfit t line state → SaidAt limits t line state Misshapen
   of_ring : {ring : Ring} {s : Reason} → RingIs t ring → AgainstRing limits ring s → SaidAt limits t line start s
-  of_row : {ring : Ring} {rs : List Routed} {r : Routed} {s : Reason} → SentIs t line r → AgainstSent limits ring.n rs r s → SaidAt limits t line (rows ring rs) s
-  of_cut : {ring : Ring} {rs : List Routed} {c : Cut} {s : Reason} → CutIs t line c → Only WrongCut (CutWrong ring.n rs c) s → SaidAt limits t line (rows ring rs) s
-  of_link : {ring : Ring} {rs : List Routed} {c : Cut} {ks : List Link} {l : Link} {s : Reason} → length ks < ring.n → LinkIs t line l
+  of_row : {ring : Ring} {rs : List Routed} {r : Routed} {s : Reason} → SentIs t line r → AgainstSent limits ring.nodes rs r s → SaidAt limits t line (rows ring rs) s
+  of_cut : {ring : Ring} {rs : List Routed} {c : Cut} {s : Reason} → CutIs t line c → Only WrongCut (CutWrong ring.nodes rs c) s → SaidAt limits t line (rows ring rs) s
+  of_link : {ring : Ring} {rs : List Routed} {c : Cut} {ks : List Link} {l : Link} {s : Reason} → length ks < ring.nodes → LinkIs t line l
       → Only WrongLink (LinkWrong rs (length ks + 1) l) s → SaidAt limits t line (links ring rs c ks) s
-  of_last : {ring : Ring} {rs : List Routed} {c : Cut} {ks : List Link} {p z : ℕ} {s : Reason} → ring.n ≤ length ks → LastIs t line p z
+  of_last : {ring : Ring} {rs : List Routed} {c : Cut} {ks : List Link} {p z : ℕ} {s : Reason} → ring.nodes ≤ length ks → LastIs t line p z
       → Only WrongLast (LastWrong ring rs p z) s → SaidAt limits t line (links ring rs c ks) s
 
 -- ---- all that is said
@@ -144,24 +145,24 @@ module _ {limits : Limits} {t : List ℕ} {line : ℕ} where
   said-of-ring {s} is (of_ring r o) = subst (λ m. AgainstRing limits m s) (ring-one r is) o
 
   module _ {ring : Ring} {rs : List Routed} where
-    pub said-of-row : {r : Routed} {s : Reason} → SentIs t line r → SaidAt limits t line (rows ring rs) s → AgainstSent limits ring.n rs r s
+    pub said-of-row : {r : Routed} {s : Reason} → SentIs t line r → SaidAt limits t line (rows ring rs) s → AgainstSent limits ring.nodes rs r s
     said-of-row {r} is (of_shape none) = absurd (none.0 r is)
-    said-of-row {s} is (of_row q o) = subst (λ r. AgainstSent limits ring.n rs r s) (sent-one q is) o
+    said-of-row {s} is (of_row q o) = subst (λ r. AgainstSent limits ring.nodes rs r s) (sent-one q is) o
     said-of-row is (of_cut c o) = absurd (sent-or-cut is c)
 
-    pub said-of-cut : {c : Cut} {s : Reason} → CutIs t line c → SaidAt limits t line (rows ring rs) s → Only WrongCut (CutWrong ring.n rs c) s
+    pub said-of-cut : {c : Cut} {s : Reason} → CutIs t line c → SaidAt limits t line (rows ring rs) s → Only WrongCut (CutWrong ring.nodes rs c) s
     said-of-cut {c} is (of_shape none) = absurd (none.1 c is)
     said-of-cut is (of_row r o) = absurd (sent-or-cut r is)
-    said-of-cut {s} is (of_cut b o) = subst (λ c. Only WrongCut (CutWrong ring.n rs c) s) (cut-one b is) o
+    said-of-cut {s} is (of_cut b o) = subst (λ c. Only WrongCut (CutWrong ring.nodes rs c) s) (cut-one b is) o
 
   module _ {ring : Ring} {rs : List Routed} {c : Cut} {ks : List Link} where
-    pub said-of-link : {l : Link} {s : Reason} → length ks < ring.n → LinkIs t line l → SaidAt limits t line (links ring rs c ks) s → Only WrongLink (LinkWrong rs (length ks + 1) l) s
+    pub said-of-link : {l : Link} {s : Reason} → length ks < ring.nodes → LinkIs t line l → SaidAt limits t line (links ring rs c ks) s → Only WrongLink (LinkWrong rs (length ks + 1) l) s
     said-of-link {l} few is (of_shape (inl none)) = absurd (none.1 l is)
     said-of-link few is (of_shape (inr none)) = absurd (omega (arith, none.0))
     said-of-link {s} few is (of_link few' m o) = subst (λ l. Only WrongLink (LinkWrong rs (length ks + 1) l) s) (link-one m is) o
     said-of-link few is (of_last all l o) = absurd (omega arith)
 
-    pub said-of-last : {p z : ℕ} {s : Reason} → ring.n ≤ length ks → LastIs t line p z → SaidAt limits t line (links ring rs c ks) s → Only WrongLast (LastWrong ring rs p z) s
+    pub said-of-last : {p z : ℕ} {s : Reason} → ring.nodes ≤ length ks → LastIs t line p z → SaidAt limits t line (links ring rs c ks) s → Only WrongLast (LastWrong ring rs p z) s
     said-of-last all is (of_shape (inl none)) = absurd (omega (arith, none.0))
     said-of-last {p} {z} all is (of_shape (inr none)) = absurd (none.1 p z is)
     said-of-last all is (of_link few l o) = absurd (omega arith)

@@ -10,12 +10,14 @@ use lib.ListN.{length, length-append}
 use borrow.Author.Tests.{le-ltb, ltb-false}
 use Rattle.ring.proofs.Figures.{demands-length}
 use Rattle.ring.proofs.Side.{cond-elim}
-use Rattle.ring.specs.Routing.{way_number, way_of, Routed}
+use Rattle.ring.specs.Routing.{way_number, way_of}
+use Rattle.ring.specs.declared.types.Routed.{Routed}
 use Rattle.ring.specs.Limits.{Limits}
-use Rattle.ring.specs.Row.{Row}
+use Rattle.ring.specs.declared.types.Row.{Row}
 use Rattle.ring.specs.LineSize.{IsFibres}
 use Rattle.ring.specs.Lists.{Each, none, more}
-use Rattle.ring.specs.Sheet.{Link, Sheet, sents, demands}
+use Rattle.ring.specs.Sheet.{Sheet, sents, demands}
+use Rattle.ring.specs.declared.types.Link.{Link}
 use Rattle.text.specs.Shapes.{last_line}
 use Rattle.text.proofs.Apart.{clash}
 use Rattle.table.specs.Lines.{lines}
@@ -39,7 +41,7 @@ use Rattle.sheet.proofs.Read.{LinksJudged, no_links, and_link, Judged, IsSheet, 
 
 -- ---- a sheet's text is a rest
 
-module _ (limits : Limits) (judging : Bool) (x : Sheet) (judged : Judged judging x) (spelled : Spelled x) (count : length x.links ≡ x.ring.n) where
+module _ (limits : Limits) (judging : Bool) (x : Sheet) (judged : Judged judging x) (spelled : Spelled x) (count : length x.links ≡ x.ring.nodes) where
   -- the links ks are written, and those of `later` follow
   to-links : (later ks : List Link) → x.links ≡ ks ++ later → Each LinkSpelled later → LinksJudged judging x.rows (length ks) later
       → Rest limits judging x (links x.ring x.rows x.cut ks) (lines_of load_line later ++ last_line x.peak x.size)
@@ -53,12 +55,12 @@ module _ (limits : Limits) (judging : Bool) (x : Sheet) (judged : Judged judging
   to-links (l ∷ later) ks e (more s ss) (and_link v vs) =
       let long : length (ks ++ l ∷ []) ≡ length ks + 1 = length-append ks (l ∷ []) in
       let f : x.links ≡ (ks ++ l ∷ []) ++ later = e ∙ sym (append_assoc ks (l ∷ []) later) in
-      let few : length ks < x.ring.n = omega (arith, ap length e, length-append ks (l ∷ later)) in
+      let few : length ks < x.ring.nodes = omega (arith, ap length e, length-append ks (l ∷ later)) in
       subst (λ t. Rest limits judging x (links x.ring x.rows x.cut ks) t) (sym (append_assoc (load_line l) (lines_of load_line later) (last_line x.peak x.size)))
       (rest_link few s.link s.split s.unsplit v (to-links later (ks ++ l ∷ []) f ss (subst (λ m. LinksJudged judging x.rows m later) (sym long) vs)))
 
-  module _ (limited : LimitsSpelled limits) (many : x.ring.n ≤ limits.nodes) where
-    to-rows : (later rs : List Routed) → x.rows ≡ rs ++ later → FineRows limits x.ring.n (length rs) (last_of rs).i (last_of rs).j (demands (sents later)) → Each RowSpelled later
+  module _ (limited : LimitsSpelled limits) (many : x.ring.nodes ≤ limits.nodes) where
+    to-rows : (later rs : List Routed) → x.rows ≡ rs ++ later → FineRows limits x.ring.nodes (length rs) (last_of rs).first (last_of rs).second (demands (sents later)) → Each RowSpelled later
         → Each (λ r. when judging (judge_halves r) ≡ Fine) later → Rest limits judging x (rows x.ring rs) (lines_of routed_line later ++ end_text (figures_of x) x.links)
     unfolding lines_of end_text
     to-rows [] rs e no_row none none =
@@ -68,9 +70,9 @@ module _ (limits : Limits) (judging : Bool) (x : Sheet) (judged : Judged judging
     to-rows (r ∷ later) rs e (fine_row on up room most fine) (more h hs) (more v vs) =
         let f : x.rows ≡ (rs ++ r ∷ []) ++ later = e ∙ sym (append_assoc rs (r ∷ []) later) in
         let one : length (rs ++ r ∷ []) ≡ length rs + 1 = length-append rs (r ∷ []) in
-        let behind = subst (λ (q : Row). FineRows limits x.ring.n (length (rs ++ r ∷ [])) q.i q.j (demands (sents later))) (sym (last_more rs r)) (rw one fine) in
+        let behind = subst (λ (q : Row). FineRows limits x.ring.nodes (length (rs ++ r ∷ [])) q.first q.second (demands (sents later))) (sym (last_more rs r)) (rw one fine) in
         let same : way_of (way_number r.way) ≡ r.way = way_back r.way in
-        let s : SentSpelled r.sent.row.i r.sent.row.j r.sent.row.d r.sent.front r.sent.back (way_number r.way) =
+        let s : SentSpelled r.sent.row.first r.sent.row.second r.sent.row.amount r.sent.front r.sent.back (way_number r.way) =
         record {
           first = omega (arith, on.order, on.high, limited.nodes);
           second = omega (arith, on.high, limited.nodes);
@@ -80,9 +82,9 @@ module _ (limits : Limits) (judging : Bool) (x : Sheet) (judged : Judged judging
           way = way_small r.way;
         } in
         subst (λ t. Rest limits judging x (rows x.ring rs) t) (sym (append_assoc (routed_line r) (lines_of routed_line later) (end_text (figures_of x) x.links)))
-        (rest_row s (fine-row-judged limits x.ring.n (length rs) (last_of rs).i (last_of rs).j r.sent.row.i r.sent.row.j r.sent.row.d on up room most) (rw same v) (rw same (to-rows later (rs ++ r ∷ []) f behind hs vs)))
+        (rest_row s (fine-row-judged limits x.ring.nodes (length rs) (last_of rs).first (last_of rs).second r.sent.row.first r.sent.row.second r.sent.row.amount on up room most) (rw same v) (rw same (to-rows later (rs ++ r ∷ []) f behind hs vs)))
 
-    to_start : limits.fewest ≤ x.ring.n → IsFibres x.ring.fibres → FineRows limits x.ring.n 0 0 0 (demands (sents x.rows)) → Rest limits judging x start (write_sheet x)
+    to_start : limits.fewest ≤ x.ring.nodes → IsFibres x.ring.fibres → FineRows limits x.ring.nodes 0 0 0 (demands (sents x.rows)) → Rest limits judging x start (write_sheet x)
     unfolding write_sheet
     to_start few fibres fine =
         rest_ring {ring = x.ring} (ring-spelled limits limited x.ring many fibres) (fine-ring-judged limits x.ring few many fibres) (to-rows x.rows [] refl fine spelled.halves judged.halves)

@@ -9,12 +9,18 @@ use lib.ListN.{length, length-append, length-map}
 use Rattle.sonet.specs.Size.{sonet_sizes}
 use Rattle.sonet.proofs.Sizes.{largest_of}
 use Rattle.ring.specs.Limits.{desk}
-use Rattle.ring.specs.Ring.{Ring}
+use Rattle.ring.specs.declared.types.Ring.{Ring}
 use Rattle.ring.specs.LineSize.{IsFibres}
 use Rattle.ring.specs.Lists.{Each, none, more}
-use Rattle.ring.specs.Row.{Row, OnRing, TableRows}
-use Rattle.ring.specs.Routing.{Sent, Routed, Way, F, B, way_number}
-use Rattle.ring.specs.Sheet.{Link, Sheet, sents, demands, numbers_from, plan}
+use Rattle.ring.specs.Row.{OnRing, TableRows}
+use Rattle.ring.specs.declared.types.Row.{Row}
+use Rattle.ring.specs.Routing.{way_number}
+use Rattle.ring.specs.declared.types.Sent.{Sent}
+use Rattle.ring.specs.declared.types.Routed.{Routed}
+use Rattle.ring.specs.declared.types.Way.{Way}
+use Rattle.ring.specs.declared.types.Way.TheVariants.{Front, Back}
+use Rattle.ring.specs.Sheet.{Sheet, sents, demands, numbers_from, plan}
+use Rattle.ring.specs.declared.types.Link.{Link}
 use Rattle.ring.specs.True.{TrueSheet}
 use Rattle.ring.proofs.Lists.{each, each_both, each-of-map}
 use Rattle.ring.proofs.Figures.{SmallFigures, figures-small, demands-length}
@@ -38,17 +44,17 @@ lines-most line most none = omega arith
 lines-most line most (more {a = a} {l = l} p e) = omega (arith, length-append (line a) (lines_of line l), mul-suc most (length l), lines-most line most e)
 
 pub way_small : (w : Way) → way_number w < 2
-way_small F = omega arith
-way_small B = omega arith
+way_small Front = omega arith
+way_small Back = omega arith
 
 -- its demand is one of the desk's, and its halves can be spelled
 pub record RowFine (n : ℕ) (r : Routed) : Type 0 where
   pub on : OnRing n r.sent.row
-  pub amount : r.sent.row.d ≤ desk.amount
+  pub amount : r.sent.row.amount ≤ desk.amount
   pub spelled : RowSpelled r
 
 module _ (n : ℕ) (many : n ≤ desk.nodes) where
-  pub row-spelled : (r : Routed) → RowFine n r → SentSpelled r.sent.row.i r.sent.row.j r.sent.row.d r.sent.front r.sent.back (way_number r.way)
+  pub row-spelled : (r : Routed) → RowFine n r → SentSpelled r.sent.row.first r.sent.row.second r.sent.row.amount r.sent.front r.sent.back (way_number r.way)
   row-spelled r h =
       record {
         first = omega (arith, h.on.order, h.on.high);
@@ -61,25 +67,25 @@ module _ (n : ℕ) (many : n ≤ desk.nodes) where
 
   row-short : (r : Routed) → RowFine n r → length (routed_line r) ≤ 56
   row-short r h =
-      line-in-range-short sent_shape (0 ∷ r.sent.row.i ∷ r.sent.row.j ∷ r.sent.row.d ∷ r.sent.front ∷ r.sent.back ∷ way_number r.way ∷ [])
-      (sent-in-range r.sent.row.i r.sent.row.j r.sent.row.d r.sent.front r.sent.back (way_number r.way) (row-spelled r h))
+      line-in-range-short sent_shape (0 ∷ r.sent.row.first ∷ r.sent.row.second ∷ r.sent.row.amount ∷ r.sent.front ∷ r.sent.back ∷ way_number r.way ∷ [])
+      (sent-in-range r.sent.row.first r.sent.row.second r.sent.row.amount r.sent.front r.sent.back (way_number r.way) (row-spelled r h))
 
 link-short : (l : Link) → LinkSpelled l → length (load_line l) ≤ 32
 link-short l h = line-in-range-short link_shape (0 ∷ l.link ∷ l.split ∷ l.unsplit ∷ []) (link-in-range l.link l.split l.unsplit h.link h.split h.unsplit)
 
-module _ (x : Sheet) (many : x.ring.n ≤ desk.nodes) (fibres : IsFibres x.ring.fibres) (rows : TableRows x.ring.n (demands (sents x.rows))) (amounts : Each (λ (r : Row). r.d ≤ desk.amount) (demands (sents x.rows))) where
+module _ (x : Sheet) (many : x.ring.nodes ≤ desk.nodes) (fibres : IsFibres x.ring.fibres) (rows : TableRows x.ring.nodes (demands (sents x.rows))) (amounts : Each (λ (r : Row). r.amount ≤ desk.amount) (demands (sents x.rows))) where
   of-demands : {P : Row → Type 0} → Each P (demands (sents x.rows)) → Each (λ (r : Routed). P r.sent.row) x.rows
   of-demands {P} e = each-of-map (λ (r : Routed). r.sent) {P = λ s. P s.row} x.rows (each-of-map (λ (s : Sent). s.row) {P = P} (sents x.rows) e)
 
-  pub rows-fine : Each RowSpelled x.rows → Each (RowFine x.ring.n) x.rows
+  pub rows-fine : Each RowSpelled x.rows → Each (RowFine x.ring.nodes) x.rows
   rows-fine halves =
-      each_both {P = λ (r : Routed). OnRing x.ring.n r.sent.row × (r.sent.row.d ≤ desk.amount)} (λ r h s. record { on = h.0; amount = h.1; spelled = s })
-      (each_both (λ r o a. (o, a)) (of-demands {P = OnRing x.ring.n} rows.nodes) (of-demands {P = λ r. r.d ≤ desk.amount} amounts)) halves
+      each_both {P = λ (r : Routed). OnRing x.ring.nodes r.sent.row × (r.sent.row.amount ≤ desk.amount)} (λ r h s. record { on = h.0; amount = h.1; spelled = s })
+      (each_both (λ r o a. (o, a)) (of-demands {P = OnRing x.ring.nodes} rows.nodes) (of-demands {P = λ r. r.amount ≤ desk.amount} amounts)) halves
 
-  pub sheet-short : length x.rows ≤ desk.rows → Spelled x → length x.links ≡ x.ring.n → length (write_sheet x) ≤ longest desk
+  pub sheet-short : length x.rows ≤ desk.rows → Spelled x → length x.links ≡ x.ring.nodes → length (write_sheet x) ≤ longest desk
   unfolding write_sheet end_text
   sheet-short count spelled links =
-      let n = x.ring.n in
+      let n = x.ring.nodes in
       let c = x.cut in
       omega (
         arith,
@@ -108,13 +114,13 @@ unfolding numbers_from
 numbers-within top k zero h = none
 numbers-within top k (suc m) h = more {a = k} (omega arith) (numbers-within top (suc k) m (omega arith))
 
-module _ (x : Sheet) (t : TrueSheet x) (many : x.ring.n ≤ desk.nodes) (fibres : IsFibres x.ring.fibres) (rows : TableRows x.ring.n (demands (sents x.rows))) (count : length x.rows ≤ desk.rows)
-    (amounts : Each (λ (r : Row). r.d ≤ desk.amount) (demands (sents x.rows))) where
+module _ (x : Sheet) (t : TrueSheet x) (many : x.ring.nodes ≤ desk.nodes) (fibres : IsFibres x.ring.fibres) (rows : TableRows x.ring.nodes (demands (sents x.rows))) (count : length x.rows ≤ desk.rows)
+    (amounts : Each (λ (r : Row). r.amount ≤ desk.amount) (demands (sents x.rows))) where
   small : SmallFigures desk.amount x
   small = figures-small desk.amount x t amounts
 
   numbers : Each (λ (l : Link). l.link < limit) x.links
-  numbers = each-of-map (λ (l : Link). l.link) {P = λ k. k < limit} x.links (subst (Each (λ k. k < limit)) (sym t.links) (numbers-within limit 1 x.ring.n (omega arith)))
+  numbers = each-of-map (λ (l : Link). l.link) {P = λ k. k < limit} x.links (subst (Each (λ k. k < limit)) (sym t.links) (numbers-within limit 1 x.ring.nodes (omega arith)))
 
   -- every figure has at most 7 digits
   pub true-spelled : Spelled x
@@ -126,8 +132,8 @@ module _ (x : Sheet) (t : TrueSheet x) (many : x.ring.n ≤ desk.nodes) (fibres 
         last = (omega (arith, small.peak, count), omega (arith, small.size, sizes-spelled));
       }
 
-  pub true-links : length x.links ≡ x.ring.n
-  true-links = sym (length-map x.links (λ (l : Link). l.link)) ∙ ap length t.links ∙ numbers-length 1 x.ring.n
+  pub true-links : length x.links ≡ x.ring.nodes
+  true-links = sym (length-map x.links (λ (l : Link). l.link)) ∙ ap length t.links ∙ numbers-length 1 x.ring.nodes
 
   pub true-short : length (write_sheet x) ≤ longest desk
   true-short = sheet-short x many fibres rows amounts count true-spelled true-links
@@ -142,19 +148,19 @@ module _ (ring : Ring) (rs : List Row) (h : table.InRange desk ring rs) where
   true-plan : TrueSheet (plan ring rs)
   true-plan = plan-true ring rs h.few h.rows
 
-  many : (plan ring rs).ring.n ≤ desk.nodes
+  many : (plan ring rs).ring.nodes ≤ desk.nodes
   many = rw ring-is h.many
 
   fibres : IsFibres (plan ring rs).ring.fibres
   fibres = rw ring-is h.fibres
 
-  rows : TableRows (plan ring rs).ring.n (demands (sents (plan ring rs).rows))
+  rows : TableRows (plan ring rs).ring.nodes (demands (sents (plan ring rs).rows))
   rows = let e = plan-demands ring rs h.few h.rows in rw (ring-is, e) h.rows
 
   count : length (plan ring rs).rows ≤ desk.rows
   count = omega (arith, h.count, demands-length (plan ring rs).rows, ap length (plan-demands ring rs h.few h.rows))
 
-  amounts : Each (λ (r : Row). r.d ≤ desk.amount) (demands (sents (plan ring rs).rows))
+  amounts : Each (λ (r : Row). r.amount ≤ desk.amount) (demands (sents (plan ring rs).rows))
   amounts = let e = plan-demands ring rs h.few h.rows in rw e h.amounts
 
   pub plan-short : length (write_sheet (plan ring rs)) ≤ longest desk

@@ -9,12 +9,17 @@ use native.Mathlib.Decide.{ℕ_discrete, dec_lt, dec_le}
 use native.Mathlib.Omega.{arith}
 use lib.ListN.{length}
 use Rattle.sonet.specs.Size.{sonet_sizes}
-use Rattle.ring.specs.Ring.{Ring}
+use Rattle.ring.specs.declared.types.Ring.{Ring}
 use Rattle.ring.specs.LineSize.{line_size}
-use Rattle.ring.specs.Cut.{Cut, IsCut, across}
+use Rattle.ring.specs.Cut.{IsCut, across}
+use Rattle.ring.specs.declared.types.Cut.{Cut}
 use Rattle.ring.specs.Lists.{Each, none, more}
-use Rattle.ring.specs.Routing.{Routed, Way, F, B, split_load, unsplit_load, peak}
-use Rattle.ring.specs.Sheet.{Link, Sheet, sents, demands, numbers_from, split_peak, unsplit_peak, largest_split_of}
+use Rattle.ring.specs.Routing.{split_load, unsplit_load, peak}
+use Rattle.ring.specs.declared.types.Routed.{Routed}
+use Rattle.ring.specs.declared.types.Way.{Way}
+use Rattle.ring.specs.declared.types.Way.TheVariants.{Front, Back}
+use Rattle.ring.specs.Sheet.{Sheet, sents, demands, numbers_from, split_peak, unsplit_peak, largest_split_of}
+use Rattle.ring.specs.declared.types.Link.{Link}
 use Rattle.ring.specs.True.{SumsTo2d, Kept, TrueLoads, TrueSheet}
 use Rattle.ring.proofs.Lists.{each, each_both, each-of-map}
 use Rattle.text.proofs.Apart.{clash}
@@ -50,20 +55,20 @@ same a b n = elim (ℕ_discrete a b) [ yes e ↦ e | no d ↦ absurd (n d) ]
 kept : (r : Routed) → ((Kept r → ⊥) → ⊥) → Kept r
 kept r n = record { front = λ e. front r.way refl e; back = λ e h. back r.way refl e h }
   where
-    front : (w : Way) → r.way ≡ w → r.sent.back ≡ 0 → r.way ≡ F
-    front F q e = q
-    front B q e = absurd (n (λ k. clash (cc (k.front e))))
+    front : (w : Way) → r.way ≡ w → r.sent.back ≡ 0 → r.way ≡ Front
+    front Front q e = q
+    front Back q e = absurd (n (λ k. clash (cc (k.front e))))
 
-    back : (w : Way) → r.way ≡ w → r.sent.front ≡ 0 → 0 < r.sent.back → r.way ≡ B
-    back F q e h = absurd (n (λ k. clash (cc (k.back e h))))
-    back B q e h = q
+    back : (w : Way) → r.way ≡ w → r.sent.front ≡ 0 → 0 < r.sent.back → r.way ≡ Back
+    back Front q e h = absurd (n (λ k. clash (cc (k.back e h))))
+    back Back q e h = q
 
 -- ---- a row
 
 pub row-true : (r : Routed) → judge_halves r ≡ Fine → SumsTo2d r.sent × Kept r
 row-true r e =
     let never = none_holds (halves-first r) e in
-    (same (r.sent.front + r.sent.back) (2 * r.sent.row.d) (λ d. never WrongSum (inl (only d))), kept r (λ k. never WrongWay (inr (only k))))
+    (same (r.sent.front + r.sent.back) (2 * r.sent.row.amount) (λ d. never WrongSum (inl (only d))), kept r (λ k. never WrongWay (inr (only k))))
 
 row_fine : (r : Routed) → SumsTo2d r.sent → Kept r → judge_halves r ≡ Fine
 row_fine r s k = is-fine (halves-first r) (λ q. ⊎_elim (no-fact (λ d. d s) q) (no-fact (λ d. d k) q))
@@ -151,10 +156,10 @@ module _ (x : Sheet) where
 -- ---- the last line, and the whole
 
 pub last-true : (ring : Ring) (rs : List Routed) (p z : ℕ) → judge_last ring rs p z ≡ Fine
-    → (p ≡ peak (unsplit_load rs) ring.n) × (z ≡ line_size sonet_sizes ring.fibres (peak (unsplit_load rs) ring.n))
+    → (p ≡ peak (unsplit_load rs) ring.nodes) × (z ≡ line_size sonet_sizes ring.fibres (peak (unsplit_load rs) ring.nodes))
 last-true ring rs p z e =
     let never = none_holds (last-first ring rs p z) e in
-    let u = peak (unsplit_load rs) ring.n in
+    let u = peak (unsplit_load rs) ring.nodes in
     (same p u (λ d. never WrongLast (only (inl d))), same z (line_size sonet_sizes ring.fibres u) (λ d. never WrongLast (only (inr d))))
 
 whole-true : (x : Sheet) → judge_whole x ≡ Fine → (split_peak x ≡ x.cut.number) × (2 * unsplit_peak x ≤ split_peak x + 3 * largest_split_of x)
@@ -172,13 +177,13 @@ sums-of : {rs : List Routed} → Each (λ (r : Routed). judge_halves r ≡ Fine)
 sums-of none = none
 sums-of (more {a = r} e es) = more (row-true r e).0 (sums-of es)
 
-pub judged-true : (x : Sheet) → length x.links ≡ x.ring.n → Judged true x ↔ TrueSheet x
+pub judged-true : (x : Sheet) → length x.links ≡ x.ring.nodes → Judged true x ↔ TrueSheet x
 unfolding when
 judged-true x many = (there, back)
   where
     there : Judged true x → TrueSheet x
     there j =
-        let c = cut-true x.ring.n x.rows x.cut j.cut in
+        let c = cut-true x.ring.nodes x.rows x.cut j.cut in
         let ls = links-true x j.links in
         let l = last-true x.ring x.rows x.peak x.size j.last in
         let w = whole-true x j.whole in
@@ -199,7 +204,7 @@ judged-true x many = (there, back)
     back t =
         record {
           halves = rows_both t.sums t.kept;
-          cut = cut-fine x.ring.n x.rows x.cut t.cut t.across;
+          cut = cut-fine x.ring.nodes x.rows x.cut t.cut t.across;
           links = links-fine x 0 x.links (record { numbers = t.links ∙ ap (numbers_from 1) (sym many); loads = t.loads });
           last = is-fine (last-first x.ring x.rows x.peak x.size) (no-fact (⊎_elim (λ d. d t.peak) (λ d. d t.size)));
           whole = is-fine (whole-first x) (λ q. ⊎_elim (no-fact (λ d. d t.tight) q) (no-fact (λ l. omega (arith, t.bound)) q));

@@ -2,7 +2,8 @@
 use Rattle.std.specs.Prelude.{ℕ, ◌+◌, List, get_or}
 use Rattle.ring.specs.Columns.{listed, routed_in}
 use Rattle.ring.specs.Ring.{ring_of}
-use Rattle.ring.specs.Sheet.{Link, Sheet}
+use Rattle.ring.specs.Sheet.{Sheet}
+use Rattle.ring.specs.declared.types.Link.{Link}
 use Rattle.sheet.specs.declared.Figures.{Figures}
 
 -- place k holds the loads of link k+1

@@ -4,7 +4,10 @@ use Rattle.std.specs.Prelude.{ℕ, ◌+◌, ◌*◌, min, cond, List, [], ◌∷
 use Prim.Native.String.{String}
 use Rattle.ring.specs.Cut.{across}
 use Rattle.ring.specs.Limits.{desk}
-use Rattle.ring.specs.Routing.{Sent, F, B, Routed, routed, unsplit_load, peak}
+use Rattle.ring.specs.Routing.{routed, unsplit_load, peak}
+use Rattle.ring.specs.declared.types.Sent.{Sent}
+use Rattle.ring.specs.declared.types.Routed.{Routed}
+use Rattle.ring.specs.declared.types.Way.TheVariants.{Front, Back}
 use Rattle.ring.specs.RuleA.{rule_a}
 use Rattle.ring.specs.RuleB.{rule_b}
 use Rattle.ring.specs.Sheet.{Sheet, sents, demands, plan, split_peak, unsplit_peak, largest_split_of}
@@ -155,17 +158,17 @@ bound x =
 unfoldable pub best_peak : ℕ → List Routed → List Sent → ℕ
 unfolding peak unsplit_load
 best_peak n rs [] = peak (unsplit_load rs) n
-best_peak n rs (s ∷ ss) = min (best_peak n (routed s F ∷ rs) ss) (best_peak n (routed s B ∷ rs) ss)
+best_peak n rs (s ∷ ss) = min (best_peak n (routed s Front ∷ rs) ss) (best_peak n (routed s Back ∷ rs) ss)
 
 unfoldable pub truth : Sheet → Claim → Claim
 unfolding across rule_a rule_b best_peak peak
-truth x (M_is m) = M_is (rule_a x.ring.n (demands (sents x.rows))).number
-truth x (sent_by_B hs) = sent_by_B (halves (rule_b x.ring.n (demands (sents x.rows))))
+truth x (M_is m) = M_is (rule_a x.ring.nodes (demands (sents x.rows))).number
+truth x (sent_by_B hs) = sent_by_B (halves (rule_b x.ring.nodes (demands (sents x.rows))))
 truth x (tight s m) = tightness x
 truth x (not_tight s m) = tightness x
 truth x (u at-most s plus d) = bound x
 truth x (u above s plus d) = bound x
-truth x (best_peak_is p) = best_peak_is (best_peak x.ring.n [] (sents x.rows))
+truth x (best_peak_is p) = best_peak_is (best_peak x.ring.nodes [] (sents x.rows))
 
 -- ---- the answers
 

@@ -1,11 +1,15 @@
 -- Internal: checking a sheet: reason 1 first, then lines in order, and in a line the reasons in their order; then 13, then 14.
 use Rattle.std.specs.Prelude.{ℕ, ◌+◌, max, Bool, true, false, cond, List, [], ◌∷◌, ◌++◌, length, ltb}
-use Rattle.ring.specs.Routing.{way_of, Routed, routed, sent}
-use Rattle.ring.specs.Cut.{Cut}
+use Rattle.ring.specs.Routing.{way_of, routed, sent}
+use Rattle.ring.specs.declared.types.Routed.{Routed}
+use Rattle.ring.specs.declared.types.Cut.{Cut}
 use Rattle.ring.specs.Limits.{Limits}
-use Rattle.ring.specs.Ring.{Ring, ring_of}
-use Rattle.ring.specs.Row.{Row, row}
-use Rattle.ring.specs.Sheet.{Link, Sheet}
+use Rattle.ring.specs.Ring.{ring_of}
+use Rattle.ring.specs.declared.types.Ring.{Ring}
+use Rattle.ring.specs.Row.{row}
+use Rattle.ring.specs.declared.types.Row.{Row}
+use Rattle.ring.specs.Sheet.{Sheet}
+use Rattle.ring.specs.declared.types.Link.{Link}
 use Rattle.text.specs.ReadLine.{read_line}
 use Rattle.text.specs.Answers.{two_in, three_in, sent_in}
 use Rattle.text.specs.Shapes.{ring_shape, sent_shape, cut_shape, link_shape, last_shape}
@@ -67,7 +71,7 @@ last_of (r ∷ q ∷ rs) = last_of (q ∷ rs)
 
 -- 4 to 7 and 16 of a D line, behind the rows rs
 abbrev pub judge_next : Limits → ℕ → List Routed → ℕ → ℕ → ℕ → Verdict
-judge_next limits n rs i j d = judge_row limits n (length rs) (last_of rs).i (last_of rs).j i j d
+judge_next limits n rs i j d = judge_row limits n (length rs) (last_of rs).first (last_of rs).second i j d
 
 -- L link split-load unsplit-load
 abbrev pub link_of : ℕ → ℕ → ℕ → Link
@@ -84,14 +88,14 @@ ring_turn limits (NotTwo p) = stop Misshapen (p + 1)
 -- C g h across; the line is no D line, whose first faulty byte is at the place q: the first at which neither goes on is at the later place
 unfoldable pub cut_turn : Bool → Ring → List Routed → ℕ → ThreeNumbers → Turn
 unfolding unless when
-cut_turn judging ring rs q (AreThree g h m) = unless (when judging (judge_cut ring.n rs (cut_of g h m))) whole_line (links ring rs (cut_of g h m) [])
+cut_turn judging ring rs q (AreThree g h m) = unless (when judging (judge_cut ring.nodes rs (cut_of g h m))) whole_line (links ring rs (cut_of g h m) [])
 cut_turn judging ring rs q (NotThree p) = stop Misshapen (max q p + 1)
 
 -- D i j amount front back F-or-B, else C
 unfoldable pub row_turn : Limits → Bool → Ring → List Routed → SentRow → ThreeNumbers → Turn
 unfolding unless when cut_turn or_else row_fault
 row_turn limits judging ring rs (IsSent i j d f k w) other =
-    unless (or_else (judge_next limits ring.n rs i j d) (when judging (judge_halves (routed_of i j d f k w)))) (row_fault ring.n i j d) (rows ring (rs ++ routed_of i j d f k w ∷ []))
+    unless (or_else (judge_next limits ring.nodes rs i j d) (when judging (judge_halves (routed_of i j d f k w)))) (row_fault ring.nodes i j d) (rows ring (rs ++ routed_of i j d f k w ∷ []))
 row_turn limits judging ring rs (NotSent p) other = cut_turn judging ring rs p other
 
 -- L link split-load unsplit-load
@@ -113,7 +117,7 @@ unfolding ring_turn row_turn link_turn last_turn
 turn limits judging start l = ring_turn limits (two_in (read_line ring_shape l))
 turn limits judging (rows ring rs) l = row_turn limits judging ring rs (sent_in (read_line sent_shape l)) (three_in (read_line cut_shape l))
 turn limits judging (links ring rs c ks) l =
-    cond (ltb (length ks) ring.n) (link_turn judging ring rs c ks (three_in (read_line link_shape l))) (last_turn judging ring rs c ks (two_in (read_line last_shape l)))
+    cond (ltb (length ks) ring.nodes) (link_turn judging ring rs c ks (three_in (read_line link_shape l))) (last_turn judging ring rs c ks (two_in (read_line last_shape l)))
 turn limits judging (end x) l = stop Misshapen 1
 
 -- ---- the lines in order

@@ -2,9 +2,10 @@
 use Rattle.std.specs.Prelude.{ℕ, ◌*◌, ◌≤◌, List, ◌≡◌}
 use Rattle.ring.specs.Division.{Divides}
 use Rattle.ring.specs.Limits.{Limits, desk}
-use Rattle.ring.specs.Ring.{Ring}
-use Rattle.ring.specs.Row.{Row}
-use Rattle.ring.specs.Routing.{Sent, split_load, peak}
+use Rattle.ring.specs.declared.types.Ring.{Ring}
+use Rattle.ring.specs.declared.types.Row.{Row}
+use Rattle.ring.specs.Routing.{split_load, peak}
+use Rattle.ring.specs.declared.types.Sent.{Sent}
 use Rattle.ring.specs.Sheet.{Sheet, sents, demands, plan}
 use Rattle.ring.specs.True.{TrueSheet}
 use Rattle.table.specs.Table as table
@@ -28,4 +29,4 @@ PlanAccepted = (ring : Ring) (rs : List Row) → table.InRange desk ring rs → 
 abbrev pub NoLowerPeak : Limits → Type 0
 NoLowerPeak limits =
     (x : Sheet) → InRange limits x → Accepted limits (write_sheet x) → (q : ℕ) (ss : List Sent) →
-    Divides q (demands (sents x.rows)) ss → q * x.cut.number ≤ 2 * peak (split_load ss) x.ring.n
+    Divides q (demands (sents x.rows)) ss → q * x.cut.number ≤ 2 * peak (split_load ss) x.ring.nodes

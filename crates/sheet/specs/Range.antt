@@ -3,9 +3,11 @@ use Rattle.std.specs.Prelude.{ℕ, ◌+◌, ◌*◌, ◌≤◌, ◌<◌, ◌≡�
 use Rattle.ring.specs.Limits.{Limits}
 use Rattle.ring.specs.LineSize.{IsFibres}
 use Rattle.ring.specs.Lists.{Each}
-use Rattle.ring.specs.Row.{Row, TableRows}
-use Rattle.ring.specs.Routing.{Routed}
-use Rattle.ring.specs.Sheet.{Link, Sheet, sents, demands}
+use Rattle.ring.specs.Row.{TableRows}
+use Rattle.ring.specs.declared.types.Row.{Row}
+use Rattle.ring.specs.declared.types.Routed.{Routed}
+use Rattle.ring.specs.Sheet.{Sheet, sents, demands}
+use Rattle.ring.specs.declared.types.Link.{Link}
 use Rattle.text.specs.Number.{most_digits, limit}
 use Rattle.text.specs.Shapes.{ring_shape, sent_shape, cut_shape, link_shape, last_shape}
 use Rattle.sheet.specs.WriteSheet.{write_sheet}
@@ -30,15 +32,15 @@ pub record Spelled (x : Sheet) : Type 0 where
 
 pub record InRange (limits : Limits) (x : Sheet) : Type 0 where
   -- as in a table
-  pub few : limits.fewest ≤ x.ring.n
-  pub many : x.ring.n ≤ limits.nodes
+  pub few : limits.fewest ≤ x.ring.nodes
+  pub many : x.ring.nodes ≤ limits.nodes
   pub fibres : IsFibres x.ring.fibres
-  pub rows : TableRows x.ring.n (demands (sents x.rows))
+  pub rows : TableRows x.ring.nodes (demands (sents x.rows))
   pub count : length x.rows ≤ limits.rows
-  pub amounts : Each (λ (r : Row). r.d ≤ limits.amount) (demands (sents x.rows))
+  pub amounts : Each (λ (r : Row). r.amount ≤ limits.amount) (demands (sents x.rows))
   pub spelled : Spelled x
   -- as many L lines as the ring has links
-  pub links : length x.links ≡ x.ring.n
+  pub links : length x.links ≡ x.ring.nodes
   pub short : length (write_sheet x) ≤ limits.bytes
 
 -- no sheet of so many rows and nodes is longer: a field has at most 7 digits and the byte behind them

@@ -1,13 +1,16 @@
 -- To believe: what each reason says of a sheet's text (Rules, reasons), by its lines and the writer alone, and which byte of the line goes with it; which reason is given; and what accepted and well-formed sheets are.
 use Rattle.std.specs.Prelude.{ℕ, ◌+◌, ◌*◌, ◌≤◌, ◌<◌, List, [], ◌∷◌, ◌++◌, ◌⊎◌, ◌≡◌, length}
 use Rattle.sonet.specs.Size.{sonet_sizes}
-use Rattle.ring.specs.Cut.{Cut, IsCut, across}
+use Rattle.ring.specs.Cut.{IsCut, across}
+use Rattle.ring.specs.declared.types.Cut.{Cut}
 use Rattle.ring.specs.Limits.{Limits}
-use Rattle.ring.specs.Ring.{Ring}
+use Rattle.ring.specs.declared.types.Ring.{Ring}
 use Rattle.ring.specs.LineSize.{line_size}
 use Rattle.ring.specs.Row.{PairBefore}
-use Rattle.ring.specs.Routing.{way_number, Routed, split_load, unsplit_load, peak}
-use Rattle.ring.specs.Sheet.{Link, Sheet, sents, demands, split_peak, unsplit_peak, largest_split_of}
+use Rattle.ring.specs.Routing.{way_number, split_load, unsplit_load, peak}
+use Rattle.ring.specs.declared.types.Routed.{Routed}
+use Rattle.ring.specs.Sheet.{Sheet, sents, demands, split_peak, unsplit_peak, largest_split_of}
+use Rattle.ring.specs.declared.types.Link.{Link}
 use Rattle.ring.specs.True.{SumsTo2d, Kept}
 use Rattle.text.specs.Number.{limit}
 use Rattle.text.specs.FieldByte.{sent_byte}
@@ -25,8 +28,8 @@ use Rattle.sheet.specs.WriteSheet.{routed_line, load_line}
 -- this line is D i j amount front back F-or-B
 pub record SentIs (t : List ℕ) (line : ℕ) (r : Routed) : Type 0 where
   pub text : LineIs (lines t) line (routed_line r)
-  pub nodes : (r.sent.row.i < limit) × (r.sent.row.j < limit)
-  pub amount : r.sent.row.d < limit
+  pub nodes : (r.sent.row.first < limit) × (r.sent.row.second < limit)
+  pub amount : r.sent.row.amount < limit
   pub halves : (r.sent.front < limit) × (r.sent.back < limit)
 
 -- this line is C g h across
@@ -62,9 +65,9 @@ pub data At (t : List ℕ) : ℕ → State → Type 0 where
   behind_ring : {ring : Ring} → RingIs t ring → At t 2 (rows ring [])
   behind_row : {line : ℕ} {ring : Ring} {rs : List Routed} {r : Routed} → At t line (rows ring rs) → SentIs t line r → At t (line + 1) (rows ring (rs ++ r ∷ []))
   behind_cut : {line : ℕ} {ring : Ring} {rs : List Routed} {c : Cut} → At t line (rows ring rs) → CutIs t line c → At t (line + 1) (links ring rs c [])
-  behind_link : {line : ℕ} {ring : Ring} {rs : List Routed} {c : Cut} {ks : List Link} {l : Link} → At t line (links ring rs c ks) → length ks < ring.n → LinkIs t line l
+  behind_link : {line : ℕ} {ring : Ring} {rs : List Routed} {c : Cut} {ks : List Link} {l : Link} → At t line (links ring rs c ks) → length ks < ring.nodes → LinkIs t line l
       → At t (line + 1) (links ring rs c (ks ++ l ∷ []))
-  behind_last : {line : ℕ} {ring : Ring} {rs : List Routed} {c : Cut} {ks : List Link} {p z : ℕ} → At t line (links ring rs c ks) → ring.n ≤ length ks → LastIs t line p z
+  behind_last : {line : ℕ} {ring : Ring} {rs : List Routed} {c : Cut} {ks : List Link} {p z : ℕ} → At t line (links ring rs c ks) → ring.nodes ≤ length ks → LastIs t line p z
       → At t (line + 1) (end (record { ring = ring; rows = rs; cut = c; links = ks; peak = p; size = z }))
 
 -- a D line that is due
@@ -81,9 +84,9 @@ pub data WrongLine (t : List ℕ) (line : ℕ) : Type 0 where
   no_ring : At t line start → ((ring : Ring) → RingIs t ring → ⊥) → WrongLine t line
   no_row_no_cut : {ring : Ring} {rs : List Routed} → At t line (rows ring rs) → ((r : Routed) → SentIs t line r → ⊥) → ((c : Cut) → CutIs t line c → ⊥)
       → WrongLine t line
-  no_link : {ring : Ring} {rs : List Routed} {c : Cut} {ks : List Link} → At t line (links ring rs c ks) → length ks < ring.n → ((l : Link) → LinkIs t line l → ⊥)
+  no_link : {ring : Ring} {rs : List Routed} {c : Cut} {ks : List Link} → At t line (links ring rs c ks) → length ks < ring.nodes → ((l : Link) → LinkIs t line l → ⊥)
       → WrongLine t line
-  no_last : {ring : Ring} {rs : List Routed} {c : Cut} {ks : List Link} → At t line (links ring rs c ks) → ring.n ≤ length ks → ((p z : ℕ) → LastIs t line p z → ⊥)
+  no_last : {ring : Ring} {rs : List Routed} {c : Cut} {ks : List Link} → At t line (links ring rs c ks) → ring.nodes ≤ length ks → ((p z : ℕ) → LastIs t line p z → ⊥)
       → WrongLine t line
   left_over : {x : Sheet} {l : List ℕ} → At t line (end x) → LineIs (lines t) line l → WrongLine t line
 
@@ -91,13 +94,13 @@ pub data WrongLine (t : List ℕ) (line : ℕ) : Type 0 where
 pub record WrongNode (t : List ℕ) (line : ℕ) : Type 0 where
   pub r : Routed
   pub row : RowAt t line r
-  pub wrong : NoNode row.ring.n r.sent.row.i ⊎ NoNode row.ring.n r.sent.row.j
+  pub wrong : NoNode row.ring.nodes r.sent.row.first ⊎ NoNode row.ring.nodes r.sent.row.second
 
 -- 5: first node not below second
 pub record WrongPair (t : List ℕ) (line : ℕ) : Type 0 where
   pub r : Routed
   pub row : RowAt t line r
-  pub wrong : r.sent.row.j ≤ r.sent.row.i
+  pub wrong : r.sent.row.second ≤ r.sent.row.first
 
 -- 6: row's nodes below the row before, by first node, then second
 pub record WrongOrder (t : List ℕ) (line : ℕ) : Type 0 where
@@ -107,7 +110,7 @@ pub record WrongOrder (t : List ℕ) (line : ℕ) : Type 0 where
   pub above : RowAt t before q
   pub r : Routed
   pub row : RowAt t line r
-  pub wrong : PairBefore r.sent.row.i r.sent.row.j q.sent.row.i q.sent.row.j
+  pub wrong : PairBefore r.sent.row.first r.sent.row.second q.sent.row.first q.sent.row.second
 
 -- 16: more than 496 rows
 pub record WrongCount (limits : Limits) (t : List ℕ) (line : ℕ) : Type 0 where
@@ -119,7 +122,7 @@ pub record WrongCount (limits : Limits) (t : List ℕ) (line : ℕ) : Type 0 whe
 pub record WrongAmount (limits : Limits) (t : List ℕ) (line : ℕ) : Type 0 where
   pub r : Routed
   pub row : RowAt t line r
-  pub wrong : limits.amount < r.sent.row.d
+  pub wrong : limits.amount < r.sent.row.amount
 
 -- 8: front + back is not 2 x amount
 pub record WrongHalves (t : List ℕ) (line : ℕ) : Type 0 where
@@ -140,7 +143,7 @@ pub record WrongCutLine (t : List ℕ) (line : ℕ) : Type 0 where
   pub due : At t line (rows ring rs)
   pub c : Cut
   pub is : CutIs t line c
-  pub wrong : (IsCut ring.n c → ⊥) ⊎ (c.number ≡ across (demands (sents rs)) c.g c.h → ⊥)
+  pub wrong : (IsCut ring.nodes c → ⊥) ⊎ (c.number ≡ across (demands (sents rs)) c.g c.h → ⊥)
 
 -- 11: the link is not the next one, or a load is not that of the sheet's own rows
 pub record WrongLinkLine (t : List ℕ) (line : ℕ) : Type 0 where
@@ -149,7 +152,7 @@ pub record WrongLinkLine (t : List ℕ) (line : ℕ) : Type 0 where
   pub c : Cut
   pub ks : List Link
   pub due : At t line (links ring rs c ks)
-  pub few : length ks < ring.n
+  pub few : length ks < ring.nodes
   pub l : Link
   pub is : LinkIs t line l
   pub wrong : (l.link ≡ length ks + 1 → ⊥) ⊎ ((l.split ≡ split_load (sents rs) (length ks + 1) → ⊥) ⊎ (l.unsplit ≡ unsplit_load rs (length ks + 1) → ⊥))
@@ -161,11 +164,11 @@ pub record WrongLastLine (t : List ℕ) (line : ℕ) : Type 0 where
   pub c : Cut
   pub ks : List Link
   pub due : At t line (links ring rs c ks)
-  pub all : ring.n ≤ length ks
+  pub all : ring.nodes ≤ length ks
   pub p : ℕ
   pub z : ℕ
   pub is : LastIs t line p z
-  pub wrong : (p ≡ peak (unsplit_load rs) ring.n → ⊥) ⊎ (z ≡ line_size sonet_sizes ring.fibres (peak (unsplit_load rs) ring.n) → ⊥)
+  pub wrong : (p ≡ peak (unsplit_load rs) ring.nodes → ⊥) ⊎ (z ≡ line_size sonet_sizes ring.fibres (peak (unsplit_load rs) ring.nodes) → ⊥)
 
 -- the text is a whole sheet: its lines end behind the Z line
 pub record WholeIs (t : List ℕ) (x : Sheet) : Type 0 where
@@ -223,18 +226,18 @@ pub record NeitherGoesOn (l : List ℕ) (p : ℕ) : Type 0 where
 pub data LineByte (t : List ℕ) (line byte : ℕ) : Type 0 where
   ring_due : At t line start → ShapeByte t ring_shape line byte → LineByte t line byte
   row_or_cut_due : {ring : Ring} {rs : List Routed} → At t line (rows ring rs) → DueByte t line NeitherGoesOn byte → LineByte t line byte
-  link_due : {ring : Ring} {rs : List Routed} {c : Cut} {ks : List Link} → At t line (links ring rs c ks) → length ks < ring.n → ShapeByte t link_shape line byte → LineByte t line byte
-  last_due : {ring : Ring} {rs : List Routed} {c : Cut} {ks : List Link} → At t line (links ring rs c ks) → ring.n ≤ length ks → ShapeByte t last_shape line byte → LineByte t line byte
+  link_due : {ring : Ring} {rs : List Routed} {c : Cut} {ks : List Link} → At t line (links ring rs c ks) → length ks < ring.nodes → ShapeByte t link_shape line byte → LineByte t line byte
+  last_due : {ring : Ring} {rs : List Routed} {c : Cut} {ks : List Link} → At t line (links ring rs c ks) → ring.nodes ≤ length ks → ShapeByte t last_shape line byte → LineByte t line byte
   none_due : {x : Sheet} → At t line (end x) → byte ≡ 1 → LineByte t line byte
 
 -- where field k of a D line starts: the nodes are fields 1 and 2, the amount is field 3
 abbrev pub routed_byte : Routed → ℕ → ℕ
-routed_byte r k = sent_byte r.sent.row.i r.sent.row.j r.sent.row.d r.sent.front r.sent.back (way_number r.way) k
+routed_byte r k = sent_byte r.sent.row.first r.sent.row.second r.sent.row.amount r.sent.front r.sent.back (way_number r.way) k
 
 -- 4: where the first of the two nodes that is outside starts
 pub data NodeByte (t : List ℕ) (line byte : ℕ) : Type 0 where
-  first_node : {r : Routed} (row : RowAt t line r) → NoNode row.ring.n r.sent.row.i → byte ≡ routed_byte r 1 → NodeByte t line byte
-  second_node : {r : Routed} (row : RowAt t line r) → (NoNode row.ring.n r.sent.row.i → ⊥) → NoNode row.ring.n r.sent.row.j → byte ≡ routed_byte r 2 → NodeByte t line byte
+  first_node : {r : Routed} (row : RowAt t line r) → NoNode row.ring.nodes r.sent.row.first → byte ≡ routed_byte r 1 → NodeByte t line byte
+  second_node : {r : Routed} (row : RowAt t line r) → (NoNode row.ring.nodes r.sent.row.first → ⊥) → NoNode row.ring.nodes r.sent.row.second → byte ≡ routed_byte r 2 → NodeByte t line byte
 
 -- 7: where the amount starts
 pub record AmountByte (t : List ℕ) (line byte : ℕ) : Type 0 where

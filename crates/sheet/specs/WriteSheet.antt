@@ -1,13 +1,15 @@
 -- To believe: a sheet as text (Rules, sheets): R n fibres; D lines; the C line; L lines; Z unsplit-peak size.
 use Rattle.std.specs.Prelude.{ℕ, List, [], ◌∷◌, ◌++◌}
-use Rattle.ring.specs.Routing.{way_number, Routed}
-use Rattle.ring.specs.Sheet.{Link, Sheet}
+use Rattle.ring.specs.Routing.{way_number}
+use Rattle.ring.specs.declared.types.Routed.{Routed}
+use Rattle.ring.specs.Sheet.{Sheet}
+use Rattle.ring.specs.declared.types.Link.{Link}
 use Rattle.text.specs.Shapes.{ring_line, sent_line, cut_line, link_line, last_line}
 use Rattle.sheet.specs.declared.Figures.{Figures}
 
 -- D i j amount front back F-or-B
 abbrev pub routed_line : Routed → List ℕ
-routed_line r = sent_line r.sent.row.i r.sent.row.j r.sent.row.d r.sent.front r.sent.back (way_number r.way)
+routed_line r = sent_line r.sent.row.first r.sent.row.second r.sent.row.amount r.sent.front r.sent.back (way_number r.way)
 
 -- L link split-load unsplit-load
 abbrev pub load_line : Link → List ℕ
@@ -20,7 +22,7 @@ lines_of line (x ∷ l) = line x ++ lines_of line l
 
 -- the figures of a sheet that are not of a row or of a link
 abbrev pub figures_of : Sheet → Figures
-figures_of x = record { n = x.ring.n; fibres = x.ring.fibres; g = x.cut.g; h = x.cut.h; across = x.cut.number; peak = x.peak; size = x.size }
+figures_of x = record { n = x.ring.nodes; fibres = x.ring.fibres; g = x.cut.g; h = x.cut.h; across = x.cut.number; peak = x.peak; size = x.size }
 
 -- C g h across; L lines; Z unsplit-peak size
 unfoldable pub end_text : Figures → List Link → List ℕ
@@ -29,4 +31,4 @@ end_text x links = cut_line x.g x.h x.across ++ (lines_of load_line links ++ las
 
 unfoldable pub write_sheet : Sheet → List ℕ
 unfolding end_text
-write_sheet x = ring_line x.ring.n x.ring.fibres ++ (lines_of routed_line x.rows ++ end_text (figures_of x) x.links)
+write_sheet x = ring_line x.ring.nodes x.ring.fibres ++ (lines_of routed_line x.rows ++ end_text (figures_of x) x.links)

@@ -1,8 +1,8 @@
 -- Reading and writing a table are each other's inverse, from `table-text` both ways.
 use mathlib.Core.List.{List}
 use mathlib.Core.Path.{◌≡◌, refl, ap, ◌∙◌, sym}
-use Rattle.ring.specs.Ring.{Ring}
-use Rattle.ring.specs.Row.{Row}
+use Rattle.ring.specs.declared.types.Ring.{Ring}
+use Rattle.ring.specs.declared.types.Row.{Row}
 use Rattle.ring.specs.Limits.{Limits}
 use Rattle.table.specs.Table.{write_table, LimitsSpelled, InRange}
 use Rattle.table.specs.ReadTable.{accepted, table_of}

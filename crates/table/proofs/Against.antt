@@ -5,7 +5,7 @@ use mathlib.Core.Path.{◌≡◌, refl}
 use native.Mathlib.Omega.{arith}
 use Rattle.ring.specs.Row.{row, OnRing, PairBefore, PairUpTo}
 use Rattle.ring.specs.Limits.{Limits}
-use Rattle.ring.specs.Ring.{Ring}
+use Rattle.ring.specs.declared.types.Ring.{Ring}
 use Rattle.ring.specs.LineSize.{IsFibres}
 use Rattle.table.specs.Reasons.{rank_of}
 use Rattle.table.specs.Says.{NoNode}
@@ -94,7 +94,7 @@ fine-row-judged limits n k a b i j d r o c m = go (row-judged limits n k a b i j
 -- ---- a ring
 
 pub data AgainstRing (limits : Limits) (ring : Ring) : Reason → Type 0 where
-  by_size : (ring.n < limits.fewest) ⊎ (limits.nodes < ring.n) → AgainstRing limits ring RingSize
+  by_size : (ring.nodes < limits.fewest) ⊎ (limits.nodes < ring.nodes) → AgainstRing limits ring RingSize
   by_fibres : (IsFibres ring.fibres → ⊥) → AgainstRing limits ring Fibres
 
 has-size : {least most n : ℕ} → least ≤ n → n ≤ most → (n < least) ⊎ (most < n) → ⊥
@@ -110,7 +110,7 @@ module _ {limits : Limits} {ring : Ring} where
   ring-least (right_ring l m f) (by_size w) = has-size l m w
   ring-least (right_ring l m f) (by_fibres w) = w f
 
-pub fine-ring-judged : (limits : Limits) (ring : Ring) → limits.fewest ≤ ring.n → ring.n ≤ limits.nodes → IsFibres ring.fibres → judge_ring limits ring ≡ Fine
+pub fine-ring-judged : (limits : Limits) (ring : Ring) → limits.fewest ≤ ring.nodes → ring.nodes ≤ limits.nodes → IsFibres ring.fibres → judge_ring limits ring ≡ Fine
 fine-ring-judged limits ring few many fibres = go (ring-judged limits ring)
   where
     go : {v : Verdict} → RingJudged limits ring v → v ≡ Fine

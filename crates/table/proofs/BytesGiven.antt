@@ -6,7 +6,7 @@ use mathlib.Core.Logic.{◌⊎◌, inl, inr}
 use mathlib.Core.Path.{◌≡◌, refl, ap, sym, ◌∙◌, subst}
 use native.Mathlib.Omega.{arith}
 use Rattle.ring.specs.Limits.{Limits}
-use Rattle.ring.specs.Ring.{Ring}
+use Rattle.ring.specs.declared.types.Ring.{Ring}
 use Rattle.text.specs.FieldByte.{field_byte, ring_byte}
 use Rattle.text.specs.WriteLine.{write_line}
 use Rattle.text.proofs.LineLaws.{one-fault}
@@ -32,15 +32,15 @@ ring-byte {ring} here (wrong_fibres l m w) = record { ring = ring; said = here; 
 ring-byte here (right_ring l m f) = tt
 
 module _ {t : List ℕ} {ring : Ring} {line i j d : ℕ} (here : RingIs t ring) (row : RowIs t line i j d) where
-  node-byte : Node ring.n i → NoNode ring.n i ⊎ NoNode ring.n j → NodeByte t line (row_fault ring.n i j d NoSuchNode)
+  node-byte : Node ring.nodes i → NoNode ring.nodes i ⊎ NoNode ring.nodes j → NodeByte t line (row_fault ring.nodes i j d NoSuchNode)
   unfolding row_fault node_field
   node-byte (no_node w e) out = rw e (first_node here row w)
   node-byte (has_node h e) (inl w) = absurd (no-node-there h w)
   node-byte (has_node h e) (inr w) = rw e (second_node here row (no-node-there h) w)
 
-  pub row-byte : {limits : Limits} {k a b : ℕ} {v : Verdict} → RowJudged limits ring.n k a b i j d v → ByteOn t line (row_fault ring.n i j d) v
+  pub row-byte : {limits : Limits} {k a b : ℕ} {v : Verdict} → RowJudged limits ring.nodes k a b i j d v → ByteOn t line (row_fault ring.nodes i j d) v
   unfolding ByteIs row_fault field_byte write_line
-  row-byte (no_such_node w) = node-byte (node ring.n i) w
+  row-byte (no_such_node w) = node-byte (node ring.nodes i) w
   row-byte (not_below h p l) = refl
   row-byte (out_of_order h p l o) = refl
   row-byte (too_many h p l o c) = refl
@@ -66,7 +66,7 @@ one-line-byte (row_due e x) (ring_due f y) = absurd (omega arith)
 one-line-byte (row_due e x) (row_due f y) = one-shape-byte x y
 
 pub one-ring-field : {t : List ℕ} {k b c : ℕ} → RingField t k b → RingField t k c → b ≡ c
-one-ring-field {k} x y = x.is ∙ ap (λ (r : Ring). ring_byte r.n r.fibres k) (ring-one x.said y.said) ∙ sym y.is
+one-ring-field {k} x y = x.is ∙ ap (λ (r : Ring). ring_byte r.nodes r.fibres k) (ring-one x.said y.said) ∙ sym y.is
 
 one-node-byte : {t : List ℕ} {line b c : ℕ} → NodeByte t line b → NodeByte t line c → b ≡ c
 one-node-byte (first_node r x w) (first_node s y v) = let e = row_one x y refl in rw (e.same_i, e.same_j, e.same_d)

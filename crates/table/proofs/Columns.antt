@@ -5,7 +5,8 @@ use mathlib.Core.Path.{◌≡◌, refl, ap, ◌∙◌, sym}
 use native.Mathlib.Omega.{arith}
 use lib.ListN.{length, get_or, set, drop, replicate, length-map, length-replicate}
 use lib.Seq.{sets, sets-eq, length-sets, get_or-append-add, get_or-drop}
-use Rattle.ring.specs.Row.{Row, row}
+use Rattle.ring.specs.Row.{row}
+use Rattle.ring.specs.declared.types.Row.{Row}
 use Rattle.ring.specs.Columns.{listed, column, rows_in}
 use Rattle.ring.proofs.Laid.{zeros-at}
 use Rattle.ring.proofs.Listed.{listed-shift, listed_same}
@@ -55,11 +56,11 @@ listed-members none [] = refl
 listed-members none (x ∷ l) = ap (λ m. x ∷ m) (listed-shift (λ k. get_or (x ∷ l) k none) 0 (length l) ∙ listed-members none l)
 
 pub rows_back : (size : ℕ) (rs : List Row) → length rs ≤ size →
-    rows_in (length rs) (column (λ r. r.i) size rs) (column (λ r. r.j) size rs) (column (λ r. r.d) size rs) ≡ rs
+    rows_in (length rs) (column (λ r. r.first) size rs) (column (λ r. r.second) size rs) (column (λ r. r.amount) size rs) ≡ rs
 rows_back size rs few =
     listed_same _ (λ k. get_or rs k (row 0 0 0)) 0 (length rs) same ∙ listed-members (row 0 0 0) rs
   where
     same : (k : ℕ) → 0 ≤ k → k < 0 + length rs →
-        row (get_or (column (λ r. r.i) size rs) k 0) (get_or (column (λ r. r.j) size rs) k 0) (get_or (column (λ r. r.d) size rs) k 0) ≡ get_or rs k (row 0 0 0)
+        row (get_or (column (λ r. r.first) size rs) k 0) (get_or (column (λ r. r.second) size rs) k 0) (get_or (column (λ r. r.amount) size rs) k 0) ≡ get_or rs k (row 0 0 0)
     same k l h =
-        rw (column-at (λ r. r.i) size rs (row 0 0 0) k few (omega arith), column-at (λ r. r.j) size rs (row 0 0 0) k few (omega arith), column-at (λ r. r.d) size rs (row 0 0 0) k few (omega arith))
+        rw (column-at (λ r. r.first) size rs (row 0 0 0) k few (omega arith), column-at (λ r. r.second) size rs (row 0 0 0) k few (omega arith), column-at (λ r. r.amount) size rs (row 0 0 0) k few (omega arith))

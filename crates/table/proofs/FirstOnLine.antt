@@ -6,7 +6,7 @@ use mathlib.Core.Logic.{inl, inr}
 use mathlib.Core.Path.{◌≡◌, refl}
 use native.Mathlib.Omega.{arith}
 use Rattle.ring.specs.Limits.{Limits}
-use Rattle.ring.specs.Ring.{Ring}
+use Rattle.ring.specs.declared.types.Ring.{Ring}
 use Rattle.ring.specs.Row.{PairBefore}
 use Rattle.table.specs.Lines.{lines}
 use Rattle.table.specs.Reasons.{rank_of}
@@ -94,11 +94,11 @@ order-holds : {t : List ℕ} {line a b i j d : ℕ} → RowIs t line i j d → R
 order-holds row no_row_before low (inl l) = absurd (omega arith)
 order-holds row no_row_before low (inr l) = absurd (omega (arith, l.0))
 order-holds {i} {j} {d} row (row_before {line} {a} {b} {c} above) low wrong =
-    record { before = line; next = refl; a = a; b = b; c = c; above = above; i = i; j = j; d = d; row = row; wrong = wrong }
+    record { before = line; next = refl; a = a; b = b; c = c; above = above; first = i; second = j; amount = d; row = row; wrong = wrong }
 
 -- the row stands behind k rows
 module _ {limits : Limits} {t : List ℕ} {ring : Ring} {line k i j d : ℕ} (here : RingIs t ring) (row : RowIs t line i j d) (place : line ≡ k + 2) where
-  said-of-row : {a b : ℕ} {s : Reason} → RowBefore t line a b → Said limits t line s → AgainstRow limits ring.n k a b i j d s
+  said-of-row : {a b : ℕ} {s : Reason} → RowBefore t line a b → Said limits t line s → AgainstRow limits ring.nodes k a b i j d s
   said-of-row before (too_long e long) = absurd (omega (arith, row.later))
   said-of-row before (no_ring_line h) = absurd (omega (arith, h.at, row.later))
   said-of-row before (no_row_line h) = absurd (h.none i j d row)
@@ -113,14 +113,14 @@ module _ {limits : Limits} {t : List ℕ} {ring : Ring} {line k i j d : ℕ} (he
   said-of-row before (wrong_count h) = by_count (omega (arith, h.wrong))
   said-of-row before (wrong_amount h) = let r = row_one h.row row refl in by_amount (rw r.same_d at h.wrong)
 
-  pub row-judged-first : {a b : ℕ} {v : Verdict} → RowBefore t line a b → RowJudged limits ring.n k a b i j d v → FirstOnLine limits t line v
+  pub row-judged-first : {a b : ℕ} {v : Verdict} → RowBefore t line a b → RowJudged limits ring.nodes k a b i j d v → FirstOnLine limits t line v
   unfolding Says
   row-judged-first {a} {b} before judged = record { holds = go judged; least = λ s h. row-least judged (said-of-row before (said s h)) }
     where
-      go : {v : Verdict} → RowJudged limits ring.n k a b i j d v → Holds limits t line v
-      go (no_such_node w) = record { ring = ring; said = here; i = i; j = j; d = d; row = row; wrong = w }
-      go (not_below h p w) = record { i = i; j = j; d = d; row = row; wrong = w }
+      go : {v : Verdict} → RowJudged limits ring.nodes k a b i j d v → Holds limits t line v
+      go (no_such_node w) = record { ring = ring; said = here; first = i; second = j; amount = d; row = row; wrong = w }
+      go (not_below h p w) = record { first = i; second = j; amount = d; row = row; wrong = w }
       go (out_of_order h p l w) = order-holds row before h.0 w
-      go (too_many h p l o w) = record { i = i; j = j; d = d; row = row; wrong = omega arith }
-      go (too_much h p l o c w) = record { i = i; j = j; d = d; row = row; wrong = w }
+      go (too_many h p l o w) = record { first = i; second = j; amount = d; row = row; wrong = omega arith }
+      go (too_much h p l o c w) = record { first = i; second = j; amount = d; row = row; wrong = w }
       go (row_fine o up c m) = tt

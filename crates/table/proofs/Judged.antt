@@ -9,7 +9,7 @@ use lib.Dec.{ltb}
 use borrow.Author.Tests.{lt-ltb, le-ltb, le-leb, lt-leb, eq-eqb, ne_eqb}
 use Rattle.ring.specs.Row.{row, OnRing, PairBefore, PairUpTo}
 use Rattle.ring.specs.Limits.{Limits}
-use Rattle.ring.specs.Ring.{Ring}
+use Rattle.ring.specs.declared.types.Ring.{Ring}
 use Rattle.ring.specs.LineSize.{two_fibres, four_fibres, IsFibres}
 use Rattle.table.specs.Says.{NoNode}
 use Rattle.table.specs.Judge.{wrong_size, judge_size, other_fibres, judge_ring, outside, is_below, judge_row}
@@ -70,15 +70,15 @@ fibred fibres =
     ]
 
 pub data RingJudged (limits : Limits) (ring : Ring) : Verdict → Type 0 where
-  size_wrong : (ring.n < limits.fewest) ⊎ (limits.nodes < ring.n) → RingJudged limits ring (Fault RingSize)
-  wrong_fibres : limits.fewest ≤ ring.n → ring.n ≤ limits.nodes → (IsFibres ring.fibres → ⊥) → RingJudged limits ring (Fault Fibres)
-  right_ring : limits.fewest ≤ ring.n → ring.n ≤ limits.nodes → IsFibres ring.fibres → RingJudged limits ring Fine
+  size_wrong : (ring.nodes < limits.fewest) ⊎ (limits.nodes < ring.nodes) → RingJudged limits ring (Fault RingSize)
+  wrong_fibres : limits.fewest ≤ ring.nodes → ring.nodes ≤ limits.nodes → (IsFibres ring.fibres → ⊥) → RingJudged limits ring (Fault Fibres)
+  right_ring : limits.fewest ≤ ring.nodes → ring.nodes ≤ limits.nodes → IsFibres ring.fibres → RingJudged limits ring Fine
 
 pub ring-judged : (limits : Limits) (ring : Ring) → RingJudged limits ring (judge_ring limits ring)
 unfolding judge_ring
-ring-judged limits ring = go (size limits ring.n) (fibred ring.fibres)
+ring-judged limits ring = go (size limits ring.nodes) (fibred ring.fibres)
   where
-    go : Size limits ring.n → Fibred ring.fibres → RingJudged limits ring (judge_ring limits ring)
+    go : Size limits ring.nodes → Fibred ring.fibres → RingJudged limits ring (judge_ring limits ring)
     go (wrong w e) f = rw e (size_wrong w)
     go (right l m e) (other o f) = rw (e, f) (wrong_fibres l m o)
     go (right l m e) (known o f) = rw (e, f) (right_ring l m o)

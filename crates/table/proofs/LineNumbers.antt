@@ -10,7 +10,8 @@ use Rattle.text.specs.Shapes.{ring_shape, row_shape}
 use Rattle.text.specs.Answers.{two_in, three_in}
 use Rattle.text.specs.declared.TwoNumbers.TheVariants.{Are as AreTwo}
 use Rattle.text.specs.declared.ThreeNumbers.TheVariants.{Are as AreThree}
-use Rattle.ring.specs.Ring.{Ring, ring_of}
+use Rattle.ring.specs.Ring.{ring_of}
+use Rattle.ring.specs.declared.types.Ring.{Ring}
 use Rattle.table.specs.Says.{LineIs, at_first, behind, RingIs, RowIs}
 use Rattle.table.proofs.LineRead.{ring-line-read, row-line-read}
 
@@ -28,9 +29,9 @@ line-one (behind p) (behind q) e = line-one p q (omega arith)
 
 pub ring-one : {t : List ℕ} {r s : Ring} → RingIs t r → RingIs t s → r ≡ s
 ring-one {t} {r} {s} p q =
-    let e : AreTwo r.n r.fibres ≡ AreTwo s.n s.fibres =
-    sym (ring-line-read r.n r.fibres p.spelled) ∙ ap (λ l. two_in (read_line ring_shape l)) (line-one p.text q.text refl)
-    ∙ ring-line-read s.n s.fibres q.spelled in
+    let e : AreTwo r.nodes r.fibres ≡ AreTwo s.nodes s.fibres =
+    sym (ring-line-read r.nodes r.fibres p.spelled) ∙ ap (λ l. two_in (read_line ring_shape l)) (line-one p.text q.text refl)
+    ∙ ring-line-read s.nodes s.fibres q.spelled in
     ap₂ ring_of (cc) (cc)
 
 -- the same three numbers

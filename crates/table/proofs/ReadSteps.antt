@@ -6,7 +6,8 @@ use mathlib.Core.Path.{◌≡◌, refl, ap, ◌∙◌, sym}
 use native.Mathlib.Omega.{arith}
 use lib.ListN.{length, set, take, drop, drop_of_length-le, length-append, length-take}
 use borrow.Author.Tests.{lt-ltb, le-ltb}
-use Rattle.ring.specs.Row.{Row, row}
+use Rattle.ring.specs.Row.{row}
+use Rattle.ring.specs.declared.types.Row.{Row}
 use Rattle.text.specs.ReadLine.{read_line}
 use Rattle.text.specs.Answers.{two_in, three_in}
 use Rattle.text.specs.Shapes.{ring_shape, row_shape}
@@ -49,9 +50,9 @@ pub record Reading (s : List ℕ) (n fibres from line a b count at : ℕ) (first
   pub rows : List Row
   pub rest : whole s n fibres from ≡ rows_of desk (ring_of n fibres) line a b rows (lines (drop at s))
   pub many : count ≡ length rows
-  pub firsts : first ≡ column (λ (r : Row). r.i) desk.rows rows
-  pub seconds : second ≡ column (λ (r : Row). r.j) desk.rows rows
-  pub amounts : amount ≡ column (λ (r : Row). r.d) desk.rows rows
+  pub firsts : first ≡ column (λ (r : Row). r.first) desk.rows rows
+  pub seconds : second ≡ column (λ (r : Row). r.second) desk.rows rows
+  pub amounts : amount ≡ column (λ (r : Row). r.amount) desk.rows rows
   pub lined : line ≡ count + 2
   pub most : count ≤ desk.rows
   pub within : at ≤ length s
@@ -112,9 +113,9 @@ module _ (s : List ℕ) (n fibres from line a b count at : ℕ) (first second am
               rows = reading.rows ++ row i j d ∷ [];
               rest = reading.rest ∙ rw (line_at s at end there ends, ← ex, is, found, fine);
               many = omega (arith, reading.many, length-append reading.rows (row i j d ∷ []));
-              firsts = rw reading.firsts (column-more (λ (r : Row). r.i) desk.rows reading.rows (row i j d) count reading.many);
-              seconds = rw reading.seconds (column-more (λ (r : Row). r.j) desk.rows reading.rows (row i j d) count reading.many);
-              amounts = rw reading.amounts (column-more (λ (r : Row). r.d) desk.rows reading.rows (row i j d) count reading.many);
+              firsts = rw reading.firsts (column-more (λ (r : Row). r.first) desk.rows reading.rows (row i j d) count reading.many);
+              seconds = rw reading.seconds (column-more (λ (r : Row). r.second) desk.rows reading.rows (row i j d) count reading.many);
+              amounts = rw reading.amounts (column-more (λ (r : Row). r.amount) desk.rows reading.rows (row i j d) count reading.many);
               lined = omega (arith, reading.lined);
               most = omega (arith, room);
               within = ends.within;

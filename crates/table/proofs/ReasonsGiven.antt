@@ -8,12 +8,14 @@ use native.Mathlib.Omega.{arith}
 use native.Mathlib.Decide.{dec_lt}
 use lib.ListN.{length, length-append}
 use borrow.Author.Tests.{ltb-true, ltb-false}
-use Rattle.ring.specs.Row.{Row, row}
+use Rattle.ring.specs.Row.{row}
+use Rattle.ring.specs.declared.types.Row.{Row}
 use Rattle.ring.proofs.Side.{cond-elim}
 use Rattle.text.specs.declared.TwoNumbers.{TwoNumbers}
 use Rattle.text.specs.declared.ThreeNumbers.{ThreeNumbers}
 use Rattle.ring.specs.Limits.{Limits}
-use Rattle.ring.specs.Ring.{Ring, ring_of}
+use Rattle.ring.specs.Ring.{ring_of}
+use Rattle.ring.specs.declared.types.Ring.{Ring}
 use Rattle.table.specs.Lines.{lines}
 use Rattle.table.specs.Judge.{judge_ring, judge_row}
 use Rattle.table.specs.Reasons.{rank_of}
@@ -95,10 +97,10 @@ module _ {limits : Limits} {t : List ℕ} where
       next i j d = rows_of limits ring (line + 1) i j (rs ++ row i j d ∷ []) ls
 
       go : {x : ThreeNumbers} → RowRead l x → ((i j d : ℕ) → Clean limits t (line + 1) → RowBefore t (line + 1) i j → Right limits t (next i j d))
-          → Right limits t (row_or x line λ i j d. unless (judge_row limits ring.n (length rs) a b i j d) line (row_fault ring.n i j d) (next i j d))
+          → Right limits t (row_or x line λ i j d. unless (judge_row limits ring.nodes (length rs) a b i j d) line (row_fault ring.nodes i j d) (next i j d))
       go (is_a_row {i} {j} {d} e w) rest =
           let now : RowIs t line i j d = record { later = omega arith; text = rw e at (line-here from); spelled = w } in
-          let judged = row-judged limits ring.n (length rs) a b i j d in
+          let judged = row-judged limits ring.nodes (length rs) a b i j d in
           unless-right _ _ clean (row-judged-first here now place before judged) (row-byte here now judged) (λ c. rest i j d c (row_before now))
       go (no_row none fault) rest =
           first_holds (given-here clean (no-row-first (omega arith) (line-here from) (λ i j d r. none i j d (line-one (line-here from) r.text refl) r.spelled))
@@ -116,7 +118,7 @@ module _ {limits : Limits} {t : List ℕ} where
           unless-right _ _ (clean-start short) (ring-judged-first here judged) (ring-byte here judged)
           (λ c. rows_right here ls 2 0 0 [] (from_next from) refl c no_row_before)
       go (no_ring none fault) =
-          first_holds (given-here (clean-start short) (no-ring-first (λ ring r. none ring.n ring.fibres (line-one (line-here from) r.text refl) r.spelled))
+          first_holds (given-here (clean-start short) (no-ring-first (λ ring r. none ring.nodes ring.fibres (line-one (line-here from) r.text refl) r.spelled))
           (ring_due refl (line_faulty (line-here from) fault)))
 
 too-long-given : {limits : Limits} {t : List ℕ} → limits.bytes < length t → Given limits t TooLong 0 0

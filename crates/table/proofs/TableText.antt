@@ -7,14 +7,16 @@ use mathlib.Core.Path.{◌≡◌, refl, ap, ◌∙◌, sym, subst}
 use native.Mathlib.Omega.{arith}
 use lib.ListN.{length, length-append}
 use borrow.Author.Tests.{le-ltb, ltb-false}
-use Rattle.ring.specs.Row.{Row, row}
+use Rattle.ring.specs.Row.{row}
+use Rattle.ring.specs.declared.types.Row.{Row}
 use Rattle.ring.proofs.Side.{cond-elim}
 use Rattle.text.specs.Number.{limit}
 use Rattle.text.specs.Shapes.{ring_line, row_line}
 use Rattle.text.specs.declared.TwoNumbers.{TwoNumbers}
 use Rattle.text.specs.declared.ThreeNumbers.{ThreeNumbers}
 use Rattle.ring.specs.Limits.{Limits, desk}
-use Rattle.ring.specs.Ring.{Ring, ring_of}
+use Rattle.ring.specs.Ring.{ring_of}
+use Rattle.ring.specs.declared.types.Ring.{Ring}
 use Rattle.ring.specs.LineSize.{IsFibres}
 use Rattle.table.specs.Lines.{lines}
 use Rattle.table.specs.Judge.{judge_ring, judge_row}
@@ -37,19 +39,19 @@ desk-spelled = record { nodes = omega arith; amount = omega arith }
 
 -- rows behind the rows rs, of which the last is a, b, as the lines ls are read to them
 data RowsRead (limits : Limits) (ring : Ring) (a b : ℕ) (rs : List Row) (ls : List (List ℕ)) : Result → Type 0 where
-  rows_are : {all : List Row} (more : List Row) → all ≡ rs ++ more → flatten ls ≡ write_rows more → FineRows limits ring.n (length rs) a b more
+  rows_are : {all : List Row} (more : List Row) → all ≡ rs ++ more → flatten ls ≡ write_rows more → FineRows limits ring.nodes (length rs) a b more
       → RowsRead limits ring a b rs ls (accepted ring all)
   rows_refused : {r : Reason} {line byte : ℕ} → RowsRead limits ring a b rs ls (refused r line byte)
 
 module _ {limits : Limits} {ring : Ring} where
   -- one row more in front
   row_more : (line : ℕ) (byte : Reason → ℕ) {a b i j d : ℕ} {rs : List Row} {l : List ℕ} {ls : List (List ℕ)} {v : Verdict} {x : Result} → l ≡ row_line i j d
-      → RowJudged limits ring.n (length rs) a b i j d v → RowsRead limits ring i j (rs ++ row i j d ∷ []) ls x → RowsRead limits ring a b rs (l ∷ ls) (unless v line byte x)
+      → RowJudged limits ring.nodes (length rs) a b i j d v → RowsRead limits ring i j (rs ++ row i j d ∷ []) ls x → RowsRead limits ring a b rs (l ∷ ls) (unless v line byte x)
   unfolding unless write_rows flatten
   row_more line byte {v = Fault r} e w rest = rows_refused
   row_more line byte {i} {j} {d} {rs} {v = Fine} e (row_fine o up c m) (rows_are more whole text fine) =
       let one = length-append rs (row i j d ∷ []) in
-      rows_are (row i j d ∷ more) (whole ∙ append_assoc rs (row i j d ∷ []) more) (rw (e, text)) (fine_row o up c m (subst (λ k. FineRows limits ring.n k i j more) one fine))
+      rows_are (row i j d ∷ more) (whole ∙ append_assoc rs (row i j d ∷ []) more) (rw (e, text)) (fine_row o up c m (subst (λ k. FineRows limits ring.nodes k i j more) one fine))
   row_more line byte {v = Fine} e w rows_refused = rows_refused
 
   rows-read : (ls : List (List ℕ)) (line a b : ℕ) (rs : List Row) → RowsRead limits ring a b rs ls (rows_of limits ring line a b rs ls)
@@ -61,8 +63,8 @@ module _ {limits : Limits} {ring : Ring} where
       next i j d = rows_of limits ring (line + 1) i j (rs ++ row i j d ∷ []) ls
 
       go : {x : ThreeNumbers} → RowRead l x → ((i j d : ℕ) → RowsRead limits ring i j (rs ++ row i j d ∷ []) ls (next i j d))
-          → RowsRead limits ring a b rs (l ∷ ls) (row_or x line λ i j d. unless (judge_row limits ring.n (length rs) a b i j d) line (row_fault ring.n i j d) (next i j d))
-      go (is_a_row {i} {j} {d} e w) rest = row_more line (row_fault ring.n i j d) e (row-judged limits ring.n (length rs) a b i j d) (rest i j d)
+          → RowsRead limits ring a b rs (l ∷ ls) (row_or x line λ i j d. unless (judge_row limits ring.nodes (length rs) a b i j d) line (row_fault ring.nodes i j d) (next i j d))
+      go (is_a_row {i} {j} {d} e w) rest = row_more line (row_fault ring.nodes i j d) e (row-judged limits ring.nodes (length rs) a b i j d) (rest i j d)
       go (no_row_line none fault) rest = rows_refused
 
 -- what a text is read to
@@ -71,7 +73,7 @@ data TableRead (limits : Limits) (t : List ℕ) : Result → Type 0 where
   table_refused : {r : Reason} {line byte : ℕ} → TableRead limits t (refused r line byte)
 
 module _ {limits : Limits} {t : List ℕ} (short : length t ≤ limits.bytes) where
-  ring-more : (byte : Reason → ℕ) {ring : Ring} {l : List ℕ} {ls : List (List ℕ)} {v : Verdict} {x : Result} → t ≡ l ++ flatten ls → l ≡ ring_line ring.n ring.fibres
+  ring-more : (byte : Reason → ℕ) {ring : Ring} {l : List ℕ} {ls : List (List ℕ)} {v : Verdict} {x : Result} → t ≡ l ++ flatten ls → l ≡ ring_line ring.nodes ring.fibres
       → RingJudged limits ring v → RowsRead limits ring 0 0 [] ls x → TableRead limits t (unless v 1 byte x)
   unfolding unless write_table
   ring-more byte {v = Fault r} whole e w rows = table_refused
@@ -104,14 +106,14 @@ table-read limits t =
 
 -- ---- written, so read
 
-module _ (limits : Limits) (spelled : LimitsSpelled limits) (ring : Ring) (many : ring.n ≤ limits.nodes) where
-  written-rows-read : (line : ℕ) (rs : List Row) {k a b : ℕ} {more : List Row} → length rs ≡ k → FineRows limits ring.n k a b more
+module _ (limits : Limits) (spelled : LimitsSpelled limits) (ring : Ring) (many : ring.nodes ≤ limits.nodes) where
+  written-rows-read : (line : ℕ) (rs : List Row) {k a b : ℕ} {more : List Row} → length rs ≡ k → FineRows limits ring.nodes k a b more
       → rows_of limits ring line a b rs (lines (write_rows more)) ≡ accepted ring (rs ++ more)
   unfolding rows_of row_or unless write_rows lines
   written-rows-read line rs e no_row = ap (accepted ring) (sym (append-nil rs))
   written-rows-read line rs {k} {a} {b} e (fine_row {r = r} {rs = more} o up c m fine) =
-      let w : RowSpelled r.i r.j r.d = (omega (arith, o.order, o.high), (omega (arith, o.high), omega arith)) in
-      rw (row_first r.i r.j r.d w (write_rows more), row-line-read r.i r.j r.d w, e, fine-row-judged limits ring.n k a b r.i r.j r.d o up c m)
+      let w : RowSpelled r.first r.second r.amount = (omega (arith, o.order, o.high), (omega (arith, o.high), omega arith)) in
+      rw (row_first r.first r.second r.amount w (write_rows more), row-line-read r.first r.second r.amount w, e, fine-row-judged limits ring.nodes k a b r.first r.second r.amount o up c m)
       (written-rows-read (line + 1) (rs ++ r ∷ []) (omega (arith, length-append rs (r ∷ []))) fine ∙ ap (accepted ring) (append_assoc rs (r ∷ []) more))
 
 -- fibres have one digit
@@ -119,17 +121,17 @@ fibres-spelled : (fibres : ℕ) → IsFibres fibres → fibres < limit
 fibres-spelled fibres (inl e) = omega arith
 fibres-spelled fibres (inr e) = omega arith
 
-pub ring-spelled : (limits : Limits) → LimitsSpelled limits → (ring : Ring) → ring.n ≤ limits.nodes → IsFibres ring.fibres → RingSpelled ring.n ring.fibres
+pub ring-spelled : (limits : Limits) → LimitsSpelled limits → (ring : Ring) → ring.nodes ≤ limits.nodes → IsFibres ring.fibres → RingSpelled ring.nodes ring.fibres
 ring-spelled limits spelled ring many fibres = (omega (arith, many, spelled.nodes), fibres-spelled ring.fibres fibres)
 
 written_read : (limits : Limits) → LimitsSpelled limits → (ring : Ring) (rs : List Row) → InRange limits ring rs → table_of limits (write_table ring rs) ≡ accepted ring rs
 unfolding table_of table_lines ring_or unless write_table
 written_read limits spelled ring rs range =
-    let w : RingSpelled ring.n ring.fibres = ring-spelled limits spelled ring range.many range.fibres in
+    let w : RingSpelled ring.nodes ring.fibres = ring-spelled limits spelled ring range.many range.fibres in
     rw (
       le-ltb limits.bytes (length (write_table ring rs)) range.short,
-      ring-first ring.n ring.fibres w (write_rows rs),
-      ring-line-read ring.n ring.fibres w,
+      ring-first ring.nodes ring.fibres w (write_rows rs),
+      ring-line-read ring.nodes ring.fibres w,
       fine-ring-judged limits ring range.few range.many range.fibres,
     ) (written-rows-read limits spelled ring range.many 2 [] refl (fine-rows range.rows range.count range.amounts))
 

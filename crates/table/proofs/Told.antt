@@ -9,7 +9,7 @@ use Rattle.text.proofs.Apart.{clash}
 use Rattle.ring.specs.Limits.{desk}
 use Rattle.ring.specs.Ring.{ring_of}
 use Rattle.table.specs.ReadTable.{Result, accepted, refused, table_of}
-use Rattle.ring.specs.Row.{Row}
+use Rattle.ring.specs.declared.types.Row.{Row}
 use Rattle.ring.specs.Columns.{column, rows_in}
 use Rattle.table.specs.Arrays.{Table, table_in}
 use Rattle.table.specs.declared.reason.Reason.{Reason}
@@ -25,20 +25,20 @@ module _ (s : List ℕ) (t : Table) where
   a-table : (r : Result) → table_of desk s ≡ r → t ≡ table_in r → (n fibres count : ℕ) → t.answer ≡ Is n fibres count → Told s n fibres count t.first t.second t.amount
   unfolding table_in
   a-table (accepted ring rs) q e n fibres count a =
-      let p : Is n fibres count ≡ Is ring.n ring.fibres (length rs) = sym a ∙ ap (λ (x : Table). x.answer) e in
-      let kn : n ≡ ring.n = cc in
+      let p : Is n fibres count ≡ Is ring.nodes ring.fibres (length rs) = sym a ∙ ap (λ (x : Table). x.answer) e in
+      let kn : n ≡ ring.nodes = cc in
       let kf : fibres ≡ ring.fibres = cc in
       let kc : count ≡ length rs = cc in
       let h : length rs ≤ desk.rows = ((table-text desk desk-spelled s ring rs).0 q).1.count in
-      let ef : t.first ≡ column (λ (r : Row). r.i) desk.rows rs = ap (λ (x : Table). x.first) e in
-      let es : t.second ≡ column (λ (r : Row). r.j) desk.rows rs = ap (λ (x : Table). x.second) e in
-      let ea : t.amount ≡ column (λ (r : Row). r.d) desk.rows rs = ap (λ (x : Table). x.amount) e in
+      let ef : t.first ≡ column (λ (r : Row). r.first) desk.rows rs = ap (λ (x : Table). x.first) e in
+      let es : t.second ≡ column (λ (r : Row). r.second) desk.rows rs = ap (λ (x : Table). x.second) e in
+      let ea : t.amount ≡ column (λ (r : Row). r.amount) desk.rows rs = ap (λ (x : Table). x.amount) e in
       record { is = q ∙ sym (rw (kn, kf, kc, ef, es, ea, rows_back desk.rows rs h)); room = omega arith }
   a-table (refused reason line byte) q e n fibres count a = clash (let p : Is n fibres count ≡ Refused reason line byte = sym a ∙ ap (λ (x : Table). x.answer) e in cc)
 
   a-refusal : (r : Result) → table_of desk s ≡ r → t ≡ table_in r → (reason : Reason) (line byte : ℕ) → t.answer ≡ Refused reason line byte → table_of desk s ≡ refused reason line byte
   unfolding table_in
-  a-refusal (accepted ring rs) q e reason line byte a = clash (let p : Refused reason line byte ≡ Is ring.n ring.fibres (length rs) = sym a ∙ ap (λ (x : Table). x.answer) e in cc)
+  a-refusal (accepted ring rs) q e reason line byte a = clash (let p : Refused reason line byte ≡ Is ring.nodes ring.fibres (length rs) = sym a ∙ ap (λ (x : Table). x.answer) e in cc)
   a-refusal (refused why at on) q e reason line byte a =
       let p : Refused reason line byte ≡ Refused why at on = sym a ∙ ap (λ (x : Table). x.answer) e in
       let kw : why ≡ reason = cc in

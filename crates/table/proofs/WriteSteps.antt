@@ -5,7 +5,7 @@ use mathlib.Core.Path.{◌≡◌, refl, ap, ◌∙◌, sym}
 use native.Mathlib.Omega.{arith}
 use lib.ListN.{length, get_or, length-append}
 use Rattle.ring.specs.Ring.{ring_of}
-use Rattle.ring.specs.Row.{Row}
+use Rattle.ring.specs.declared.types.Row.{Row}
 use Rattle.ring.specs.Columns.{listed, rows_in, row_at}
 use Rattle.ring.proofs.Listed.{listed-snoc}
 use Rattle.text.specs.Shapes.{ring_shape, row_shape, ring_line, row_line}
@@ -15,10 +15,10 @@ use Rattle.text.proofs.Writing.{written_behind, written-length}
 use Rattle.text.proofs.Pieces.{Pieces}
 use Rattle.table.specs.Table.{write_rows, write_table}
 
-rows_more : (rs : List Row) (r : Row) → write_rows (rs ++ r ∷ []) ≡ write_rows rs ++ row_line r.i r.j r.d
+rows_more : (rs : List Row) (r : Row) → write_rows (rs ++ r ∷ []) ≡ write_rows rs ++ row_line r.first r.second r.amount
 unfolding write_rows
 rows_more [] r = append-nil _
-rows_more (x ∷ rs) r = ap (λ l. row_line x.i x.j x.d ++ l) (rows_more rs r) ∙ sym (append_assoc (row_line x.i x.j x.d) (write_rows rs) _)
+rows_more (x ∷ rs) r = ap (λ l. row_line x.first x.second x.amount ++ l) (rows_more rs r) ∙ sym (append_assoc (row_line x.first x.second x.amount) (write_rows rs) _)
 
 module _ (first second amount : List ℕ) where
   -- the line of the row at place k, and the lines of the first k rows

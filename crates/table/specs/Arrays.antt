@@ -1,7 +1,7 @@
 -- Internal: a table's rows in columns with room for 496, zero behind the rows and zero after a refusal.
 use Rattle.std.specs.Prelude.{ℕ, List, [], ◌≡◌, length, replicate}
 use Rattle.ring.specs.Limits.{desk}
-use Rattle.ring.specs.Row.{Row}
+use Rattle.ring.specs.declared.types.Row.{Row}
 use Rattle.ring.specs.Columns.{column}
 use Rattle.table.specs.ReadTable.{Result, accepted, refused}
 use Rattle.table.specs.declared.read.Answer.{Answer}
@@ -26,10 +26,10 @@ beside answer first second amount = record { answer = answer; first = first; sec
 -- an answer beside the columns of rows
 abbrev pub beside_rows : Answer → List Row → Table
 beside_rows answer rs =
-    beside answer (column (λ (r : Row). r.i) desk.rows rs) (column (λ (r : Row). r.j) desk.rows rs) (column (λ (r : Row). r.d) desk.rows rs)
+    beside answer (column (λ (r : Row). r.first) desk.rows rs) (column (λ (r : Row). r.second) desk.rows rs) (column (λ (r : Row). r.amount) desk.rows rs)
 
 -- the answer beside its rows; a refusal leaves none
 unfoldable pub table_in : Result → Table
 unfolding column
-table_in (accepted ring rs) = beside_rows (Is ring.n ring.fibres (length rs)) rs
+table_in (accepted ring rs) = beside_rows (Is ring.nodes ring.fibres (length rs)) rs
 table_in (refused reason line byte) = beside_rows (Refused reason line byte) []

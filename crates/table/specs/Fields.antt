@@ -1,6 +1,6 @@
 -- Internal: which field of its line a reason is about; its byte is where that field starts.
 use Rattle.std.specs.Prelude.{ℕ, cond}
-use Rattle.ring.specs.Ring.{Ring}
+use Rattle.ring.specs.declared.types.Ring.{Ring}
 use Rattle.text.specs.FieldByte.{ring_byte, row_byte}
 use Rattle.table.specs.Judge.{outside}
 use Rattle.table.specs.declared.reason.Reason.{Reason}
@@ -41,7 +41,7 @@ node_field n i = cond (outside n i) 1 2
 
 -- the byte of a reason found against R n fibres ..
 unfoldable pub ring_fault : Ring → Reason → ℕ
-ring_fault ring reason = ring_byte ring.n ring.fibres (field_of reason 0)
+ring_fault ring reason = ring_byte ring.nodes ring.fibres (field_of reason 0)
 
 -- .. and against D i j d on a ring of n nodes
 unfoldable pub row_fault : ℕ → ℕ → ℕ → ℕ → Reason → ℕ

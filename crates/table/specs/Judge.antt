@@ -1,7 +1,7 @@
 -- Internal: what is found against a ring and against a row, over any numbers: nothing, or the first reason that holds, in their order.
 use Rattle.std.specs.Prelude.{ℕ, Bool, cond, not, ◌&&◌, ◌||◌, ltb, leb, eqb}
 use Rattle.ring.specs.Limits.{Limits}
-use Rattle.ring.specs.Ring.{Ring}
+use Rattle.ring.specs.declared.types.Ring.{Ring}
 use Rattle.ring.specs.LineSize.{two_fibres, four_fibres}
 use Rattle.table.specs.declared.reason.Reason.TheVariants.{RingSize, Fibres, NoSuchNode, NotBelow, OutOfOrder, TooMany, TooMuch}
 use Rattle.table.specs.declared.judge.Verdict.{Verdict}
@@ -23,7 +23,7 @@ other_fibres fibres = not (eqb fibres two_fibres) && not (eqb fibres four_fibres
 -- 3 and 20
 unfoldable pub judge_ring : Limits → Ring → Verdict
 unfolding wrong_size other_fibres
-judge_ring limits ring = cond (wrong_size limits ring.n) (Fault RingSize) (cond (other_fibres ring.fibres) (Fault Fibres) Fine)
+judge_ring limits ring = cond (wrong_size limits ring.nodes) (Fault RingSize) (cond (other_fibres ring.fibres) (Fault Fibres) Fine)
 
 -- a node outside 1..n
 unfoldable pub outside : ℕ → ℕ → Bool

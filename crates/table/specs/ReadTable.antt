@@ -1,6 +1,7 @@
 -- Internal: reading a table: reason 1 first, then lines in order, and in a line the reasons in their order.
 use Rattle.std.specs.Prelude.{ℕ, ◌+◌, cond, List, [], ◌∷◌, ◌++◌, length, ltb}
-use Rattle.ring.specs.Row.{Row, row}
+use Rattle.ring.specs.Row.{row}
+use Rattle.ring.specs.declared.types.Row.{Row}
 use Rattle.text.specs.ReadLine.{read_line}
 use Rattle.text.specs.Answers.{two_in, three_in}
 use Rattle.text.specs.Shapes.{ring_shape, row_shape}
@@ -9,7 +10,8 @@ use Rattle.text.specs.declared.TwoNumbers.TheVariants.{Are as AreTwo, Bad as Not
 use Rattle.text.specs.declared.ThreeNumbers.{ThreeNumbers}
 use Rattle.text.specs.declared.ThreeNumbers.TheVariants.{Are as AreThree, Bad as NotThree}
 use Rattle.ring.specs.Limits.{Limits}
-use Rattle.ring.specs.Ring.{Ring, ring_of}
+use Rattle.ring.specs.Ring.{ring_of}
+use Rattle.ring.specs.declared.types.Ring.{Ring}
 use Rattle.table.specs.Lines.{lines}
 use Rattle.table.specs.Judge.{judge_ring, judge_row}
 use Rattle.table.specs.Fields.{ring_fault, row_fault}
@@ -45,7 +47,7 @@ unfolding row_or unless row_fault
 rows_of limits ring line a b rs [] = accepted ring rs
 rows_of limits ring line a b rs (l ∷ ls) =
     row_or (three_in (read_line row_shape l)) line λ i j d.
-    unless (judge_row limits ring.n (length rs) a b i j d) line (row_fault ring.n i j d)
+    unless (judge_row limits ring.nodes (length rs) a b i j d) line (row_fault ring.nodes i j d)
     (rows_of limits ring (line + 1) i j (rs ++ row i j d ∷ []) ls)
 
 -- R n fibres, then rows; a missing first line is line 1

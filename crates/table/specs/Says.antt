@@ -5,7 +5,7 @@ use Rattle.text.specs.FieldByte.{ring_byte, row_byte}
 use Rattle.text.specs.FirstFault.{FirstFault}
 use Rattle.text.specs.Shapes.{ring_shape, row_shape, ring_line, row_line}
 use Rattle.ring.specs.Limits.{Limits}
-use Rattle.ring.specs.Ring.{Ring}
+use Rattle.ring.specs.declared.types.Ring.{Ring}
 use Rattle.ring.specs.LineSize.{IsFibres}
 use Rattle.ring.specs.Row.{PairBefore}
 use Rattle.table.specs.Lines.{lines}
@@ -22,8 +22,8 @@ pub data LineIs : List (List ℕ) → ℕ → List ℕ → Type 0 where
 
 -- the first line is R n fibres
 pub record RingIs (t : List ℕ) (ring : Ring) : Type 0 where
-  pub text : LineIs (lines t) 1 (ring_line ring.n ring.fibres)
-  pub spelled : (ring.n < limit) × (ring.fibres < limit)
+  pub text : LineIs (lines t) 1 (ring_line ring.nodes ring.fibres)
+  pub spelled : (ring.nodes < limit) × (ring.fibres < limit)
 
 -- a later line is D i j d
 pub record RowIs (t : List ℕ) (line i j d : ℕ) : Type 0 where
@@ -53,7 +53,7 @@ pub record WrongRing (limits : Limits) (t : List ℕ) (line : ℕ) : Type 0 wher
   pub at : line ≡ 1
   pub ring : Ring
   pub said : RingIs t ring
-  pub wrong : (ring.n < limits.fewest) ⊎ (limits.nodes < ring.n)
+  pub wrong : (ring.nodes < limits.fewest) ⊎ (limits.nodes < ring.nodes)
 
 -- 20: fibres neither 2 nor 4
 pub record WrongFibres (t : List ℕ) (line : ℕ) : Type 0 where
@@ -66,19 +66,19 @@ pub record WrongFibres (t : List ℕ) (line : ℕ) : Type 0 where
 pub record WrongNode (t : List ℕ) (line : ℕ) : Type 0 where
   pub ring : Ring
   pub said : RingIs t ring
-  pub i : ℕ
-  pub j : ℕ
-  pub d : ℕ
-  pub row : RowIs t line i j d
-  pub wrong : NoNode ring.n i ⊎ NoNode ring.n j
+  pub first : ℕ
+  pub second : ℕ
+  pub amount : ℕ
+  pub row : RowIs t line first second amount
+  pub wrong : NoNode ring.nodes first ⊎ NoNode ring.nodes second
 
 -- 5: first node not below second
 pub record WrongPair (t : List ℕ) (line : ℕ) : Type 0 where
-  pub i : ℕ
-  pub j : ℕ
-  pub d : ℕ
-  pub row : RowIs t line i j d
-  pub wrong : j ≤ i
+  pub first : ℕ
+  pub second : ℕ
+  pub amount : ℕ
+  pub row : RowIs t line first second amount
+  pub wrong : second ≤ first
 
 -- 6: row's nodes below the row before, by first node, then second
 pub record WrongOrder (t : List ℕ) (line : ℕ) : Type 0 where
@@ -88,27 +88,27 @@ pub record WrongOrder (t : List ℕ) (line : ℕ) : Type 0 where
   pub b : ℕ
   pub c : ℕ
   pub above : RowIs t before a b c
-  pub i : ℕ
-  pub j : ℕ
-  pub d : ℕ
-  pub row : RowIs t line i j d
-  pub wrong : PairBefore i j a b
+  pub first : ℕ
+  pub second : ℕ
+  pub amount : ℕ
+  pub row : RowIs t line first second amount
+  pub wrong : PairBefore first second a b
 
 -- 16: more than 496 rows; the first stands on line 2
 pub record WrongCount (limits : Limits) (t : List ℕ) (line : ℕ) : Type 0 where
-  pub i : ℕ
-  pub j : ℕ
-  pub d : ℕ
-  pub row : RowIs t line i j d
+  pub first : ℕ
+  pub second : ℕ
+  pub amount : ℕ
+  pub row : RowIs t line first second amount
   pub wrong : limits.rows + 1 < line
 
 -- 7: amount over 9,999
 pub record WrongAmount (limits : Limits) (t : List ℕ) (line : ℕ) : Type 0 where
-  pub i : ℕ
-  pub j : ℕ
-  pub d : ℕ
-  pub row : RowIs t line i j d
-  pub wrong : limits.amount < d
+  pub first : ℕ
+  pub second : ℕ
+  pub amount : ℕ
+  pub row : RowIs t line first second amount
+  pub wrong : limits.amount < amount
 
 -- what a reason says, with its line
 unfoldable pub Says : Limits → List ℕ → Reason → ℕ → Type 0
@@ -156,12 +156,12 @@ pub data LineByte (t : List ℕ) (line byte : ℕ) : Type 0 where
 pub record RingField (t : List ℕ) (k byte : ℕ) : Type 0 where
   pub ring : Ring
   pub said : RingIs t ring
-  pub is : byte ≡ ring_byte ring.n ring.fibres k
+  pub is : byte ≡ ring_byte ring.nodes ring.fibres k
 
 -- 4: where the first of the two nodes that is outside starts
 pub data NodeByte (t : List ℕ) (line : ℕ) : ℕ → Type 0 where
-  first_node : {ring : Ring} {i j d : ℕ} → RingIs t ring → RowIs t line i j d → NoNode ring.n i → NodeByte t line (row_byte i j d 1)
-  second_node : {ring : Ring} {i j d : ℕ} → RingIs t ring → RowIs t line i j d → (NoNode ring.n i → ⊥) → NoNode ring.n j → NodeByte t line (row_byte i j d 2)
+  first_node : {ring : Ring} {i j d : ℕ} → RingIs t ring → RowIs t line i j d → NoNode ring.nodes i → NodeByte t line (row_byte i j d 1)
+  second_node : {ring : Ring} {i j d : ℕ} → RingIs t ring → RowIs t line i j d → (NoNode ring.nodes i → ⊥) → NoNode ring.nodes j → NodeByte t line (row_byte i j d 2)
 
 -- 7: where the amount starts
 pub data AmountByte (t : List ℕ) (line : ℕ) : ℕ → Type 0 where

@@ -1,21 +1,22 @@
 -- To believe: a table as text (Rules, tables), what it can hold, and how many bytes always suffice.
 use Rattle.std.specs.Prelude.{ℕ, ◌+◌, ◌*◌, ◌≤◌, ◌<◌, List, [], ◌∷◌, ◌++◌, length}
 use Rattle.ring.specs.Limits.{Limits}
-use Rattle.ring.specs.Ring.{Ring}
+use Rattle.ring.specs.declared.types.Ring.{Ring}
 use Rattle.ring.specs.LineSize.{IsFibres}
 use Rattle.ring.specs.Lists.{Each}
-use Rattle.ring.specs.Row.{Row, TableRows}
+use Rattle.ring.specs.Row.{TableRows}
+use Rattle.ring.specs.declared.types.Row.{Row}
 use Rattle.text.specs.Number.{limit, most_digits}
 use Rattle.text.specs.Shapes.{ring_shape, row_shape, ring_line, row_line}
 
 -- R n fibres, then D lines
 unfoldable pub write_rows : List Row → List ℕ
 write_rows [] = []
-write_rows (r ∷ rs) = row_line r.i r.j r.d ++ write_rows rs
+write_rows (r ∷ rs) = row_line r.first r.second r.amount ++ write_rows rs
 
 unfoldable pub write_table : Ring → List Row → List ℕ
 unfolding write_rows
-write_table ring rs = ring_line ring.n ring.fibres ++ write_rows rs
+write_table ring rs = ring_line ring.nodes ring.fibres ++ write_rows rs
 
 -- limits whose numbers can be spelled
 pub record LimitsSpelled (limits : Limits) : Type 0 where
@@ -24,12 +25,12 @@ pub record LimitsSpelled (limits : Limits) : Type 0 where
 
 -- what a table can hold, within limits
 pub record InRange (limits : Limits) (ring : Ring) (rs : List Row) : Type 0 where
-  pub few : limits.fewest ≤ ring.n
-  pub many : ring.n ≤ limits.nodes
+  pub few : limits.fewest ≤ ring.nodes
+  pub many : ring.nodes ≤ limits.nodes
   pub fibres : IsFibres ring.fibres
-  pub rows : TableRows ring.n rs
+  pub rows : TableRows ring.nodes rs
   pub count : length rs ≤ limits.rows
-  pub amounts : Each (λ r. r.d ≤ limits.amount) rs
+  pub amounts : Each (λ r. r.amount ≤ limits.amount) rs
   pub short : length (write_table ring rs) ≤ limits.bytes
 
 -- the R line and as many rows as there may be, each field of at most 7 digits and the byte behind them

@@ -13,8 +13,7 @@ use Rattle.ring.specs.RuleA.{largest_cut}
 use Rattle.ring.specs.Columns.{row_at}
 use Rattle.across.specs.Triangle.{at}
 use Rattle.across.specs.Step.{step_row}
-use Rattle.across.specs.Answers.{cut_in}
-use Rattle.across.specs.declared.cut.Cut.{Cut}
+use Rattle.ring.specs.declared.types.Cut.{Cut}
 use Rattle.table.specs.Judge.{judge_ring, judge_row}
 use Rattle.table.specs.Reasons.{number_of}
 use Rattle.table.specs.declared.reason.Reason.{Reason}
@@ -89,7 +88,7 @@ module _ (w : Work) where
     change-fault p i j d v ev e = fault (judged_at w p i j d) (done-at p i j d) (sym ev ∙ e) ∙ sym (change-is p i j d)
 
   -- the largest cut, as the code answers it
-  pub kept-is : (place s n : ℕ) (c : Cut) → s ≡ ring_size w.n → n ≡ s → c ≡ cut_in (largest_cut (at w.triangle) n) → kept_with w place c ≡ kept_in w place
+  pub kept-is : (place s n : ℕ) (c : Cut) → s ≡ ring_size w.n → n ≡ s → c ≡ (largest_cut (at w.triangle) n) → kept_with w place c ≡ kept_in w place
   unfolding kept_in
   kept-is place s n c es en e = rw (e, en, es)
 

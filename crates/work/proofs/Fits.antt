@@ -8,7 +8,8 @@ use lib.ListN.{set}
 use Rattle.ring.specs.LineSize.{IsFibres}
 use Rattle.ring.specs.Limits.{desk}
 use Rattle.ring.specs.Lists.{Each, none}
-use Rattle.ring.specs.Row.{Row, row}
+use Rattle.ring.specs.Row.{row}
+use Rattle.ring.specs.declared.types.Row.{Row}
 use Rattle.work.specs.Places.{empty, holds, Plain, rows_held}
 use Rattle.work.specs.Calls.{Call, start, fresh_plain}
 use Rattle.work.specs.Promises.{AllTaken, Faults, no_more, fault, NoneHolds, row_faults, faults, Makes, starts, adds, changes, removes}

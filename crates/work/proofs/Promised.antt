@@ -7,8 +7,10 @@ use native.Mathlib.Omega.{arith}
 use native.Mathlib.Decide.{dec_lt}
 use lib.ListN.{get_or}
 use borrow.Author.Tests.{lt-ltb, le-ltb, ne_eqb}
-use Rattle.ring.specs.Cut.{Cut, across}
-use Rattle.ring.specs.Row.{Row, row}
+use Rattle.ring.specs.Cut.{across}
+use Rattle.ring.specs.declared.types.Cut.{Cut}
+use Rattle.ring.specs.Row.{row}
+use Rattle.ring.specs.declared.types.Row.{Row}
 use Rattle.ring.specs.RuleA.{rule_a}
 use Rattle.ring.proofs.LargestCut.{rule-A}
 use Rattle.across.specs.Triangle.{at}

@@ -10,7 +10,8 @@ use lib.ListN.{length, get_or}
 use borrow.Author.Tests.{lt-ltb, le-ltb}
 use Rattle.ring.specs.LineSize.{IsFibres}
 use Rattle.ring.specs.Limits.{desk}
-use Rattle.ring.specs.Row.{Row, row}
+use Rattle.ring.specs.Row.{row}
+use Rattle.ring.specs.declared.types.Row.{Row}
 use Rattle.table.proofs.Tested.{Tested, is_so, not_so, test-or, test-less, test-most, test-same}
 use Rattle.work.specs.Places.{Place, empty, holds, Plain, is_row, lowest_free, holds_row}
 use Rattle.work.specs.Calls.{Call, start, add, change, remove, Outcome, refuses, makes, judge_start, judge_demand, judge_place, judge_room, with_place, outcome}

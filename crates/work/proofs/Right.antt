@@ -8,7 +8,8 @@ use lib.ListN.{length, get_or, set, replicate, length-set, length-replicate}
 use Rattle.ring.specs.Limits.{desk}
 use Rattle.ring.specs.LineSize.{IsFibres}
 use Rattle.ring.specs.Lists.{Each, none}
-use Rattle.ring.specs.Row.{Row, row, OnRing}
+use Rattle.ring.specs.Row.{row, OnRing}
+use Rattle.ring.specs.declared.types.Row.{Row}
 use Rattle.ring.specs.Cut.{part, across}
 use Rattle.ring.specs.RuleA.{rule_a}
 use Rattle.ring.specs.Columns.{row_at}
@@ -29,7 +30,7 @@ use Rattle.work.proofs.RowsHeld.{across-set, held-few, each_set, each_at, held-f
 -- a row that a call can put into a table
 pub record Good (n : ℕ) (r : Row) : Type 0 where
   pub on : OnRing n r
-  pub small : r.d ≤ desk.amount
+  pub small : r.amount ≤ desk.amount
 
 pub record Right (w : Work) : Type 0 where
   pub two : desk.fewest ≤ w.n
@@ -49,7 +50,7 @@ pub record Sized (w : Work) : Type 0 where
 
 -- a second node is a byte
 abbrev pub HasBytes : Work → Type 0
-HasBytes w = (k : ℕ) (r : Row) → HoldsAt (plain_of w).places k r → r.j < 256
+HasBytes w = (k : ℕ) (r : Row) → HoldsAt (plain_of w).places k r → r.second < 256
 
 pub sized : {w : Work} → Right w → Sized w
 sized s = record { firsts = s.firsts; seconds = s.seconds; amounts = s.amounts }
@@ -67,9 +68,9 @@ module _ (w : Work) (s : Sized w) where
   pub place_is : (k : ℕ) → get_or (plain_of w).places k empty ≡ place_in (get_or w.first k 0) (get_or w.second k 0) (get_or w.amount k 0)
   place_is k = places-at w.first w.second w.amount k same-firsts same-seconds
 
-  second_of : (i j d : ℕ) (r : Row) → place_in i j d ≡ holds r → r.j ≡ j
+  second_of : (i j d : ℕ) (r : Row) → place_in i j d ≡ holds r → r.second ≡ j
   second_of zero j d r e = absurd (let z : ◌≡◌ {A = ℕ} 0 1 = cc in omega arith)
-  second_of (suc i) j d r e = let f : row (suc i) j d ≡ r = cc in ap (λ (x : Row). x.j) (sym f)
+  second_of (suc i) j d r e = let f : row (suc i) j d ≡ r = cc in ap (λ (x : Row). x.second) (sym f)
 
   pub bytes-of : ((k : ℕ) → get_or w.second k 0 < 256) → HasBytes w
   bytes-of f k r h = omega (arith, f k, second_of (get_or w.first k 0) (get_or w.second k 0) (get_or w.amount k 0) r (sym (place_is k) ∙ h))

@@ -7,7 +7,7 @@ use native.Mathlib.Decide.{ℕ_discrete}
 use borrow.Author.Tests.{eq-eqb, ne_eqb}
 use lib.ListN.{length, get_or, set, replicate}
 use Rattle.ring.specs.Lists.{Each, more}
-use Rattle.ring.specs.Row.{Row}
+use Rattle.ring.specs.declared.types.Row.{Row}
 use Rattle.ring.specs.Cut.{part, across}
 use Rattle.work.specs.Places.{Place, empty, holds, rows_held, lowest_free, place_in, places_in}
 use Rattle.work.specs.Changes.{free_from}

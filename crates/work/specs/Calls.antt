@@ -2,7 +2,8 @@
 use Rattle.std.specs.Prelude.{ℕ, ◌+◌, ◌-◌, cond, ◌||◌, ltb, leb, eqb, length, get_or, set, replicate}
 use Rattle.ring.specs.Limits.{desk}
 use Rattle.ring.specs.LineSize.{two_fibres, four_fibres}
-use Rattle.ring.specs.Row.{Row, row}
+use Rattle.ring.specs.Row.{row}
+use Rattle.ring.specs.declared.types.Row.{Row}
 use Rattle.ring.specs.RuleA.{rule_a}
 use Rattle.table.specs.Reasons.{number_of}
 use Rattle.table.specs.declared.reason.Reason.TheVariants.{RingSize, Fibres, NoRow, NoSuchNode, NotBelow, TooMuch, Full}
@@ -83,7 +84,7 @@ abbrev pub no_row : RowReply
 no_row = record { reason = number_of NoRow; line = 0; first = 0; second = 0; amount = 0 }
 
 abbrev pub the_row : Row → RowReply
-the_row r = record { reason = 0; line = 0; first = r.i; second = r.j; amount = r.d }
+the_row r = record { reason = 0; line = 0; first = r.first; second = r.second; amount = r.amount }
 
 unfoldable pub row_said : Place → RowReply
 row_said empty = no_row

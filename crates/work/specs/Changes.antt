@@ -3,7 +3,7 @@ use Rattle.std.specs.Prelude.{ℕ, zero, suc, ◌+◌, ◌-◌, ◌≤◌, ◌<�
 use Rattle.ring.specs.Limits.{desk}
 use Rattle.ring.specs.Ring.{ring_of}
 use Rattle.ring.specs.Row.{row}
-use Rattle.ring.specs.Cut as ring
+use Rattle.ring.specs.declared.types.Cut.{Cut}
 use Rattle.ring.specs.RuleA.{largest_cut}
 use Rattle.ring.specs.Columns.{row_at}
 use Rattle.across.specs.Triangle.{most_pairs, at}
@@ -28,15 +28,15 @@ ring_size n = max desk.fewest (min n desk.nodes)
 abbrev pub refused_in : Work → ℕ → Changed
 refused_in w reason = record { reply = record { reason = reason; line = 0; place = 0; g = 0; h = 0; across = 0 }; work = w }
 
-abbrev pub with_cut : Work → ring.Cut → Work
+abbrev pub with_cut : Work → Cut → Work
 with_cut w c =
     record { triangle = w.triangle; n = w.n; fibres = w.fibres; g = c.g; h = c.h; across = c.number; amount = w.amount; first = w.first; second = w.second }
 
-abbrev pub reply_with : ℕ → ring.Cut → WorkReply
+abbrev pub reply_with : ℕ → Cut → WorkReply
 reply_with place c = record { reason = 0; line = 0; place = place; g = c.g; h = c.h; across = c.number }
 
 -- the largest of the kept numbers
-abbrev pub cut_of : Work → ring.Cut
+abbrev pub cut_of : Work → Cut
 cut_of w = largest_cut (at w.triangle) (ring_size w.n)
 
 unfoldable pub kept_in : Work → ℕ → Changed

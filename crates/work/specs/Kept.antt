@@ -1,9 +1,10 @@
 -- To believe: what a struct keeps that was made by calls, and what is so of every struct, whatever its bytes.
 use Rattle.std.specs.Prelude.{ℕ, ◌≤◌, ◌<◌, List, [], ◌∷◌, ◌≡◌, length}
 use Rattle.ring.specs.Lists.{Some}
-use Rattle.ring.specs.Row.{Row}
+use Rattle.ring.specs.declared.types.Row.{Row}
 use Rattle.ring.specs.Limits.{desk}
-use Rattle.ring.specs.Cut.{Cut, across}
+use Rattle.ring.specs.Cut.{across}
+use Rattle.ring.specs.declared.types.Cut.{Cut}
 use Rattle.ring.specs.RuleA.{rule_a}
 use Rattle.across.specs.Triangle.{at}
 use Rattle.table.specs.Reasons.{number_of}

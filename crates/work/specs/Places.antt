@@ -1,7 +1,9 @@
 -- To believe: a working table is a ring and a list of 496 places, each of which is empty or holds a row; and which of them a struct is.
 use Rattle.std.specs.Prelude.{ℕ, zero, suc, ◌-◌, Bool, true, false, ◌&&◌, List, [], ◌∷◌, ltb, get_or}
-use Rattle.ring.specs.Ring.{Ring, ring_of}
-use Rattle.ring.specs.Row.{Row, row}
+use Rattle.ring.specs.Ring.{ring_of}
+use Rattle.ring.specs.declared.types.Ring.{Ring}
+use Rattle.ring.specs.Row.{row}
+use Rattle.ring.specs.declared.types.Row.{Row}
 use Rattle.work.specs.declared.Work.{Work}
 
 pub data Place : Type 0 where

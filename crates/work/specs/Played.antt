@@ -1,6 +1,6 @@
 -- To believe: a whole list of calls, played over the list of places: the table behind it, and the cut that its last accepted reply named.
 use Rattle.std.specs.Prelude.{cond, List, [], ◌∷◌, ◌≡◌, eqb}
-use Rattle.ring.specs.Cut.{Cut}
+use Rattle.ring.specs.declared.types.Cut.{Cut}
 use Rattle.work.specs.Places.{Plain, plain_of}
 use Rattle.work.specs.Calls.{Call, fresh_plain, outcome, after, answer}
 use Rattle.work.specs.Kept.{kept_cut}

@@ -1,0 +1,54 @@
+// The records of the subject, one for each thing: the definitions speak of these very types.
+
+// A ring: its nodes, 1 to `nodes`, and its fibres. Link k joins nodes k and k + 1, the last link the last node and node 1.
+#[derive(Clone, Copy)]
+pub struct Ring {
+    pub nodes: u32,
+    pub fibres: u32,
+}
+
+// A demand of so many units between two nodes, the first below the second in every table.
+#[derive(Clone, Copy)]
+pub struct Row {
+    pub first: u32,
+    pub second: u32,
+    pub amount: u32,
+}
+
+// A demand and what a split routing sends over its front and over its back, in halves of a unit.
+#[derive(Clone, Copy)]
+pub struct Sent {
+    pub row: Row,
+    pub front: u32,
+    pub back: u32,
+}
+
+// The way of a demand that goes whole: over its front (F on a sheet) or over its back (B).
+#[derive(Clone, Copy)]
+pub enum Way {
+    Front,
+    Back,
+}
+
+// A demand as a split routing sends it, and its way where it goes whole.
+#[derive(Clone, Copy)]
+pub struct Routed {
+    pub sent: Sent,
+    pub way: Way,
+}
+
+// Two links and the across number that is said of them.
+#[derive(Clone, Copy)]
+pub struct Cut {
+    pub g: u32,
+    pub h: u32,
+    pub number: u32,
+}
+
+// A link with its split load in halves and its unsplit load in units.
+#[derive(Clone, Copy)]
+pub struct Link {
+    pub link: u32,
+    pub split: u32,
+    pub unsplit: u32,
+}
