@@ -16,15 +16,13 @@ pub fn largest_cut(triangle: &[u32; PAIRS], n: usize) -> Cut
     let mut best_h: usize = 2;
     let mut best: u32 = get(triangle, 1, 2);
     for g in 1..n {
-        let mut h: usize = g + 1;
-        while h <= n {
+        for h in g + 1..n + 1 {
             let number = get(triangle, g, h);
             if best < number {
                 best_g = g;
                 best_h = h;
                 best = number;
             }
-            h += 1;
         }
     }
     Cut {
