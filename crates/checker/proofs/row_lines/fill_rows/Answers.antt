@@ -1,6 +1,6 @@
 -- The D lines: the rows read so far stand in the columns, and checking the rest behind them is checking the whole (`RowsReading`).
 use Rattle.checker.proofs.RowsSteps.{rows_start, rows_end, row-stops, row-less, row_room, reads-row}
-use Rattle.checker.proofs.rows.fill_rows.Goals as goal
+use Rattle.checker.proofs.row_lines.fill_rows.Goals as goal
 
 pub loop-p-init : goal.loop-p-init
 loop-p-init c = search rows_start
