@@ -16,6 +16,13 @@ pub(crate) fn fill<R: Rows>(triangle: &mut [u32; PAIRS], n: usize, rows: &R)
 {
     for k in 0..rows.count() {
         let demand = rows.row(k).sent.row;
-        step_row(triangle, true, n, wide(demand.first), wide(demand.second), demand.amount);
+        step_row(
+            triangle,
+            true,
+            n,
+            wide(demand.first),
+            wide(demand.second),
+            demand.amount,
+        );
     }
 }

@@ -14,5 +14,5 @@ returns-then-holds c = search outer-case
 pub returns-then-holds-2 : goal.returns-then-holds-2
 returns-then-holds-2 c = search inner-case
 
-pub returns : goal.returns
-returns c = search crossing-case
+pub returns-else-holds-2 : goal.returns-else-holds-2
+returns-else-holds-2 c = search crossing-case

@@ -10,7 +10,9 @@ pub loop-b-init : goal.loop-b-init
 loop-b-init g c = search seconds-start
 
 pub moved-m-requires : goal.moved-m-requires
-moved-m-requires g c = move-fits _ _ _ _ _ _ c.loop-b.invariant _ _ c.row-one.ensures c.row-two.ensures
+moved-m-requires g c =
+    let f = move-fits _ _ _ _ _ _ c.loop-b.invariant _ _ c.row-one.ensures c.row-two.ensures in
+    record { first_in_order = f.0; second_in_order = f.1; first_small = f.2; second_small = f.3 }
 
 pub loop-b-preserved : goal.loop-b-preserved
 loop-b-preserved g c =

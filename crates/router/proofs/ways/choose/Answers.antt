@@ -7,7 +7,9 @@ pub loop-t-init : goal.loop-t-init
 loop-t-init g c = search ways-start
 
 pub turn-step-requires : goal.turn-step-requires
-turn-step-requires g c = turn-fits _ _ c.requires _ c.largest_split-most.ensures _ _ _ _ _ c.row.ensures c.loop-t.invariant
+turn-step-requires g c =
+    let f = turn-fits _ _ c.requires _ c.largest_split-most.ensures _ _ _ _ _ c.row.ensures c.loop-t.invariant in
+    record { most_small = f.0; added_small = f.1; taken_small = f.2; halves_small = f.3 }
 
 pub loop-t-preserved : goal.loop-t-preserved
 loop-t-preserved g c = rw c.put.ensures (search ways-turn)
