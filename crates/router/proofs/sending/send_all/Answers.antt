@@ -19,7 +19,8 @@ pub step_row-requires : goal.step_row-requires
 step_row-requires g c = let h = here _ _ _ c.requires.fit _ _ _ _ _ c.row-row.ensures c.loop-t.invariant _ _ c.wide-i.ensures c.wide-j.ensures in record { low = omega (arith, h.on.low); few = c.requires.fit.links }
 
 pub step_over-requires : goal.step_over-requires
-step_over-requires g c = search send-over
+step_over-requires g c =
+    send-over _ _ _ c.requires.fit _ _ _ _ _ c.row-row.ensures c.loop-t.invariant _ _ c.wide-i.ensures c.wide-j.ensures _ (omega arith)
 
 pub loop-t-preserved : goal.loop-t-preserved
 loop-t-preserved g c = rw c.put.ensures (search send-turn)
