@@ -26,7 +26,11 @@ fn number_at(column: &[u32], k: usize) -> u32
 fn way_of(number: u32) -> Way
     ensures { result ≡ way_of number }
 {
-    if number == FRONT { Way::Front } else { Way::Back }
+    if number == FRONT {
+        Way::Front
+    } else {
+        Way::Back
+    }
 }
 
 // The row at a place of the columns.

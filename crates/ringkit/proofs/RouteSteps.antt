@@ -1,37 +1,35 @@
 -- Routing a table: the rows of its columns are its demands, the router's plan of them is the outcome's sheet, and so each way out is the outcome's.
-use Prim.Native.Nat.{ℕ, suc, ◌+◌, ◌≤◌, ◌<◌}
+use Prim.Native.Nat.{ℕ, ◌+◌, ◌≤◌, ◌<◌}
 use mathlib.Core.List.{List, [], ◌∷◌, ◌++◌, map, map-map}
 use mathlib.Core.Path.{◌≡◌, refl, ap, ◌∙◌, sym}
 use native.Mathlib.Omega.{arith}
-use lib.ListN.{length, replicate, get_or}
+use lib.ListN.{length, replicate}
 use lib.Seq.{sets}
 use Rattle.ring.specs.Limits.{desk}
 use Rattle.ring.specs.Ring.{ring_of}
-use Rattle.ring.specs.Row.{OnRing}
 use Rattle.ring.specs.declared.types.Ring.{Ring}
 use Rattle.ring.specs.declared.types.Row.{Row}
-use Rattle.ring.specs.declared.types.Sent.{Sent}
 use Rattle.ring.specs.declared.types.Routed.{Routed}
 use Rattle.ring.specs.declared.types.Link.{Link}
-use Rattle.ring.specs.Lists.{Each, none, more, listed}
+use Rattle.ring.specs.Lists.{listed}
 use Rattle.ring.specs.Sheet.{Sheet, plan, sheet_of, sents, demands, true_link, numbers_from}
 use Rattle.ring.specs.Columns.{column, row_at, rows_in}
-use Rattle.ring.proofs.Listed.{listed-snoc, listed_nil, listed-length}
+use Rattle.ring.proofs.Listed.{listed-snoc, listed-length}
 use Rattle.ring.proofs.Lists.{each_both}
 use Rattle.ring.proofs.Figures.{demands-length}
 use Rattle.ring.proofs.OurPlan.{plan-true, plan-demands}
 use Rattle.table.specs.Table.{InRange}
-use Rattle.table.specs.ReadTable.{accepted, table_of}
+use Rattle.table.specs.ReadTable.{table_of}
 use Rattle.table.specs.Arrays.{beside, table_in}
 use Rattle.table.specs.declared.reason.Reason.{Reason}
 use Rattle.table.specs.declared.read.Answer.{Answer}
 use Rattle.table.specs.declared.read.Answer.TheVariants.{Is, Refused}
 use Rattle.table.proofs.TableText.{desk-spelled, table-text}
 use Rattle.text.proofs.Apart.{clash}
-use Rattle.table.proofs.Told.{Told, told-table, told-refusal}
+use Rattle.table.proofs.Told.{told-table, told-refusal}
 use Rattle.weight.specs.Weighed.{weight_in}
 use Rattle.weight.specs.declared.Weight.{Weight}
-use Rattle.router.specs.Arrays.{DemandFits, DemandsFit}
+use Rattle.router.specs.Arrays.{DemandsFit}
 use Rattle.router.specs.Planned.{plan_in, plan_of}
 use Rattle.router.specs.declared.Plan.{Plan}
 use Rattle.sheet.specs.WriteSheet.{figures_of, write_sheet}

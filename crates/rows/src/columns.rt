@@ -1,6 +1,16 @@
 // Rows in columns, from place 0 on: an array for each figure, in which nothing moves.
 ghost use Rattle.std.specs.Prelude.{
-    ◌≡◌, ◌<◌, ◌≤◌, List, [], ◌∷◌, ◌++◌, Some, length, slice_get, slice_set,
+  ◌≡◌,
+  ◌<◌,
+  ◌≤◌,
+  List,
+  [],
+  ◌∷◌,
+  ◌++◌,
+  Some,
+  length,
+  slice_get,
+  slice_set,
 };
 ghost use Rattle.ring.specs.Limits.{desk};
 

@@ -8,15 +8,15 @@ use lib.Dec.{eqb}
 use lib.ListN.{get_or}
 use Rattle.ring.specs.Routing.{way_number, way_of}
 use Rattle.ring.specs.declared.types.Way.TheVariants.{Front, Back}
-use Rattle.ring.specs.Columns.{listed, routed_at, routed_in}
+use Rattle.ring.specs.Columns.{listed}
 use Rattle.ring.proofs.Listed.{listed-snoc}
 use Rattle.text.specs.Mark.{mark_byte}
 use Rattle.text.specs.Field.{spell}
 use Rattle.text.specs.WriteLine.{write_line}
-use Rattle.text.specs.Shapes.{sent_shape, link_shape, sent_line, link_line}
+use Rattle.text.specs.Shapes.{link_shape, sent_line, link_line}
 use Rattle.text.proofs.Lengths.{line-short}
 use Rattle.text.proofs.Pieces.{Pieces}
-use Rattle.sheet.specs.WriteSheet.{routed_line, load_line, lines_of}
+use Rattle.sheet.specs.WriteSheet.{load_line, lines_of}
 use Rattle.sheet.specs.Arrays.{link_at, links_in}
 
 pub lines_more : {A : Type 0} (line : A → List ℕ) (l : List A) (x : A) → lines_of line (l ++ x ∷ []) ≡ lines_of line l ++ line x

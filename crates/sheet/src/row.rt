@@ -23,7 +23,14 @@ pub(crate) fn row_length(row: Routed) -> usize
     let sent = row.sent;
     let demand = sent.row;
     let way = way_number(row.way);
-    text::sent_length(demand.first, demand.second, demand.amount, sent.front, sent.back, way)
+    text::sent_length(
+        demand.first,
+        demand.second,
+        demand.amount,
+        sent.front,
+        sent.back,
+        way,
+    )
 }
 
 // A row's line, from `at` on; answers the place behind it.
@@ -35,6 +42,13 @@ pub(crate) fn write_row(buf: &mut [u8], at: usize, row: Routed) -> usize
     let demand = sent.row;
     let way = way_number(row.way);
     text::write_sent(
-        buf, at, demand.first, demand.second, demand.amount, sent.front, sent.back, way,
+        buf,
+        at,
+        demand.first,
+        demand.second,
+        demand.amount,
+        sent.front,
+        sent.back,
+        way,
     )
 }
