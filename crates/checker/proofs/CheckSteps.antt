@@ -21,10 +21,9 @@ use Rattle.ring.specs.Sheet.{sents, demands, numbers_from}
 use Rattle.ring.specs.declared.types.Link.{Link}
 use Rattle.ring.proofs.Laid.{laid}
 use Rattle.ring.proofs.Listed.{listed-map}
-use Rattle.router.specs.Rows.{Table}
-use Rattle.router.specs.Arrays.{Halves}
-use Rattle.router.specs.Weighed.{weight_in}
-use Rattle.router.specs.declared.weighing.Weight.{Weight}
+use Rattle.checker.specs.Rows.{Table, Halves}
+use Rattle.weight.specs.Weighed.{weight_in}
+use Rattle.weight.specs.declared.Weight.{Weight}
 use Rattle.text.specs.Answers.{two_in, three_in}
 use Rattle.text.specs.ReadLine.{read_line}
 use Rattle.text.specs.Shapes.{ring_shape, cut_shape}
@@ -55,8 +54,8 @@ use Rattle.checker.specs.declared.values.SheetValues.{SheetValues}
 use Rattle.checker.specs.declared.check.Answer.TheVariants.{Is}
 use Rattle.checker.specs.declared.ending.Step.{Step}
 use Rattle.checker.specs.declared.ending.Step.TheVariants.{On, Refused as StepRefused}
-use Rattle.checker.specs.declared.rows.RowsEnd.{RowsEnd}
-use Rattle.checker.specs.declared.rows.RowsEnd.TheVariants.{At, Refused as RowsRefused}
+use Rattle.checker.specs.declared.row_lines.RowsEnd.{RowsEnd}
+use Rattle.checker.specs.declared.row_lines.RowsEnd.TheVariants.{At, Refused as RowsRefused}
 use Rattle.sheet.proofs.Back.{numbers-length}
 use Rattle.checker.proofs.NextLine.{next-line, next-rest, step-at}
 
@@ -86,14 +85,14 @@ module _ (s : List ℕ) (at line n fibres : ℕ) (rs : List Routed) (g h number 
 
   pub weighed-ends : (old : SheetValues) (t : Step) → TailRead s at line n number w.split w.unsplit w.split_peak w.peak size w.largest t →
       EndMeans (ring_of n fibres) rs (check_from desk true (links (ring_of n fibres) rs (cut_of g h number) []) line (lines (drop at s))) old
-      (ended old (record { n = n; fibres = fibres; g = g; h = h; across = number; peak = w.peak; size = size }) w.split w.unsplit) t
+      (ended old (record { ring = ring_of n fibres; cut = cut_of g h number; peak = w.peak; size = size }) w.split w.unsplit) t
   weighed-ends old t tail = go t (tail.means fibres rs g h weights (size-in-steps fibres w.peak carried size en ez))
     where
       result : Result
       result = check_from desk true (links (ring_of n fibres) rs (cut_of g h number) []) line (lines (drop at s))
 
       go : (u : Step) → StepMeans s result (λ p. accepted (sheet_with (ring_of n fibres) rs (cut_of g h number) w.split w.unsplit w.peak size)) u →
-          EndMeans (ring_of n fibres) rs result old (ended old (record { n = n; fibres = fibres; g = g; h = h; across = number; peak = w.peak; size = size }) w.split w.unsplit) u
+          EndMeans (ring_of n fibres) rs result old (ended old (record { ring = ring_of n fibres; cut = cut_of g h number; peak = w.peak; size = size }) w.split w.unsplit) u
       go (On p) (steps_on l e) =
           ends_with {at = p} (cut_of g h number) w.peak size w.split w.unsplit e refl
           (loads-column n many (split_load (sents rs)) w.split w.split w.unsplit (λ (l : Link). l.split) weights.splits (λ k. refl))

@@ -17,7 +17,7 @@ use Rattle.ring.specs.Row.{row, in_front}
 use Rattle.ring.specs.RuleD.{whole_way}
 use Rattle.ring.proofs.Listed.{listed-none, listed_back}
 use Rattle.ring.proofs.Totals.{part_small}
-use Rattle.router.specs.Rows.{Table}
+use Rattle.checker.specs.Rows.{Table}
 use Rattle.table.specs.Judge.{judge_row}
 use Rattle.table.specs.declared.reason.Reason.{Reason}
 use Rattle.table.specs.declared.reason.Reason.TheVariants.{WrongSum, WrongWay, WrongCut, NotTight, OverBound}

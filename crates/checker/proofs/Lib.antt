@@ -2,6 +2,7 @@ pub mod JudgeSteps
 pub mod NextLine
 pub mod RowsSteps
 pub mod EndSteps
+pub mod HeldRows
 pub mod CheckSteps
 pub mod Told
 pub mod PairTests

@@ -20,9 +20,8 @@ use Rattle.ring.specs.declared.types.Row.{Row}
 use Rattle.ring.specs.Sheet.{sents, demands}
 use Rattle.ring.specs.True.{SumsTo2d}
 use Rattle.ring.proofs.Figures.{demands-length}
-use Rattle.router.specs.Rows.{Table}
-use Rattle.router.specs.Arrays.{Halves}
-use Rattle.router.specs.Limits.{most_halves}
+use Rattle.checker.specs.Rows.{Table, Halves}
+use Rattle.weight.specs.Limits.{most_halves}
 use Rattle.text.specs.Answers.{sent_in}
 use Rattle.text.specs.ReadLine.{read_line}
 use Rattle.text.specs.Field.{spell}
@@ -45,7 +44,7 @@ use Rattle.checker.specs.Parts.{sent_verdict, NextEnds, first_of, cut_from, rows
 use Rattle.sheet.specs.Says.{rows}
 use Rattle.checker.specs.Arrays.{no_values}
 use Rattle.checker.specs.declared.values.SheetValues.{SheetValues}
-use Rattle.checker.specs.declared.rows.RowsEnd.TheVariants.{At, Refused}
+use Rattle.checker.specs.declared.row_lines.RowsEnd.TheVariants.{At, Refused}
 use Rattle.sheet.proofs.Back as back-law
 use Rattle.checker.proofs.NextLine.{next-line, step_from, step-at}
 use Rattle.sheet.proofs.Last.{last_more}

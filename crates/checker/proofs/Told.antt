@@ -16,7 +16,7 @@ use Rattle.table.specs.declared.reason.Reason.{Reason}
 use Rattle.table.proofs.TableText.{desk-spelled}
 use Rattle.sheet.specs.Arrays.{sheet_in}
 use Rattle.sheet.specs.WriteSheet.{figures_of}
-use Rattle.checker.specs.Arrays.{values_of, Checked, beside, checked_in}
+use Rattle.checker.specs.Arrays.{rows_held, values_of, Checked, beside, checked_in}
 use Rattle.sheet.specs.Check.{Result, accepted, refused, check}
 use Rattle.checker.specs.declared.values.SheetValues.{SheetValues}
 use Rattle.checker.specs.declared.check.Answer.{Answer}
@@ -28,10 +28,10 @@ use Rattle.checker.proofs.RowsSteps.{columns-back}
 pub record Told (s : List ℕ) (v : SheetValues) (count : ℕ) : Type 0 where
   pub x : Sheet
   pub is : check desk s ≡ accepted x
-  pub same : sheet_in v.figures count v.first v.second v.amount v.front v.back v.way v.split v.unsplit ≡ x
+  pub same : sheet_in v.figures (rows_held count v) v.split v.unsplit ≡ x
   pub sents_same : sents_in count v.first v.second v.amount v.front v.back ≡ sents x.rows
   pub room : count ≤ desk.rows
-  pub links : v.figures.n ≤ desk.nodes
+  pub links : v.figures.ring.nodes ≤ desk.nodes
 
 sents-in : (count : ℕ) (first second amount front back way : List ℕ) → sents_in count first second amount front back ≡ sents (routed_in count first second amount front back way)
 sents-in count first second amount front back way = sym (listed-map (λ (r : Routed). r.sent) (routed_at first second amount front back way) 0 count)

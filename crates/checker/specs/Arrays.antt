@@ -4,6 +4,7 @@ use Rattle.ring.specs.Columns.{column, routed_in}
 use Rattle.ring.specs.Routing.{way_number}
 use Rattle.ring.specs.declared.types.Routed.{Routed}
 use Rattle.ring.specs.Limits.{desk}
+use Rattle.ring.specs.Ring.{ring_of}
 use Rattle.ring.specs.declared.types.Link.{Link}
 use Rattle.sheet.specs.WriteSheet.{figures_of}
 use Rattle.sheet.specs.Check.{Result, accepted, refused}
@@ -14,7 +15,7 @@ use Rattle.checker.specs.declared.check.Answer.TheVariants.{Is, Refused}
 
 -- no figure
 abbrev pub no_figures : Figures
-no_figures = record { n = 0; fibres = 0; g = 0; h = 0; across = 0; peak = 0; size = 0 }
+no_figures = record { ring = ring_of 0 0; cut = record { g = 0; h = 0; number = 0 }; peak = 0; size = 0 }
 
 -- figures beside the columns of rows and links
 abbrev pub values_of : Figures → List Routed → List Link → SheetValues

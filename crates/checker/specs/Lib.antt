@@ -1,4 +1,5 @@
 pub mod Arrays
+pub mod Rows
 pub mod Parts
 pub mod Pair
 pub mod FindPair

@@ -12,8 +12,7 @@ use Rattle.ring.specs.Limits.{Limits, desk}
 use Rattle.ring.specs.RuleD.{largest_split}
 use Rattle.ring.specs.Sheet.{Sheet, sents, numbers_from}
 use Rattle.ring.specs.declared.types.Link.{Link}
-use Rattle.router.specs.Rows.{Table}
-use Rattle.router.specs.Arrays.{Halves}
+use Rattle.checker.specs.Rows.{Table, Halves}
 use Rattle.text.specs.Answers.{three_in}
 use Rattle.text.specs.ReadLine.{read_line}
 use Rattle.text.specs.Shapes.{cut_shape}
@@ -31,8 +30,8 @@ use Rattle.sheet.specs.Check.{Result, accepted, refused, cut_of, cut_turn, after
 use Rattle.sheet.specs.Says.{rows, links}
 use Rattle.checker.specs.Arrays.{rows_held}
 use Rattle.checker.specs.declared.values.SheetValues.{SheetValues}
-use Rattle.checker.specs.declared.rows.RowsEnd.{RowsEnd}
-use Rattle.checker.specs.declared.rows.RowsEnd.TheVariants.{At, Refused as RowsRefused}
+use Rattle.checker.specs.declared.row_lines.RowsEnd.{RowsEnd}
+use Rattle.checker.specs.declared.row_lines.RowsEnd.TheVariants.{At, Refused as RowsRefused}
 use Rattle.checker.specs.declared.ending.Step.{Step}
 use Rattle.checker.specs.declared.ending.Step.TheVariants.{On, Refused as StepRefused}
 

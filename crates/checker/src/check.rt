@@ -9,7 +9,7 @@ ghost use Rattle.checker.specs.Arrays.{beside, checked_in};
 
 use crate::ending::{Step, finish};
 use crate::next::next_end;
-use crate::rows::{RowsEnd, read_rows};
+use crate::row_lines::{RowsEnd, read_rows};
 use crate::values::{SheetValues, clear};
 use ring::BYTES;
 use table::{Reason, Verdict, byte_at, judge_ring, ring_fault};

@@ -2,18 +2,19 @@
 ghost use Rattle.std.specs.Prelude.{◌≡◌, ◌+◌, ◌≤◌, ◌<◌, length};
 ghost use Rattle.ring.specs.Limits.{desk};
 ghost use Rattle.ring.specs.Ring.{ring_of};
-ghost use Rattle.router.specs.Rows.{Table};
-ghost use Rattle.router.specs.Arrays.{Halves};
+ghost use Rattle.checker.specs.Rows.{Table, Halves};
 ghost use Rattle.checker.specs.Parts.{LinksRead, LastRead, WholeRead, TailRead, EndRead, WeighedRead};
 
+use crate::held::Held;
 use crate::judge::{judge_cut, judge_last, judge_link, judge_whole};
 use crate::next::next_end;
 use crate::values::SheetValues;
-use ring::{LINKS, must_carry, wide};
+use ring::{Cut, LINKS, Ring, must_carry, wide};
 use sheet::Figures;
 use sonet::Sonet;
 use table::{Reason, Verdict, byte_at};
 use text::{ThreeNumbers, TwoNumbers};
+use weight::weigh;
 
 // The place behind what was read; or the reason, the line and the byte of it.
 #[derive(Clone, Copy)]
@@ -163,16 +164,11 @@ fn weighed(
     ensures { WeighedRead s.now at line (ring_of n fibres) count values.old g h number
         values.new result }
 {
-    let w = router::weigh(
-        n,
+    let held = Held {
         count,
-        &values.first,
-        &values.second,
-        &values.amount,
-        &values.front,
-        &values.back,
-        &values.way,
-    );
+        values: &*values,
+    };
+    let w = weigh(n, &held);
     let split = w.split;
     let unsplit = w.unsplit;
     let peak = w.peak;
@@ -191,11 +187,8 @@ fn weighed(
         w.largest,
     );
     values.figures = Figures {
-        n,
-        fibres,
-        g,
-        h,
-        across: number,
+        ring: Ring { nodes: n, fibres },
+        cut: Cut { g, h, number },
         peak,
         size,
     };

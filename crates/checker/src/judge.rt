@@ -4,7 +4,7 @@ ghost use Rattle.ring.specs.Columns.{rows_in};
 ghost use Rattle.ring.specs.Cut.{part, across};
 ghost use Rattle.ring.specs.Limits.{desk};
 ghost use Rattle.ring.specs.Row.{row, in_front};
-ghost use Rattle.router.specs.Rows.{Table};
+ghost use Rattle.checker.specs.Rows.{Table};
 ghost use Rattle.sheet.specs.Judge.{wrong_sum, wrong_way, judge_halves};
 ghost use Rattle.sheet.specs.Check.{routed_of};
 ghost use Rattle.checker.specs.Parts.{sent_verdict};

@@ -2,7 +2,7 @@
 ghost use Rattle.std.specs.Prelude.{◌≡◌};
 ghost use Rattle.checker.specs.Arrays.{no_values as blank};
 
-use ring::{LINKS, ROWS};
+use ring::{Cut, LINKS, ROWS, Ring};
 use sheet::Figures;
 
 // The rows stand in the columns from place 0 on, the loads of link k at place k-1, and zeros behind them.
@@ -20,11 +20,15 @@ pub struct SheetValues {
 }
 
 const NO_FIGURES: Figures = Figures {
-    n: 0,
-    fibres: 0,
-    g: 0,
-    h: 0,
-    across: 0,
+    ring: Ring {
+        nodes: 0,
+        fibres: 0,
+    },
+    cut: Cut {
+        g: 0,
+        h: 0,
+        number: 0,
+    },
     peak: 0,
     size: 0,
 };

@@ -1,18 +1,21 @@
--- Routing a table: what reading said meets what the router asks, the router's columns are the plan's sheet, and so each way out is the outcome's.
-use Prim.Native.Nat.{ℕ, zero, suc, ◌+◌, ◌≤◌, ◌<◌}
-use mathlib.Core.List.{List}
-use mathlib.Core.Path.{◌≡◌, ap, ◌∙◌, sym}
-use native.Mathlib.Decide.{ℕ_discrete}
+-- Routing a table: the rows of its columns are its demands, the router's plan of them is the outcome's sheet, and so each way out is the outcome's.
+use Prim.Native.Nat.{ℕ, ◌+◌, ◌≤◌, ◌<◌}
+use mathlib.Core.List.{List, [], ◌∷◌, ◌++◌, map, map-map}
+use mathlib.Core.Path.{◌≡◌, refl, ap, ◌∙◌, sym}
 use native.Mathlib.Omega.{arith}
-use lib.ListN.{length}
+use lib.ListN.{length, replicate}
+use lib.Seq.{sets}
 use Rattle.ring.specs.Limits.{desk}
 use Rattle.ring.specs.Ring.{ring_of}
-use Rattle.ring.specs.Lists.{Each, more}
-use Rattle.ring.specs.Row.{OnRing, TableRows}
+use Rattle.ring.specs.declared.types.Ring.{Ring}
 use Rattle.ring.specs.declared.types.Row.{Row}
-use Rattle.ring.specs.Sheet.{Sheet, plan, sents, demands}
-use Rattle.ring.specs.Columns.{listed, row_at, rows_in}
-use Rattle.ring.proofs.Listed.{listed-length}
+use Rattle.ring.specs.declared.types.Routed.{Routed}
+use Rattle.ring.specs.declared.types.Link.{Link}
+use Rattle.ring.specs.Lists.{listed}
+use Rattle.ring.specs.Sheet.{Sheet, plan, sheet_of, sents, demands, true_link, numbers_from}
+use Rattle.ring.specs.Columns.{column, row_at, rows_in}
+use Rattle.ring.proofs.Listed.{listed-snoc, listed-length}
+use Rattle.ring.proofs.Lists.{each_both}
 use Rattle.ring.proofs.Figures.{demands-length}
 use Rattle.ring.proofs.OurPlan.{plan-true, plan-demands}
 use Rattle.table.specs.Table.{InRange}
@@ -22,80 +25,131 @@ use Rattle.table.specs.declared.reason.Reason.{Reason}
 use Rattle.table.specs.declared.read.Answer.{Answer}
 use Rattle.table.specs.declared.read.Answer.TheVariants.{Is, Refused}
 use Rattle.table.proofs.TableText.{desk-spelled, table-text}
-use Rattle.table.proofs.Told.{Told, told-table, told-refusal}
-use Rattle.router.specs.Rows as router
-use Rattle.router.specs.Planned.{plan_in, Routes}
+use Rattle.text.proofs.Apart.{clash}
+use Rattle.table.proofs.Told.{told-table, told-refusal}
+use Rattle.weight.specs.Weighed.{weight_in}
+use Rattle.weight.specs.declared.Weight.{Weight}
+use Rattle.router.specs.Arrays.{DemandsFit}
+use Rattle.router.specs.Planned.{plan_in, plan_of}
 use Rattle.router.specs.declared.Plan.{Plan}
-use Rattle.sheet.specs.WriteSheet.{write_sheet}
+use Rattle.sheet.specs.WriteSheet.{figures_of, write_sheet}
 use Rattle.sheet.specs.Arrays.{sheet_in}
 use Rattle.sheet.proofs.Back.{sheet-back}
 use Rattle.ringkit.specs.Outcome.{write, refuse, reply_of, Fills}
 use Rattle.ringkit.specs.TableCalls.{of_table, table_routed}
+use Rattle.ringkit.specs.Reading.{TableRead}
 use Rattle.ringkit.specs.declared.Reply.{Reply}
 use Rattle.ringkit.proofs.FillSteps.{refuses, same-fills}
 
--- what holds of each member holds at each place
-each_at : {A : Type 0} (P : A → Type 0) (f : ℕ → A) (m n : ℕ) → Each P (listed f m n) → (k : ℕ) → m ≤ k → k < m + n → P (f k)
-unfolding listed
-each_at P f m zero e k a b = absurd (omega arith)
-each_at P f m (suc n) (more p es) k a b = elim (ℕ_discrete k m) [ yes q ↦ rw q p | no q ↦ each_at P f (suc m) n es k (omega arith) (omega arith) ]
+-- ---- the router's plan of rows is the plan of their demands
 
--- ---- what the router's columns hold is the plan's sheet
+-- a figure of links, in its array
+lines-laid : (figure : Link → ℕ) (rs : List Routed) (ks : List ℕ) → column (λ k. figure (true_link rs k)) desk.nodes ks ≡ column figure desk.nodes (map (true_link rs) ks)
+unfolding column
+lines-laid figure rs ks = ap (sets (replicate {A = ℕ} desk.nodes 0) 0) (sym (map-map figure (true_link rs) ks))
 
-module _ (n fibres count : ℕ) (first second amount : List ℕ) (table : router.Table n count first second amount) (rising : TableRows n (rows_in count first second amount)) where
+module _ (ring : Ring) (old : List Routed) (range : InRange desk ring (demands (sents old))) where
   abbrev rows : List Row
-  rows = rows_in count first second amount
+  rows = demands (sents old)
 
   abbrev whole : Sheet
-  whole = plan (ring_of n fibres) rows
+  whole = plan_of ring old
 
-  -- the plan is of the table's rows, and its links run from 1 to n
-  same : demands (sents whole.rows) ≡ rows
-  same = plan-demands (ring_of n fibres) rows table.two rising
+  pub router-takes : DemandsFit ring.nodes (demands (sents old))
+  router-takes = record { links = range.many; few = range.count; each = each_both (λ r on small. record { on = on; small = small }) range.rows.nodes range.amounts }
 
-  many : length whole.rows ≡ count
-  many = sym (demands-length whole.rows) ∙ ap length same ∙ listed-length (row_at first second amount) 0 count
+  module _ (new : List Routed) (is : new ≡ (plan_of ring old).rows) where
+    pub rows-few : length new ≤ desk.rows
+    rows-few = omega (arith, ap length is, demands-length whole.rows, ap length (plan-demands ring rows range.few range.rows), range.count)
 
-  module _ (p : Plan) (front back way : List ℕ) (routes : Routes whole front back way p) where
-    abbrev pub sheet : Sheet
-    sheet = sheet_in (record { n = n; fibres = fibres; g = p.g; h = p.h; across = p.across; peak = p.peak; size = p.size }) count first second amount front back way p.split p.unsplit
+    module _ (p : Plan) (e : p ≡ plan_in (plan_of ring old)) where
+      weight-is : p.weight ≡ weight_in ring.nodes whole.rows
+      unfolding plan_in plan sheet_of
+      weight-is = ap (λ (p : Plan). p.weight) e
 
-    is-plan : sheet ≡ whole
-    unfolding plan_in plan
-    is-plan =
-        rw (routes.plan, routes.fronts, routes.backs, routes.ways)
-        (sheet-back whole count first second amount many table.few table.links same (plan-true (ring_of n fibres) rows table.two rising).links)
+      split-is : p.weight.split ≡ column (λ (l : Link). l.split) desk.nodes whole.links
+      unfolding weight_in plan sheet_of
+      split-is = ap (λ (w : Weight). w.split) weight-is ∙ lines-laid (λ l. l.split) whole.rows (numbers_from 1 ring.nodes)
 
-    pub plan-fills : (old new : List ℕ) (r : Reply) → Fills (write (write_sheet sheet)) old new r → Fills (write (write_sheet whole)) old new r
-    plan-fills old new r = same-fills old new r (ap (λ x. write (write_sheet x)) (sym is-plan))
+      unsplit-is : p.weight.unsplit ≡ column (λ (l : Link). l.unsplit) desk.nodes whole.links
+      unfolding weight_in plan sheet_of
+      unsplit-is = ap (λ (w : Weight). w.unsplit) weight-is ∙ lines-laid (λ l. l.unsplit) whole.rows (numbers_from 1 ring.nodes)
+
+      figures-are : record { ring = ring; cut = p.cut; peak = p.weight.peak; size = p.size } ≡ figures_of whole
+      unfolding plan_in weight_in plan sheet_of
+      figures-are = λ x. record { ring = ring; cut = (e x).cut; peak = (e x).weight.peak; size = (e x).size }
+
+      is-plan : sheet_in (record { ring = ring; cut = p.cut; peak = p.weight.peak; size = p.size }) new p.weight.split p.weight.unsplit ≡ whole
+      unfolding plan sheet_of
+      is-plan = rw (figures-are, is, split-is, unsplit-is) (sheet-back whole range.many (plan-true ring rows range.few range.rows).links)
+
+      pub plan-fills : (from to : List ℕ) (r : Reply) →
+          Fills (write (write_sheet (sheet_in (record { ring = ring; cut = p.cut; peak = p.weight.peak; size = p.size }) new p.weight.split p.weight.unsplit))) from to r →
+          Fills (write (write_sheet (plan ring (demands (sents old))))) from to r
+      plan-fills from to r = same-fills from to r (ap (λ x. write (write_sheet x)) (sym is-plan))
+
+-- ---- the columns of a table as rows
+
+demands-more : (rs : List Routed) (r : Routed) → demands (sents (rs ++ r ∷ [])) ≡ demands (sents rs) ++ r.sent.row ∷ []
+demands-more [] r = refl
+demands-more (x ∷ rs) r = ap (λ (l : List Row). x.sent.row ∷ l) (demands-more rs r)
+
+pub record Gathered (count : ℕ) (first second amount : List ℕ) (rs : List Routed) (k : ℕ) : Type 0 where
+  pub high : k ≤ count
+  pub is : demands (sents rs) ≡ rows_in k first second amount
+
+module _ (count : ℕ) (first second amount : List ℕ) where
+  pub gather-start : (rs : List Routed) → rs ≡ [] → Gathered count first second amount rs 0
+  unfolding listed
+  gather-start rs e = record { high = omega arith; is = ap (λ rs. demands (sents rs)) e }
+
+  module _ (rs : List Routed) (k : ℕ) (g : Gathered count first second amount rs k) where
+    pub gather-room : count ≤ desk.rows → k < count → length rs < desk.rows
+    gather-room few l = omega (arith, demands-length rs, ap length g.is, listed-length (row_at first second amount) 0 k)
+
+    pub gather-turn : k < count → (r : Routed) → r.sent.row ≡ row_at first second amount k → Gathered count first second amount (rs ++ r ∷ []) (k + 1)
+    gather-turn l r e =
+        let z : 0 + k ≡ k = omega arith in
+        record { high = omega arith; is = demands-more rs r ∙ rw (g.is, e) (sym (listed-snoc (row_at first second amount) 0 k ∙ rw z)) }
+
+    pub gather-done : count ≤ k → demands (sents rs) ≡ rows_in count first second amount
+    gather-done l = let e : k ≡ count = omega (arith, g.high) in rw e at g.is
 
 -- ---- a table that was read
 
-module _ (s old : List ℕ) (answer : Answer) (first second amount : List ℕ) (e : beside answer first second amount ≡ table_in (table_of desk s)) where
-  pub route-refused : (reason : Reason) (line byte : ℕ) (r : Reply) → answer ≡ Refused reason line byte → r ≡ reply_of (refuse reason line byte) → Fills (table_routed s) old old r
+module _ (s : List ℕ) (answer : Answer) (first second amount : List ℕ) (e : beside answer first second amount ≡ table_in (table_of desk s)) where
+  pub room-for : (n fibres count : ℕ) → answer ≡ Is n fibres count → count ≤ desk.rows
+  room-for n fibres count a = (told-table s _ e n fibres count a).room
+
+  pub read-table : (n fibres count : ℕ) → answer ≡ Is n fibres count → (rs : List Routed) → demands (sents rs) ≡ rows_in count first second amount → TableRead s rs (Is n fibres count)
+  read-table n fibres count a rs is =
+      record {
+        table = λ m f c b.
+            let en : n ≡ m = cc in
+            let ef : fibres ≡ f = cc in
+            (told-table s _ e n fibres count a).is ∙ rw (is, en, ef);
+        refusal = λ reason line byte b. told-refusal s _ e reason line byte (a ∙ b);
+      }
+
+  pub read-refusal : (reason : Reason) (line byte : ℕ) → answer ≡ Refused reason line byte → (rs : List Routed) → TableRead s rs answer
+  read-refusal reason line byte a rs =
+      record {
+        table = λ m f c b. clash (let p : Refused reason line byte ≡ Is m f c = sym a ∙ b in cc);
+        refusal = told-refusal s _ e;
+      }
+
+-- ---- its route
+
+module _ (s : List ℕ) (rs : List Routed) (answer : Answer) (read : TableRead s rs answer) where
+  pub route-refused : (old : List ℕ) (reason : Reason) (line byte : ℕ) (r : Reply) → answer ≡ Refused reason line byte → r ≡ reply_of (refuse reason line byte) →
+      Fills (table_routed s) old old r
   unfolding table_routed of_table
-  route-refused reason line byte r a = refuses (table_routed s) old reason line byte r (rw (told-refusal s _ e reason line byte a))
+  route-refused old reason line byte r a = refuses (table_routed s) old reason line byte r (rw (read.refusal reason line byte a))
 
   module _ (n fibres count : ℕ) (a : answer ≡ Is n fibres count) where
-    told : Told s n fibres count first second amount
-    told = told-table s _ e n fibres count a
+    pub read-range : InRange desk (ring_of n fibres) (demands (sents rs))
+    read-range = ((table-text desk desk-spelled s (ring_of n fibres) (demands (sents rs))).0 (read.table n fibres count a)).1
 
-    range : InRange desk (ring_of n fibres) (rows_in count first second amount)
-    range = ((table-text desk desk-spelled s (ring_of n fibres) (rows_in count first second amount)).0 told.is).1
-
-    pub router-takes : router.Table n count first second amount
-    router-takes =
-        record {
-          two = range.few;
-          links = range.many;
-          few = told.room;
-          nodes = λ k l. each_at (OnRing n) (row_at first second amount) 0 count range.rows.nodes k (omega arith) (omega arith);
-          small = λ k l. each_at (λ r. r.amount ≤ desk.amount) (row_at first second amount) 0 count range.amounts k (omega arith) (omega arith);
-        }
-
-    pub rows-rise : TableRows n (rows_in count first second amount)
-    rows-rise = range.rows
-
-    pub route-fills : (new : List ℕ) (r : Reply) → Fills (write (write_sheet (plan (ring_of n fibres) (rows_in count first second amount)))) old new r → Fills (table_routed s) old new r
+    pub route-fills : (old new : List ℕ) (r : Reply) → Fills (write (write_sheet (plan (ring_of n fibres) (demands (sents rs))))) old new r → Fills (table_routed s) old new r
     unfolding table_routed of_table
-    route-fills new r = same-fills old new r (rw told.is)
+    route-fills old new r = same-fills old new r (rw (read.table n fibres count a))

@@ -1,13 +1,15 @@
 -- The calls that read a sheet: what the checker answers gives each way out (`Told`).
 use Prim.Native.Nat.{ℕ, ◌≤◌}
 use mathlib.Core.List.{List}
+use lib.ListN.{length}
+use native.Mathlib.Omega.{arith}
 use mathlib.Core.Path.{◌≡◌, ap, ◌∙◌, sym}
 use Rattle.ring.specs.Columns.{sents_in}
 use Rattle.ring.specs.Limits.{desk}
 use Rattle.table.specs.Reasons.{number_of}
 use Rattle.table.specs.declared.reason.Reason.{Reason}
 use Rattle.sheet.specs.Arrays.{sheet_in}
-use Rattle.checker.specs.Arrays.{beside, checked_in}
+use Rattle.checker.specs.Arrays.{rows_held, beside, checked_in}
 use Rattle.sheet.specs.Check.{check}
 use Rattle.checker.specs.FindPair.{first_pair}
 use Rattle.sheet.specs.WriteSheet.{write_sheet}
@@ -16,6 +18,7 @@ use Rattle.checker.specs.declared.check.Answer.{Answer}
 use Rattle.checker.specs.declared.check.Answer.TheVariants.{Is, Refused}
 use Rattle.checker.specs.declared.pair.Pair.{Pair}
 use Rattle.checker.specs.declared.pair.Pair.TheVariants.{Are, None}
+use Rattle.checker.proofs.HeldRows.{held-length}
 use Rattle.checker.proofs.Told.{Told, told-sheet, told-refusal}
 use Rattle.ringkit.specs.Outcome.{write, refuse, reply_of, Fills}
 use Rattle.ringkit.specs.SheetCalls.{verdict_reply, sheet_checked, pair_reply, question_reply, sheet_parallel, of_sheet, sheet_afresh}
@@ -47,8 +50,11 @@ module _ (s : List ℕ) (answer : Answer) (v : SheetValues) (e : beside answer v
     pub rows-have-room : count ≤ desk.rows
     rows-have-room = told.room
 
-    pub links-have-room : v.figures.n ≤ desk.nodes
+    pub links-have-room : v.figures.ring.nodes ≤ desk.nodes
     links-have-room = told.links
+
+    pub held-rows : length (rows_held count v) ≤ desk.rows
+    held-rows = omega (arith, held-length count v, told.room)
 
     module _ (pair : Pair) (is : (amount : List ℕ) → pair ≡ first_pair (sents_in count v.first v.second amount v.front v.back)) where
       found : sheet_parallel s ≡ pair_reply pair
@@ -64,9 +70,9 @@ module _ (s : List ℕ) (answer : Answer) (v : SheetValues) (e : beside answer v
       no-pair-found f = sym (found ∙ rw f)
 
     pub sheet-fills : (old new : List ℕ) (r : Reply) →
-        Fills (write (write_sheet (sheet_in v.figures count v.first v.second v.amount v.front v.back v.way v.split v.unsplit))) old new r → Fills (sheet_afresh s) old new r
+        Fills (write (write_sheet (sheet_in v.figures (rows_held count v) v.split v.unsplit))) old new r → Fills (sheet_afresh s) old new r
     unfolding sheet_afresh of_sheet
     sheet-fills old new r f =
-        let is_text : sheet_afresh s ≡ write (write_sheet (sheet_in v.figures count v.first v.second v.amount v.front v.back v.way v.split v.unsplit)) =
+        let is_text : sheet_afresh s ≡ write (write_sheet (sheet_in v.figures (rows_held count v) v.split v.unsplit)) =
         ap of_sheet told.is ∙ ap (λ x. write (write_sheet x)) (sym told.same) in
         rw is_text f

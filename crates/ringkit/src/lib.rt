@@ -1,6 +1,7 @@
 #![tactic(auto)]
 // The public calls: byte slices and numbers in, a reply by value out. No call has a `requires`. `ringkit_c` gives them to C.
 mod line; // what the programs print of a refusal
+mod reading; // a table to rows
 mod working; // the calls of the working table
 
 ghost use Rattle.std.specs.Prelude.{◌≡◌, ◌≤◌, length, take};
@@ -8,10 +9,8 @@ ghost use Rattle.ring.specs.Limits.{desk};
 ghost use Rattle.ring.specs.LineSize.{IsFibres};
 ghost use Rattle.ring.specs.Ring.{ring_of};
 ghost use Rattle.ring.specs.Columns.{rows_in};
-ghost use Rattle.ring.specs.Row.{TableRows};
-ghost use Rattle.ring.specs.Sheet.{plan};
-ghost use Rattle.router.specs.Rows.{Table};
-ghost use Rattle.table.specs.Table.{write_table, table_room};
+ghost use Rattle.ring.specs.Sheet.{plan, sents, demands};
+ghost use Rattle.table.specs.Table.{InRange, write_table, table_room};
 ghost use Rattle.table.specs.Says.{Accepted as AcceptedTable};
 ghost use Rattle.matrix.specs.Matrix.{write_matrix};
 ghost use Rattle.matrix.specs.Demands.{matrix_of_rows};
@@ -32,10 +31,12 @@ ghost use Rattle.ringkit.specs.TableCalls.{table_afresh, table_routed};
 ghost use Rattle.ringkit.specs.MatrixCalls.{matrix_read, matrix_written};
 ghost use Rattle.ringkit.specs.SheetCalls.{sheet_checked, sheet_parallel, sheet_afresh};
 
-use checker::{Answer as Judged, Pair};
+use checker::{Answer as Judged, Held, Pair};
 pub use line::RefusalLine;
 use matrix::Sums;
-use ring::{LINKS, ROWS};
+use reading::read_rows;
+use ring::{LINKS, ROWS, Ring};
+use rows::{Columns, Rows};
 use sheet::Figures;
 use table::{Answer, Reason};
 pub use working::{
@@ -233,35 +234,23 @@ pub fn ringkit_write_matrix(table: &[u8], buffer: &mut [u8]) -> Reply
 }
 
 // Writes a sheet, or refuses where the buffer is too short.
-fn put_sheet<'a>(
+fn put_sheet<R: Rows>(
     buf: &mut [u8],
     x: Figures,
-    count: usize,
-    first: &'a [u32; ROWS],
-    second: &'a [u32; ROWS],
-    amount: &'a [u32; ROWS],
-    front: &'a [u32; ROWS],
-    back: &'a [u32; ROWS],
-    way: &'a [u32; ROWS],
-    split: &'a [u32; LINKS],
-    unsplit: &'a [u32; LINKS],
+    rows: &R,
+    split: &[u32; LINKS],
+    unsplit: &[u32; LINKS],
 ) -> Reply
-    requires rows { count ≤ desk.rows }
-    requires nodes { x.n ≤ desk.nodes }
-    ensures { let sheet = sheet_in x count first.now second.now amount.now front.now back.now
-        way.now
-        split.now unsplit.now in
+    requires rows { length (R.rows rows.now) ≤ desk.rows }
+    requires nodes { x.ring.nodes ≤ desk.nodes }
+    ensures { let sheet = sheet_in x (R.rows rows.now) split.now unsplit.now in
         Fills (write (write_sheet sheet)) buf.old buf.new result }
 {
-    let need = sheet::sheet_length(
-        x, count, first, second, amount, front, back, way, split, unsplit,
-    );
+    let need = sheet::sheet_length(x, rows, split, unsplit);
     if buf.len() < need {
         return refusal(Reason::NoRoom, 0, 0);
     }
-    let length = sheet::write_sheet(
-        buf, x, count, first, second, amount, front, back, way, split, unsplit,
-    );
+    let length = sheet::write_sheet(buf, x, rows, split, unsplit);
     Reply {
         reason: 0,
         line: 0,
@@ -270,53 +259,29 @@ fn put_sheet<'a>(
     }
 }
 
-// Routes a table's rows and writes their sheet. The columns beside those of the table begin as zeros.
-fn put_route<'a>(
-    buf: &mut [u8],
-    n: u32,
-    fibres: u32,
-    count: usize,
-    first: &'a [u32; ROWS],
-    second: &'a [u32; ROWS],
-    amount: &'a [u32; ROWS],
-) -> Reply
-    requires table { Table n count first.now second.now amount.now }
-    requires table_rows { TableRows n (rows_in count first.now second.now amount.now) }
-    ensures { let rows = rows_in count first.now second.now amount.now in
-        Fills (write (write_sheet (plan (ring_of n fibres) rows))) buf.old buf.new result }
+// Routes a table's rows and writes their sheet.
+fn put_route(buf: &mut [u8], ring: Ring, rows: &mut Columns) -> Reply
+    requires { InRange desk ring (demands (sents rows.old)) }
+    ensures { let sheet = plan ring (demands (sents rows.old)) in
+        Fills (write (write_sheet sheet)) buf.old buf.new result }
 {
-    let mut front = [0u32; ROWS];
-    let mut back = [0u32; ROWS];
-    let mut way = [0u32; ROWS];
-    let p = router::route(
-        n, fibres, count, first, second, amount, &mut front, &mut back, &mut way,
-    );
+    let p = router::route(ring, rows);
     let x = Figures {
-        n,
-        fibres,
-        g: p.g,
-        h: p.h,
-        across: p.across,
-        peak: p.peak,
+        ring,
+        cut: p.cut,
+        peak: p.weight.peak,
         size: p.size,
     };
-    put_sheet(
-        buf, x, count, first, second, amount, &front, &back, &way, &p.split, &p.unsplit,
-    )
+    put_sheet(buf, x, rows, &p.weight.split, &p.weight.unsplit)
 }
 
 fn route(table: &[u8], buffer: &mut [u8]) -> Reply
     ensures { Fills (table_routed table.now) buffer.old buffer.new result }
 {
-    let mut first = [0u32; ROWS];
-    let mut second = [0u32; ROWS];
-    let mut amount = [0u32; ROWS];
-    let answer = table::read_table(table, &mut first, &mut second, &mut amount);
-    match answer {
+    let mut rows = Columns::new();
+    match read_rows(table, &mut rows) {
         Answer::Refused(reason, line, byte) => refusal(reason, line, byte),
-        Answer::Is(n, fibres, count) => put_route(
-            buffer, n, fibres, count, &first, &second, &amount,
-        ),
+        Answer::Is(nodes, fibres, _) => put_route(buffer, Ring { nodes, fibres }, &mut rows),
     }
 }
 
@@ -431,19 +396,11 @@ fn rewrite_sheet(sheet: &[u8], buffer: &mut [u8]) -> Reply
         Judged::Refused(reason, line, byte) => refusal(reason, line, byte),
         Judged::Is(count) => {
             let x = values.figures;
-            put_sheet(
-                buffer,
-                x,
+            let held = Held {
                 count,
-                &values.first,
-                &values.second,
-                &values.amount,
-                &values.front,
-                &values.back,
-                &values.way,
-                &values.split,
-                &values.unsplit,
-            )
+                values: &values,
+            };
+            put_sheet(buffer, x, &held, &values.split, &values.unsplit)
         }
     }
 }

@@ -1,27 +1,32 @@
 -- The triangle under its loops: rows put on from the last to the first make the triangle of them all, and a row taken off leaves that of the others;
 -- no number comes near the type's end, so that the sums that wrap around are sums.
-use Prim.Native.Nat.{ℕ, ◌+◌, ◌*◌, ◌-◌, ◌≤◌, ◌<◌}
+use Prim.Native.Nat.{ℕ, ◌+◌, ◌*◌, ◌≤◌, ◌<◌}
 use mathlib.Core.Bool.{true, false}
 use mathlib.Core.Path.{◌≡◌, sym}
 use mathlib.Core.List.{List, [], ◌∷◌}
 use native.Mathlib.Omega.{arith}
 use native.Mathlib.Decide.{ℕ_discrete}
 use borrow.Author.Tests.{eq-eqb, ne_eqb}
-use lib.ListN.{get_or}
+use Rattle.std.proofs.Common.{◌++◌, Some, slice_get, length, take, refl}
+use Rattle.std.proofs.lemmas.List.{take_more, take_all, length-map}
+use Rattle.std.proofs.lemmas.Option.{get_or_from_slice_get, slice_get_within}
+use Rattle.ring.specs.Lists.{Each}
+use Rattle.ring.specs.declared.types.Routed.{Routed}
+use Rattle.ring.specs.declared.types.Sent.{Sent}
+use Rattle.ring.specs.Sheet.{sents, demands}
+use Rattle.ring.proofs.Lists.{each, each-of-map}
+use Rattle.weight.proofs.Weighing.{each-at, total-snoc, total-few}
 use Rattle.ring.specs.Row.{row}
 use Rattle.ring.specs.declared.types.Row.{Row}
-use Rattle.ring.specs.Cut.{across}
-use Rattle.ring.specs.Columns.{listed, row_at}
+use Rattle.ring.specs.Cut.{part, across}
 use Rattle.ring.proofs.Across.{one_link}
-use Rattle.ring.proofs.Listed.{listed-none, listed_back}
-use Rattle.ring.proofs.Totals.{across-total, total-small, part_small}
+use Rattle.ring.proofs.Totals.{part_small}
 use Rattle.across.specs.Triangle.{most_links, at}
 use Rattle.across.specs.Step.{step_row}
 use Rattle.across.specs.Lines.{Pairwise}
 use Rattle.across.proofs.Kept.{row-at, row-size}
-use Rattle.router.specs.Limits.{most_amount, most_load}
-use Rattle.router.specs.Rows.{Table}
-use Rattle.router.specs.Arrays.{pair_at, Triangle}
+use Rattle.weight.specs.Limits.{most_amount, most_rows, most_load}
+use Rattle.router.specs.Arrays.{pair_at, Triangle, DemandFits, DemandsFit}
 
 -- the number of every pair g <= h: that of a link with itself is 0
 pub pair_is : (n : ℕ) (rs : List Row) (triangle : List ℕ) → Triangle n rs triangle → (g h : ℕ) → 1 ≤ g → g ≤ h → h ≤ n → pair_at triangle g h ≡ across rs g h
@@ -34,14 +39,6 @@ pair_is n rs triangle s g h a b c =
 -- ---- one row
 
 module _ (n : ℕ) (r : Row) (rs : List Row) (old : List ℕ) (few : n ≤ most_links) where
-  pub put_on : Triangle n rs old → Pairwise n (λ g h. at old g h + r.amount ≤ most_load) → Triangle n (r ∷ rs) (step_row true n r old)
-  unfolding across
-  put_on s small =
-      record {
-        size = row-size true n r old;
-        is = λ g h a b c. omega (arith, row-at true n r old few g h a b c, s.is g h a b c, part_small r g h, small g h a b c);
-      }
-
   pub taken-off : Triangle n (r ∷ rs) old → Pairwise n (λ g h. at old g h ≤ most_load) → Triangle n rs (step_row false n r old)
   unfolding across
   taken-off s small =
@@ -52,30 +49,53 @@ module _ (n : ℕ) (r : Row) (rs : List Row) (old : List ℕ) (few : n ≤ most_
 
 -- ---- all rows
 
--- where the loop stands: the rows from t on are in the triangle
-pub record Filled (n count : ℕ) (first second amount triangle : List ℕ) (t : ℕ) : Type 0 where
-  pub high : t ≤ count
-  pub so_far : Triangle n (listed (row_at first second amount) t (count - t)) triangle
+-- where the loop stands: the first t rows are in the triangle
+pub record Filled (n : ℕ) (rs : List Routed) (triangle : List ℕ) (t : ℕ) : Type 0 where
+  pub high : t ≤ length rs
+  pub so_far : Triangle n (demands (sents (take t rs))) triangle
 
-module _ (n count : ℕ) (first second amount : List ℕ) (table : Table n count first second amount) where
-  abbrev rows_from : ℕ → List Row
-  rows_from t = listed (row_at first second amount) t (count - t)
+-- a row behind others adds what it adds before them
+more-across : (n : ℕ) (rs : List Routed) (r : Routed) (g h : ℕ) → across (demands (sents (rs ++ r ∷ []))) g h ≡ across (demands (sents rs)) g h + part r.sent.row g h
+unfolding across
+more-across n rs r g h = total-snoc {share = λ (r : Routed). part r.sent.row g h} {sum = λ (rs : List Routed). across (demands (sents rs)) g h} (record { none = refl; more = λ r rs. refl }) rs r
 
-  pub fill_start : (triangle : List ℕ) → Triangle n [] triangle → Filled n count first second amount triangle count
-  fill_start triangle s = record { high = omega arith; so_far = rw (listed-none (row_at first second amount) count count (omega arith)) s }
+across-most : (rs : List Routed) (t g h n : ℕ) → Each (λ (r : Routed). DemandFits n r.sent.row) rs → across (demands (sents (take t rs))) g h ≤ most_amount * t
+unfolding across
+across-most rs t g h n e =
+    total-few {share = λ (r : Routed). part r.sent.row g h} {sum = λ (rs : List Routed). across (demands (sents rs)) g h} (record { none = refl; more = λ r rs. refl })
+    (each (λ r f. omega (arith, part_small r.sent.row g h, f.small)) e) t
 
-  pub rows_fit : (triangle : List ℕ) (t : ℕ) → Triangle n (rows_from t) triangle → Pairwise n (λ g h. at triangle g h ≤ most_amount * (count - t))
-  rows_fit triangle t s g h a b c =
-      omega
-      (arith, s.is g h a b c, total-small (across-total g h) (row_at first second amount) most_amount t (count - t) (λ x p q. omega (arith, part_small (row_at first second amount x) g h, table.small x (omega arith))))
+module _ (n : ℕ) (rs : List Routed) (fit : DemandsFit n (demands (sents rs))) where
+  fits-all : Each (λ (r : Routed). DemandFits n r.sent.row) rs
+  fits-all = each-of-map (λ (r : Routed). r.sent) rs (each-of-map (λ (s : Sent). s.row) (sents rs) fit.each)
 
-  pub fill-turn : (old new : List ℕ) (t i j : ℕ) → 0 < t → Filled n count first second amount old t → i ≡ get_or first (t - 1) 0 → j ≡ get_or second (t - 1) 0 →
-      new ≡ step_row true n (row i j (get_or amount (t - 1) 0)) old → Filled n count first second amount new (t - 1)
-  fill-turn old new t i j l f ei ej e =
-      record {
-        high = omega (arith, f.high);
-        so_far =
-            rw (e, ei, ej, listed_back (row_at first second amount) t count l f.high)
-            (put_on n (row_at first second amount (t - 1)) (rows_from t) old table.links f.so_far
-            (λ g h a b c. omega (arith, rows_fit old t f.so_far g h a b c, table.small (t - 1) (omega (arith, f.high)), table.few)));
-      }
+  few : length rs ≤ most_rows
+  few = omega (arith, length-map (sents rs) (λ (s : Sent). s.row), length-map rs (λ (r : Routed). r.sent), fit.few)
+
+  pub fill_start : (triangle : List ℕ) → Triangle n [] triangle → Filled n rs triangle 0
+  fill_start triangle s = record { high = omega arith; so_far = s }
+
+  module _ (triangle : List ℕ) (t : ℕ) (r : Routed) (g : slice_get rs t ≡ Some r) (f : Filled n rs triangle t) where
+    in-list : t < length rs
+    in-list = slice_get_within rs t r g
+
+    pub fill-row : DemandFits n r.sent.row
+    fill-row = rw (get_or_from_slice_get rs t r r g) at (each-at fits-all t r in-list)
+
+    pub fill-turn : (new : List ℕ) (i j : ℕ) → i ≡ r.sent.row.first → j ≡ r.sent.row.second → new ≡ step_row true n (row i j r.sent.row.amount) triangle → Filled n rs new (t + 1)
+    unfolding across
+    fill-turn new i j ei ej e =
+        record {
+          high = omega (arith, in-list);
+          so_far =
+              rw (take_more rs t r in-list, get_or_from_slice_get rs t r r g, e, ei, ej)
+              (record {
+                size = row-size true n r.sent.row triangle;
+                is = λ a b p q s.
+                    omega
+                    (arith, row-at true n r.sent.row triangle fit.links a b p q s, f.so_far.is a b p q s, more-across n (take t rs) r a b, part_small r.sent.row a b, fill-row.small, across-most rs t a b n fits-all, in-list, few);
+              });
+        }
+
+  pub fill-done : (triangle : List ℕ) (t : ℕ) → length rs ≤ t → Filled n rs triangle t → Triangle n (demands (sents rs)) triangle
+  fill-done triangle t l f = rw (take_all t rs l) at f.so_far

@@ -1,29 +1,28 @@
 // The triangle of a table's across numbers: made once, read by rules A and B, and lowered as rows are sent, so that no sum over rows is taken for a
 // pair of links.
 ghost use Rattle.std.specs.Prelude.{[]};
-ghost use Rattle.ring.specs.Columns.{rows_in};
-ghost use Rattle.router.specs.Rows.{Table};
-ghost use Rattle.router.specs.Arrays.{Triangle};
+ghost use Rattle.ring.specs.Sheet.{sents, demands};
+ghost use Rattle.router.specs.Arrays.{DemandsFit, Triangle};
 
 use across::{PAIRS, step_row};
-use ring::{ROWS, wide};
+use ring::wide;
+use rows::Rows;
 
-// The triangle of a table's rows, from an empty one.
-pub(crate) fn fill(
-    triangle: &mut [u32; PAIRS],
-    n: usize,
-    count: usize,
-    first: &[u32; ROWS],
-    second: &[u32; ROWS],
-    amount: &[u32; ROWS],
-)
-    requires table { Table n count first.now second.now amount.now }
+// The triangle of rows, from an empty one.
+pub(crate) fn fill<R: Rows>(triangle: &mut [u32; PAIRS], n: usize, rows: &R)
+    requires fit { DemandsFit n (demands (sents (R.rows rows.now))) }
     requires triangle { Triangle n [] triangle.old }
-    ensures { Triangle n (rows_in count first.now second.now amount.now) triangle.new }
+    ensures { Triangle n (demands (sents (R.rows rows.now))) triangle.new }
 {
-    for t in (0..count).rev() {
-        let i = wide(first[t]);
-        let j = wide(second[t]);
-        step_row(triangle, true, n, i, j, amount[t]);
+    for k in 0..rows.count() {
+        let demand = rows.row(k).sent.row;
+        step_row(
+            triangle,
+            true,
+            n,
+            wide(demand.first),
+            wide(demand.second),
+            demand.amount,
+        );
     }
 }

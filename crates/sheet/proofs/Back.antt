@@ -92,10 +92,7 @@ module _ (n : ℕ) (ls : List Link) (few : n ≤ desk.nodes) (same : map (λ (l 
 
 -- ---- the sheet
 
-pub sheet-back : (x : Sheet) (count : ℕ) (first second amount : List ℕ) → length x.rows ≡ count → count ≤ desk.rows → x.ring.nodes ≤ desk.nodes →
-    demands (sents x.rows) ≡ rows_in count first second amount → map (λ (l : Link). l.link) x.links ≡ numbers_from 1 x.ring.nodes →
-    sheet_in (figures_of x) count first second amount (column (λ (r : Routed). r.sent.front) desk.rows x.rows) (column (λ (r : Routed). r.sent.back) desk.rows x.rows) (column (λ (r : Routed). way_number r.way) desk.rows x.rows)
-    (column (λ (l : Link). l.split) desk.nodes x.links) (column (λ (l : Link). l.unsplit) desk.nodes x.links) ≡ x
+pub sheet-back : (x : Sheet) → x.ring.nodes ≤ desk.nodes → map (λ (l : Link). l.link) x.links ≡ numbers_from 1 x.ring.nodes →
+    sheet_in (figures_of x) x.rows (column (λ (l : Link). l.split) desk.nodes x.links) (column (λ (l : Link). l.unsplit) desk.nodes x.links) ≡ x
 unfolding sheet_in
-sheet-back x count first second amount long few small same numbers =
-    rw (← long, rows_back x.rows first second amount (omega arith) (same ∙ ap (λ m. rows_in m first second amount) (sym long)), links-back x.ring.nodes x.links small numbers)
+sheet-back x small numbers = rw (links-back x.ring.nodes x.links small numbers)

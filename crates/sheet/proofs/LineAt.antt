@@ -1,4 +1,4 @@
--- The D lines and the L lines of a sheet in arrays, one behind the other: the pieces that measuring and writing go through.
+-- The lines of a sheet, one behind the other; and the L lines of loads in arrays: the pieces that measuring and writing go through.
 use Prim.Native.Nat.{ℕ, ◌+◌}
 use mathlib.Core.Bool.{Bool, true, false, cond}
 use mathlib.Core.List.{List, [], ◌∷◌, ◌++◌, append_assoc, append-nil}
@@ -8,18 +8,18 @@ use lib.Dec.{eqb}
 use lib.ListN.{get_or}
 use Rattle.ring.specs.Routing.{way_number, way_of}
 use Rattle.ring.specs.declared.types.Way.TheVariants.{Front, Back}
-use Rattle.ring.specs.Columns.{listed, routed_at, routed_in}
+use Rattle.ring.specs.Columns.{listed}
 use Rattle.ring.proofs.Listed.{listed-snoc}
 use Rattle.text.specs.Mark.{mark_byte}
 use Rattle.text.specs.Field.{spell}
 use Rattle.text.specs.WriteLine.{write_line}
-use Rattle.text.specs.Shapes.{sent_shape, link_shape, sent_line, link_line}
+use Rattle.text.specs.Shapes.{link_shape, sent_line, link_line}
 use Rattle.text.proofs.Lengths.{line-short}
 use Rattle.text.proofs.Pieces.{Pieces}
-use Rattle.sheet.specs.WriteSheet.{routed_line, load_line, lines_of}
+use Rattle.sheet.specs.WriteSheet.{load_line, lines_of}
 use Rattle.sheet.specs.Arrays.{link_at, links_in}
 
-lines_more : {A : Type 0} (line : A → List ℕ) (l : List A) (x : A) → lines_of line (l ++ x ∷ []) ≡ lines_of line l ++ line x
+pub lines_more : {A : Type 0} (line : A → List ℕ) (l : List A) (x : A) → lines_of line (l ++ x ∷ []) ≡ lines_of line l ++ line x
 unfolding lines_of
 lines_more line [] x = append-nil (line x)
 lines_more line (y ∷ l) x = ap (λ m. line y ++ m) (lines_more line l x) ∙ sym (append_assoc (line y) (lines_of line l) (line x))
@@ -38,23 +38,6 @@ way-spelled i j d f b w = go (eqb w 0) refl
     go : (t : Bool) → eqb w 0 ≡ t → sent_line i j d f b (way_number (cond t Front Back)) ≡ sent_line i j d f b w
     go true e = rw e
     go false e = rw e
-
-module _ (first second amount front back way : List ℕ) where
-  abbrev pub sent_line_at : ℕ → List ℕ
-  sent_line_at k = sent_line (get_or first k 0) (get_or second k 0) (get_or amount k 0) (get_or front k 0) (get_or back k 0) (get_or way k 0)
-
-  abbrev pub sent_text : ℕ → List ℕ
-  sent_text k = lines_of routed_line (routed_in k first second amount front back way)
-
-  pub sent_pieces : Pieces sent_line_at sent_text
-  unfolding listed lines_of
-  sent_pieces =
-      record {
-        none = refl;
-        more = λ k. lines-listed routed_line (routed_at first second amount front back way) k
-            ∙ ap (λ l. sent_text k ++ l) (way-spelled (get_or first k 0) (get_or second k 0) (get_or amount k 0) (get_or front k 0) (get_or back k 0) (get_or way k 0));
-        short = λ k. omega (arith, line-short sent_shape (0 ∷ get_or first k 0 ∷ get_or second k 0 ∷ get_or amount k 0 ∷ get_or front k 0 ∷ get_or back k 0 ∷ get_or way k 0 ∷ []));
-      }
 
 module _ (split unsplit : List ℕ) where
   abbrev pub load_line_at : ℕ → List ℕ

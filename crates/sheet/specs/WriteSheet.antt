@@ -22,12 +22,12 @@ lines_of line (x ∷ l) = line x ++ lines_of line l
 
 -- the figures of a sheet that are not of a row or of a link
 abbrev pub figures_of : Sheet → Figures
-figures_of x = record { n = x.ring.nodes; fibres = x.ring.fibres; g = x.cut.g; h = x.cut.h; across = x.cut.number; peak = x.peak; size = x.size }
+figures_of x = record { ring = x.ring; cut = x.cut; peak = x.peak; size = x.size }
 
 -- C g h across; L lines; Z unsplit-peak size
 unfoldable pub end_text : Figures → List Link → List ℕ
 unfolding lines_of
-end_text x links = cut_line x.g x.h x.across ++ (lines_of load_line links ++ last_line x.peak x.size)
+end_text x links = cut_line x.cut.g x.cut.h x.cut.number ++ (lines_of load_line links ++ last_line x.peak x.size)
 
 unfoldable pub write_sheet : Sheet → List ℕ
 unfolding end_text

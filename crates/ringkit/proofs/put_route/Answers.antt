@@ -1,14 +1,13 @@
--- Routing a table's rows: the router's columns hold the plan's sheet (`RouteSteps`), which is written as sheets are.
-use Rattle.router.proofs.Zeros.{no-halves, no-ways}
-use Rattle.ringkit.proofs.RouteSteps.{plan-fills}
+-- Routing a table's rows: the router's plan is that of their demands (`RouteSteps`), which is written as sheets are.
+use Rattle.ringkit.proofs.RouteSteps.{router-takes, rows-few, plan-fills}
 use Rattle.std.proofs.Common.{rules}
 use Rattle.ringkit.proofs.put_route.Goals as goal
 
-pub route-p-requires-clause-halves : goal.route-p-requires-clause-halves
-route-p-requires-clause-halves c = search (rules, no-halves)
+pub route-p-requires-clause-fit : goal.route-p-requires-clause-fit
+route-p-requires-clause-fit c = search router-takes
 
-pub route-p-requires-clause-ways : goal.route-p-requires-clause-ways
-route-p-requires-clause-ways c = search (rules, no-ways)
+pub put_sheet-requires-clause-rows : goal.put_sheet-requires-clause-rows
+put_sheet-requires-clause-rows c = search (rows-few, rules)
 
 pub returns : goal.returns
 returns c = search (rules, plan-fills)

@@ -4,7 +4,7 @@ use Rattle.ringkit.proofs.FillSteps.{text-too-short, text-fills}
 use Rattle.ringkit.proofs.put_sheet.Goals as goal
 
 pub returns-then-buf-need : goal.returns-then-buf-need
-returns-then-buf-need c = text-too-short _ _ _ (search rules) (search rules)
+returns-then-buf-need g c = text-too-short _ _ _ (search rules) (search rules)
 
 pub returns : goal.returns
-returns c = search text-fills
+returns g c = search text-fills

@@ -1,9 +1,9 @@
 -- Rewriting a sheet: the checker's arrays hold the sheet that it accepted (`SheetSteps`).
-use Rattle.ringkit.proofs.SheetSteps.{sheet-refused, rows-have-room, links-have-room, sheet-fills}
+use Rattle.ringkit.proofs.SheetSteps.{sheet-refused, held-rows, links-have-room, sheet-fills}
 use Rattle.ringkit.proofs.rewrite_sheet.Goals as goal
 
 pub put_sheet-requires : goal.put_sheet-requires
-put_sheet-requires c = search (rows-have-room, links-have-room)
+put_sheet-requires c = search (held-rows, links-have-room)
 
 pub returns-in-Refused : goal.returns-in-Refused
 returns-in-Refused c = search (sheet-refused, sheet-fills)

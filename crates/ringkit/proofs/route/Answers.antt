@@ -1,15 +1,12 @@
--- Routing a table: what reading answers is what the router takes, and its plan is the outcome's (`RouteSteps`).
-use Rattle.ringkit.proofs.RouteSteps.{route-refused, router-takes, rows-rise, route-fills}
+-- Routing a table: what reading leaves is what the router takes, and its plan is the outcome's (`RouteSteps`).
+use Rattle.ringkit.proofs.RouteSteps.{route-refused, read-range, route-fills}
 use Rattle.ringkit.proofs.route.Goals as goal
 
-pub put_route-requires-clause-table : goal.put_route-requires-clause-table
-put_route-requires-clause-table c = search router-takes
-
-pub put_route-requires-clause-table_rows : goal.put_route-requires-clause-table_rows
-put_route-requires-clause-table_rows c = search rows-rise
+pub put_route-requires : goal.put_route-requires
+put_route-requires c = search read-range
 
 pub returns-in-Refused : goal.returns-in-Refused
-returns-in-Refused c = search (route-refused, route-fills)
+returns-in-Refused c = search route-refused
 
 pub returns-in-Is : goal.returns-in-Is
 returns-in-Is c = search route-fills

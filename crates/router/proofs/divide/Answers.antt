@@ -1,17 +1,15 @@
--- `divide` gives the cut and the halves of rules A to C: what each function ensures in turn, put together by `divided`.
-use Rattle.router.proofs.Zeros.{no-triangle}
-use Rattle.std.proofs.Common.{◌≤◌, rules}
-use Rattle.router.specs.Limits.{most_across}
-use Rattle.router.proofs.FourRules.{number_small, rooms-start, divided}
+-- `divide` gives the cut and the halves of rules A to C: what each function ensures in turn.
+use Rattle.router.proofs.FourRules.{no-triangle, rooms-start, sent-fit, divided}
 use Rattle.router.proofs.divide.Goals as goal
 
 pub fill-requires-clause-triangle : goal.fill-requires-clause-triangle
-fill-requires-clause-triangle c = search no-triangle
+fill-requires-clause-triangle g c = no-triangle _
 
 pub send_all-requires-clause-rooms : goal.send_all-requires-clause-rooms
-send_all-requires-clause-rooms c =
-    let small : c.largest_cut-cut.result.number ≤ most_across = search number_small in
-    search (rooms-start, rules)
+send_all-requires-clause-rooms g c = rooms-start _ _ c.requires.two c.requires.fit _ _ c.fill.ensures c.largest_cut-cut.ensures
+
+pub untangle-requires : goal.untangle-requires
+untangle-requires g c = sent-fit _ _ c.requires.two c.requires.fit _ _ c.fill.ensures c.largest_cut-cut.ensures _ c.send_all.ensures
 
 pub returns : goal.returns
-returns c = search divided
+returns g c = divided _ _ c.requires.two c.requires.fit _ _ c.fill.ensures c.largest_cut-cut.ensures _ c.send_all.ensures _ c.untangle.ensures

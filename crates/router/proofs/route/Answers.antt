@@ -1,13 +1,16 @@
--- `route` answers the plan of rules A to D: the halves, the ways and the weight of the rows, put together by `plan-routes`.
-use Rattle.router.proofs.FourRules.{carried-fits, plan-routes}
+-- `route` answers the plan of rules A to D.
+use Rattle.router.proofs.FourRules.{turned-fit, rows-are, carried, plan-is}
 use Rattle.router.proofs.route.Goals as goal
 
-pub must_carry-requires : goal.must_carry-requires
-must_carry-requires c =
-    let divided = rw c.wide-links.ensures at c.divide-cut.ensures in
-    search carried-fits
+pub weigh-weight-requires : goal.weigh-weight-requires
+weigh-weight-requires g c = turned-fit c.args.ring _ _ _ _ _ c.wide-n.ensures c.divide-cut.ensures c.choose.ensures
 
-pub returns : goal.returns
-returns c =
-    let divided = rw c.wide-links.ensures at c.divide-cut.ensures in
-    search plan-routes
+pub must_carry-requires : goal.must_carry-requires
+must_carry-requires g c = carried c.args.ring _ _ _ _ _ c.wide-n.ensures c.divide-cut.ensures c.choose.ensures _ c.weigh-weight.ensures
+
+pub returns-clause-rows : goal.returns-clause-rows
+returns-clause-rows g c = rows-are c.args.ring _ _ _ _ _ c.wide-n.ensures c.divide-cut.ensures c.choose.ensures
+
+pub returns-clause-figures : goal.returns-clause-figures
+returns-clause-figures g c =
+    plan-is c.args.ring _ _ _ _ _ c.wide-n.ensures c.divide-cut.ensures c.choose.ensures _ c.weigh-weight.ensures _ _ c.must_carry.ensures c.size-size.ensures

@@ -1,18 +1,18 @@
 -- `moved` is rule C's move: one law for each way through the tests.
-use Rattle.router.proofs.MoveCases.{move-apart, move-outer, move-inner, move-crossing, move-whole}
+use Rattle.router.proofs.MoveCases.{whole-case, apart-case, outer-case, inner-case, crossing-case}
 use Rattle.router.proofs.parallel.moved.Goals as goal
 
+pub returns-then-not-both_split : goal.returns-then-not-both_split
+returns-then-not-both_split c = search whole-case
+
 pub returns-then-disjoint : goal.returns-then-disjoint
-returns-then-disjoint c = search move-apart
+returns-then-disjoint c = search apart-case
 
 pub returns-then-holds : goal.returns-then-holds
-returns-then-holds c = search move-outer
+returns-then-holds c = search outer-case
 
 pub returns-then-holds-2 : goal.returns-then-holds-2
-returns-then-holds-2 c = search move-inner
+returns-then-holds-2 c = search inner-case
 
 pub returns-else-holds-2 : goal.returns-else-holds-2
-returns-else-holds-2 c = search move-crossing
-
-pub returns-then-not-both_split : goal.returns-then-not-both_split
-returns-then-not-both_split c = search move-whole
+returns-else-holds-2 c = search crossing-case

@@ -3,7 +3,7 @@ use Rattle.router.proofs.PassSteps.{Firsts, Seconds}
 use Rattle.router.proofs.parallel.untangle.Given as goal
 
 abbrev pub invariant-loop-b : goal.invariant-loop-b
-invariant-loop-b l = Seconds l.count l.first l.second l.initial.front l.initial.back l.front l.back l.a l.b
+invariant-loop-b g l = Seconds l.n l.count (g.R.Rows.rows l.initial.rows) (g.R.Rows.rows l.rows) l.a l.b
 
 abbrev pub invariant-loop-a : goal.invariant-loop-a
-invariant-loop-a l = Firsts l.count l.first l.second l.initial.front l.initial.back l.front l.back l.a
+invariant-loop-a g l = Firsts l.n l.count (g.R.Rows.rows l.initial.rows) (g.R.Rows.rows l.rows) l.a

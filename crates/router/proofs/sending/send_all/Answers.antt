@@ -1,15 +1,31 @@
 -- `send_all` is rule B: what is sent so far, and what the rule sends from the rooms and rows that are left, is what it sends of all.
-use Rattle.router.proofs.SendSteps.{send-start, send-front, send-turn, send-done}
+use Rattle.std.proofs.Common.{◌≤◌, length, arith}
+use Rattle.router.proofs.SendSteps.{send-start, here, send-front, send-over, send-turn, send-done}
 use Rattle.router.proofs.sending.send_all.Goals as goal
 
 pub loop-t-init : goal.loop-t-init
-loop-t-init c = search send-start
+loop-t-init g c = search send-start
 
-pub least_slack-s-requires : goal.least_slack-s-requires
-least_slack-s-requires c = search send-front
+pub least_slack-requires : goal.least_slack-requires
+least_slack-requires g c = search send-front
+
+pub overflow_mul-d : goal.overflow_mul-d
+overflow_mul-d g c = let h = here _ _ _ c.requires.fit _ _ _ _ _ c.row-row.ensures c.loop-t.invariant _ _ c.wide-i.ensures c.wide-j.ensures in omega (arith, h.small)
+
+pub overflow_mul-sent : goal.overflow_mul-sent
+overflow_mul-sent g c = let h = here _ _ _ c.requires.fit _ _ _ _ _ c.row-row.ensures c.loop-t.invariant _ _ c.wide-i.ensures c.wide-j.ensures in omega (arith, h.small)
+
+pub step_row-requires : goal.step_row-requires
+step_row-requires g c = let h = here _ _ _ c.requires.fit _ _ _ _ _ c.row-row.ensures c.loop-t.invariant _ _ c.wide-i.ensures c.wide-j.ensures in record { low = omega (arith, h.on.low); few = c.requires.fit.links }
+
+pub step_over-requires : goal.step_over-requires
+step_over-requires g c =
+    send-over _ _ _ c.requires.fit _ _ _ _ _ c.row-row.ensures c.loop-t.invariant _ _ c.wide-i.ensures c.wide-j.ensures _ (omega arith)
 
 pub loop-t-preserved : goal.loop-t-preserved
-loop-t-preserved c = search send-turn
+loop-t-preserved g c = rw c.put.ensures (search send-turn)
 
 pub returns : goal.returns
-returns c = search send-done
+returns g c =
+    let all : length (g.R.Rows.rows c.args.rows.now) ≤ c.loop-t.t = omega (arith, c.loop-t-test.false, c.count-t-end.ensures) in
+    search send-done

@@ -3,4 +3,4 @@ use Rattle.router.proofs.SendSteps.{Sending}
 use Rattle.router.proofs.sending.send_all.Given as goal
 
 abbrev pub invariant-loop-t : goal.invariant-loop-t
-invariant-loop-t l = Sending l.n l.count l.first l.second l.amount l.initial.room l.triangle l.room l.front l.back l.t
+invariant-loop-t g l = Sending l.n (g.R.Rows.rows l.initial.rows) (g.R.Rows.rows l.rows) l.initial.room l.triangle l.room l.t

@@ -1,4 +1,4 @@
--- `slack` is the slack of two links: its sums fit, and the subtraction stops at 0 as the definition's does.
+-- `slack` is the slack of two links: its sums fit, and `minus` stops at 0 as the definition does.
 use Rattle.router.proofs.SendSteps.{slack-is}
 use Rattle.router.proofs.sending.slack.Goals as goal
 

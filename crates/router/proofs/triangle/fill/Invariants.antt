@@ -1,6 +1,6 @@
--- `fill` makes the triangle of all rows: the loop's invariant is the triangle of the rows passed, from the last down.
+-- `fill` makes the triangle of all rows: that of the rows passed.
 use Rattle.router.proofs.TriangleSteps.{Filled}
 use Rattle.router.proofs.triangle.fill.Given as goal
 
-abbrev pub invariant-loop-t : goal.invariant-loop-t
-invariant-loop-t l = Filled l.n l.count l.first l.second l.amount l.triangle l.t
+abbrev pub invariant-loop-k : goal.invariant-loop-k
+invariant-loop-k g l = Filled l.n (g.R.Rows.rows l.rows) l.triangle l.k

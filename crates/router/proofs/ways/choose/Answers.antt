@@ -1,21 +1,20 @@
 -- `choose` is rule D: the ways so far, and those that the rule gives to what is left, are the ways of all.
-use Rattle.router.proofs.WaySteps.{ways-start, ways-turn, ways-done, most-small}
-use native.Mathlib.Omega.{arith}
+use Rattle.std.proofs.Common.{◌≤◌, length, arith}
+use Rattle.router.proofs.WaySteps.{ways-start, turn-fits, ways-turn, ways-done}
 use Rattle.router.proofs.ways.choose.Goals as goal
 
 pub loop-t-init : goal.loop-t-init
-loop-t-init c = search ways-start
+loop-t-init g c = search ways-start
 
-pub turn-s-requires : goal.turn-s-requires
-turn-s-requires c = record {
-  most_small = most-small _ c.args.amount.now c.args.front.now c.args.back.now _ c.requires.few c.requires.amounts_small c.largest_split-most.ensures;
-  added_small = omega (arith, c.loop-t.invariant);
-  taken_small = omega (arith, c.loop-t.invariant);
-  halves_small = c.requires.halves.small _;
-}
+pub turn-step-requires : goal.turn-step-requires
+turn-step-requires g c =
+    let f = turn-fits _ _ c.requires _ c.largest_split-most.ensures _ _ _ _ _ c.row.ensures c.loop-t.invariant in
+    record { most_small = f.0; added_small = f.1; taken_small = f.2; halves_small = f.3 }
 
 pub loop-t-preserved : goal.loop-t-preserved
-loop-t-preserved c = search ways-turn
+loop-t-preserved g c = rw c.put.ensures (search ways-turn)
 
 pub returns : goal.returns
-returns c = search ways-done
+returns g c =
+    let all : length (g.R.Rows.rows c.args.rows.now) ≤ c.loop-t.t = omega (arith, c.loop-t-test.false, c.count-t-end.ensures) in
+    search ways-done

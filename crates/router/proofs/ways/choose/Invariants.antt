@@ -3,4 +3,4 @@ use Rattle.router.proofs.WaySteps.{Choosing}
 use Rattle.router.proofs.ways.choose.Given as goal
 
 abbrev pub invariant-loop-t : goal.invariant-loop-t
-invariant-loop-t l = Choosing l.count l.amount l.front l.back l.most l.way l.added l.taken l.t
+invariant-loop-t g l = Choosing (g.R.Rows.rows l.initial.rows) (g.R.Rows.rows l.rows) l.most l.added l.taken l.t

@@ -1,6 +1,8 @@
--- `largest_split` is D: from the last row down, as it is defined.
-use Rattle.router.proofs.WaySteps.{Topped}
+-- `largest_split` is D: that of the rows passed.
+use Rattle.std.proofs.Common.{◌≡◌, take}
+use Rattle.ring.specs.RuleD.{largest_split}
+use Rattle.ring.specs.Sheet.{sents}
 use Rattle.router.proofs.ways.largest_split.Given as goal
 
-abbrev pub invariant-loop-t : goal.invariant-loop-t
-invariant-loop-t l = Topped l.count l.amount l.front l.back l.most l.t
+abbrev pub invariant-loop-k : goal.invariant-loop-k
+invariant-loop-k g l = l.most ≡ largest_split (sents (take l.k (g.R.Rows.rows l.rows)))

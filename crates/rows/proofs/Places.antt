@@ -1,0 +1,79 @@
+-- Rows in columns, place by place: what a read gives, and what a write makes of them.
+use Rattle.std.proofs.Common.{◌≡◌, ℕ, zero, suc, ◌+◌, ◌<◌, [], ◌∷◌, ◌++◌, length, get_or, set, sym, ap, ◌∙◌, arith}
+use Rattle.std.proofs.lemmas.List.{same_lists, get_or-set_same, get_or-set_other, length-set}
+use native.Mathlib.Decide.{ℕ_discrete}
+use Rattle.ring.specs.declared.types.Routed.{Routed}
+use Rattle.ring.specs.Lists.{listed}
+use Rattle.ring.proofs.Listed.{listed-length, listed-snoc, listed_same}
+use Rattle.rows.specs.declared.columns.Columns.TheInside.{Inside}
+use Rattle.rows.specs.Columns.{row_of, rows_of, Sized}
+use Rattle.ring.specs.Limits.{desk}
+use Rattle.ring.specs.declared.types.Way.TheVariants.{Front}
+
+pub length_rows : (c : Inside) → length (rows_of c) ≡ c.count
+length_rows c = listed-length (row_of c) 0 c.count
+
+at-listed : (f : ℕ → Routed) (k m x : ℕ) (d : Routed) → x < m → get_or (listed f k m) x d ≡ f (k + x)
+unfolding listed
+at-listed f k zero x d l = absurd (omega arith)
+at-listed f k (suc m) zero d l = let e : k + 0 ≡ k = omega arith in rw e
+at-listed f k (suc m) (suc x) d l = let e : k + suc x ≡ suc k + x = omega arith in rw e (at-listed f (suc k) m x d (omega arith))
+
+pub row-read : (c : Inside) (k : ℕ) (d : Routed) → k < c.count → get_or (rows_of c) k d ≡ row_of c k
+row-read c k d l = at-listed (row_of c) 0 c.count k d l ∙ (let e : 0 + k ≡ k = omega arith in rw e)
+
+-- ---- another row at a place
+
+abbrev pub with_row : Inside → ℕ → Routed → Inside
+with_row c k r =
+    record {
+      count = c.count;
+      first = set c.first k r.sent.row.first;
+      second = set c.second k r.sent.row.second;
+      amount = set c.amount k r.sent.row.amount;
+      front = set c.front k r.sent.front;
+      back = set c.back k r.sent.back;
+      way = set c.way k r.way;
+    }
+
+module _ (c : Inside) (k : ℕ) (r : Routed) (s : Sized c) (l : k < desk.rows) where
+  here : row_of (with_row c k r) k ≡ r
+  here =
+      let a = get_or-set_same c.first k r.sent.row.first 0 (omega (arith, s.firsts)) in
+      let b = get_or-set_same c.second k r.sent.row.second 0 (omega (arith, s.seconds)) in
+      let d = get_or-set_same c.amount k r.sent.row.amount 0 (omega (arith, s.amounts)) in
+      let e = get_or-set_same c.front k r.sent.front 0 (omega (arith, s.fronts)) in
+      let f = get_or-set_same c.back k r.sent.back 0 (omega (arith, s.backs)) in
+      let g = get_or-set_same c.way k r.way Front (omega (arith, s.ways)) in
+      λ i. record { sent = record { row = record { first = a i; second = b i; amount = d i }; front = e i; back = f i }; way = g i }
+
+  other : (x : ℕ) → (x ≡ k → ⊥) → row_of (with_row c k r) x ≡ row_of c x
+  other x n =
+      let a = get_or-set_other c.first k x r.sent.row.first 0 n in
+      let b = get_or-set_other c.second k x r.sent.row.second 0 n in
+      let d = get_or-set_other c.amount k x r.sent.row.amount 0 n in
+      let e = get_or-set_other c.front k x r.sent.front 0 n in
+      let f = get_or-set_other c.back k x r.sent.back 0 n in
+      let g = get_or-set_other c.way k x r.way Front n in
+      λ i. record { sent = record { row = record { first = a i; second = b i; amount = d i }; front = e i; back = f i }; way = g i }
+
+  pub row-put : k < c.count → rows_of (with_row c k r) ≡ set (rows_of c) k r
+  row-put m = same_lists (rows_of (with_row c k r)) (set (rows_of c) k r) (length_rows (with_row c k r) ∙ sym (length-set (rows_of c) k r ∙ length_rows c)) place
+    where
+      place : (x : ℕ) (d : Routed) → x < length (rows_of (with_row c k r)) → get_or (rows_of (with_row c k r)) x d ≡ get_or (set (rows_of c) k r) x d
+      place x d h =
+          let n = length_rows (with_row c k r) in
+          let o = length_rows c in
+          let z : x < c.count = omega arith in
+          row-read (with_row c k r) x d z ∙
+          elim (ℕ_discrete x k) [
+            | yes e ↦ rw e (here ∙ sym (get_or-set_same (rows_of c) k r d (omega arith)))
+            | no e ↦ other x e ∙ sym (get_or-set_other (rows_of c) k x r d e ∙ row-read c x d z)
+          ]
+
+  -- one row more
+  pub row-more : k ≡ c.count → rows_of (record { count = k + 1; first = (with_row c k r).first; second = (with_row c k r).second; amount = (with_row c k r).amount; front = (with_row c k r).front; back = (with_row c k r).back; way = (with_row c k r).way }) ≡ rows_of c ++ r ∷ []
+  row-more e =
+      let z : 0 + k ≡ k = omega arith in
+      listed-snoc (row_of (with_row c k r)) 0 k ∙
+      (rw (z, here, e) (ap (λ l. l ++ r ∷ []) (listed_same (row_of (with_row c c.count r)) (row_of c) 0 c.count (λ x a b. rw e at (other x (omega arith))))))
