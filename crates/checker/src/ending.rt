@@ -12,7 +12,7 @@ use crate::values::SheetValues;
 use ring::{LINKS, must_carry, wide};
 use sheet::Figures;
 use sonet::Sonet;
-use table::{Reason, Verdict, byte_at};
+use table::{Reason, byte_at};
 use text::{ThreeNumbers, TwoNumbers};
 
 // The place behind what was read; or the reason, the line and the byte of it.
@@ -48,7 +48,7 @@ fn check_links<'a>(
             }
             ThreeNumbers::Are(x, a, b) => {
                 let due = k as u32 + 1;
-                if let Verdict::Fault(reason) = judge_link(due, split[k], unsplit[k], x, a, b) {
+                if let Err(reason) = judge_link(due, split[k], unsplit[k], x, a, b) {
                     return Step::Refused(reason, line, 1);
                 }
                 at = end;
@@ -70,7 +70,7 @@ fn check_last(s: &[u8], at: usize, line: u32, peak: u32, size: u32) -> Step
     match text::read_last(&s[at..end]) {
         TwoNumbers::Bad(p) => Step::Refused(Reason::Misshapen, line, byte_at(p)),
         TwoNumbers::Are(p, z) => {
-            if let Verdict::Fault(reason) = judge_last(peak, size, p, z) {
+            if let Err(reason) = judge_last(peak, size, p, z) {
                 return Step::Refused(reason, line, 1);
             }
             if end < s.len() {
@@ -100,8 +100,8 @@ fn check_whole(
     match check_last(s, at, line, peak, size) {
         Step::Refused(reason, place, byte) => Step::Refused(reason, place, byte),
         Step::On(end) => match judge_whole(split_peak, number, largest, peak) {
-            Verdict::Fault(reason) => Step::Refused(reason, 0, 0),
-            Verdict::Fine => Step::On(end),
+            Err(reason) => Step::Refused(reason, 0, 0),
+            Ok(()) => Step::On(end),
         },
     }
 }
@@ -237,7 +237,7 @@ pub(crate) fn finish(
                 h,
                 number,
             );
-            if let Verdict::Fault(reason) = verdict {
+            if let Err(reason) = verdict {
                 return Step::Refused(reason, line, 1);
             }
             weighed(s, end, line + 1, n, fibres, count, g, h, number, values)
