@@ -38,8 +38,8 @@ use Rattle.table.specs.Judge.{judge_ring}
 use Rattle.table.specs.Lines.{lines}
 use Rattle.table.specs.declared.reason.Reason.{Reason}
 use Rattle.table.specs.declared.reason.Reason.TheVariants.{TooLong, Misshapen}
-use Rattle.table.specs.declared.judge.Verdict.{Verdict}
-use Rattle.table.specs.declared.judge.Verdict.TheVariants.{Fine, Fault}
+use Rattle.table.specs.Verdict.{Verdict}
+use Rattle.std.specs.Prelude.{Ok, Err}
 use Rattle.table.proofs.Columns.{column-length, column-behind}
 use Rattle.table.proofs.Judged.{RingJudged, right_ring, ring-judged}
 use Rattle.sheet.specs.Arrays.{link_at, links_in}
@@ -128,11 +128,11 @@ module _ (count : ℕ) (v : SheetValues) where
       unfolding judge_cut
       cut_judged = let d = demands-in in sym (ef ∙ rw (← d))
 
-      pub cut-fault : (reason : Reason) (new : SheetValues) → found ≡ Fault reason → EndRead s at line no_row (ring_of n fibres) count v new (StepRefused reason line 1)
+      pub cut-fault : (reason : Reason) (new : SheetValues) → found ≡ Err reason → EndRead s at line no_row (ring_of n fibres) count v new (StepRefused reason line 1)
       unfolding cut_turn unless after when
       cut-fault reason new q = end_refused {reason = reason} {line = line} {byte = 1} (cut-led ∙ rw (is, cut_judged ∙ q))
 
-      pub cut-goes : found ≡ Fine → (new : SheetValues) (t : Step) → WeighedRead s to (line + 1) (ring_of n fibres) count v g h number new t → EndRead s at line no_row (ring_of n fibres) count v new t
+      pub cut-goes : found ≡ Ok tt → (new : SheetValues) (t : Step) → WeighedRead s to (line + 1) (ring_of n fibres) count v g h number new t → EndRead s at line no_row (ring_of n fibres) count v new t
       unfolding cut_turn unless after when
       cut-goes q new t read =
           let e : cut_from (ring_of n fibres) rs line no_row (lines (drop at s)) ≡ check_from desk true (links (ring_of n fibres) rs (cut_of g h number) []) (line + 1) (lines (drop to s)) = cut-led ∙ rw (is, cut_judged ∙ q) in
@@ -272,27 +272,27 @@ module _ (s : List ℕ) (t : Checked) where
     no_ring p byte q b e = e ∙ ap checked_in (sym (ring-led ∙ rw (q, b)))
 
     module _ (n fibres : ℕ) (is : x ≡ AreTwo n fibres) (v : Verdict) (ev : v ≡ judge_ring desk (ring_of n fibres)) where
-      pub ring-fault : (reason : Reason) (byte : ℕ) → v ≡ Fault reason → byte ≡ ring_fault (ring_of n fibres) reason → t ≡ checked_in (refused reason 1 byte) → t ≡ checked_in (check desk s)
+      pub ring-fault : (reason : Reason) (byte : ℕ) → v ≡ Err reason → byte ≡ ring_fault (ring_of n fibres) reason → t ≡ checked_in (refused reason 1 byte) → t ≡ checked_in (check desk s)
       unfolding ring_turn unless after
       ring-fault reason byte q b e = e ∙ ap checked_in (sym (ring-led ∙ rw (is, sym ev ∙ q, b)))
 
-      pub then-rows : v ≡ Fine → t ≡ checked_in (check_from desk true (rows (ring_of n fibres) []) 2 (lines (drop to s))) → t ≡ checked_in (check desk s)
+      pub then-rows : v ≡ Ok tt → t ≡ checked_in (check_from desk true (rows (ring_of n fibres) []) 2 (lines (drop to s))) → t ≡ checked_in (check desk s)
       unfolding ring_turn unless after
       then-rows q e = e ∙ ap checked_in (sym (ring-led ∙ rw (is, sym ev ∙ q)))
 
 -- a ring that nothing is found against has a size within the limits
-module _ (n fibres : ℕ) (v : Verdict) (ev : v ≡ judge_ring desk (ring_of n fibres)) (fine : v ≡ Fine) where
-  right : RingJudged desk (ring_of n fibres) Fine
+module _ (n fibres : ℕ) (v : Verdict) (ev : v ≡ judge_ring desk (ring_of n fibres)) (fine : v ≡ Ok tt) where
+  right : RingJudged desk (ring_of n fibres) (Ok tt)
   right = let q = sym ev ∙ fine in rw q at (ring-judged desk (ring_of n fibres))
 
   pub ring-two : desk.fewest ≤ n
   ring-two = go right
     where
-      go : RingJudged desk (ring_of n fibres) Fine → desk.fewest ≤ n
+      go : RingJudged desk (ring_of n fibres) (Ok tt) → desk.fewest ≤ n
       go (right_ring few many fibred) = few
 
   pub ring-fits : n ≤ desk.nodes
   ring-fits = go right
     where
-      go : RingJudged desk (ring_of n fibres) Fine → n ≤ desk.nodes
+      go : RingJudged desk (ring_of n fibres) (Ok tt) → n ≤ desk.nodes
       go (right_ring few many fibred) = many

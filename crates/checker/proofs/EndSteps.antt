@@ -32,8 +32,8 @@ use Rattle.text.proofs.Apart.{clash}
 use Rattle.table.specs.Lines.{lines}
 use Rattle.table.specs.declared.reason.Reason.{Reason}
 use Rattle.table.specs.declared.reason.Reason.TheVariants.{Misshapen}
-use Rattle.table.specs.declared.judge.Verdict.{Verdict}
-use Rattle.table.specs.declared.judge.Verdict.TheVariants.{Fine, Fault}
+use Rattle.table.specs.Verdict.{Verdict}
+use Rattle.std.specs.Prelude.{Ok, Err}
 use Rattle.table.proofs.Columns.{column-at}
 use Rattle.table.proofs.LineSteps.{first-line}
 use Rattle.sheet.specs.Arrays.{link_at, links_in}
@@ -130,7 +130,7 @@ module _ (s : List ℕ) (from n start : ℕ) (split unsplit : List ℕ) where
             let u1 = unsplit-due reading.many w k (omega arith) in
             sym (ev ∙ rw (edue, s1, u1, e))
 
-        pub link-fault : (reason : Reason) → v ≡ Fault reason → LinksRead s from n start split unsplit (Refused reason line 1)
+        pub link-fault : (reason : Reason) → v ≡ Err reason → LinksRead s from n start split unsplit (Refused reason line 1)
         unfolding link_turn unless after when
         link-fault reason q =
             record {
@@ -138,7 +138,7 @@ module _ (s : List ℕ) (from n start : ℕ) (split unsplit : List ℕ) where
               means = λ fibres rs c split_peak top largest w. step_refused {reason = reason} {line = line} {byte = 1} (led fibres rs c split_peak top largest w ∙ rw (is, judged rs split_peak top largest w ∙ q));
             }
 
-        same-link : (rs : List Routed) (split_peak top largest : ℕ) → Weighed n rs split unsplit split_peak top largest → v ≡ Fine → link_of a b d ≡ link_at split unsplit k
+        same-link : (rs : List Routed) (split_peak top largest : ℕ) → Weighed n rs split unsplit split_peak top largest → v ≡ Ok tt → link_of a b d ≡ link_at split unsplit k
         same-link rs split_peak top largest w q =
             let e : length ks + 1 ≡ k + 1 = omega (arith, long) in
             let t = link-true rs (length ks + 1) (link_of a b d) (judged rs split_peak top largest w ∙ q) in
@@ -147,7 +147,7 @@ module _ (s : List ℕ) (from n start : ℕ) (split unsplit : List ℕ) where
             let ed : d ≡ get_or unsplit k 0 = t.unsplit ∙ ap (unsplit_load rs) e ∙ sym (unsplit-due reading.many w k (omega arith)) in
             rw (ea, eb, ed)
 
-        pub link-read : v ≡ Fine → LinksReading s from n start split unsplit to (line + 1) (k + 1)
+        pub link-read : v ≡ Ok tt → LinksReading s from n start split unsplit to (line + 1) (k + 1)
         unfolding link_turn unless after when
         link-read q =
             record {
@@ -195,7 +195,7 @@ module _ (s : List ℕ) (at line top size : ℕ) (to : ℕ) (ends : NextEnds s a
     unfolding judge_last
     last_judged ring rs et ez = sym (ev ∙ rw (ez, et))
 
-    pub last-fault : (reason : Reason) → v ≡ Fault reason → LastRead s at line top size (Refused reason line 1)
+    pub last-fault : (reason : Reason) → v ≡ Err reason → LastRead s at line top size (Refused reason line 1)
     unfolding last_turn unless after when
     last-fault reason q =
         record {
@@ -203,7 +203,7 @@ module _ (s : List ℕ) (at line top size : ℕ) (to : ℕ) (ends : NextEnds s a
           means = λ ring rs c ks all et ez. step_refused {reason = reason} {line = line} {byte = 1} (last-led ring rs c ks all ∙ rw (is, last_judged ring rs et ez ∙ q));
         }
 
-    module _ (q : v ≡ Fine) where
+    module _ (q : v ≡ Ok tt) where
       ended : (ring : Ring) (rs : List Routed) (c : Cut) (ks : List Link) → ring.nodes ≤ length ks → top ≡ peak (unsplit_load rs) ring.nodes → size ≡ line_size sonet_sizes ring.fibres top →
           check_from desk true (links ring rs c ks) line (lines (drop at s))
           ≡ check_from desk true (end (record { ring = ring; rows = rs; cut = c; links = ks; peak = top; size = size })) (line + 1) (lines (drop to s))
@@ -264,12 +264,12 @@ module _ (s : List ℕ) (at line number split_peak top size largest : ℕ) (r : 
       result : check_from desk true (links ring rs (cut_of g h number) ks) line (lines (drop at s)) ≡ whole_result x v
       result = step-goes (last.means ring rs (cut_of g h number) ks all et ez) q ∙ ap (whole_result x) whole-judged
 
-    pub whole-fault : (reason : Reason) → v ≡ Fault reason → WholeRead s at line number split_peak top size largest (Refused reason 0 0)
+    pub whole-fault : (reason : Reason) → v ≡ Err reason → WholeRead s at line number split_peak top size largest (Refused reason 0 0)
     unfolding whole_result
     whole-fault reason f =
         record { means = λ ring rs g h ks all es et el ez. step_refused {reason = reason} {line = 0} {byte = 0} (result ring rs g h ks all es et el ez ∙ ap (whole_result (x ring rs g h ks all es et el ez)) f) }
 
-    pub whole-fine : v ≡ Fine → WholeRead s at line number split_peak top size largest (On to)
+    pub whole-fine : v ≡ Ok tt → WholeRead s at line number split_peak top size largest (On to)
     unfolding whole_result
     whole-fine f =
         record {

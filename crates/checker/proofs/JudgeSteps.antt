@@ -21,8 +21,8 @@ use Rattle.checker.specs.Rows.{Table}
 use Rattle.table.specs.Judge.{judge_row}
 use Rattle.table.specs.declared.reason.Reason.{Reason}
 use Rattle.table.specs.declared.reason.Reason.TheVariants.{WrongSum, WrongWay, WrongCut, NotTight, OverBound}
-use Rattle.table.specs.declared.judge.Verdict.{Verdict}
-use Rattle.table.specs.declared.judge.Verdict.TheVariants.{Fine, Fault}
+use Rattle.table.specs.Verdict.{Verdict}
+use Rattle.std.specs.Prelude.{Ok, Err}
 use Rattle.sheet.specs.Judge.{wrong_sum, wrong_way, judge_halves}
 use Rattle.sheet.specs.Check.{routed_of}
 use Rattle.checker.specs.Parts.{sent_verdict}
@@ -56,7 +56,7 @@ module _ (f k w : ℕ) (split : Bool) (es : split ≡ is_split (sent 0 0 0 f k))
       go false = refl
 
 module _ (d f k w : ℕ) (x : Bool) (ex : x ≡ wrong_sum (sent 0 0 d f k)) where
-  pub unequal : x ≡ true → Fault WrongSum ≡ judge_halves (routed_of 0 0 d f k w)
+  pub unequal : x ≡ true → Err WrongSum ≡ judge_halves (routed_of 0 0 d f k w)
   unfolding judge_halves
   unequal t = rw (sym ex ∙ t)
 
@@ -65,24 +65,24 @@ module _ (d f k w : ℕ) (x : Bool) (ex : x ≡ wrong_sum (sent 0 0 d f k)) wher
     unfolding wrong_way
     same_way = sym ey
 
-    pub turned : y ≡ true → Fault WrongWay ≡ judge_halves (routed_of 0 0 d f k w)
+    pub turned : y ≡ true → Err WrongWay ≡ judge_halves (routed_of 0 0 d f k w)
     unfolding judge_halves
     turned t = rw (sym ex ∙ fx, same_way ∙ t)
 
-    pub halves-fine : y ≡ false → Fine ≡ judge_halves (routed_of 0 0 d f k w)
+    pub halves-fine : y ≡ false → Ok tt ≡ judge_halves (routed_of 0 0 d f k w)
     unfolding judge_halves
     halves-fine t = rw (sym ex ∙ fx, same_way ∙ t)
 
 -- ---- 4 to 9 and 16
 
-module _ (n p a b i j d f k w : ℕ) (v : Verdict) (ev : v ≡ judge_row desk n p a b i j d) where
-  pub row-fault : (reason : Reason) → v ≡ Fault reason → Fault reason ≡ sent_verdict desk n p a b (routed_of i j d f k w)
+module _ (n p a b i j d f k w : ℕ) where
+  pub row-fault : (reason : Reason) → Err reason ≡ judge_row desk n p a b i j d → Err reason ≡ sent_verdict desk n p a b (routed_of i j d f k w)
   unfolding sent_verdict
-  row-fault reason e = rw (sym ev ∙ e)
+  row-fault reason e = rw (sym e)
 
-  pub then-halves : v ≡ Fine → (u : Verdict) → u ≡ judge_halves (routed_of 0 0 d f k w) → u ≡ sent_verdict desk n p a b (routed_of i j d f k w)
+  pub then-halves : (fine : Unit {0}) → Ok fine ≡ judge_row desk n p a b i j d → (u : Verdict) → u ≡ judge_halves (routed_of 0 0 d f k w) → u ≡ sent_verdict desk n p a b (routed_of i j d f k w)
   unfolding sent_verdict judge_halves wrong_sum wrong_way
-  then-halves e u q = rw (sym ev ∙ e) q
+  then-halves fine e u q = rw (sym e) q
 
 -- ---- the across number
 
@@ -139,31 +139,31 @@ module _ (n count : ℕ) (first second amount : List ℕ) (g h : ℕ) where
 -- ---- 10
 
 module _ (n due g h m : ℕ) (x : Bool) (ex : x ≡ no_cut n g h) where
-  pub not-a-cut : x ≡ true → Fault WrongCut ≡ cut_verdict n due g h m
+  pub not-a-cut : x ≡ true → Err WrongCut ≡ cut_verdict n due g h m
   unfolding cut_verdict
   not-a-cut t = rw (sym ex ∙ t)
 
   module _ (fx : x ≡ false) (sum w : ℕ) (es : sum ≡ due) (ew : w ≡ m) where
-    pub number-false : (w ≡ sum → ⊥) → Fault WrongCut ≡ cut_verdict n due g h m
+    pub number-false : (w ≡ sum → ⊥) → Err WrongCut ≡ cut_verdict n due g h m
     unfolding cut_verdict
     number-false d = rw (sym ex ∙ fx, ne_eqb m due (λ q. d (ew ∙ q ∙ sym es)))
 
-    pub number-true : w ≡ sum → Fine ≡ cut_verdict n due g h m
+    pub number-true : w ≡ sum → Ok tt ≡ cut_verdict n due g h m
     unfolding cut_verdict
     number-true e = rw (sym ex ∙ fx, eq-eqb m due (sym ew ∙ e ∙ es))
 
 -- ---- 13 and 14
 
 module _ (split number largest peak : ℕ) where
-  pub not_tight : (split ≡ number → ⊥) → Fault NotTight ≡ whole_verdict split number largest peak
+  pub not_tight : (split ≡ number → ⊥) → Err NotTight ≡ whole_verdict split number largest peak
   unfolding whole_verdict
   not_tight n = rw (ne_eqb split number n)
 
   module _ (tight : split ≡ number) (a b c : ℕ) (ea : a ≡ split) (eb : b ≡ largest) (ec : c ≡ peak) where
-    pub over-bound : a + 3 * b < 2 * c → Fault OverBound ≡ whole_verdict split number largest peak
+    pub over-bound : a + 3 * b < 2 * c → Err OverBound ≡ whole_verdict split number largest peak
     unfolding whole_verdict
     over-bound l = let k : split + 3 * largest < 2 * peak = omega arith in rw (eq-eqb split number tight, lt-ltb (split + 3 * largest) (2 * peak) k)
 
-    pub within-bound : 2 * c ≤ a + 3 * b → Fine ≡ whole_verdict split number largest peak
+    pub within-bound : 2 * c ≤ a + 3 * b → Ok tt ≡ whole_verdict split number largest peak
     unfolding whole_verdict
     within-bound l = let k : 2 * peak ≤ split + 3 * largest = omega arith in rw (eq-eqb split number tight, le-ltb (split + 3 * largest) (2 * peak) k)

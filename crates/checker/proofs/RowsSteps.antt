@@ -34,8 +34,8 @@ use Rattle.text.specs.declared.SentRow.TheVariants.{Is as IsSent, Bad as NotSent
 use Rattle.table.specs.Lines.{lines}
 use Rattle.table.specs.Judge.{judge_row}
 use Rattle.table.specs.declared.reason.Reason.{Reason}
-use Rattle.table.specs.declared.judge.Verdict.{Verdict}
-use Rattle.table.specs.declared.judge.Verdict.TheVariants.{Fine, Fault}
+use Rattle.table.specs.Verdict.{Verdict}
+use Rattle.std.specs.Prelude.{Ok, Err}
 use Rattle.table.proofs.Judged.{RowJudged, row_fine, row-judged}
 use Rattle.table.proofs.Columns.{column-length, column-more, column-at, column-behind, rows_back}
 use Rattle.sheet.specs.Judge.{judge_halves}
@@ -64,14 +64,14 @@ record FineRow (n count i j d f k w : ℕ) : Type 0 where
   fine : FineSent n (routed_of i j d f k w)
   room : count < desk.rows
 
-fine_row : (n count a b i j d f k w : ℕ) (v : Verdict) → v ≡ sent_verdict desk n count a b (routed_of i j d f k w) → v ≡ Fine → FineRow n count i j d f k w
+fine_row : (n count a b i j d f k w : ℕ) (v : Verdict) → v ≡ sent_verdict desk n count a b (routed_of i j d f k w) → v ≡ Ok tt → FineRow n count i j d f k w
 unfolding sent_verdict
 fine_row n count a b i j d f k w v e q =
     let both = or-fine (judge_row desk n count a b i j d) (judge_halves (routed_of i j d f k w)) (sym e ∙ q) in
     let one = both.0 in
     go (rw one at (row-judged desk n count a b i j d)) (row-true (routed_of i j d f k w) both.1).0
   where
-    go : RowJudged desk n count a b i j d Fine → SumsTo2d (sent i j d f k) → FineRow n count i j d f k w
+    go : RowJudged desk n count a b i j d (Ok tt) → SumsTo2d (sent i j d f k) → FineRow n count i j d f k w
     go (row_fine on order room most) s = record { fine = record { on = on; amount = most; sums = s }; room = room }
 
 -- ---- rows in columns
@@ -268,7 +268,7 @@ module _ (s : List ℕ) (n from line a b count at : ℕ) (v : SheetValues) (read
           let q : sent_verdict desk n (length reading.rs) (last_of reading.rs).first (last_of reading.rs).second (routed_of i j d f k w) ≡ found = rw (← e, u, w') (sym ef) in
           reading.rest fibres ∙ step-at desk true s at to ends (rows (ring_of n fibres) reading.rs) tt line ∙ rw (← ex, is, q)
 
-      pub row-stops : (reason : Reason) (byte : ℕ) → found ≡ Fault reason → byte ≡ row_fault n i j d reason → RowsRead s from n v (Refused reason line byte)
+      pub row-stops : (reason : Reason) (byte : ℕ) → found ≡ Err reason → byte ≡ row_fault n i j d reason → RowsRead s from n v (Refused reason line byte)
       unfolding unless after
       row-stops reason byte q b = record { means = λ fibres. rows_refused {reason = reason} {line = line} {byte = byte} (led fibres ∙ rw (q, b)) }
 
@@ -284,7 +284,7 @@ module _ (s : List ℕ) (n from line a b count at : ℕ) (v : SheetValues) (read
       pub row-less : length s - to < length s - at
       row-less = omega (arith, row_on, ends.within)
 
-      module _ (fine : found ≡ Fine) where
+      module _ (fine : found ≡ Ok tt) where
         new_row : FineRow n count i j d f k w
         new_row = fine_row n count a b i j d f k w found ef fine
 

@@ -23,7 +23,7 @@ use Rattle.sheet.specs.Judge.{judge_halves, judge_whole}
 use Rattle.sheet.specs.Verdicts.{or_else}
 use Rattle.table.specs.Judge.{judge_row}
 use Rattle.table.specs.declared.reason.Reason.{Reason}
-use Rattle.table.specs.declared.judge.Verdict.{Verdict}
+use Rattle.table.specs.Verdict.{Verdict}
 use Rattle.sheet.specs.WriteSheet.{figures_of}
 use Rattle.sheet.specs.declared.Figures.{Figures}
 use Rattle.sheet.specs.Check.{Result, accepted, refused, cut_of, cut_turn, after, whole_result, check_from}

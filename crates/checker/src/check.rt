@@ -11,8 +11,8 @@ use crate::ending::{Step, finish};
 use crate::next::next_end;
 use crate::row_lines::{RowsEnd, read_rows};
 use crate::values::{SheetValues, clear};
-use ring::BYTES;
-use table::{Reason, Verdict, byte_at, judge_ring, ring_fault};
+use ring::{BYTES, Ring};
+use table::{Reason, byte_at, judge_ring, ring_fault};
 use text::TwoNumbers;
 
 // How many rows an accepted sheet has; or the reason, the line and the byte of it.
@@ -61,7 +61,7 @@ pub fn check_sheet(s: &[u8], values: &mut SheetValues) -> Answer
     match text::read_ring(&s[0..end]) {
         TwoNumbers::Bad(p) => refusal(values, Reason::Misshapen, 1, byte_at(p)),
         TwoNumbers::Are(n, fibres) => {
-            if let Verdict::Fault(reason) = judge_ring(n, fibres) {
+            if let Err(reason) = judge_ring(Ring { nodes: n, fibres }) {
                 return refusal(values, reason, 1, ring_fault(n, fibres, reason));
             }
             check_rows(s, end, n, fibres, values)

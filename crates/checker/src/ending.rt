@@ -12,7 +12,7 @@ use crate::values::SheetValues;
 use ring::{Cut, LINKS, Ring, must_carry, wide};
 use sheet::Figures;
 use sonet::Sonet;
-use table::{Reason, Verdict, byte_at};
+use table::{Reason, byte_at};
 use text::{ThreeNumbers, TwoNumbers};
 use weight::weigh;
 
@@ -49,7 +49,7 @@ fn check_links<'a>(
             }
             ThreeNumbers::Are(x, a, b) => {
                 let due = k as u32 + 1;
-                if let Verdict::Fault(reason) = judge_link(due, split[k], unsplit[k], x, a, b) {
+                if let Err(reason) = judge_link(due, split[k], unsplit[k], x, a, b) {
                     return Step::Refused(reason, line, 1);
                 }
                 at = end;
@@ -71,7 +71,7 @@ fn check_last(s: &[u8], at: usize, line: u32, peak: u32, size: u32) -> Step
     match text::read_last(&s[at..end]) {
         TwoNumbers::Bad(p) => Step::Refused(Reason::Misshapen, line, byte_at(p)),
         TwoNumbers::Are(p, z) => {
-            if let Verdict::Fault(reason) = judge_last(peak, size, p, z) {
+            if let Err(reason) = judge_last(peak, size, p, z) {
                 return Step::Refused(reason, line, 1);
             }
             if end < s.len() {
@@ -101,8 +101,8 @@ fn check_whole(
     match check_last(s, at, line, peak, size) {
         Step::Refused(reason, place, byte) => Step::Refused(reason, place, byte),
         Step::On(end) => match judge_whole(split_peak, number, largest, peak) {
-            Verdict::Fault(reason) => Step::Refused(reason, 0, 0),
-            Verdict::Fine => Step::On(end),
+            Err(reason) => Step::Refused(reason, 0, 0),
+            Ok(()) => Step::On(end),
         },
     }
 }
@@ -230,7 +230,7 @@ pub(crate) fn finish(
                 h,
                 number,
             );
-            if let Verdict::Fault(reason) = verdict {
+            if let Err(reason) = verdict {
                 return Step::Refused(reason, line, 1);
             }
             weighed(s, end, line + 1, n, fibres, count, g, h, number, values)

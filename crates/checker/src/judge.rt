@@ -10,8 +10,8 @@ ghost use Rattle.sheet.specs.Check.{routed_of};
 ghost use Rattle.checker.specs.Parts.{sent_verdict};
 ghost use Rattle.sheet.specs.Verdicts.{no_cut, cut_verdict, link_verdict, last_verdict, whole_verdict};
 
-use ring::{FRONT, ROWS, is_split, wide};
-use table::{Reason, Verdict};
+use ring::{FRONT, ROWS, Row, Sent, is_split, wide};
+use table::{Reason, judge_row};
 
 // 8: front + back is not 2 x amount.
 fn wrong_sum(d: u32, front: u32, back: u32) -> bool
@@ -34,37 +34,32 @@ fn wrong_way(front: u32, back: u32, way: u32) -> bool
 }
 
 // 8 and 9.
-fn judge_halves(d: u32, front: u32, back: u32, way: u32) -> Verdict
+fn judge_halves(d: u32, front: u32, back: u32, way: u32) -> Result<(), Reason>
     ensures { result ≡ judge_halves (routed_of 0 0 d front back way) }
 {
     if wrong_sum(d, front, back) {
-        Verdict::Fault(Reason::WrongSum)
+        Err(Reason::WrongSum)
     } else if wrong_way(front, back, way) {
-        Verdict::Fault(Reason::WrongWay)
+        Err(Reason::WrongWay)
     } else {
-        Verdict::Fine
+        Ok(())
     }
 }
 
-// 4 to 9 and 16, of the row i, j on a ring of n nodes, behind k rows of which the last is a, b (0, 0 where there is none).
+// 4 to 9 and 16, of a row as it is sent and its way on a ring of so many nodes, behind `place` rows of which the last is `above` (NO_ROW where there is none).
 pub(crate) fn judge_sent(
-    n: u32,
-    k: usize,
-    a: u32,
-    b: u32,
-    i: u32,
-    j: u32,
-    d: u32,
-    front: u32,
-    back: u32,
+    nodes: u32,
+    place: usize,
+    above: Row,
+    sent: Sent,
     way: u32,
-) -> Verdict
-    ensures { result ≡ sent_verdict desk n k a b (routed_of i j d front back way) }
+) -> Result<(), Reason>
+    ensures { let row = sent.row in
+        result ≡ sent_verdict desk nodes place above.first above.second
+        (routed_of row.first row.second row.amount sent.front sent.back way) }
 {
-    match table::judge_row(n, k, a, b, i, j, d) {
-        Verdict::Fault(reason) => Verdict::Fault(reason),
-        Verdict::Fine => judge_halves(d, front, back, way),
-    }
+    judge_row(nodes, place, above, sent.row)?;
+    judge_halves(sent.row.amount, sent.front, sent.back, way)
 }
 
 // Whether the front of the row i, j holds link k.
@@ -126,53 +121,65 @@ pub(crate) fn judge_cut(
     g: u32,
     h: u32,
     number: u32,
-) -> Verdict
+) -> Result<(), Reason>
     requires { Table n count first.now second.now amount.now }
     ensures { result ≡ cut_verdict n
         (across (rows_in count first.now second.now amount.now) g h) g h number }
 {
     if no_cut(n, g, h) {
-        return Verdict::Fault(Reason::WrongCut);
+        return Err(Reason::WrongCut);
     }
     let sum = across_of(n, count, first, second, amount, g, h);
     if wide(number) == sum {
-        Verdict::Fine
+        Ok(())
     } else {
-        Verdict::Fault(Reason::WrongCut)
+        Err(Reason::WrongCut)
     }
 }
 
 // 11: link out of order, or either load false. Link k is due, and its loads are `split` and `unsplit`.
-pub(crate) fn judge_link(k: u32, split: u32, unsplit: u32, link: u32, s: u32, u: u32) -> Verdict
+pub(crate) fn judge_link(
+    k: u32,
+    split: u32,
+    unsplit: u32,
+    link: u32,
+    s: u32,
+    u: u32,
+) -> Result<(), Reason>
     ensures { result ≡ link_verdict k split unsplit link s u }
 {
     if link == k && s == split && u == unsplit {
-        Verdict::Fine
+        Ok(())
     } else {
-        Verdict::Fault(Reason::WrongLink)
+        Err(Reason::WrongLink)
     }
 }
 
 // 12: unsplit peak or size false.
-pub(crate) fn judge_last(peak: u32, size: u32, p: u32, z: u32) -> Verdict
+pub(crate) fn judge_last(peak: u32, size: u32, p: u32, z: u32) -> Result<(), Reason>
     ensures { result ≡ last_verdict peak size p z }
 {
     if p == peak && z == size {
-        Verdict::Fine
+        Ok(())
     } else {
-        Verdict::Fault(Reason::WrongLast)
+        Err(Reason::WrongLast)
     }
 }
 
 // 13: split peak (halves) is not the across number; 14: the bound of rule D broken.
-pub(crate) fn judge_whole(split_peak: u32, number: u32, largest: u32, peak: u32) -> Verdict
+pub(crate) fn judge_whole(
+    split_peak: u32,
+    number: u32,
+    largest: u32,
+    peak: u32,
+) -> Result<(), Reason>
     ensures { result ≡ whole_verdict split_peak number largest peak }
 {
     if split_peak != number {
-        Verdict::Fault(Reason::NotTight)
+        Err(Reason::NotTight)
     } else if wide(split_peak) + 3 * wide(largest) < 2 * wide(peak) {
-        Verdict::Fault(Reason::OverBound)
+        Err(Reason::OverBound)
     } else {
-        Verdict::Fine
+        Ok(())
     }
 }

@@ -7,7 +7,8 @@ ghost use Rattle.checker.specs.Parts.{RowsRead};
 use crate::judge::judge_sent;
 use crate::next::next_end;
 use crate::values::{SheetValues, clear};
-use table::{Reason, Verdict, row_fault};
+use ring::{Row, Sent};
+use table::{NO_ROW, Reason, row_fault};
 use text::SentRow;
 
 // How many rows there are, where the line behind them begins, its number, and the place of its first byte at which no D line goes on; or the reason, the
@@ -29,8 +30,7 @@ fn fill_rows(s: &[u8], from: usize, n: u32, values: &mut SheetValues) -> RowsEnd
     let mut count: usize = 0;
     let mut line: u32 = 2;
     let mut at = from;
-    let mut a: u32 = 0;
-    let mut b: u32 = 0;
+    let mut above = NO_ROW;
     loop {
         let end = next_end(s, at);
         match text::read_sent(&s[at..end]) {
@@ -45,7 +45,17 @@ fn fill_rows(s: &[u8], from: usize, n: u32, values: &mut SheetValues) -> RowsEnd
                 back: k,
                 way: w,
             } => {
-                if let Verdict::Fault(reason) = judge_sent(n, count, a, b, i, j, d, f, k, w) {
+                let row = Row {
+                    first: i,
+                    second: j,
+                    amount: d,
+                };
+                let sent = Sent {
+                    row,
+                    front: f,
+                    back: k,
+                };
+                if let Err(reason) = judge_sent(n, count, above, sent, w) {
                     return RowsEnd::Refused(reason, line, row_fault(n, i, j, d, reason));
                 }
                 values.first[count] = i;
@@ -57,8 +67,7 @@ fn fill_rows(s: &[u8], from: usize, n: u32, values: &mut SheetValues) -> RowsEnd
                 count += 1;
                 line += 1;
                 at = end;
-                a = i;
-                b = j;
+                above = row;
             }
         }
     }

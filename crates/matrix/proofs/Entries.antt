@@ -9,8 +9,8 @@ use Rattle.ring.specs.Row.{PairBefore}
 use Rattle.ring.proofs.Listed.{listed_same}
 use Rattle.table.specs.declared.reason.Reason.{Reason}
 use Rattle.table.specs.declared.reason.Reason.TheVariants.{NotZero, NotSymmetric}
-use Rattle.table.specs.declared.judge.Verdict.{Verdict}
-use Rattle.table.specs.declared.judge.Verdict.TheVariants.{Fine, Fault}
+use Rattle.table.specs.Verdict.{Verdict}
+use Rattle.std.specs.Prelude.{Ok, Err}
 use Rattle.matrix.specs.Matrix.{entry_byte, Node}
 use Rattle.matrix.specs.Read.{judge_entry, or_else, on_line, judge_across, line_of, judge_down}
 use Rattle.matrix.specs.declared.byte.Found.{Found}
@@ -24,8 +24,8 @@ pub data WrongEntry (a : ℕ → ℕ → ℕ) (i j : ℕ) : Reason → Type 0 wh
   not_mirror : (i ≡ j → ⊥) → (a i j ≡ a j i → ⊥) → WrongEntry a i j NotSymmetric
 
 pub data EntryJudged (a : ℕ → ℕ → ℕ) (i j : ℕ) : Verdict → Type 0 where
-  entry_wrong : {r : Reason} → WrongEntry a i j r → EntryJudged a i j (Fault r)
-  entry_right : ((r : Reason) → WrongEntry a i j r → ⊥) → EntryJudged a i j Fine
+  entry_wrong : {r : Reason} → WrongEntry a i j r → EntryJudged a i j (Err r)
+  entry_right : ((r : Reason) → WrongEntry a i j r → ⊥) → EntryJudged a i j (Ok tt)
 
 module _ (a : ℕ → ℕ → ℕ) where
   pub entry-judged : (i j : ℕ) → EntryJudged a i j (judge_entry i j (a i j) (a j i))

@@ -3,8 +3,8 @@ use Prim.Native.Nat.{ℕ, suc, ◌+◌, ◌-◌, ◌≤◌, ◌<◌}
 use mathlib.Core.Path.{◌≡◌, ◌∙◌, sym}
 use native.Mathlib.Omega.{arith}
 use Rattle.table.specs.declared.reason.Reason.{Reason}
-use Rattle.table.specs.declared.judge.Verdict.{Verdict}
-use Rattle.table.specs.declared.judge.Verdict.TheVariants.{Fine, Fault}
+use Rattle.table.specs.Verdict.{Verdict}
+use Rattle.std.specs.Prelude.{Ok, Err}
 use Rattle.matrix.specs.Matrix.{entry_byte}
 use Rattle.matrix.specs.Read.{judge_entry, or_else, on_line, judge_across, line_of, judge_down}
 use Rattle.matrix.specs.declared.byte.Found.{Found}
@@ -23,11 +23,11 @@ module _ (a : ℕ → ℕ → ℕ) (n : ℕ) where
       unfolding judge_across
       across-next = let e : n + 1 - j ≡ suc (n + 1 - (j + 1)) = omega arith in across.rest ∙ rw (e, ← ex, ← ey, ← ev)
 
-      pub entry-fault : (reason : Reason) (wide-j : ℕ) → v ≡ Fault reason → wide-j ≡ j → At reason (wide-j - 1) ≡ judge_across a i 1 n
+      pub entry-fault : (reason : Reason) (wide-j : ℕ) → v ≡ Err reason → wide-j ≡ j → At reason (wide-j - 1) ≡ judge_across a i 1 n
       unfolding or_else
       entry-fault reason wide-j f e = sym (across-next ∙ rw (f, e))
 
-      pub entry-fine : v ≡ Fine → Across i (j + 1)
+      pub entry-fine : v ≡ Ok tt → Across i (j + 1)
       unfolding or_else
       entry-fine f = record { rest = across-next ∙ rw f }
 

@@ -27,8 +27,8 @@ use Rattle.table.specs.ReadTable.{accepted, refused}
 use Rattle.table.specs.Arrays.{Table, table_in}
 use Rattle.table.specs.declared.reason.Reason.{Reason}
 use Rattle.table.specs.declared.reason.Reason.TheVariants.{TooLong, Misshapen}
-use Rattle.table.specs.declared.judge.Verdict.{Verdict}
-use Rattle.table.specs.declared.judge.Verdict.TheVariants.{Fine, Fault}
+use Rattle.table.specs.Verdict.{Verdict}
+use Rattle.std.specs.Prelude.{Ok, Err}
 use Rattle.table.proofs.Judged.{SizeJudged, right_size, size-judged}
 use Rattle.table.proofs.LineSteps.{line_at}
 use Rattle.matrix.specs.Matrix.{entry, Node}
@@ -183,10 +183,10 @@ unfolding matrix_of lines table_from
 nothing [] fibres h = refl
 nothing (b ∷ s) fibres h = absurd (omega arith)
 
-pub ring-few : (n : ℕ) (v : Verdict) → v ≡ judge_size desk n → v ≡ Fine → n ≤ desk.nodes
+pub ring-few : (n : ℕ) (v : Verdict) → v ≡ judge_size desk n → v ≡ Ok tt → n ≤ desk.nodes
 ring-few n v e f = let q = sym e ∙ f in go (rw q at (size-judged desk n))
   where
-    go : SizeJudged desk n Fine → n ≤ desk.nodes
+    go : SizeJudged desk n (Ok tt) → n ≤ desk.nodes
     go (right_size few many) = many
 
 -- the first line's faulty byte is within the text
@@ -223,11 +223,11 @@ module _ (s : List ℕ) (fibres : ℕ) (t : Table) where
         abbrev told : ToldGood (read_line (numbers count) first) count x.values
         told = told-good first count x ex f
 
-        pub ring-fault : (reason : Reason) → v ≡ Fault reason → t ≡ table_in (refused reason 1 1) → t ≡ matrix_result
+        pub ring-fault : (reason : Reason) → v ≡ Err reason → t ≡ table_in (refused reason 1 1) → t ≡ matrix_result
         unfolding matrix_of table_from
         ring-fault reason g e = e ∙ ap table_in (sym (rw (le-ltb desk.bytes (length s) short, first-line, ← ec, told.is, ← en, ← ev, g)))
 
-        pub then-square : v ≡ Fine → t ≡ table_in (table_from fibres (square_judged (lines_of desk n 1 n [] (lines s)))) → t ≡ matrix_result
+        pub then-square : v ≡ Ok tt → t ≡ table_in (table_from fibres (square_judged (lines_of desk n 1 n [] (lines s)))) → t ≡ matrix_result
         unfolding matrix_of
         then-square g e = e ∙ ap table_in (ap (table_from fibres) (rw (le-ltb desk.bytes (length s) short, first-line, ← ec, told.is, ← en, ← ev, g)))
 

@@ -21,7 +21,7 @@ use Rattle.table.specs.Reasons.{rank_of}
 use Rattle.table.specs.Says.{LineIs, at_first, behind, DueByte, line_missing, line_faulty}
 use Rattle.table.specs.declared.reason.Reason.{Reason}
 use Rattle.table.specs.declared.reason.Reason.TheVariants.{TooLong, Misshapen, RingSize, Fibres, NoRow, NoSuchNode, NotBelow, OutOfOrder, TooMany, TooMuch, Full, WrongSum, WrongWay, WrongCut, WrongLink, WrongLast, NotTight, OverBound, NotZero, NotSymmetric, SumTooMuch, NoRoom}
-use Rattle.table.specs.declared.judge.Verdict.{Verdict}
+use Rattle.table.specs.Verdict.{Verdict}
 use Rattle.table.proofs.Judged.{SizeJudged, not_so_many, right_size, size-judged}
 use Rattle.table.proofs.LineNumbers.{line-one, LinesFrom, from_first, from_next, line-here, no-line-left}
 use Rattle.table.proofs.ReasonNumbers.{same_rank, no-rank-0}

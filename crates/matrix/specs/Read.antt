@@ -11,8 +11,8 @@ use Rattle.table.specs.Judge.{judge_size}
 use Rattle.table.specs.ReadTable.{Result, accepted, refused}
 use Rattle.table.specs.declared.reason.Reason.{Reason}
 use Rattle.table.specs.declared.reason.Reason.TheVariants.{TooLong, Misshapen, TooMuch, NotZero, NotSymmetric}
-use Rattle.table.specs.declared.judge.Verdict.{Verdict}
-use Rattle.table.specs.declared.judge.Verdict.TheVariants.{Fine, Fault}
+use Rattle.table.specs.Verdict.{Verdict}
+use Rattle.std.specs.Prelude.{Ok, Err}
 use Rattle.matrix.specs.Matrix.{entry, entry_byte}
 use Rattle.matrix.specs.Demands.{rows_of_matrix}
 use Rattle.matrix.specs.declared.byte.Found.{Found}
@@ -38,8 +38,8 @@ numbers_or (bad p) line next = no_matrix Misshapen line (p + 1)
 
 -- what is found against a line as a whole
 unfoldable pub unless : Verdict → ℕ → Matrix → Matrix
-unless Fine line next = next
-unless (Fault reason) line next = no_matrix reason line 1
+unless (Ok tt) line next = next
+unless (Err reason) line next = no_matrix reason line 1
 
 -- what is found against one of its entries, each of which starts at its byte
 unfoldable pub unless_at : Found → ℕ → (ℕ → ℕ) → Matrix → Matrix
@@ -68,12 +68,12 @@ lines_of limits n line (suc left) m (l ∷ ls) =
 
 -- 17 and 18, of the entry x at i, j whose mirror entry is y
 unfoldable pub judge_entry : ℕ → ℕ → ℕ → ℕ → Verdict
-judge_entry i j x y = cond (eqb i j) (cond (eqb x 0) Fine (Fault NotZero)) (cond (eqb x y) Fine (Fault NotSymmetric))
+judge_entry i j x y = cond (eqb i j) (cond (eqb x 0) (Ok tt) (Err NotZero)) (cond (eqb x y) (Ok tt) (Err NotSymmetric))
 
 -- of the entry behind k others
 unfoldable pub or_else : Verdict → ℕ → Found → Found
-or_else Fine k next = next
-or_else (Fault reason) k next = At reason k
+or_else (Ok tt) k next = next
+or_else (Err reason) k next = At reason k
 
 unfoldable pub on_line : Found → ℕ → (ℕ → ℕ) → Lines → Lines
 on_line Nothing line byte next = next

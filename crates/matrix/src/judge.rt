@@ -7,23 +7,19 @@ ghost use Rattle.matrix.specs.Arrays.{at};
 use crate::byte::{Found, square_byte};
 use crate::square::{Lines, SQUARE, get};
 use ring::wide;
-use table::{Reason, Verdict};
+use table::Reason;
 
 // The entry x at i, j, whose mirror entry is y.
 #[tactic(auto, unfolding(crate::specs::Read::judge_entry))]
-fn judge_entry(i: u32, j: u32, x: u32, y: u32) -> Verdict
+fn judge_entry(i: u32, j: u32, x: u32, y: u32) -> Result<(), Reason>
     ensures { result ≡ judge_entry i j x y }
 {
     if i == j {
-        if x == 0 {
-            Verdict::Fine
-        } else {
-            Verdict::Fault(Reason::NotZero)
-        }
+        if x == 0 { Ok(()) } else { Err(Reason::NotZero) }
     } else if x == y {
-        Verdict::Fine
+        Ok(())
     } else {
-        Verdict::Fault(Reason::NotSymmetric)
+        Err(Reason::NotSymmetric)
     }
 }
 
@@ -35,7 +31,7 @@ fn judge_across(n: u32, i: u32, square: &[u32; SQUARE]) -> Found
     ensures { result ≡ judge_across (at square.now) i 1 n }
 {
     for j in 1..n + 1 {
-        if let Verdict::Fault(reason) = judge_entry(i, j, get(square, i, j), get(square, j, i)) {
+        if let Err(reason) = judge_entry(i, j, get(square, i, j), get(square, j, i)) {
             return Found::At(reason, wide(j) - 1);
         }
     }

@@ -10,7 +10,7 @@ use crate::line::{Spelling, fields, read_numbers};
 use crate::rows::rows_of;
 use crate::square::{Lines, SQUARE, read_lines};
 use ring::{BYTES, ROWS};
-use table::{Answer, Reason, Verdict, byte_at, clear, judge_size, line_end, refusal};
+use table::{Answer, Reason, byte_at, clear, judge_size, line_end, refusal};
 
 // The lines of a matrix of n nodes, then its entries.
 #[tactic(auto, using(crate::proofs::ReadSteps::reads_square))]
@@ -64,7 +64,7 @@ pub fn read_matrix(
         return refusal(first, second, amount, Reason::Misshapen, 1, byte_at(p));
     }
     let n = count as u32;
-    if let Verdict::Fault(reason) = judge_size(n) {
+    if let Err(reason) = judge_size(n) {
         return refusal(first, second, amount, reason, 1, 1);
     }
     read_square(s, n, fibres, first, second, amount)

@@ -24,8 +24,8 @@ use Rattle.table.specs.Reasons.{rank_of}
 use Rattle.table.specs.Says.{LineIs, RingIs, line_faulty}
 use Rattle.table.specs.declared.reason.Reason.{Reason}
 use Rattle.table.specs.declared.reason.Reason.TheVariants.{Misshapen, WrongSum}
-use Rattle.table.specs.declared.judge.Verdict.{Verdict}
-use Rattle.table.specs.declared.judge.Verdict.TheVariants.{Fine, Fault}
+use Rattle.table.specs.Verdict.{Verdict}
+use Rattle.std.specs.Prelude.{Ok, Err}
 use Rattle.table.proofs.Judged.{RingJudged, size_wrong, wrong_fibres, right_ring, ring-judged}
 use Rattle.table.proofs.Against.{AgainstRing, by_size, by_fibres, ring-least}
 use Rattle.table.proofs.LineRead.{RingRead, is_a_ring, no_ring, ring-read}
@@ -48,16 +48,16 @@ use Rattle.sheet.proofs.RowFirst.{sent-first}
 
 pub data Turned (limits : Limits) (judging : Bool) (t : List ℕ) (line : ℕ) : Turn → Type 0 where
   goes_on : {next : State} → ((s : Reason) → Counted limits judging t line s → ⊥) → At t (line + 1) next → Turned limits judging t line (on next)
-  stops : {r : Reason} {byte : ℕ} → First (Counted limits judging t line) (Fault r) → ByteIs t r line byte → Turned limits judging t line (stop r byte)
+  stops : {r : Reason} {byte : ℕ} → First (Counted limits judging t line) (Err r) → ByteIs t r line byte → Turned limits judging t line (stop r byte)
 
 module _ (limits : Limits) (judging : Bool) {t : List ℕ} {line : ℕ} where
   unless-turned : (byte : Reason → ℕ) {v : Verdict} {next : State} → First (Counted limits judging t line) v → ByteOn t line byte v → At t (line + 1) next → Turned limits judging t line (unless v byte next)
   unfolding unless
-  unless-turned byte {v = Fine} f b at = goes_on f.least at
-  unless-turned byte {v = Fault r} f b at = stops f b
+  unless-turned byte {v = Ok tt} f b at = goes_on f.least at
+  unless-turned byte {v = Err r} f b at = stops f b
 
   -- a line of the wrong shape
-  pub unfit-first : {state : State} → At t line state → Unfit t line state → First (Counted limits judging t line) (Fault Misshapen)
+  pub unfit-first : {state : State} → At t line state → Unfit t line state → First (Counted limits judging t line) (Err Misshapen)
   unfolding Says
   unfit-first at none =
       record { holds = (counts-form judging Misshapen (omega arith), unfit-wrong at none); least = λ s c. from-2 limits at s c.1 }

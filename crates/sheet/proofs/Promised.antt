@@ -13,7 +13,7 @@ use Rattle.ring.specs.True.{TrueSheet}
 use Rattle.ring.proofs.NoLower.{no_lower}
 use Rattle.ring.proofs.OurPlan.{plan-true}
 use Rattle.table.specs.Table as table
-use Rattle.table.specs.declared.judge.Verdict.TheVariants.{Fine}
+use Rattle.std.specs.Prelude.{Ok}
 use Rattle.table.proofs.TableText.{desk-spelled}
 use Rattle.sheet.specs.WriteSheet.{write_sheet}
 use Rattle.sheet.specs.Range.{InRange}
@@ -28,7 +28,7 @@ use Rattle.sheet.proofs.Truth.{judged-true}
 
 -- ---- where 8 to 14 are never given, nothing is asked of the figures
 
-rows-free : (rs : List Routed) → Each (λ r. when false (judge_halves r) ≡ Fine) rs
+rows-free : (rs : List Routed) → Each (λ r. when false (judge_halves r) ≡ Ok tt) rs
 unfolding when
 rows-free [] = none
 rows-free (r ∷ rs) = more refl (rows-free rs)

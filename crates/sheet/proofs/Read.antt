@@ -15,7 +15,7 @@ use Rattle.ring.specs.Sheet.{Sheet, sents, demands}
 use Rattle.ring.specs.declared.types.Link.{Link}
 use Rattle.text.specs.Number.{limit}
 use Rattle.text.specs.Shapes.{ring_line, sent_line, cut_line, link_line, last_line}
-use Rattle.table.specs.declared.judge.Verdict.TheVariants.{Fine}
+use Rattle.std.specs.Prelude.{Ok}
 use Rattle.table.proofs.Judged.{RingJudged, right_ring, ring-judged, RowJudged, row_fine, row-judged}
 use Rattle.table.proofs.FineRows.{FineRows, no_row, fine_row}
 use Rattle.sheet.specs.WriteSheet.{routed_line, load_line, lines_of, figures_of, end_text, write_sheet}
@@ -33,16 +33,16 @@ use Rattle.sheet.proofs.Rest.{Rest, rest_end, rest_last, rest_link, rest_cut, re
 -- nothing is found against the links behind k others
 pub data LinksJudged (judging : Bool) (rs : List Routed) : ℕ → List Link → Type 0 where
   no_links : {k : ℕ} → LinksJudged judging rs k []
-  and_link : {k : ℕ} {l : Link} {ls : List Link} → when judging (judge_link rs (k + 1) l) ≡ Fine → LinksJudged judging rs (k + 1) ls
+  and_link : {k : ℕ} {l : Link} {ls : List Link} → when judging (judge_link rs (k + 1) l) ≡ Ok tt → LinksJudged judging rs (k + 1) ls
       → LinksJudged judging rs k (l ∷ ls)
 
 -- nor against the rest of a sheet
 pub record Judged (judging : Bool) (x : Sheet) : Type 0 where
-  pub halves : Each (λ r. when judging (judge_halves r) ≡ Fine) x.rows
-  pub cut : when judging (judge_cut x.ring.nodes x.rows x.cut) ≡ Fine
+  pub halves : Each (λ r. when judging (judge_halves r) ≡ Ok tt) x.rows
+  pub cut : when judging (judge_cut x.ring.nodes x.rows x.cut) ≡ Ok tt
   pub links : LinksJudged judging x.rows 0 x.links
-  pub last : when judging (judge_last x.ring x.rows x.peak x.size) ≡ Fine
-  pub whole : when judging (judge_whole x) ≡ Fine
+  pub last : when judging (judge_last x.ring x.rows x.peak x.size) ≡ Ok tt
+  pub whole : when judging (judge_whole x) ≡ Ok tt
 
 -- ---- behind the cut
 
@@ -50,7 +50,7 @@ module _ (judging : Bool) (x : Sheet) where
   record AtEnd (y : Sheet) (text : List ℕ) : Type 0 where
     same : y ≡ x
     nothing : text ≡ []
-    whole : when judging (judge_whole x) ≡ Fine
+    whole : when judging (judge_whole x) ≡ Ok tt
 
   at-end : {limits : Limits} {y : Sheet} {text : List ℕ} → Rest limits judging x (end y) text → AtEnd y text
   at-end (rest_end v) = record { same = refl; nothing = refl; whole = v }
@@ -64,11 +64,11 @@ module _ (judging : Bool) (x : Sheet) where
     spelled : Each LinkSpelled later
     last : (x.peak < limit) × (x.size < limit)
     judged : LinksJudged judging rs (length ks) later
-    last_judged : when judging (judge_last ring rs x.peak x.size) ≡ Fine
-    whole : when judging (judge_whole x) ≡ Fine
+    last_judged : when judging (judge_last ring rs x.peak x.size) ≡ Ok tt
+    whole : when judging (judge_whole x) ≡ Ok tt
 
   last-from : {ring : Ring} {rs : List Routed} {c : Cut} {ks : List Link} {p z : ℕ} {text : List ℕ} → length ks ≤ ring.nodes → ring.nodes ≤ length ks → p < limit → z < limit
-      → when judging (judge_last ring rs p z) ≡ Fine → AtEnd (record { ring = ring; rows = rs; cut = c; links = ks; peak = p; size = z }) text
+      → when judging (judge_last ring rs p z) ≡ Ok tt → AtEnd (record { ring = ring; rows = rs; cut = c; links = ks; peak = p; size = z }) text
       → FromLinks ring rs c ks (last_line p z ++ text)
   unfolding lines_of
   last-from {ks = ks} {p = p} {z = z} within all a b v e =
@@ -88,7 +88,7 @@ module _ (judging : Bool) (x : Sheet) where
       }
 
   link-from : {ring : Ring} {rs : List Routed} {c : Cut} {ks : List Link} {k s u : ℕ} {text : List ℕ} → k < limit → s < limit → u < limit
-      → when judging (judge_link rs (length ks + 1) (link_of k s u)) ≡ Fine → FromLinks ring rs c (ks ++ link_of k s u ∷ []) text
+      → when judging (judge_link rs (length ks + 1) (link_of k s u)) ≡ Ok tt → FromLinks ring rs c (ks ++ link_of k s u ∷ []) text
       → FromLinks ring rs c ks (link_line k s u ++ text)
   unfolding lines_of
   link-from {rs = rs} {ks = ks} {k = k} {s = s} {u = u} a b d v f =
@@ -120,13 +120,13 @@ module _ (judging : Bool) (x : Sheet) where
     is_text : text ≡ lines_of routed_line later ++ end_text (figures_of x) x.links
     fine : FineRows limits ring.nodes (length rs) (last_of rs).first (last_of rs).second (demands (sents later))
     halves : Each RowSpelled later
-    judged : Each (λ r. when judging (judge_halves r) ≡ Fine) later
+    judged : Each (λ r. when judging (judge_halves r) ≡ Ok tt) later
     cut : (x.cut.g < limit) × ((x.cut.h < limit) × (x.cut.number < limit))
-    cut_judged : when judging (judge_cut ring.nodes x.rows x.cut) ≡ Fine
+    cut_judged : when judging (judge_cut ring.nodes x.rows x.cut) ≡ Ok tt
     behind : FromLinks ring x.rows x.cut [] (lines_of load_line x.links ++ last_line x.peak x.size)
 
   cut-from : {limits : Limits} {ring : Ring} {rs : List Routed} {g h m : ℕ} {text : List ℕ} → g < limit → h < limit → m < limit
-      → when judging (judge_cut ring.nodes rs (cut_of g h m)) ≡ Fine → FromLinks ring rs (cut_of g h m) [] text → FromRows limits ring rs (cut_line g h m ++ text)
+      → when judging (judge_cut ring.nodes rs (cut_of g h m)) ≡ Ok tt → FromLinks ring rs (cut_of g h m) [] text → FromRows limits ring rs (cut_line g h m ++ text)
   unfolding lines_of end_text
   cut-from {ring = ring} {rs = rs} {g = g} {h = h} {m = m} {text = text} p q r v f =
       let er : x.rows ≡ rs = ap (λ (y : Sheet). y.rows) f.same in
@@ -148,8 +148,8 @@ module _ (judging : Bool) (x : Sheet) where
       }
 
   -- what holds of a row that nothing is found against
-  row_from : {limits : Limits} {ring : Ring} {rs : List Routed} {i j d f k w : ℕ} {text : List ℕ} → SentSpelled i j d f k w → judge_next limits ring.nodes rs i j d ≡ Fine
-      → when judging (judge_halves (routed_of i j d f k w)) ≡ Fine → FromRows limits ring (rs ++ routed_of i j d f k w ∷ []) text
+  row_from : {limits : Limits} {ring : Ring} {rs : List Routed} {i j d f k w : ℕ} {text : List ℕ} → SentSpelled i j d f k w → judge_next limits ring.nodes rs i j d ≡ Ok tt
+      → when judging (judge_halves (routed_of i j d f k w)) ≡ Ok tt → FromRows limits ring (rs ++ routed_of i j d f k w ∷ []) text
       → FromRows limits ring rs (sent_line i j d f k w ++ text)
   unfolding lines_of
   row_from {limits} {ring} {rs} {i} {j} {d} {f} {k} {w} {text} spelled v u from =
@@ -170,7 +170,7 @@ module _ (judging : Bool) (x : Sheet) where
       r : Routed
       r = routed_of i j d f k w
 
-      fine : RowJudged limits ring.nodes (length rs) (last_of rs).first (last_of rs).second i j d Fine → FineRows limits ring.nodes (length rs) (last_of rs).first (last_of rs).second (demands (sents (r ∷ from.later)))
+      fine : RowJudged limits ring.nodes (length rs) (last_of rs).first (last_of rs).second i j d (Ok tt) → FineRows limits ring.nodes (length rs) (last_of rs).first (last_of rs).second (demands (sents (r ∷ from.later)))
       fine (row_fine on up room most) =
           fine_row on up room most (subst (λ m. FineRows limits ring.nodes m i j (demands (sents from.later))) (length-append rs (r ∷ [])) (rw (last_more rs r) at from.fine))
 
@@ -191,7 +191,7 @@ pub record IsSheet (limits : Limits) (judging : Bool) (t : List ℕ) (x : Sheet)
   pub links : length x.links ≡ x.ring.nodes
   pub judged : Judged judging x
 
-sheet-from : (limits : Limits) (judging : Bool) (t : List ℕ) (x : Sheet) (ring : Ring) → RingJudged limits ring Fine → FromRows judging x limits ring [] t
+sheet-from : (limits : Limits) (judging : Bool) (t : List ℕ) (x : Sheet) (ring : Ring) → RingJudged limits ring (Ok tt) → FromRows judging x limits ring [] t
     → IsSheet limits judging (ring_line ring.nodes ring.fibres ++ t) x
 unfolding write_sheet
 sheet-from limits judging t x ring (right_ring few many fibres) f =

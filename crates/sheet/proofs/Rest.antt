@@ -30,8 +30,8 @@ use Rattle.text.specs.declared.SentRow.{SentRow}
 use Rattle.text.proofs.Apart.{clash}
 use Rattle.table.specs.Lines.{lines}
 use Rattle.table.specs.Judge.{judge_ring}
-use Rattle.table.specs.declared.judge.Verdict.{Verdict}
-use Rattle.table.specs.declared.judge.Verdict.TheVariants.{Fine, Fault}
+use Rattle.table.specs.Verdict.{Verdict}
+use Rattle.std.specs.Prelude.{Ok, Err}
 use Rattle.table.proofs.LineRead.{RingSpelled, RingRead, is_a_ring, no_ring, ring-read, ring-line-read}
 use Rattle.table.proofs.LinesOf.{FirstLine, NoLf, written-first, ring-first}
 use Rattle.sheet.specs.Verdicts.{or_else}
@@ -44,33 +44,33 @@ use Rattle.sheet.proofs.SheetLines.{SentSpelled, SentRead, is_sent, no_sent, sen
 
 -- the rest `text` leads from a state to the sheet x; where `judging`, nothing is found against it
 pub data Rest (limits : Limits) (judging : Bool) (x : Sheet) : State → List ℕ → Type 0 where
-  rest_end : when judging (judge_whole x) ≡ Fine → Rest limits judging x (end x) []
+  rest_end : when judging (judge_whole x) ≡ Ok tt → Rest limits judging x (end x) []
   rest_last : {ring : Ring} {rs : List Routed} {c : Cut} {ks : List Link} {p z : ℕ} {text : List ℕ} → ring.nodes ≤ length ks → p < limit → z < limit
-      → when judging (judge_last ring rs p z) ≡ Fine → Rest limits judging x (end (record { ring = ring; rows = rs; cut = c; links = ks; peak = p; size = z })) text
+      → when judging (judge_last ring rs p z) ≡ Ok tt → Rest limits judging x (end (record { ring = ring; rows = rs; cut = c; links = ks; peak = p; size = z })) text
       → Rest limits judging x (links ring rs c ks) (last_line p z ++ text)
   rest_link : {ring : Ring} {rs : List Routed} {c : Cut} {ks : List Link} {k s u : ℕ} {text : List ℕ} → length ks < ring.nodes → k < limit → s < limit → u < limit
-      → when judging (judge_link rs (length ks + 1) (link_of k s u)) ≡ Fine → Rest limits judging x (links ring rs c (ks ++ link_of k s u ∷ [])) text
+      → when judging (judge_link rs (length ks + 1) (link_of k s u)) ≡ Ok tt → Rest limits judging x (links ring rs c (ks ++ link_of k s u ∷ [])) text
       → Rest limits judging x (links ring rs c ks) (link_line k s u ++ text)
   rest_cut : {ring : Ring} {rs : List Routed} {g h m : ℕ} {text : List ℕ} → g < limit → h < limit → m < limit
-      → when judging (judge_cut ring.nodes rs (cut_of g h m)) ≡ Fine → Rest limits judging x (links ring rs (cut_of g h m) []) text
+      → when judging (judge_cut ring.nodes rs (cut_of g h m)) ≡ Ok tt → Rest limits judging x (links ring rs (cut_of g h m) []) text
       → Rest limits judging x (rows ring rs) (cut_line g h m ++ text)
-  rest_row : {ring : Ring} {rs : List Routed} {i j d f k w : ℕ} {text : List ℕ} → SentSpelled i j d f k w → judge_next limits ring.nodes rs i j d ≡ Fine
-      → when judging (judge_halves (routed_of i j d f k w)) ≡ Fine → Rest limits judging x (rows ring (rs ++ routed_of i j d f k w ∷ [])) text
+  rest_row : {ring : Ring} {rs : List Routed} {i j d f k w : ℕ} {text : List ℕ} → SentSpelled i j d f k w → judge_next limits ring.nodes rs i j d ≡ Ok tt
+      → when judging (judge_halves (routed_of i j d f k w)) ≡ Ok tt → Rest limits judging x (rows ring (rs ++ routed_of i j d f k w ∷ [])) text
       → Rest limits judging x (rows ring rs) (sent_line i j d f k w ++ text)
-  rest_ring : {ring : Ring} {text : List ℕ} → RingSpelled ring.nodes ring.fibres → judge_ring limits ring ≡ Fine → Rest limits judging x (rows ring []) text
+  rest_ring : {ring : Ring} {text : List ℕ} → RingSpelled ring.nodes ring.fibres → judge_ring limits ring ≡ Ok tt → Rest limits judging x (rows ring []) text
       → Rest limits judging x start (ring_line ring.nodes ring.fibres ++ text)
 
 -- ---- a line that leads on
 
-unless-on : (v : Verdict) (byte : Reason → ℕ) (next state : State) → unless v byte next ≡ on state → (v ≡ Fine) × (next ≡ state)
+unless-on : (v : Verdict) (byte : Reason → ℕ) (next state : State) → unless v byte next ≡ on state → (v ≡ Ok tt) × (next ≡ state)
 unfolding unless
-unless-on Fine byte next state e = (refl, cc)
-unless-on (Fault r) byte next state e = clash (cc)
+unless-on (Ok tt) byte next state e = (refl, cc)
+unless-on (Err r) byte next state e = clash (cc)
 
-pub or-fine : (v w : Verdict) → or_else v w ≡ Fine → (v ≡ Fine) × (w ≡ Fine)
+pub or-fine : (v w : Verdict) → or_else v w ≡ Ok tt → (v ≡ Ok tt) × (w ≡ Ok tt)
 unfolding or_else
-or-fine Fine w e = (refl, e)
-or-fine (Fault r) w e = clash (cc)
+or-fine (Ok tt) w e = (refl, e)
+or-fine (Err r) w e = clash (cc)
 
 module _ (limits : Limits) (judging : Bool) (x : Sheet) where
   -- the line l, in front of a rest
@@ -136,8 +136,8 @@ module _ (limits : Limits) (judging : Bool) (x : Sheet) where
   ended (end y) line e = go (when judging (judge_whole y)) refl e
     where
       go : (v : Verdict) → when judging (judge_whole y) ≡ v → whole_result y v ≡ accepted x → Rest limits judging x (end y) []
-      go Fine q e = let same : y ≡ x = cc in subst (λ s. Rest limits judging x (end s) []) (sym same) (rest_end (subst (λ s. when judging (judge_whole s) ≡ Fine) same q))
-      go (Fault r) q e = clash (cc)
+      go (Ok tt) q e = let same : y ≡ x = cc in subst (λ s. Rest limits judging x (end s) []) (sym same) (rest_end (subst (λ s. when judging (judge_whole s) ≡ Ok tt) same q))
+      go (Err r) q e = clash (cc)
 
   pub read-rest : (ls : List (List ℕ)) (state : State) (line : ℕ) → check_from limits judging state line ls ≡ accepted x → Rest limits judging x state (flatten ls)
   unfolding check_from after flatten

@@ -1,4 +1,4 @@
--- On a D line the checker's verdict is the first reason that counts and holds there, and Fine where none does: 4 to 7 and 16 by a table's judging of
+-- On a D line the checker's verdict is the first reason that counts and holds there, and Ok where none does: 4 to 7 and 16 by a table's judging of
 -- the demand, then 8 and 9; a row that has a first node and is below the pair a, b has a row before it.
 use Prim.Native.Nat.{ℕ, ◌≤◌, ◌<◌}
 use mathlib.Core.Bool.{Bool}
@@ -14,7 +14,7 @@ use Rattle.ring.specs.declared.types.Routed.{Routed}
 use Rattle.table.specs.Reasons.{rank_of}
 use Rattle.table.specs.declared.reason.Reason.{Reason}
 use Rattle.table.specs.declared.reason.Reason.TheVariants.{WrongSum}
-use Rattle.table.specs.declared.judge.Verdict.{Verdict}
+use Rattle.table.specs.Verdict.{Verdict}
 use Rattle.table.proofs.Judged.{RowJudged, no_such_node, not_below, out_of_order, too_many, too_much, row_fine, row-judged}
 use Rattle.table.proofs.Against.{AgainstRow, by_nodes, by_pair, by_order, by_count, by_amount, row-least}
 use Rattle.sheet.specs.Verdicts.{or_else}

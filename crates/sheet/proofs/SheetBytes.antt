@@ -24,8 +24,8 @@ use Rattle.table.specs.Fields.{node_field, ring_fault, row_fault}
 use Rattle.table.specs.Says.{RingIs, NoNode}
 use Rattle.table.specs.declared.reason.Reason.{Reason}
 use Rattle.table.specs.declared.reason.Reason.TheVariants.{TooLong, Misshapen, RingSize, Fibres, NoRow, NoSuchNode, NotBelow, OutOfOrder, TooMany, TooMuch, Full, WrongSum, WrongWay, WrongCut, WrongLink, WrongLast, NotTight, OverBound, NotZero, NotSymmetric, SumTooMuch, NoRoom}
-use Rattle.table.specs.declared.judge.Verdict.{Verdict}
-use Rattle.table.specs.declared.judge.Verdict.TheVariants.{Fine, Fault}
+use Rattle.table.specs.Verdict.{Verdict}
+use Rattle.std.specs.Prelude.{Ok, Err}
 use Rattle.table.proofs.Against.{no-node-there}
 use Rattle.table.proofs.BytesGiven.{one-due as one-due-byte, one-shape-byte, one-ring-field}
 use Rattle.table.proofs.Judged.{RingJudged, size_wrong, wrong_fibres, right_ring, Node, no_node, has_node, node, RowJudged, no_such_node, not_below, out_of_order, too_many, too_much, row_fine, row-judged}
@@ -39,14 +39,14 @@ use Rattle.sheet.proofs.RowFirst.{row_at}
 
 -- the byte that goes with the reason of a verdict is that reason's
 abbrev pub ByteOn : List ℕ → ℕ → (Reason → ℕ) → Verdict → Type 0
-ByteOn t line byte Fine = Unit {0}
-ByteOn t line byte (Fault r) = ByteIs t r line (byte r)
+ByteOn t line byte (Ok tt) = Unit {0}
+ByteOn t line byte (Err r) = ByteIs t r line (byte r)
 
 -- one reason at most, which judges the line as a whole
 pub only-byte : (t : List ℕ) (line : ℕ) (judging : Bool) (r : Reason) (A : Type 0) (v : Verdict) → First (λ s. Counts judging s × Only r A s) v → ByteIs t r line 1
     → ByteOn t line whole_line v
-only-byte t line judging r A Fine f b = tt
-only-byte t line judging r A (Fault s) f b = only_then (λ s. ByteIs t s line 1) (λ a. b) s f.holds.1
+only-byte t line judging r A (Ok tt) f b = tt
+only-byte t line judging r A (Err s) f b = only_then (λ s. ByteIs t s line 1) (λ a. b) s f.holds.1
 
 -- ---- R n fibres
 
@@ -83,8 +83,8 @@ module _ {t : List ℕ} {line : ℕ} {ring : Ring} {rs : List Routed} {r : Route
 
   or-else-byte : (v w : Verdict) → ByteOn t line byte v → ByteOn t line byte w → ByteOn t line byte (or_else v w)
   unfolding or_else
-  or-else-byte Fine w a b = b
-  or-else-byte (Fault s) w a b = a
+  or-else-byte (Ok tt) w a b = b
+  or-else-byte (Err s) w a b = a
 
   fault-byte : (b : Bool) (s : Reason) → ByteIs t s line (byte s) → ByteOn t line byte (fault_if b s)
   unfolding fault_if

@@ -1,4 +1,4 @@
--- What each verdict on a sheet's rows, cut, links and figures means: the first of the reasons against them, and Fine where there is none; shown
+-- What each verdict on a sheet's rows, cut, links and figures means: the first of the reasons against them, and Ok where there is none; shown
 -- test by test, as the judging puts them together.
 use Prim.Native.Nat.{ℕ, ◌+◌, ◌*◌, ◌≤◌, ◌<◌}
 use mathlib.Core.List.{List}

@@ -21,7 +21,7 @@ use Rattle.ring.specs.declared.types.Link.{Link}
 use Rattle.text.specs.Shapes.{last_line}
 use Rattle.text.proofs.Apart.{clash}
 use Rattle.table.specs.Lines.{lines}
-use Rattle.table.specs.declared.judge.Verdict.TheVariants.{Fine}
+use Rattle.std.specs.Prelude.{Ok}
 use Rattle.table.proofs.Against.{fine-ring-judged, fine-row-judged}
 use Rattle.table.proofs.FineRows.{FineRows, no_row, fine_row, fine-rows, table-rows, amounts-fine, count-fine}
 use Rattle.table.proofs.LinesOf.{join-lines}
@@ -61,7 +61,7 @@ module _ (limits : Limits) (judging : Bool) (x : Sheet) (judged : Judged judging
 
   module _ (limited : LimitsSpelled limits) (many : x.ring.nodes ≤ limits.nodes) where
     to-rows : (later rs : List Routed) → x.rows ≡ rs ++ later → FineRows limits x.ring.nodes (length rs) (last_of rs).first (last_of rs).second (demands (sents later)) → Each RowSpelled later
-        → Each (λ r. when judging (judge_halves r) ≡ Fine) later → Rest limits judging x (rows x.ring rs) (lines_of routed_line later ++ end_text (figures_of x) x.links)
+        → Each (λ r. when judging (judge_halves r) ≡ Ok tt) later → Rest limits judging x (rows x.ring rs) (lines_of routed_line later ++ end_text (figures_of x) x.links)
     unfolding lines_of end_text
     to-rows [] rs e no_row none none =
         let k : x.rows ≡ rs = e ∙ append-nil rs in

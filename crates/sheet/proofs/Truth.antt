@@ -25,23 +25,23 @@ use Rattle.ring.proofs.Lists.{each, each_both, each-of-map}
 use Rattle.text.proofs.Apart.{clash}
 use Rattle.table.specs.declared.reason.Reason.{Reason}
 use Rattle.table.specs.declared.reason.Reason.TheVariants.{WrongSum, WrongWay, WrongCut, WrongLink, WrongLast, NotTight, OverBound}
-use Rattle.table.specs.declared.judge.Verdict.{Verdict}
-use Rattle.table.specs.declared.judge.Verdict.TheVariants.{Fine, Fault}
+use Rattle.table.specs.Verdict.{Verdict}
+use Rattle.std.specs.Prelude.{Ok, Err}
 use Rattle.sheet.specs.Judge.{judge_halves, judge_cut, judge_link, judge_last, judge_whole}
 use Rattle.sheet.specs.Check.{when}
 use Rattle.sheet.proofs.FirstReason.{First, Only, only, only_fact}
 use Rattle.sheet.proofs.SheetJudged.{halves-first, CutWrong, cut-first, link-first, last-first, whole-first}
 use Rattle.sheet.proofs.Read.{LinksJudged, no_links, and_link, Judged}
 
--- ---- Fine exactly where no reason holds
+-- ---- Ok exactly where no reason holds
 
-none_holds : {P : Reason → Type 0} {v : Verdict} → First P v → v ≡ Fine → (s : Reason) → P s → ⊥
-none_holds {v = Fine} f e = f.least
-none_holds {v = Fault r} f e = clash (cc)
+none_holds : {P : Reason → Type 0} {v : Verdict} → First P v → v ≡ Ok tt → (s : Reason) → P s → ⊥
+none_holds {v = Ok tt} f e = f.least
+none_holds {v = Err r} f e = clash (cc)
 
-is-fine : {P : Reason → Type 0} {v : Verdict} → First P v → ((s : Reason) → P s → ⊥) → v ≡ Fine
-is-fine {v = Fine} f never = refl
-is-fine {v = Fault r} f never = absurd (never r f.holds)
+is-fine : {P : Reason → Type 0} {v : Verdict} → First P v → ((s : Reason) → P s → ⊥) → v ≡ Ok tt
+is-fine {v = Ok tt} f never = refl
+is-fine {v = Err r} f never = absurd (never r f.holds)
 
 -- one reason with one fact
 no-fact : {r : Reason} {A : Type 0} → (A → ⊥) → (s : Reason) → Only r A s → ⊥
@@ -65,12 +65,12 @@ kept r n = record { front = λ e. front r.way refl e; back = λ e h. back r.way 
 
 -- ---- a row
 
-pub row-true : (r : Routed) → judge_halves r ≡ Fine → SumsTo2d r.sent × Kept r
+pub row-true : (r : Routed) → judge_halves r ≡ Ok tt → SumsTo2d r.sent × Kept r
 row-true r e =
     let never = none_holds (halves-first r) e in
     (same (r.sent.front + r.sent.back) (2 * r.sent.row.amount) (λ d. never WrongSum (inl (only d))), kept r (λ k. never WrongWay (inr (only k))))
 
-row_fine : (r : Routed) → SumsTo2d r.sent → Kept r → judge_halves r ≡ Fine
+row_fine : (r : Routed) → SumsTo2d r.sent → Kept r → judge_halves r ≡ Ok tt
 row_fine r s k = is-fine (halves-first r) (λ q. ⊎_elim (no-fact (λ d. d s) q) (no-fact (λ d. d k) q))
 
 -- ---- the cut
@@ -79,7 +79,7 @@ record CutTrue (n : ℕ) (rs : List Routed) (c : Cut) : Type 0 where
   pair : IsCut n c
   number : c.number ≡ across (demands (sents rs)) c.g c.h
 
-cut-true : (n : ℕ) (rs : List Routed) (c : Cut) → judge_cut n rs c ≡ Fine → CutTrue n rs c
+cut-true : (n : ℕ) (rs : List Routed) (c : Cut) → judge_cut n rs c ≡ Ok tt → CutTrue n rs c
 cut-true n rs c e = record { pair = pair; number = same c.number (across (demands (sents rs)) c.g c.h) (λ d. never WrongCut (only (inr d))) }
   where
     never : (s : Reason) → Only WrongCut (CutWrong n rs c) s → ⊥
@@ -95,7 +95,7 @@ cut-true n rs c e = record { pair = pair; number = same c.number (across (demand
       high = elim (dec_le c.h n) [ yes l ↦ l | no l ↦ absurd (is (λ k. l k.high)) ];
     }
 
-cut-fine : (n : ℕ) (rs : List Routed) (c : Cut) → IsCut n c → c.number ≡ across (demands (sents rs)) c.g c.h → judge_cut n rs c ≡ Fine
+cut-fine : (n : ℕ) (rs : List Routed) (c : Cut) → IsCut n c → c.number ≡ across (demands (sents rs)) c.g c.h → judge_cut n rs c ≡ Ok tt
 cut-fine n rs c k e = is-fine (cut-first n rs c) (no-fact (⊎_elim (λ d. d k) (λ d. d e)))
 
 -- ---- the links
@@ -105,7 +105,7 @@ pub record LinkTrue (rs : List Routed) (k : ℕ) (l : Link) : Type 0 where
   pub split : l.split ≡ split_load (sents rs) k
   pub unsplit : l.unsplit ≡ unsplit_load rs k
 
-pub link-true : (rs : List Routed) (k : ℕ) (l : Link) → judge_link rs k l ≡ Fine → LinkTrue rs k l
+pub link-true : (rs : List Routed) (k : ℕ) (l : Link) → judge_link rs k l ≡ Ok tt → LinkTrue rs k l
 link-true rs k l e =
     let never = none_holds (link-first rs k l) e in
     record {
@@ -114,7 +114,7 @@ link-true rs k l e =
       unsplit = same l.unsplit (unsplit_load rs k) (λ d. never WrongLink (only (inr (inr d))));
     }
 
-link-fine : (rs : List Routed) (k : ℕ) (l : Link) → LinkTrue rs k l → judge_link rs k l ≡ Fine
+link-fine : (rs : List Routed) (k : ℕ) (l : Link) → LinkTrue rs k l → judge_link rs k l ≡ Ok tt
 link-fine rs k l t = is-fine (link-first rs k l) (no-fact (⊎_elim (λ d. d t.number) (⊎_elim (λ d. d t.split) (λ d. d t.unsplit))))
 
 -- their numbers run on from k, and their loads are true
@@ -155,14 +155,14 @@ module _ (x : Sheet) where
 
 -- ---- the last line, and the whole
 
-pub last-true : (ring : Ring) (rs : List Routed) (p z : ℕ) → judge_last ring rs p z ≡ Fine
+pub last-true : (ring : Ring) (rs : List Routed) (p z : ℕ) → judge_last ring rs p z ≡ Ok tt
     → (p ≡ peak (unsplit_load rs) ring.nodes) × (z ≡ line_size sonet_sizes ring.fibres (peak (unsplit_load rs) ring.nodes))
 last-true ring rs p z e =
     let never = none_holds (last-first ring rs p z) e in
     let u = peak (unsplit_load rs) ring.nodes in
     (same p u (λ d. never WrongLast (only (inl d))), same z (line_size sonet_sizes ring.fibres u) (λ d. never WrongLast (only (inr d))))
 
-whole-true : (x : Sheet) → judge_whole x ≡ Fine → (split_peak x ≡ x.cut.number) × (2 * unsplit_peak x ≤ split_peak x + 3 * largest_split_of x)
+whole-true : (x : Sheet) → judge_whole x ≡ Ok tt → (split_peak x ≡ x.cut.number) × (2 * unsplit_peak x ≤ split_peak x + 3 * largest_split_of x)
 whole-true x e =
     let never = none_holds (whole-first x) e in
     let within : split_peak x + 3 * largest_split_of x < 2 * unsplit_peak x → ⊥ = λ l. never OverBound (inr (only l)) in
@@ -170,10 +170,10 @@ whole-true x e =
 
 -- ---- all of them
 
-rows_both : {rs : List Routed} → Each SumsTo2d (sents rs) → Each Kept rs → Each (λ (r : Routed). judge_halves r ≡ Fine) rs
+rows_both : {rs : List Routed} → Each SumsTo2d (sents rs) → Each Kept rs → Each (λ (r : Routed). judge_halves r ≡ Ok tt) rs
 rows_both {rs} ss ks = each_both (λ r s k. row_fine r s k) (each-of-map (λ (r : Routed). r.sent) {P = SumsTo2d} rs ss) ks
 
-sums-of : {rs : List Routed} → Each (λ (r : Routed). judge_halves r ≡ Fine) rs → Each SumsTo2d (sents rs)
+sums-of : {rs : List Routed} → Each (λ (r : Routed). judge_halves r ≡ Ok tt) rs → Each SumsTo2d (sents rs)
 sums-of none = none
 sums-of (more {a = r} e es) = more (row-true r e).0 (sums-of es)
 

@@ -24,8 +24,8 @@ use Rattle.table.specs.Judge.{judge_ring, judge_row}
 use Rattle.table.specs.Fields.{ring_fault, row_fault}
 use Rattle.table.specs.declared.reason.Reason.{Reason}
 use Rattle.table.specs.declared.reason.Reason.TheVariants.{TooLong, Misshapen}
-use Rattle.table.specs.declared.judge.Verdict.{Verdict}
-use Rattle.table.specs.declared.judge.Verdict.TheVariants.{Fine, Fault}
+use Rattle.table.specs.Verdict.{Verdict}
+use Rattle.std.specs.Prelude.{Ok, Err}
 use Rattle.sheet.specs.Judge.{judge_halves, judge_cut, judge_link, judge_last, judge_whole}
 use Rattle.sheet.specs.Says.{State, start, rows, links, end}
 use Rattle.sheet.specs.Verdicts.{or_else}
@@ -41,8 +41,8 @@ pub data Turn : Type 0 where
   stop : Reason → ℕ → Turn
 
 unfoldable pub unless : Verdict → (Reason → ℕ) → State → Turn
-unless Fine byte next = on next
-unless (Fault reason) byte next = stop reason (byte reason)
+unless (Ok tt) byte next = on next
+unless (Err reason) byte next = stop reason (byte reason)
 
 -- a reason that judges the line as a whole
 abbrev pub whole_line : Reason → ℕ
@@ -51,7 +51,7 @@ whole_line reason = 1
 -- 8 to 14 are given only where `judging` says so
 unfoldable pub when : Bool → Verdict → Verdict
 when true v = v
-when false v = Fine
+when false v = Ok tt
 
 -- ---- the values of a line
 
@@ -124,8 +124,8 @@ turn limits judging (end x) l = stop Misshapen 1
 
 -- a whole sheet is judged once more, without a line
 unfoldable pub whole_result : Sheet → Verdict → Result
-whole_result x Fine = accepted x
-whole_result x (Fault reason) = refused reason 0 0
+whole_result x (Ok tt) = accepted x
+whole_result x (Err reason) = refused reason 0 0
 
 -- no line is left: the one that is due is missing
 unfoldable pub at_end : Bool → State → ℕ → Result

@@ -12,7 +12,7 @@ use Rattle.ring.specs.RuleD.{whole_way}
 use Rattle.ring.specs.Sheet.{Sheet, sents, demands, split_peak, unsplit_peak, largest_split_of}
 use Rattle.ring.specs.declared.types.Link.{Link}
 use Rattle.table.specs.declared.reason.Reason.TheVariants.{WrongSum, WrongWay}
-use Rattle.table.specs.declared.judge.Verdict.{Verdict}
+use Rattle.table.specs.Verdict.{Verdict}
 use Rattle.sheet.specs.Verdicts.{fault_if, or_else, cut_verdict, link_verdict, last_verdict, whole_verdict}
 
 -- 8: front + back is not 2 x amount

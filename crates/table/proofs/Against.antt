@@ -12,14 +12,14 @@ use Rattle.table.specs.Says.{NoNode}
 use Rattle.table.specs.Judge.{judge_ring, judge_row}
 use Rattle.table.specs.declared.reason.Reason.{Reason}
 use Rattle.table.specs.declared.reason.Reason.TheVariants.{RingSize, Fibres, NoSuchNode, NotBelow, OutOfOrder, TooMany, TooMuch}
-use Rattle.table.specs.declared.judge.Verdict.{Verdict}
-use Rattle.table.specs.declared.judge.Verdict.TheVariants.{Fine, Fault}
+use Rattle.table.specs.Verdict.{Verdict}
+use Rattle.std.specs.Prelude.{Ok, Err}
 use Rattle.table.proofs.Judged.{RingJudged, size_wrong, wrong_fibres, right_ring, ring-judged, HasNode, RowJudged, no_such_node, not_below, out_of_order, too_many, too_much, row_fine, row-judged}
 
--- the verdict comes no later than the reason s, and where it is Fine there is no such reason
+-- the verdict comes no later than the reason s, and where it is Ok there is no such reason
 abbrev pub NoLater : Verdict → Reason → Type 0
-NoLater Fine s = ⊥
-NoLater (Fault r) s = rank_of r ≤ rank_of s
+NoLater (Ok tt) s = ⊥
+NoLater (Err r) s = rank_of r ≤ rank_of s
 
 -- ---- a row, behind k rows
 
@@ -77,13 +77,13 @@ module _ {limits : Limits} {n k a b i j d : ℕ} where
   row-least (row_fine r o c m) (by_amount w) = omega arith
 
 pub fine-row-judged : (limits : Limits) (n k a b i j d : ℕ) → OnRing n (row i j d) → PairUpTo a b i j → k < limits.rows → d ≤ limits.amount
-    → judge_row limits n k a b i j d ≡ Fine
+    → judge_row limits n k a b i j d ≡ Ok tt
 fine-row-judged limits n k a b i j d r o c m = go (row-judged limits n k a b i j d)
   where
     none : {s : Reason} → AgainstRow limits n k a b i j d s → ⊥
     none = row-least (row_fine r o c m)
 
-    go : {v : Verdict} → RowJudged limits n k a b i j d v → v ≡ Fine
+    go : {v : Verdict} → RowJudged limits n k a b i j d v → v ≡ Ok tt
     go (no_such_node u) = absurd (none (by_nodes u))
     go (not_below h p l) = absurd (none (by_pair l))
     go (out_of_order h p l u) = absurd (none (by_order u))
@@ -110,10 +110,10 @@ module _ {limits : Limits} {ring : Ring} where
   ring-least (right_ring l m f) (by_size w) = has-size l m w
   ring-least (right_ring l m f) (by_fibres w) = w f
 
-pub fine-ring-judged : (limits : Limits) (ring : Ring) → limits.fewest ≤ ring.nodes → ring.nodes ≤ limits.nodes → IsFibres ring.fibres → judge_ring limits ring ≡ Fine
+pub fine-ring-judged : (limits : Limits) (ring : Ring) → limits.fewest ≤ ring.nodes → ring.nodes ≤ limits.nodes → IsFibres ring.fibres → judge_ring limits ring ≡ Ok tt
 fine-ring-judged limits ring few many fibres = go (ring-judged limits ring)
   where
-    go : {v : Verdict} → RingJudged limits ring v → v ≡ Fine
+    go : {v : Verdict} → RingJudged limits ring v → v ≡ Ok tt
     go (size_wrong w) = absurd (has-size few many w)
     go (wrong_fibres l m w) = absurd (w fibres)
     go (right_ring l m f) = refl

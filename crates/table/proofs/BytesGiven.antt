@@ -14,16 +14,16 @@ use Rattle.table.specs.Fields.{node_field, ring_fault, row_fault}
 use Rattle.table.specs.Says.{RingIs, RowIs, NoNode, ShapeByte, DueByte, line_missing, line_faulty, LineByte, ring_due, row_due, RingField, NodeByte, first_node, second_node, AmountByte, at_amount, ByteIs}
 use Rattle.table.specs.declared.reason.Reason.{Reason}
 use Rattle.table.specs.declared.reason.Reason.TheVariants.{TooLong, Misshapen, RingSize, Fibres, NoRow, NoSuchNode, NotBelow, OutOfOrder, TooMany, TooMuch, Full, WrongSum, WrongWay, WrongCut, WrongLink, WrongLast, NotTight, OverBound, NotZero, NotSymmetric, SumTooMuch, NoRoom}
-use Rattle.table.specs.declared.judge.Verdict.{Verdict}
-use Rattle.table.specs.declared.judge.Verdict.TheVariants.{Fine, Fault}
+use Rattle.table.specs.Verdict.{Verdict}
+use Rattle.std.specs.Prelude.{Ok, Err}
 use Rattle.table.proofs.Judged.{RingJudged, size_wrong, wrong_fibres, right_ring, Node, no_node, has_node, node, RowJudged, no_such_node, not_below, out_of_order, too_many, too_much, row_fine}
 use Rattle.table.proofs.Against.{no-node-there}
 use Rattle.table.proofs.LineNumbers.{line-one, ring-one, row_one}
 
 -- the byte that goes with the reason of a verdict is that reason's
 abbrev pub ByteOn : List ℕ → ℕ → (Reason → ℕ) → Verdict → Type 0
-ByteOn t line byte Fine = Unit {0}
-ByteOn t line byte (Fault r) = ByteIs t r line (byte r)
+ByteOn t line byte (Ok tt) = Unit {0}
+ByteOn t line byte (Err r) = ByteIs t r line (byte r)
 
 pub ring-byte : {limits : Limits} {t : List ℕ} {ring : Ring} {v : Verdict} → RingIs t ring → RingJudged limits ring v → ByteOn t 1 (ring_fault ring) v
 unfolding ByteIs ring_fault

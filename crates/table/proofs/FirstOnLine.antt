@@ -1,4 +1,4 @@
--- On each line of a text the reader's verdict is the first reason that holds there, and Fine where none does: what is said of the line is said
+-- On each line of a text the reader's verdict is the first reason that holds there, and Ok where none does: what is said of the line is said
 -- of its numbers, since the line has one reading.
 use Prim.Native.Nat.{ℕ, ◌+◌, ◌≤◌}
 use mathlib.Core.List.{List}
@@ -13,8 +13,8 @@ use Rattle.table.specs.Reasons.{rank_of}
 use Rattle.table.specs.Says.{LineIs, RingIs, RowIs, WrongOrder, Says}
 use Rattle.table.specs.declared.reason.Reason.{Reason}
 use Rattle.table.specs.declared.reason.Reason.TheVariants.{Misshapen}
-use Rattle.table.specs.declared.judge.Verdict.{Verdict}
-use Rattle.table.specs.declared.judge.Verdict.TheVariants.{Fine, Fault}
+use Rattle.table.specs.Verdict.{Verdict}
+use Rattle.std.specs.Prelude.{Ok, Err}
 use Rattle.table.proofs.Judged.{RingJudged, size_wrong, wrong_fibres as other-fibres, right_ring, RowJudged, no_such_node, not_below, out_of_order, too_many, too_much, row_fine}
 use Rattle.table.proofs.Against.{NoLater, AgainstRow, by_nodes, by_pair, by_order, by_count, by_amount, row-least, AgainstRing, by_size, by_fibres, ring-least}
 use Rattle.table.proofs.LineNumbers.{ring-one, row_one}
@@ -22,10 +22,10 @@ use Rattle.table.proofs.Said.{Said, too_long, no_ring_line, no_row_line, wrong_r
 
 -- the reason of a verdict holds on the line
 abbrev Holds : Limits → List ℕ → ℕ → Verdict → Type 0
-Holds limits t line Fine = Unit {0}
-Holds limits t line (Fault r) = Says limits t r line
+Holds limits t line (Ok tt) = Unit {0}
+Holds limits t line (Err r) = Says limits t r line
 
--- the verdict is the first reason that holds on the line, Fine where none does
+-- the verdict is the first reason that holds on the line, Ok where none does
 pub record FirstOnLine (limits : Limits) (t : List ℕ) (line : ℕ) (v : Verdict) : Type 0 where
   pub holds : Holds limits t line v
   pub least : (s : Reason) → Says limits t s line → NoLater v s
@@ -33,7 +33,7 @@ pub record FirstOnLine (limits : Limits) (t : List ℕ) (line : ℕ) (v : Verdic
 -- ---- a line of the wrong shape
 
 -- only reason 1 comes before, and that stands on no line
-misshapen-first : {limits : Limits} {t : List ℕ} {line : ℕ} → 1 ≤ line → Says limits t Misshapen line → FirstOnLine limits t line (Fault Misshapen)
+misshapen-first : {limits : Limits} {t : List ℕ} {line : ℕ} → 1 ≤ line → Says limits t Misshapen line → FirstOnLine limits t line (Err Misshapen)
 misshapen-first {limits} {t} {line} low h = record { holds = h; least = λ s k. go (stands (said s k)) }
   where
     go : {s : Reason} → Stands limits t line s → 2 ≤ rank_of s
@@ -41,12 +41,12 @@ misshapen-first {limits} {t} {line} low h = record { holds = h; least = λ s k. 
     go (on_first e two) = two
     go (on_later later is two) = two
 
-pub no-ring-first : {limits : Limits} {t : List ℕ} → ((ring : Ring) → RingIs t ring → ⊥) → FirstOnLine limits t 1 (Fault Misshapen)
+pub no-ring-first : {limits : Limits} {t : List ℕ} → ((ring : Ring) → RingIs t ring → ⊥) → FirstOnLine limits t 1 (Err Misshapen)
 unfolding Says
 no-ring-first none = misshapen-first (omega arith) (inl (record { at = refl; none = none }))
 
 pub no-row-first : {limits : Limits} {t : List ℕ} {line : ℕ} {l : List ℕ} → 2 ≤ line → LineIs (lines t) line l → ((i j d : ℕ) → RowIs t line i j d → ⊥)
-    → FirstOnLine limits t line (Fault Misshapen)
+    → FirstOnLine limits t line (Err Misshapen)
 unfolding Says
 no-row-first {l} later is none = misshapen-first (omega arith) (inr (record { later = later; l = l; is = is; none = none }))
 

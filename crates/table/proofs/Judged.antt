@@ -14,8 +14,8 @@ use Rattle.ring.specs.LineSize.{two_fibres, four_fibres, IsFibres}
 use Rattle.table.specs.Says.{NoNode}
 use Rattle.table.specs.Judge.{wrong_size, judge_size, other_fibres, judge_ring, outside, is_below, judge_row}
 use Rattle.table.specs.declared.reason.Reason.TheVariants.{RingSize, Fibres, NoSuchNode, NotBelow, OutOfOrder, TooMany, TooMuch}
-use Rattle.table.specs.declared.judge.Verdict.{Verdict}
-use Rattle.table.specs.declared.judge.Verdict.TheVariants.{Fine, Fault}
+use Rattle.table.specs.Verdict.{Verdict}
+use Rattle.std.specs.Prelude.{Ok, Err}
 
 -- ---- a ring
 
@@ -35,8 +35,8 @@ size limits n =
     ]
 
 pub data SizeJudged (limits : Limits) (n : ℕ) : Verdict → Type 0 where
-  not_so_many : (n < limits.fewest) ⊎ (limits.nodes < n) → SizeJudged limits n (Fault RingSize)
-  right_size : limits.fewest ≤ n → n ≤ limits.nodes → SizeJudged limits n Fine
+  not_so_many : (n < limits.fewest) ⊎ (limits.nodes < n) → SizeJudged limits n (Err RingSize)
+  right_size : limits.fewest ≤ n → n ≤ limits.nodes → SizeJudged limits n (Ok tt)
 
 pub size-judged : (limits : Limits) (n : ℕ) → SizeJudged limits n (judge_size limits n)
 unfolding judge_size
@@ -46,10 +46,10 @@ size-judged limits n = go (size limits n)
     go (wrong w e) = rw e (not_so_many w)
     go (right few many e) = rw e (right_size few many)
 
-pub fine-size : (limits : Limits) (n : ℕ) → limits.fewest ≤ n → n ≤ limits.nodes → judge_size limits n ≡ Fine
+pub fine-size : (limits : Limits) (n : ℕ) → limits.fewest ≤ n → n ≤ limits.nodes → judge_size limits n ≡ Ok tt
 fine-size limits n few many = go (size-judged limits n)
   where
-    go : {v : Verdict} → SizeJudged limits n v → v ≡ Fine
+    go : {v : Verdict} → SizeJudged limits n v → v ≡ Ok tt
     go (not_so_many w) = absurd (⊎_elim (λ l. omega arith) (λ l. omega arith) w)
     go (right_size a b) = refl
 
@@ -70,9 +70,9 @@ fibred fibres =
     ]
 
 pub data RingJudged (limits : Limits) (ring : Ring) : Verdict → Type 0 where
-  size_wrong : (ring.nodes < limits.fewest) ⊎ (limits.nodes < ring.nodes) → RingJudged limits ring (Fault RingSize)
-  wrong_fibres : limits.fewest ≤ ring.nodes → ring.nodes ≤ limits.nodes → (IsFibres ring.fibres → ⊥) → RingJudged limits ring (Fault Fibres)
-  right_ring : limits.fewest ≤ ring.nodes → ring.nodes ≤ limits.nodes → IsFibres ring.fibres → RingJudged limits ring Fine
+  size_wrong : (ring.nodes < limits.fewest) ⊎ (limits.nodes < ring.nodes) → RingJudged limits ring (Err RingSize)
+  wrong_fibres : limits.fewest ≤ ring.nodes → ring.nodes ≤ limits.nodes → (IsFibres ring.fibres → ⊥) → RingJudged limits ring (Err Fibres)
+  right_ring : limits.fewest ≤ ring.nodes → ring.nodes ≤ limits.nodes → IsFibres ring.fibres → RingJudged limits ring (Ok tt)
 
 pub ring-judged : (limits : Limits) (ring : Ring) → RingJudged limits ring (judge_ring limits ring)
 unfolding judge_ring
@@ -127,12 +127,12 @@ order a b i j =
 -- ---- a row, behind k rows
 
 pub data RowJudged (limits : Limits) (n k a b i j d : ℕ) : Verdict → Type 0 where
-  no_such_node : NoNode n i ⊎ NoNode n j → RowJudged limits n k a b i j d (Fault NoSuchNode)
-  not_below : HasNode n i → HasNode n j → j ≤ i → RowJudged limits n k a b i j d (Fault NotBelow)
-  out_of_order : HasNode n i → HasNode n j → i < j → PairBefore i j a b → RowJudged limits n k a b i j d (Fault OutOfOrder)
-  too_many : HasNode n i → HasNode n j → i < j → PairUpTo a b i j → limits.rows ≤ k → RowJudged limits n k a b i j d (Fault TooMany)
-  too_much : HasNode n i → HasNode n j → i < j → PairUpTo a b i j → k < limits.rows → limits.amount < d → RowJudged limits n k a b i j d (Fault TooMuch)
-  row_fine : OnRing n (row i j d) → PairUpTo a b i j → k < limits.rows → d ≤ limits.amount → RowJudged limits n k a b i j d Fine
+  no_such_node : NoNode n i ⊎ NoNode n j → RowJudged limits n k a b i j d (Err NoSuchNode)
+  not_below : HasNode n i → HasNode n j → j ≤ i → RowJudged limits n k a b i j d (Err NotBelow)
+  out_of_order : HasNode n i → HasNode n j → i < j → PairBefore i j a b → RowJudged limits n k a b i j d (Err OutOfOrder)
+  too_many : HasNode n i → HasNode n j → i < j → PairUpTo a b i j → limits.rows ≤ k → RowJudged limits n k a b i j d (Err TooMany)
+  too_much : HasNode n i → HasNode n j → i < j → PairUpTo a b i j → k < limits.rows → limits.amount < d → RowJudged limits n k a b i j d (Err TooMuch)
+  row_fine : OnRing n (row i j d) → PairUpTo a b i j → k < limits.rows → d ≤ limits.amount → RowJudged limits n k a b i j d (Ok tt)
 
 pub row-judged : (limits : Limits) (n k a b i j d : ℕ) → RowJudged limits n k a b i j d (judge_row limits n k a b i j d)
 unfolding judge_row

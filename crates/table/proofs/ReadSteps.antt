@@ -27,18 +27,18 @@ use Rattle.ring.specs.Columns.{column}
 use Rattle.table.specs.Arrays.{NoRows, Table, beside, table_in}
 use Rattle.table.specs.declared.reason.Reason.{Reason}
 use Rattle.table.specs.declared.reason.Reason.TheVariants.{TooLong, Misshapen}
-use Rattle.table.specs.declared.judge.Verdict.{Verdict}
-use Rattle.table.specs.declared.judge.Verdict.TheVariants.{Fine, Fault}
+use Rattle.table.specs.Verdict.{Verdict}
+use Rattle.std.specs.Prelude.{Ok, Err}
 use Rattle.table.specs.declared.read.Answer.TheVariants.{Is, Refused}
 use Rattle.table.proofs.Judged.{RowJudged, row_fine, row-judged}
 use Rattle.table.proofs.LineSteps.{line_at}
 use Rattle.table.proofs.Columns.{column-more}
 
 -- where nothing is found against a row, there is room for it
-has_room : (n k a b i j d : ℕ) (v : Verdict) → v ≡ judge_row desk n k a b i j d → v ≡ Fine → k < desk.rows
+has_room : (n k a b i j d : ℕ) (v : Verdict) → v ≡ judge_row desk n k a b i j d → v ≡ Ok tt → k < desk.rows
 has_room n k a b i j d v e f = let q = sym e ∙ f in go (rw q at (row-judged desk n k a b i j d))
   where
-    go : RowJudged desk n k a b i j d Fine → k < desk.rows
+    go : RowJudged desk n k a b i j d (Ok tt) → k < desk.rows
     go (row_fine on order room most) = room
 
 -- the rows of the lines from the place `from` on
@@ -98,11 +98,11 @@ module _ (s : List ℕ) (n fibres from line a b count at : ℕ) (first second am
       found = let e = reading.many in rw (← e) (sym ev)
 
       -- something is found against it
-      pub row-fault : (reason : Reason) (byte : ℕ) (t : Table) → v ≡ Fault reason → byte ≡ row_fault n i j d reason → t ≡ table_in (refused reason line byte) → t ≡ table_in (whole s n fibres from)
+      pub row-fault : (reason : Reason) (byte : ℕ) (t : Table) → v ≡ Err reason → byte ≡ row_fault n i j d reason → t ≡ table_in (refused reason line byte) → t ≡ table_in (whole s n fibres from)
       unfolding rows_of
       row-fault reason byte t q b e = e ∙ ap table_in (rw (reading.rest, line_at s at end there ends, ← ex, is, found, q, b))
 
-      module _ (fine : v ≡ Fine) where
+      module _ (fine : v ≡ Ok tt) where
         pub room : count < desk.rows
         room = has_room n count a b i j d v ev fine
 
@@ -150,11 +150,11 @@ module _ (s : List ℕ) (t : Table) where
     no_ring p byte q b e = e ∙ ap table_in (rw (le-ltb desk.bytes (length s) short, first-line, ← ex, q, b))
 
     module _ (n fibres : ℕ) (is : x ≡ AreTwo n fibres) (v : Verdict) (ev : v ≡ judge_ring desk (ring_of n fibres)) where
-      pub ring-fault : (reason : Reason) (byte : ℕ) → v ≡ Fault reason → byte ≡ ring_fault (ring_of n fibres) reason → t ≡ table_in (refused reason 1 byte) → t ≡ table_in (table_of desk s)
+      pub ring-fault : (reason : Reason) (byte : ℕ) → v ≡ Err reason → byte ≡ ring_fault (ring_of n fibres) reason → t ≡ table_in (refused reason 1 byte) → t ≡ table_in (table_of desk s)
       unfolding table_of
       ring-fault reason byte q b e = e ∙ ap table_in (rw (le-ltb desk.bytes (length s) short, first-line, ← ex, is, ← ev, q, b))
 
-      pub then-rows : v ≡ Fine → t ≡ table_in (whole s n fibres end) → t ≡ table_in (table_of desk s)
+      pub then-rows : v ≡ Ok tt → t ≡ table_in (whole s n fibres end) → t ≡ table_in (table_of desk s)
       unfolding table_of
       then-rows q e = e ∙ ap table_in (rw (le-ltb desk.bytes (length s) short, first-line, ← ex, is, ← ev, q))
 

@@ -24,8 +24,8 @@ use Rattle.table.specs.ReadTable.{Result, accepted, refused, ring_or, row_or, un
 use Rattle.table.specs.Says.{RingIs, RowIs, Says, line_missing, line_faulty, ring_due, row_due, ByteIs, Earlier, Given, Accepted}
 use Rattle.table.specs.declared.reason.Reason.{Reason}
 use Rattle.table.specs.declared.reason.Reason.TheVariants.{TooLong}
-use Rattle.table.specs.declared.judge.Verdict.{Verdict}
-use Rattle.table.specs.declared.judge.Verdict.TheVariants.{Fine, Fault}
+use Rattle.table.specs.Verdict.{Verdict}
+use Rattle.std.specs.Prelude.{Ok, Err}
 use Rattle.table.proofs.Judged.{ring-judged, row-judged}
 use Rattle.table.proofs.LineRead.{RingRead, is_a_ring, no_ring, ring-read, RowRead, is_a_row, no_row, row_read}
 use Rattle.table.proofs.LineNumbers.{line-one, LinesFrom, from_first, from_next, line-here, no-line-left}
@@ -46,14 +46,14 @@ data Right (limits : Limits) (t : List ℕ) : Result → Type 0 where
   first_holds : {r : Reason} {line byte : ℕ} → Given limits t r line byte → Right limits t (refused r line byte)
 
 module _ {limits : Limits} {t : List ℕ} where
-  given-here : {line byte : ℕ} {r : Reason} → Clean limits t line → FirstOnLine limits t line (Fault r) → ByteIs t r line byte → Given limits t r line byte
+  given-here : {line byte : ℕ} {r : Reason} → Clean limits t line → FirstOnLine limits t line (Err r) → ByteIs t r line byte → Given limits t r line byte
   given-here {line} {r} clean f b = record { holds = f.holds; first = go; byte_is = b }
     where
       go : (s : Reason) (other : ℕ) → Earlier s other r line → Says limits t s other → ⊥
       go s other (inl l) h = clean.none s other l h
       go s other (inr l) h = omega (arith, l.1, f.least s (subst (Says limits t s) l.0 h))
 
-  clean-next : {line : ℕ} → Clean limits t line → FirstOnLine limits t line Fine → Clean limits t (line + 1)
+  clean-next : {line : ℕ} → Clean limits t line → FirstOnLine limits t line (Ok tt) → Clean limits t (line + 1)
   clean-next {line} clean f = record { none = go }
     where
       go : (s : Reason) (other : ℕ) → other < line + 1 → Says limits t s other → ⊥
@@ -66,8 +66,8 @@ module _ {limits : Limits} {t : List ℕ} where
   unless-right : {line : ℕ} {x : Result} (byte : Reason → ℕ) (v : Verdict) → Clean limits t line → FirstOnLine limits t line v → ByteOn t line byte v
       → (Clean limits t (line + 1) → Right limits t x) → Right limits t (unless v line byte x)
   unfolding unless
-  unless-right byte Fine clean f b next = next (clean-next clean f)
-  unless-right byte (Fault r) clean f b next = first_holds (given-here clean f b)
+  unless-right byte (Ok tt) clean f b next = next (clean-next clean f)
+  unless-right byte (Err r) clean f b next = first_holds (given-here clean f b)
 
   -- reason 1 is tried first
   clean-start : length t ≤ limits.bytes → Clean limits t 1

@@ -24,8 +24,8 @@ use Rattle.table.specs.Table.{write_rows, write_table, LimitsSpelled, InRange}
 use Rattle.table.specs.Fields.{ring_fault, row_fault}
 use Rattle.table.specs.ReadTable.{Result, accepted, refused, ring_or, row_or, unless, rows_of, table_lines, table_of}
 use Rattle.table.specs.declared.reason.Reason.{Reason}
-use Rattle.table.specs.declared.judge.Verdict.{Verdict}
-use Rattle.table.specs.declared.judge.Verdict.TheVariants.{Fine, Fault}
+use Rattle.table.specs.Verdict.{Verdict}
+use Rattle.std.specs.Prelude.{Ok, Err}
 use Rattle.table.proofs.Judged.{RingJudged, right_ring, ring-judged, RowJudged, row_fine, row-judged}
 use Rattle.table.proofs.Against.{fine-ring-judged, fine-row-judged}
 use Rattle.table.proofs.FineRows.{FineRows, no_row, fine_row, fine-rows, table-rows, amounts-fine, count-fine}
@@ -48,11 +48,11 @@ module _ {limits : Limits} {ring : Ring} where
   row_more : (line : ℕ) (byte : Reason → ℕ) {a b i j d : ℕ} {rs : List Row} {l : List ℕ} {ls : List (List ℕ)} {v : Verdict} {x : Result} → l ≡ row_line i j d
       → RowJudged limits ring.nodes (length rs) a b i j d v → RowsRead limits ring i j (rs ++ row i j d ∷ []) ls x → RowsRead limits ring a b rs (l ∷ ls) (unless v line byte x)
   unfolding unless write_rows flatten
-  row_more line byte {v = Fault r} e w rest = rows_refused
-  row_more line byte {i} {j} {d} {rs} {v = Fine} e (row_fine o up c m) (rows_are more whole text fine) =
+  row_more line byte {v = Err r} e w rest = rows_refused
+  row_more line byte {i} {j} {d} {rs} {v = Ok tt} e (row_fine o up c m) (rows_are more whole text fine) =
       let one = length-append rs (row i j d ∷ []) in
       rows_are (row i j d ∷ more) (whole ∙ append_assoc rs (row i j d ∷ []) more) (rw (e, text)) (fine_row o up c m (subst (λ k. FineRows limits ring.nodes k i j more) one fine))
-  row_more line byte {v = Fine} e w rows_refused = rows_refused
+  row_more line byte {v = Ok tt} e w rows_refused = rows_refused
 
   rows-read : (ls : List (List ℕ)) (line a b : ℕ) (rs : List Row) → RowsRead limits ring a b rs ls (rows_of limits ring line a b rs ls)
   unfolding rows_of row_or write_rows flatten
@@ -76,8 +76,8 @@ module _ {limits : Limits} {t : List ℕ} (short : length t ≤ limits.bytes) wh
   ring-more : (byte : Reason → ℕ) {ring : Ring} {l : List ℕ} {ls : List (List ℕ)} {v : Verdict} {x : Result} → t ≡ l ++ flatten ls → l ≡ ring_line ring.nodes ring.fibres
       → RingJudged limits ring v → RowsRead limits ring 0 0 [] ls x → TableRead limits t (unless v 1 byte x)
   unfolding unless write_table
-  ring-more byte {v = Fault r} whole e w rows = table_refused
-  ring-more byte {ring} {v = Fine} whole e (right_ring few many fibres) (rows_are {all} rs is text fine) =
+  ring-more byte {v = Err r} whole e w rows = table_refused
+  ring-more byte {ring} {v = Ok tt} whole e (right_ring few many fibres) (rows_are {all} rs is text fine) =
       let written : t ≡ write_table ring all = whole ∙ rw (e, text, is) in
       table_is {rs = all} written (record {
         few = few;
@@ -88,7 +88,7 @@ module _ {limits : Limits} {t : List ℕ} (short : length t ≤ limits.bytes) wh
         amounts = rw is (amounts-fine fine);
         short = omega (arith, ap length written);
       })
-  ring-more byte {v = Fine} whole e w rows_refused = table_refused
+  ring-more byte {v = Ok tt} whole e w rows_refused = table_refused
 
   lines-read : (ls : List (List ℕ)) → t ≡ flatten ls → TableRead limits t (table_lines limits ls)
   unfolding table_lines ring_or flatten

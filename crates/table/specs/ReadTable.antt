@@ -17,8 +17,8 @@ use Rattle.table.specs.Judge.{judge_ring, judge_row}
 use Rattle.table.specs.Fields.{ring_fault, row_fault}
 use Rattle.table.specs.declared.reason.Reason.{Reason}
 use Rattle.table.specs.declared.reason.Reason.TheVariants.{TooLong, Misshapen}
-use Rattle.table.specs.declared.judge.Verdict.{Verdict}
-use Rattle.table.specs.declared.judge.Verdict.TheVariants.{Fine, Fault}
+use Rattle.table.specs.Verdict.{Verdict}
+use Rattle.std.specs.Prelude.{Ok, Err}
 
 -- a ring and its rows; or a reason, a line and a byte of it
 pub data Result : Type 0 where
@@ -36,8 +36,8 @@ row_or (AreThree i j d) line next = next i j d
 row_or (NotThree p) line next = refused Misshapen line (p + 1)
 
 unfoldable pub unless : Verdict → ℕ → (Reason → ℕ) → Result → Result
-unless Fine line byte next = next
-unless (Fault reason) line byte next = refused reason line (byte reason)
+unless (Ok tt) line byte next = next
+unless (Err reason) line byte next = refused reason line (byte reason)
 
 -- ---- the lines in order
 

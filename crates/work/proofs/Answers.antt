@@ -11,7 +11,7 @@ use Rattle.ring.specs.Ring.{ring_of}
 use Rattle.table.specs.Reasons.{number_of}
 use Rattle.table.specs.declared.reason.Reason.{Reason}
 use Rattle.table.specs.declared.reason.Reason.TheVariants.{RingSize, Fibres, NoRow, NoSuchNode, NotBelow, TooMuch, Full}
-use Rattle.table.specs.declared.judge.Verdict.{Verdict}
+use Rattle.table.specs.Verdict.{Verdict}
 use Rattle.table.proofs.Judged.{RingJudged, size_wrong, wrong_fibres, right_ring, ring-judged, RowJudged, no_such_node, not_below, out_of_order, too_many, too_much, row_fine, row-judged}
 use Rattle.work.specs.Calls.{Call, start, add, change, remove}
 use Rattle.work.specs.Kept.{reasons_of, Answered, refused, accepted}

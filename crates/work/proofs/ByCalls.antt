@@ -19,8 +19,8 @@ use Rattle.ring.specs.RuleA.{rule_a}
 use Rattle.table.specs.Judge.{judge_ring, judge_row}
 use Rattle.table.specs.Reasons.{number_of}
 use Rattle.table.specs.declared.reason.Reason.{Reason}
-use Rattle.table.specs.declared.judge.Verdict.{Verdict}
-use Rattle.table.specs.declared.judge.Verdict.TheVariants.{Fine}
+use Rattle.table.specs.Verdict.{Verdict}
+use Rattle.std.specs.Prelude.{Ok}
 use Rattle.table.proofs.ReasonNumbers.{no-reason-0}
 use Rattle.table.proofs.Judged.{RingJudged, size_wrong, wrong_fibres, right_ring, ring-judged}
 use Rattle.work.specs.Places.{empty, holds, Plain, place_in, plain_of}
@@ -75,7 +75,7 @@ module _ (w : Work) (n fibres : ℕ) where
   known-fibres (inl e) = rw (eq-eqb fibres 2 e)
   known-fibres (inr e) = rw (eq-eqb fibres 4 e) (or-true (eqb fibres 2))
 
-  fine-start : desk.fewest ≤ n → n ≤ desk.nodes → IsFibres fibres → judge_ring desk (ring_of n fibres) ≡ Fine → Step w (start n fibres)
+  fine-start : desk.fewest ≤ n → n ≤ desk.nodes → IsFibres fibres → judge_ring desk (ring_of n fibres) ≡ Ok tt → Step w (start n fibres)
   unfolding started_in unless_fault outcome judge_start fresh_in
   fine-start l h o v =
       both_make 0 (fresh_in n fibres) (fresh-right n fibres l h o) (rw v)

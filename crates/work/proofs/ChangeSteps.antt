@@ -14,12 +14,12 @@ use Rattle.ring.specs.Columns.{row_at}
 use Rattle.across.specs.Triangle.{at}
 use Rattle.across.specs.Step.{step_row}
 use Rattle.ring.specs.declared.types.Cut.{Cut}
-use Rattle.table.specs.Judge.{judge_ring, judge_row}
+use Rattle.table.specs.Judge.{judge_ring}
 use Rattle.table.specs.Reasons.{number_of}
 use Rattle.table.specs.declared.reason.Reason.{Reason}
 use Rattle.table.specs.declared.reason.Reason.TheVariants.{NoRow, Full}
-use Rattle.table.specs.declared.judge.Verdict.{Verdict}
-use Rattle.table.specs.declared.judge.Verdict.TheVariants.{Fine, Fault}
+use Rattle.table.specs.Verdict.{Verdict}
+use Rattle.std.specs.Prelude.{Ok, Err}
 use Rattle.table.proofs.Judged.{RowJudged, no_such_node, not_below, out_of_order, too_many, too_much, row_fine, row-judged}
 use Rattle.work.proofs.PlaceSteps.{holding}
 use Rattle.work.specs.declared.place.RowReply.{RowReply}
@@ -37,7 +37,7 @@ kept_with w place c =
 abbrev row_reply : ℕ → ℕ → ℕ → RowReply
 row_reply i j d = record { reason = 0; line = 0; first = i; second = j; amount = d }
 
-never : {reason : Reason} → Fault reason ≡ Fine → ⊥
+never : {reason : Reason} → ◌≡◌ {A = Verdict} (Err reason) (Ok tt) → ⊥
 never q = let z : ◌≡◌ {A = ℕ} 0 1 = cc in omega arith
 
 module _ (w : Work) where
@@ -53,10 +53,10 @@ module _ (w : Work) where
 
   -- a change is judged by its place, then by its row
   module _ (p i j d : ℕ) (b : Bool) (eb : b ≡ holds_in w.first p) where
-    pub judge-taken : (s : ℕ) (v : Verdict) → s ≡ ring_size w.n → v ≡ judge_row desk s 0 0 0 i j d → b ≡ true → v ≡ judged_at w p i j d
-    judge-taken s v es ev t = rw (sym eb ∙ t, ← es) ev
+    pub judge-taken : (v : Verdict) → v ≡ judged w i j d → b ≡ true → v ≡ judged_at w p i j d
+    judge-taken v ev t = rw (sym eb ∙ t) ev
 
-    pub judge-empty : b ≡ false → Fault NoRow ≡ judged_at w p i j d
+    pub judge-empty : b ≡ false → Err NoRow ≡ judged_at w p i j d
     judge-empty f = rw (sym eb ∙ f)
 
   abbrev done-at : ℕ → ℕ → ℕ → ℕ → Changed
@@ -66,25 +66,25 @@ module _ (w : Work) where
   unfolding changed_in unless_fault
   change-is p i j d = go (holds_in w.first p) (judged w i j d) (done-at p i j d)
     where
-      go : (b : Bool) (v : Verdict) (next : Changed) → cond b (unless_fault v w next) (refused_in w (number_of NoRow)) ≡ unless_fault (cond b v (Fault NoRow)) w next
+      go : (b : Bool) (v : Verdict) (next : Changed) → cond b (unless_fault v w next) (refused_in w (number_of NoRow)) ≡ unless_fault (cond b v (Err NoRow)) w next
       go true v next = refl
       go false v next = refl
 
   -- a verdict that refuses
   module _ (r : Changed) (reason : Reason) (number : ℕ) (en : number ≡ number_of reason) (er : r ≡ refused_in w number) where
-    fault : (v : Verdict) (next : Changed) → v ≡ Fault reason → r ≡ unless_fault v w next
+    fault : (v : Verdict) (next : Changed) → v ≡ Err reason → r ≡ unless_fault v w next
     unfolding unless_fault
     fault v next e = rw (e, ← en) er
 
-    pub start-fault : (n fibres : ℕ) (v : Verdict) → v ≡ judge_ring desk (ring_of n fibres) → v ≡ Fault reason → r ≡ started_in w n fibres
+    pub start-fault : (n fibres : ℕ) (v : Verdict) → v ≡ judge_ring desk (ring_of n fibres) → v ≡ Err reason → r ≡ started_in w n fibres
     unfolding started_in
     start-fault n fibres v ev e = fault (judge_ring desk (ring_of n fibres)) _ (sym ev ∙ e)
 
-    pub add-fault : (s i j d : ℕ) (v : Verdict) → s ≡ ring_size w.n → v ≡ judge_row desk s 0 0 0 i j d → v ≡ Fault reason → r ≡ added_in w i j d
+    pub add-fault : (i j d : ℕ) (v : Verdict) → v ≡ judged w i j d → v ≡ Err reason → r ≡ added_in w i j d
     unfolding added_in
-    add-fault s i j d v es ev e = fault (judged w i j d) _ ((rw (← es)) ∙ sym ev ∙ e)
+    add-fault i j d v ev e = fault (judged w i j d) _ (sym ev ∙ e)
 
-    pub change-fault : (p i j d : ℕ) (v : Verdict) → v ≡ judged_at w p i j d → v ≡ Fault reason → r ≡ changed_in w p i j d
+    pub change-fault : (p i j d : ℕ) (v : Verdict) → v ≡ judged_at w p i j d → v ≡ Err reason → r ≡ changed_in w p i j d
     change-fault p i j d v ev e = fault (judged_at w p i j d) (done-at p i j d) (sym ev ∙ e) ∙ sym (change-is p i j d)
 
   -- the largest cut, as the code answers it
@@ -93,15 +93,15 @@ module _ (w : Work) where
   kept-is place s n c es en e = rw (e, en, es)
 
   -- a start that is not refused
-  pub start-done : (r : Changed) (n fibres : ℕ) (v : Verdict) (x : Work) → v ≡ judge_ring desk (ring_of n fibres) → v ≡ Fine → x ≡ fresh_in n fibres → r ≡ kept_in x 0 → r ≡ started_in w n fibres
+  pub start-done : (r : Changed) (n fibres : ℕ) (v : Verdict) (x : Work) → v ≡ judge_ring desk (ring_of n fibres) → v ≡ Ok tt → x ≡ fresh_in n fibres → r ≡ kept_in x 0 → r ≡ started_in w n fibres
   unfolding started_in unless_fault
   start-done r n fibres v x ev e ex er = rw (sym ev ∙ e, ← ex) er
 
   -- a row that is fine
-  fine_fits : (i j d k : ℕ) → judged w i j d ≡ Fine → k < desk.rows → Fitting k i j d
+  fine_fits : (i j d k : ℕ) → judged w i j d ≡ Ok tt → k < desk.rows → Fitting k i j d
   fine_fits i j d k f l = go (judged w i j d) f (row-judged desk (ring_size w.n) 0 0 0 i j d)
     where
-      go : (u : Verdict) → u ≡ Fine → RowJudged desk (ring_size w.n) 0 0 0 i j d u → Fitting k i j d
+      go : (u : Verdict) → u ≡ Ok tt → RowJudged desk (ring_size w.n) 0 0 0 i j d u → Fitting k i j d
       go u q (row_fine on up c m) = record { place = l; low = on.low; first = omega (arith, on.order, on.high); second = omega (arith, on.high); amount = omega arith }
       go u q (no_such_node x) = absurd (never q)
       go u q (not_below x y z) = absurd (never q)
@@ -109,9 +109,9 @@ module _ (w : Work) where
       go u q (too_many x y z o c) = absurd (never q)
       go u q (too_much x y z o c m) = absurd (never q)
 
-  module _ (s i j d : ℕ) (v : Verdict) (es : s ≡ ring_size w.n) (ev : v ≡ judge_row desk s 0 0 0 i j d) (e : v ≡ Fine) where
-    is-fine : judged w i j d ≡ Fine
-    is-fine = (rw (← es)) ∙ sym ev ∙ e
+  module _ (i j d : ℕ) (v : Verdict) (ev : v ≡ judged w i j d) (e : v ≡ Ok tt) where
+    is-fine : judged w i j d ≡ Ok tt
+    is-fine = sym ev ∙ e
 
     pub fitting : (k : ℕ) → k < desk.rows → Fitting k i j d
     fitting k l = fine_fits i j d k is-fine l
@@ -126,11 +126,11 @@ module _ (w : Work) where
       add_done x l ex er = rw (is-fine, lt-ltb (free_in w.first) desk.rows (omega arith), ← ek, ← ex) er
 
   -- a place that holds a row, and a row that is fine
-  module _ (p i j d : ℕ) (v : Verdict) (ev : v ≡ judged_at w p i j d) (e : v ≡ Fine) where
-    both-fine : (holds_in w.first p ≡ true) × (judged w i j d ≡ Fine)
+  module _ (p i j d : ℕ) (v : Verdict) (ev : v ≡ judged_at w p i j d) (e : v ≡ Ok tt) where
+    both-fine : (holds_in w.first p ≡ true) × (judged w i j d ≡ Ok tt)
     both-fine = go (holds_in w.first p) (judged w i j d) (sym ev ∙ e)
       where
-        go : (b : Bool) (u : Verdict) → cond b u (Fault NoRow) ≡ Fine → (b ≡ true) × (u ≡ Fine)
+        go : (b : Bool) (u : Verdict) → cond b u (Err NoRow) ≡ Ok tt → (b ≡ true) × (u ≡ Ok tt)
         go true u q = (refl, q)
         go false u q = absurd (never q)
 

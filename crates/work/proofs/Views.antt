@@ -14,8 +14,8 @@ use Rattle.ring.specs.Row.{row}
 use Rattle.table.specs.Judge.{judge_row}
 use Rattle.table.specs.Reasons.{number_of}
 use Rattle.table.specs.declared.reason.Reason.{Reason}
-use Rattle.table.specs.declared.judge.Verdict.{Verdict}
-use Rattle.table.specs.declared.judge.Verdict.TheVariants.{Fine, Fault}
+use Rattle.table.specs.Verdict.{Verdict}
+use Rattle.std.specs.Prelude.{Ok, Err}
 use Rattle.table.proofs.Judged.{RowJudged, no_such_node, not_below, out_of_order, too_many, too_much, row_fine, row-judged}
 use Rattle.work.specs.Places.{is_row, lowest_free, holds_row, place_in, plain_of}
 use Rattle.work.specs.Calls.{Outcome, refuses, judge_demand}
@@ -27,8 +27,8 @@ use Rattle.work.proofs.Right.{Good, Sized, place_is}
 -- ---- a row
 
 pub data Demand (n i j d : ℕ) (v : Verdict) : Type 0 where
-  bad : (reason : Reason) → v ≡ Fault reason → ((next : Outcome) → judge_demand n i j d next ≡ refuses (number_of reason)) → Demand n i j d v
-  good : v ≡ Fine → Good n (row i j d) → ((next : Outcome) → judge_demand n i j d next ≡ next) → Demand n i j d v
+  bad : (reason : Reason) → v ≡ Err reason → ((next : Outcome) → judge_demand n i j d next ≡ refuses (number_of reason)) → Demand n i j d v
+  good : v ≡ Ok tt → Good n (row i j d) → ((next : Outcome) → judge_demand n i j d next ≡ next) → Demand n i j d v
 
 pub demand : (n i j d : ℕ) → Demand n i j d (judge_row desk n 0 0 0 i j d)
 unfolding judge_demand

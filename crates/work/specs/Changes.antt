@@ -11,8 +11,8 @@ use Rattle.across.specs.Step.{step_row}
 use Rattle.table.specs.Judge.{judge_ring, judge_row}
 use Rattle.table.specs.Reasons.{number_of}
 use Rattle.table.specs.declared.reason.Reason.TheVariants.{NoRow, Full}
-use Rattle.table.specs.declared.judge.Verdict.{Verdict}
-use Rattle.table.specs.declared.judge.Verdict.TheVariants.{Fine, Fault}
+use Rattle.table.specs.Verdict.{Verdict}
+use Rattle.std.specs.Prelude.{Ok, Err}
 use Rattle.work.specs.Calls.{Call, start, add, change, remove}
 use Rattle.work.specs.declared.Work.{Work}
 use Rattle.work.specs.declared.held.WorkReply.{WorkReply}
@@ -87,8 +87,8 @@ cleared_in w k = with_row w (step_row false (ring_size w.n) (row_at w.first w.se
 -- ---- the calls
 
 unfoldable pub unless_fault : Verdict → Work → Changed → Changed
-unless_fault Fine w next = next
-unless_fault (Fault reason) w next = refused_in w (number_of reason)
+unless_fault (Ok tt) w next = next
+unless_fault (Err reason) w next = refused_in w (number_of reason)
 
 unfoldable pub fresh_in : ℕ → ℕ → Work
 fresh_in n fibres =
@@ -119,7 +119,7 @@ added_in w i j d =
 
 -- a change's place first: 22; then its row
 abbrev pub judged_at : Work → ℕ → ℕ → ℕ → ℕ → Verdict
-judged_at w p i j d = cond (holds_in w.first p) (judged w i j d) (Fault NoRow)
+judged_at w p i j d = cond (holds_in w.first p) (judged w i j d) (Err NoRow)
 
 unfoldable pub changed_in : Work → ℕ → ℕ → ℕ → ℕ → Changed
 changed_in w p i j d =

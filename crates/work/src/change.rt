@@ -1,14 +1,14 @@
 // A row added, changed or removed.
 ghost use Rattle.std.specs.Prelude.{◌≡◌, ◌≤◌, ◌<◌, get_or};
 ghost use Rattle.ring.specs.Limits.{desk};
-ghost use Rattle.work.specs.Changes.{Fitting, put_in, cleared_in, added_in, judged_at, changed_in, removed_in};
+ghost use Rattle.work.specs.Changes.{Fitting, put_in, cleared_in, added_in, judged, judged_at, changed_in, removed_in};
 
 use crate::held::{kept, refused, ring_size};
 use crate::place::{free_place, holds_row};
 use crate::{Changed, Work};
 use across::step_row;
-use ring::{ROWS, wide};
-use table::{Reason, Verdict, judge_row};
+use ring::{ROWS, Row, wide};
+use table::{NO_ROW, Reason, judge_row};
 
 // A row is put at place k+1, which is free.
 fn put(work: Work, k: usize, first: u32, second: u32, amount: u32) -> Work
@@ -44,14 +44,26 @@ fn cleared(work: Work, k: usize) -> Work
     w
 }
 
-// A row at the lowest free place. It is judged as the first row of a table is.
+// What is found against a row, which is judged as the first row of a table is.
+fn judge_alone(work: &Work, first: u32, second: u32, amount: u32) -> Result<(), Reason>
+    ensures { result ≡ judged work.now first second amount }
+{
+    let row = Row {
+        first,
+        second,
+        amount,
+    };
+    judge_row(ring_size(work.n), 0, NO_ROW, row)
+}
+
+// A row at the lowest free place.
 pub fn added(work: Work, first: u32, second: u32, amount: u32) -> Changed
     ensures { result ≡ added_in work first second amount }
 {
-    let verdict = judge_row(ring_size(work.n), 0, 0, 0, first, second, amount);
+    let verdict = judge_alone(&work, first, second, amount);
     match verdict {
-        Verdict::Fault(reason) => refused(work, reason.number()),
-        Verdict::Fine => {
+        Err(reason) => refused(work, reason.number()),
+        Ok(()) => {
             let k = free_place(&work.first);
             if ROWS <= k {
                 return refused(work, Reason::Full.number());
@@ -63,14 +75,14 @@ pub fn added(work: Work, first: u32, second: u32, amount: u32) -> Changed
 }
 
 // What is found against another row at a place: that the place holds none, then what is found against the row.
-fn judge_change(work: &Work, place: u32, first: u32, second: u32, amount: u32) -> Verdict
+fn judge_change(work: &Work, place: u32, first: u32, second: u32, amount: u32) -> Result<(), Reason>
     ensures { result ≡ judged_at work.now place first second amount }
 {
     let taken = holds_row(&work.first, place);
     if taken {
-        judge_row(ring_size(work.n), 0, 0, 0, first, second, amount)
+        judge_alone(work, first, second, amount)
     } else {
-        Verdict::Fault(Reason::NoRow)
+        Err(Reason::NoRow)
     }
 }
 
@@ -80,8 +92,8 @@ pub fn changed(work: Work, place: u32, first: u32, second: u32, amount: u32) -> 
 {
     let verdict = judge_change(&work, place, first, second, amount);
     match verdict {
-        Verdict::Fault(reason) => refused(work, reason.number()),
-        Verdict::Fine => {
+        Err(reason) => refused(work, reason.number()),
+        Ok(()) => {
             let k = wide(place - 1);
             let off = cleared(work, k);
             let w = put(off, k, first, second, amount);

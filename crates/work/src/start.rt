@@ -5,8 +5,8 @@ ghost use Rattle.work.specs.Changes.{fresh_in, started_in};
 use crate::held::{kept, refused};
 use crate::{Changed, Work};
 use across::PAIRS;
-use ring::ROWS;
-use table::{Verdict, judge_ring};
+use ring::{ROWS, Ring};
+use table::judge_ring;
 
 fn fresh(n: u32, fibres: u32) -> Work
     ensures { result ≡ fresh_in n fibres }
@@ -28,9 +28,9 @@ fn fresh(n: u32, fibres: u32) -> Work
 pub fn started(work: Work, n: u32, fibres: u32) -> Changed
     ensures { result ≡ started_in work n fibres }
 {
-    let verdict = judge_ring(n, fibres);
+    let verdict = judge_ring(Ring { nodes: n, fibres });
     match verdict {
-        Verdict::Fault(reason) => refused(work, reason.number()),
-        Verdict::Fine => kept(fresh(n, fibres), 0),
+        Err(reason) => refused(work, reason.number()),
+        Ok(()) => kept(fresh(n, fibres), 0),
     }
 }

@@ -12,8 +12,8 @@ returns-in_default c = search then-rows
 pub byte_at-requires : goal.byte_at-requires
 byte_at-requires c = search ring-place
 
-pub returns-in-Fault : goal.returns-in-Fault
-returns-in-Fault c = search ring-fault
+pub returns-in-Err : goal.returns-in-Err
+returns-in-Err c = search ring-fault
 
 pub check_rows-requires : goal.check_rows-requires
 check_rows-requires c = search (next_place, ring-two, ring-fits)

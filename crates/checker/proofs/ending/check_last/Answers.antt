@@ -5,8 +5,8 @@ use Rattle.checker.proofs.ending.check_last.Goals as goal
 pub byte_at-requires : goal.byte_at-requires
 byte_at-requires c = search last-place
 
-pub returns-in-Fault : goal.returns-in-Fault
-returns-in-Fault c = search last-fault
+pub returns-in-Err : goal.returns-in-Err
+returns-in-Err c = search last-fault
 
 pub returns-then-end-s : goal.returns-then-end-s
 returns-then-end-s c = search left_over

@@ -11,8 +11,8 @@ byte_at-requires c = search link-place
 pub returns-in-Bad : goal.returns-in-Bad
 returns-in-Bad c = search no_link
 
-pub returns-in-Fault : goal.returns-in-Fault
-returns-in-Fault c = search link-fault
+pub returns-in-Err : goal.returns-in-Err
+returns-in-Err c = search link-fault
 
 pub loop-k-preserved : goal.loop-k-preserved
 loop-k-preserved c = search link-read

@@ -5,8 +5,8 @@ use Rattle.checker.proofs.ending.check_whole.Goals as goal
 pub returns-in-Refused : goal.returns-in-Refused
 returns-in-Refused c = search whole-stops
 
-pub returns-in-Fault : goal.returns-in-Fault
-returns-in-Fault c = search whole-fault
+pub returns-in-Err : goal.returns-in-Err
+returns-in-Err c = search whole-fault
 
-pub returns-in-Fine : goal.returns-in-Fine
-returns-in-Fine c = search whole-fine
+pub returns-in-Ok : goal.returns-in-Ok
+returns-in-Ok c = search whole-fine

@@ -8,8 +8,8 @@ returns-in-Bad c = search no-cut-line
 pub byte_at-requires : goal.byte_at-requires
 byte_at-requires c = search far-place
 
-pub returns-in-Fault : goal.returns-in-Fault
-returns-in-Fault c = search cut-fault
+pub returns-in-Err : goal.returns-in-Err
+returns-in-Err c = search cut-fault
 
 pub returns-in_default : goal.returns-in_default
 returns-in_default c = search cut-goes

@@ -8,8 +8,8 @@ loop-p-init c = search rows_start
 pub returns-in-Bad : goal.returns-in-Bad
 returns-in-Bad c = search rows_end
 
-pub returns-in-Fault : goal.returns-in-Fault
-returns-in-Fault c = search row-stops
+pub returns-in-Err : goal.returns-in-Err
+returns-in-Err c = search row-stops
 
 pub bounds-values-count : goal.bounds-values-count
 bounds-values-count c = search row_room

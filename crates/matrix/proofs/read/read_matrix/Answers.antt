@@ -4,5 +4,5 @@ use Rattle.std.proofs.lemmas.Bool.Decides.{nat_tests}
 use Rattle.matrix.proofs.ReadSteps.{ring-fault}
 use Rattle.matrix.proofs.read.read_matrix.Goals as goal
 
-pub returns-in-Fault : goal.returns-in-Fault
-returns-in-Fault c = let there : 0 < length c.args.s.now = grind (arith, nat_tests) in search ring-fault
+pub returns-in-Err : goal.returns-in-Err
+returns-in-Err c = let there : 0 < length c.args.s.now = grind (arith, nat_tests) in search ring-fault

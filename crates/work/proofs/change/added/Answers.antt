@@ -2,8 +2,8 @@
 use Rattle.work.proofs.ChangeSteps.{add-fault, add-full, add_done, fitting}
 use Rattle.work.proofs.change.added.Goals as goal
 
-pub returns-in-Fault : goal.returns-in-Fault
-returns-in-Fault c = search add-fault
+pub returns-in-Err : goal.returns-in-Err
+returns-in-Err c = search add-fault
 
 pub returns-then-k-ge-ROWS : goal.returns-then-k-ge-ROWS
 returns-then-k-ge-ROWS c = search add-full

@@ -2,8 +2,8 @@
 use Rattle.work.proofs.ChangeSteps.{change-fault, change-low, change-high, change-row, change-fits, change-done}
 use Rattle.work.proofs.change.changed.Goals as goal
 
-pub returns-in-Fault : goal.returns-in-Fault
-returns-in-Fault c = search change-fault
+pub returns-in-Err : goal.returns-in-Err
+returns-in-Err c = search change-fault
 
 pub overflow_sub-place : goal.overflow_sub-place
 overflow_sub-place c = search change-low
@@ -17,5 +17,5 @@ cleared-off-requires-clause-taken c = search change-row
 pub put-w-requires : goal.put-w-requires
 put-w-requires c = search change-fits
 
-pub returns-in-Fine : goal.returns-in-Fine
-returns-in-Fine c = search change-done
+pub returns-in-Ok : goal.returns-in-Ok
+returns-in-Ok c = search change-done

@@ -2,8 +2,8 @@
 use Rattle.work.proofs.ChangeSteps.{start-fault, start-done}
 use Rattle.work.proofs.start.started.Goals as goal
 
-pub returns-in-Fault : goal.returns-in-Fault
-returns-in-Fault c = search start-fault
+pub returns-in-Err : goal.returns-in-Err
+returns-in-Err c = search start-fault
 
-pub returns-in-Fine : goal.returns-in-Fine
-returns-in-Fine c = search start-done
+pub returns-in-Ok : goal.returns-in-Ok
+returns-in-Ok c = search start-done
