@@ -25,7 +25,7 @@ use Rattle.matrix.specs.declared.line.Spelling.TheVariants.{Good, Bad as BadSpel
 use Rattle.matrix.specs.declared.square.Lines.TheVariants.{Read}
 use Rattle.matrix.proofs.LineSteps.{ToldGood, told-bad, told-good}
 use Rattle.matrix.proofs.ByteSteps.{amount-few, part-byte}
-use Rattle.text.proofs.Writing.{sets-append}
+use Rattle.text.proofs.Stored.{sets-append}
 
 -- ---- a line: its values before t are kept
 

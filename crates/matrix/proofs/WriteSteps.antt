@@ -9,7 +9,8 @@ use Rattle.ring.specs.Limits.{desk}
 use Rattle.ring.specs.declared.types.Row.{Row}
 use Rattle.ring.specs.Columns.{listed, column}
 use Rattle.ring.proofs.Listed.{listed-snoc, listed-length}
-use Rattle.text.specs.Bytes.{number}
+use Rattle.text.specs.declared.field.Field.{Field}
+use Rattle.text.specs.declared.field.Field.TheVariants.{Number}
 use Rattle.text.specs.Shapes.{numbers, numbers_line}
 use Rattle.text.specs.WriteLine.{write_line}
 use Rattle.text.specs.Written.{Written}
@@ -26,7 +27,7 @@ use Rattle.matrix.proofs.LineSteps.{take-values}
 pub take-numbers : (n m : ℕ) → n ≤ m → take n (numbers m) ≡ numbers n
 take-numbers zero m l = refl
 take-numbers (suc n) zero l = absurd (omega arith)
-take-numbers (suc n) (suc m) l = ap (λ (s : List ℕ). number ∷ s) (take-numbers n m (omega arith))
+take-numbers (suc n) (suc m) l = ap (λ (s : List Field). Number ∷ s) (take-numbers n m (omega arith))
 
 module _ (n : ℕ) (values : List ℕ) (l : n ≤ desk.nodes) (room : length values ≡ desk.nodes) where
   line-is : write_line (take n (numbers desk.nodes)) (take n values) ≡ numbers_line (take n values)
@@ -107,4 +108,4 @@ module _ (rs : List Row) (n : ℕ) where
 
       short-line : (k : ℕ) → length (line_text k) ≤ 1000
       short-line k =
-          omega (arith, line-short (numbers (length (sums_line (k + 1)))) (sums_line (k + 1)), length-replicate (length (sums_line (k + 1))) number, listed-length (sum_of rs (k + 1)) 1 n)
+          omega (arith, line-short (numbers (length (sums_line (k + 1)))) (sums_line (k + 1)), length-replicate (length (sums_line (k + 1))) Number, listed-length (sum_of rs (k + 1)) 1 n)

@@ -1,7 +1,7 @@
 // A line of numbers: how many fields it has, its values, and what is found against them.
-ghost use Rattle.std.specs.Prelude.{◌≡◌, ◌≤◌, length, set, take};
+ghost use Rattle.std.specs.Prelude.{Err, ◌≡◌, ◌≤◌, length, set, take};
 ghost use Rattle.ring.specs.Limits.{desk};
-ghost use Rattle.text.specs.ReadLine.{bad, read_line};
+ghost use Rattle.text.specs.ReadLine.{read_line};
 ghost use Rattle.text.specs.Shapes.{numbers};
 ghost use Rattle.matrix.specs.Read.{fields_in, judge_amounts};
 ghost use Rattle.matrix.specs.Arrays.{numbers_in};
@@ -9,7 +9,7 @@ ghost use Rattle.matrix.specs.Arrays.{numbers_in};
 use crate::byte::Found;
 use ring::{AMOUNT, LINKS};
 use table::Reason;
-use text::Field;
+use text::{Field, end_of, read_field};
 
 // Whether a line is so many numbers; where not, the place of its first faulty byte.
 #[derive(Drop)]
@@ -41,7 +41,7 @@ pub(crate) fn fields(line: &[u8]) -> usize
 
 #[tactic(auto, unfolding(crate::specs::Arrays::numbers_in, ring::specs::Columns::column))]
 fn faulty(p: usize) -> Numbers
-    ensures { result ≡ numbers_in (bad p) }
+    ensures { result ≡ numbers_in (Err p) }
 {
     Numbers {
         spelling: Spelling::Bad(p),
@@ -65,11 +65,11 @@ pub(crate) fn read_numbers(line: &[u8], n: usize) -> Numbers
     let mut values = [0u32; LINKS];
     let mut p: usize = 0;
     for t in 0..n {
-        match text::read_entry(line, p, n - t - 1) {
-            Field::Bad(q) => {
+        match read_field(line, p, Field::Number, end_of(n - t - 1)) {
+            Err(q) => {
                 return faulty(q);
             }
-            Field::Is(v, q) => {
+            Ok((v, q)) => {
                 put(&mut values, t, v);
                 p = q;
             }

@@ -11,7 +11,7 @@ ghost use Rattle.matrix.specs.Arrays.{Amounts, values_in};
 
 use crate::sums::sum_of;
 use ring::{LINKS, ROWS, wide};
-use text::NUMBER;
+use text::{Field, Write};
 
 // The sums of line i of a matrix of n nodes.
 fn line_of(
@@ -35,7 +35,7 @@ fn line_of(
 }
 
 // How many bytes a line has, of the first n fields of a shape and the first n values.
-fn part_length(n: usize, shape: &[u8], values: &[u32]) -> usize
+fn part_length(n: usize, shape: &[Field], values: &[u32]) -> usize
     requires few_nodes { n ≤ desk.nodes }
     requires in_shape { n ≤ length shape.now }
     requires has_values { n ≤ length values.now }
@@ -45,7 +45,7 @@ fn part_length(n: usize, shape: &[u8], values: &[u32]) -> usize
 }
 
 // Writes it from `at` on, and answers the place behind it.
-fn write_part(buf: &mut [u8], at: usize, n: usize, shape: &[u8], values: &[u32]) -> usize
+fn write_part(buf: &mut [u8], at: usize, n: usize, shape: &[Field], values: &[u32]) -> usize
     requires in_shape { n ≤ length shape.now }
     requires has_values { n ≤ length values.now }
     requires has_room { at + length (write_line (take n shape.now) (take n values.now)) ≤
@@ -53,7 +53,7 @@ fn write_part(buf: &mut [u8], at: usize, n: usize, shape: &[u8], values: &[u32])
     ensures { Written buf.old at
         (write_line (take n shape.now) (take n values.now)) buf.new result }
 {
-    text::write_line(buf, at, &shape[0..n], &values[0..n])
+    text::write_line::<Write>(buf, at, &shape[0..n], &values[0..n])
 }
 
 // How many bytes the line of the first n values has.
@@ -61,7 +61,7 @@ pub(crate) fn numbers_length(n: usize, values: &[u32; LINKS]) -> usize
     requires { n ≤ desk.nodes }
     ensures { result ≡ length (numbers_line (take n values.now)) }
 {
-    part_length(n, &[NUMBER; LINKS], values)
+    part_length(n, &[Field::Number; LINKS], values)
 }
 
 // Writes it from `at` on, and answers the place behind it.
@@ -70,7 +70,7 @@ fn write_numbers(buf: &mut [u8], at: usize, n: usize, values: &[u32; LINKS]) -> 
     requires has_room { at + length (numbers_line (take n values.now)) ≤ length buf.old }
     ensures { Written buf.old at (numbers_line (take n values.now)) buf.new result }
 {
-    write_part(buf, at, n, &[NUMBER; LINKS], values)
+    write_part(buf, at, n, &[Field::Number; LINKS], values)
 }
 
 // How many bytes line i of the matrix of a table's rows has.

@@ -11,7 +11,7 @@ use Rattle.ring.proofs.Listed.{listed-snoc}
 use Rattle.text.specs.Shapes.{ring_shape, row_shape, ring_line, row_line}
 use Rattle.text.specs.Written.{Written}
 use Rattle.text.proofs.Lengths.{line-short}
-use Rattle.text.proofs.Writing.{written_behind, written-length}
+use Rattle.text.proofs.Stored.{written_behind, written-length}
 use Rattle.text.proofs.Pieces.{Pieces}
 use Rattle.table.specs.Table.{write_rows, write_table}
 

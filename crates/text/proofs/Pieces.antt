@@ -8,7 +8,7 @@ use lib.ListN.{length, length-append}
 use mir.Syntax.{w64}
 use mir.Val.{Fits}
 use Rattle.text.specs.Written.{Written}
-use Rattle.text.proofs.Writing.{written_behind, written-length}
+use Rattle.text.proofs.Stored.{written_behind, written-length}
 
 -- `text k` is the lines at the places before k, each of at most 1,000 bytes
 pub record Pieces (line text : ℕ → List ℕ) : Type 0 where
