@@ -22,8 +22,6 @@ use Rattle.table.proofs.Columns.{column-more}
 use Rattle.matrix.specs.Read.{fields_in, judge_amounts}
 use Rattle.matrix.specs.Arrays.{values_in, numbers_in}
 use Rattle.matrix.specs.declared.byte.Found.TheVariants.{Nothing, At}
-use Rattle.matrix.specs.declared.line.Numbers.{Numbers}
-use Rattle.matrix.specs.declared.line.Spelling.TheVariants.{Good, Bad as BadSpelling}
 
 -- ---- fields: those from p on are counted
 
@@ -71,9 +69,9 @@ module _ (s : List ℕ) (n : ℕ) (values : List ℕ) (p t : ℕ) (on : ReadingO
         let e : n - t ≡ suc (n - t - 1) = omega arith in
         on.rest ∙ ap (λ k. fields_from (numbers k) s p on.vs) e ∙ rw (length-replicate (n - t - 1) Number, ← behind_it, ← ex)
 
-    pub reading-stops : (q : ℕ) (r : Numbers) → x ≡ Err q → r ≡ numbers_in (Err q) → r ≡ numbers_in (read_line (numbers n) s)
-    unfolding field_then
-    reading-stops q r f e = e ∙ ap numbers_in (sym (next-is ∙ rw f))
+    pub reading-stops : (q : ℕ) → x ≡ Err q → Err q ≡ numbers_in (read_line (numbers n) s)
+    unfolding field_then numbers_in
+    reading-stops q f = let h : read_line (numbers n) s ≡ Err q = next-is ∙ rw f in rw h
 
     pub reads-number : (v q : ℕ) (new : List ℕ) → x ≡ Ok (v, q) → new ≡ set values t v → ReadingOn s n new q (t + 1)
     unfolding field_then
@@ -91,13 +89,13 @@ module _ (s : List ℕ) (n : ℕ) (values : List ℕ) (p t : ℕ) (on : ReadingO
     all_read : read_line (numbers n) s ≡ fields_from [] s p on.vs
     all_read = let e : n - t ≡ 0 = omega arith in rw e at on.rest
 
-    pub reading-done : p ≡ length s → record { spelling = Good; values = values } ≡ numbers_in (read_line (numbers n) s)
+    pub reading-done : p ≡ length s → Ok values ≡ numbers_in (read_line (numbers n) s)
     unfolding fields_from numbers_in
     reading-done e = rw (all_read, eq-eqb _ _ e, on.held)
 
-    pub reading-over : (r : Numbers) → (p ≡ length s → ⊥) → r ≡ numbers_in (Err p) → r ≡ numbers_in (read_line (numbers n) s)
-    unfolding fields_from
-    reading-over r e f = f ∙ ap numbers_in (sym (all_read ∙ rw (ne_eqb _ _ e)))
+    pub reading-over : (p ≡ length s → ⊥) → Err p ≡ numbers_in (read_line (numbers n) s)
+    unfolding fields_from numbers_in
+    reading-over e = rw (all_read, ne_eqb _ _ e)
 
 -- ---- amounts: those before t are fine
 
@@ -151,22 +149,24 @@ pub record ToldGood (y : Reading) (n : ℕ) (values : List ℕ) : Type 0 where
   pub is : y ≡ Ok vs
   pub held : n ≤ desk.nodes → take n values ≡ vs
 
-module _ (l : List ℕ) (n : ℕ) (x : Numbers) where
-  bad-case : (y : Reading) (p : ℕ) → x ≡ numbers_in y → x.spelling ≡ BadSpelling p → y ≡ Err p
+module _ (l : List ℕ) (n : ℕ) (x : Reading) where
+  bad-case : (y : Reading) (p : ℕ) → x ≡ numbers_in y → x ≡ Err p → y ≡ Err p
   unfolding numbers_in
-  bad-case (Ok vs) p e f = clash (let g : BadSpelling p ≡ Good = sym f ∙ ap (λ (z : Numbers). z.spelling) e in cc)
-  bad-case (Err q) p e f = let g : BadSpelling p ≡ BadSpelling q = sym f ∙ ap (λ (z : Numbers). z.spelling) e in cc
+  bad-case (Ok vs) p e f = clash (let g : ◌≡◌ {A = Reading} (Err p) (Ok (values_in vs)) = sym f ∙ e in cc)
+  bad-case (Err q) p e f = sym e ∙ f
 
-  good-case : (y : Reading) → read_line (numbers n) l ≡ y → x ≡ numbers_in y → x.spelling ≡ Good → ToldGood y n x.values
+  good-case : (y : Reading) → read_line (numbers n) l ≡ y → x ≡ numbers_in y → (values : List ℕ) → x ≡ Ok values → ToldGood y n values
   unfolding numbers_in
-  good-case (Ok vs) r e f =
+  good-case (Ok vs) r e values f =
       let k : length vs ≡ n = in-range-long n vs ((line-good (numbers n) l vs).0 r).1 in
-      record { vs = vs; is = refl; held = λ few. ap (λ (z : Numbers). take n z.values) e ∙ take-values vs n (sym k) few }
-  good-case (Err q) r e f = clash (let g : Good ≡ BadSpelling q = sym f ∙ ap (λ (z : Numbers). z.spelling) e in cc)
+      let g : ◌≡◌ {A = Reading} (Ok values) (Ok (values_in vs)) = sym f ∙ e in
+      let same : values ≡ values_in vs = cc in
+      record { vs = vs; is = refl; held = λ few. ap (take n) same ∙ take-values vs n (sym k) few }
+  good-case (Err q) r e values f = clash (let g : ◌≡◌ {A = Reading} (Ok values) (Err q) = sym f ∙ e in cc)
 
   module _ (e : x ≡ numbers_in (read_line (numbers n) l)) where
-    pub told-bad : (p : ℕ) → x.spelling ≡ BadSpelling p → read_line (numbers n) l ≡ Err p
+    pub told-bad : (p : ℕ) → x ≡ Err p → read_line (numbers n) l ≡ Err p
     told-bad p = bad-case (read_line (numbers n) l) p e
 
-    pub told-good : x.spelling ≡ Good → ToldGood (read_line (numbers n) l) n x.values
+    pub told-good : (values : List ℕ) → x ≡ Ok values → ToldGood (read_line (numbers n) l) n values
     told-good = good-case (read_line (numbers n) l) refl e

@@ -5,8 +5,8 @@ use mathlib.Core.List.{List, ◌++◌}
 use native.Mathlib.Omega.{arith}
 use lib.ListN.{length, length-append}
 use lib.Seq.{sets}
-use Rattle.text.specs.Pass.{writes}
 use Rattle.text.specs.Written.{Written}
+use Rattle.text.specs.Passes.{writes}
 use Rattle.text.proofs.Writing.{written_behind as passed_behind, room-kept}
 
 -- one piece behind another is both pieces

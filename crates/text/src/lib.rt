@@ -5,15 +5,11 @@ mod number; // digits
 mod mark; // letters and ways
 mod field; // a field, with the byte behind it
 mod line; // a line of any shape
-mod lines; // each of the six lines by itself
+mod lines; // each of the six lines, read by itself
 
 pub use field::{Field, read_field};
 pub use line::{end_of, field_byte, line_length, read_line, write_line};
-pub use lines::{
-    cut_length, last_length, link_length, read_cut, read_last, read_link, read_ring, read_row,
-    read_sent, ring_byte, ring_length, row_byte, row_length, sent_length, write_cut, write_last,
-    write_link, write_ring, write_row, write_sent,
-};
+pub use lines::{read_cut, read_last, read_link, read_ring, read_row, read_sent};
 pub use pass::{Measure, Pass, Write};
 
 /// R n fibres

@@ -1,7 +1,8 @@
 //! A text goes to a buffer byte by byte; or it is only measured, by the same code.
 ghost use Rattle.std.specs.Prelude.{ℕ, ◌<◌, List, [], ◌∷◌, length};
 ghost use Rattle.text.specs.Written.{Passed};
-ghost use Rattle.text.specs.Pass.{Passes, most, kept, measures, stored, writes};
+ghost use Rattle.text.specs.Pass.{Passes, most, kept, stored};
+ghost use Rattle.text.specs.Passes.{measures, writes};
 
 /// What becomes of the bytes of a text.
 pub trait Pass {

@@ -15,5 +15,5 @@ loop-t-preserved c = search (reads-number, rules)
 pub returns-then-p-line : goal.returns-then-p-line
 returns-then-p-line c = search reading-done
 
-pub returns : goal.returns
-returns c = search reading-over
+pub returns-else-p-line : goal.returns-else-p-line
+returns-else-p-line c = search reading-over
