@@ -10,17 +10,17 @@ use lib.ListN.{length, take, replicate, length-append, length-replicate}
 use lib.Seq.{take-append-le, take-append-add}
 use borrow.Author.Tests.{eq-eqb, ne_eqb}
 use Rattle.ring.specs.Lists.{Each, none, more}
-use Rattle.text.specs.Bytes.{tab, lf, number}
+use Rattle.text.specs.Bytes.{tab, lf}
 use Rattle.text.specs.Number.{limit, digits}
 use Rattle.text.specs.Field.{top, spell}
 use Rattle.text.specs.WriteLine.{end_of, write_line, FitsShape}
 use Rattle.text.specs.Shapes.{numbers}
+use Rattle.text.specs.declared.field.Field.TheVariants.{Number}
 use Rattle.text.proofs.LineLaws.{fewer}
 use Rattle.text.specs.FirstFault.{Agrees, FirstFault}
 use Rattle.text.proofs.Apart.{clash}
 use Rattle.table.specs.Lines.{with_byte, lines}
 use Rattle.table.specs.Says.{LineIs, at_first, behind}
-use Rattle.table.proofs.LinesOf.{NoLf}
 use Rattle.matrix.specs.Read.{fields_in}
 use Rattle.matrix.specs.Says.{NumbersFault}
 use Rattle.matrix.proofs.MatrixText.{fields-behind, fields-line}
@@ -37,11 +37,11 @@ lf-ended : Ended (lf ∷ [])
 lf-ended [] b e = cc
 lf-ended (x ∷ a) b e = absurd (omega (arith, ap length e, length-append a (lf ∷ b)))
 
-byte-ended : (c : ℕ) (l : List ℕ) → NoLf c → Ended l → Ended (c ∷ l)
+byte-ended : (c : ℕ) (l : List ℕ) → (c ≡ lf → ⊥) → Ended l → Ended (c ∷ l)
 byte-ended c l h f [] b e = absurd (h (cc))
 byte-ended c l h f (x ∷ a) b e = f a b (cc)
 
-front-ended : (c : ℕ) → NoLf c → (ls : List (List ℕ)) → Each Ended ls → Each Ended (with_byte false c ls)
+front-ended : (c : ℕ) → (c ≡ lf → ⊥) → (ls : List (List ℕ)) → Each Ended ls → Each Ended (with_byte false c ls)
 unfolding with_byte
 front-ended c h [] none = more (byte-ended c [] h none-ended) none
 front-ended c h (l ∷ ls) (more f fs) = more (byte-ended c l h f) fs
@@ -100,7 +100,7 @@ zeros-fit (suc n) = (omega arith, zeros-fit n)
 
 tab-behind : (n : ℕ) → 1 ≤ n → end_of (length (numbers n)) ≡ tab
 unfolding end_of
-tab-behind n h = rw (ne_eqb (length (numbers n)) 0 (λ e. omega (arith, length-replicate n number)))
+tab-behind n h = rw (ne_eqb (length (numbers n)) 0 (λ e. omega (arith, length-replicate n Number)))
 
 lf-behind : end_of (length (numbers 0)) ≡ lf
 unfolding end_of

@@ -10,7 +10,7 @@ use mir.Syntax.{w32}
 use mir.Val.{Fits}
 use Rattle.ring.specs.Limits.{desk}
 use Rattle.ring.proofs.Listed.{listed-length}
-use Rattle.text.specs.Bytes.{number}
+use Rattle.text.specs.declared.field.Field.TheVariants.{Number}
 use Rattle.text.specs.Shapes.{numbers, numbers_line}
 use Rattle.text.proofs.Apart.{clash}
 use Rattle.text.proofs.Lengths.{line-short}
@@ -29,7 +29,7 @@ use Rattle.matrix.proofs.Entries.{AcrossJudged, across_wrong, across_right, acro
 module _ (k : ℕ) (values : List ℕ) (few : k ≤ desk.nodes) (before : ℕ) (is : before ≡ length (numbers_line (take k values))) where
   before-short : before ≤ 1000
   before-short =
-      omega (arith, line-short (numbers (length (take k values))) (take k values), length-replicate (length (take k values)) number, length-take k values)
+      omega (arith, line-short (numbers (length (take k values))) (take k values), length-replicate (length (take k values)) Number, length-take k values)
 
   pub before-fits : Fits w32 before
   before-fits = omega (arith, before-short)

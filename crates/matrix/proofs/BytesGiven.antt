@@ -6,8 +6,9 @@ use mathlib.Core.Logic.{inr}
 use mathlib.Core.Path.{◌≡◌, refl, ap, ◌∙◌, sym, subst}
 use native.Mathlib.Omega.{arith}
 use lib.ListN.{length, get_or}
+use Rattle.std.specs.Prelude.{Ok}
 use Rattle.ring.specs.Limits.{Limits}
-use Rattle.text.specs.ReadLine.{good, read_line}
+use Rattle.text.specs.ReadLine.{read_line}
 use Rattle.text.specs.Shapes.{numbers, numbers_line}
 use Rattle.text.specs.FirstFault.{FirstFault}
 use Rattle.text.proofs.LineLaws.{one-fault}
@@ -28,7 +29,7 @@ pub numbers-one : {t : List ℕ} {line other : ℕ} {vs us : List ℕ} → Numbe
 numbers-one {vs = vs} {us = us} p q e =
     let same : numbers_line vs ≡ numbers_line us = line-one p.text q.text e in
     let k : length vs ≡ length us = sym (fields-are vs p.some p.spelled) ∙ ap fields_in same ∙ fields-are us q.some q.spelled in
-    let r : good vs ≡ good us = sym (numbers-line-read (length us) vs k p.spelled) ∙ ap (read_line (numbers (length us))) same ∙ numbers-line-read (length us) us refl q.spelled in
+    let r : Ok vs ≡ Ok us = sym (numbers-line-read (length us) vs k p.spelled) ∙ ap (read_line (numbers (length us))) same ∙ numbers-line-read (length us) us refl q.spelled in
     cc
 
 -- ---- 7: the first entry over the limit

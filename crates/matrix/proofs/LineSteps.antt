@@ -6,24 +6,22 @@ use native.Mathlib.Omega.{arith}
 use lib.ListN.{length, get_or, set, take, drop, replicate, length-append, length-replicate, length-take, drop_of_length-le}
 use lib.Seq.{drop-length, length-take-le, get_or-take, sets-eq, take_at}
 use borrow.Author.Tests.{eq-eqb, ne_eqb, lt-ltb, le-ltb}
+use Rattle.std.specs.Prelude.{Result, Ok, Err}
 use Rattle.ring.specs.Limits.{desk}
 use Rattle.ring.specs.Columns.{column}
-use Rattle.text.specs.Bytes.{tab, number}
-use Rattle.text.specs.ReadLine.{field_at, Reading, good, bad, field_then, fields_from, read_line}
+use Rattle.text.specs.Bytes.{tab}
+use Rattle.text.specs.ReadLine.{Reading, field_at, field_then, fields_from, read_line}
 use Rattle.text.specs.WriteLine.{end_of, FitsShape}
 use Rattle.text.proofs.Apart.{clash}
 use Rattle.text.proofs.LineLaws.{line-good}
 use Rattle.text.specs.Shapes.{numbers}
-use Rattle.text.specs.declared.field.Field.{Field}
-use Rattle.text.specs.declared.field.Field.TheVariants.{Is, Bad}
+use Rattle.text.specs.declared.field.Field.TheVariants.{Number}
 use Rattle.text.proofs.Lists.{here}
 use Rattle.table.specs.declared.reason.Reason.TheVariants.{TooMuch}
 use Rattle.table.proofs.Columns.{column-more}
 use Rattle.matrix.specs.Read.{fields_in, judge_amounts}
 use Rattle.matrix.specs.Arrays.{values_in, numbers_in}
 use Rattle.matrix.specs.declared.byte.Found.TheVariants.{Nothing, At}
-use Rattle.matrix.specs.declared.line.Numbers.{Numbers}
-use Rattle.matrix.specs.declared.line.Spelling.TheVariants.{Good, Bad as BadSpelling}
 
 -- ---- fields: those from p on are counted
 
@@ -64,18 +62,18 @@ reading-starts s n =
     record { vs = []; rest = rw e; many = refl; held = refl; within = omega arith }
 
 module _ (s : List ℕ) (n : ℕ) (values : List ℕ) (p t : ℕ) (on : ReadingOn s n values p t) where
-  module _ (l : t < n) (x : Field) (ex : x ≡ field_at number s p (end_of (n - t - 1))) where
+  module _ (l : t < n) (end : ℕ) (behind_it : end ≡ end_of (n - t - 1)) (x : Result (ℕ × ℕ) ℕ) (ex : x ≡ field_at Number s p end) where
     next-is : read_line (numbers n) s ≡ field_then x (λ v q. fields_from (numbers (n - t - 1)) s q (on.vs ++ v ∷ []))
     unfolding fields_from
     next-is =
         let e : n - t ≡ suc (n - t - 1) = omega arith in
-        on.rest ∙ ap (λ k. fields_from (numbers k) s p on.vs) e ∙ rw (length-replicate (n - t - 1) number, ← ex)
+        on.rest ∙ ap (λ k. fields_from (numbers k) s p on.vs) e ∙ rw (length-replicate (n - t - 1) Number, ← behind_it, ← ex)
 
-    pub reading-stops : (q : ℕ) (r : Numbers) → x ≡ Bad q → r ≡ numbers_in (bad q) → r ≡ numbers_in (read_line (numbers n) s)
-    unfolding field_then
-    reading-stops q r f e = e ∙ ap numbers_in (sym (next-is ∙ rw f))
+    pub reading-stops : (q : ℕ) → x ≡ Err q → Err q ≡ numbers_in (read_line (numbers n) s)
+    unfolding field_then numbers_in
+    reading-stops q f = let h : read_line (numbers n) s ≡ Err q = next-is ∙ rw f in rw h
 
-    pub reads-number : (v q : ℕ) (new : List ℕ) → x ≡ Is v q → new ≡ set values t v → ReadingOn s n new q (t + 1)
+    pub reads-number : (v q : ℕ) (new : List ℕ) → x ≡ Ok (v, q) → new ≡ set values t v → ReadingOn s n new q (t + 1)
     unfolding field_then
     reads-number v q new f e =
         let k : n - t - 1 ≡ n - (t + 1) = omega arith in
@@ -91,13 +89,13 @@ module _ (s : List ℕ) (n : ℕ) (values : List ℕ) (p t : ℕ) (on : ReadingO
     all_read : read_line (numbers n) s ≡ fields_from [] s p on.vs
     all_read = let e : n - t ≡ 0 = omega arith in rw e at on.rest
 
-    pub reading-done : p ≡ length s → record { spelling = Good; values = values } ≡ numbers_in (read_line (numbers n) s)
+    pub reading-done : p ≡ length s → Ok values ≡ numbers_in (read_line (numbers n) s)
     unfolding fields_from numbers_in
     reading-done e = rw (all_read, eq-eqb _ _ e, on.held)
 
-    pub reading-over : (r : Numbers) → (p ≡ length s → ⊥) → r ≡ numbers_in (bad p) → r ≡ numbers_in (read_line (numbers n) s)
-    unfolding fields_from
-    reading-over r e f = f ∙ ap numbers_in (sym (all_read ∙ rw (ne_eqb _ _ e)))
+    pub reading-over : (p ≡ length s → ⊥) → Err p ≡ numbers_in (read_line (numbers n) s)
+    unfolding fields_from numbers_in
+    reading-over e = rw (all_read, ne_eqb _ _ e)
 
 -- ---- amounts: those before t are fine
 
@@ -148,25 +146,27 @@ in-range-long (suc n) (v ∷ vs) r = ap suc (in-range-long n vs r.1)
 -- a good line, and its values
 pub record ToldGood (y : Reading) (n : ℕ) (values : List ℕ) : Type 0 where
   pub vs : List ℕ
-  pub is : y ≡ good vs
+  pub is : y ≡ Ok vs
   pub held : n ≤ desk.nodes → take n values ≡ vs
 
-module _ (l : List ℕ) (n : ℕ) (x : Numbers) where
-  bad-case : (y : Reading) (p : ℕ) → x ≡ numbers_in y → x.spelling ≡ BadSpelling p → y ≡ bad p
+module _ (l : List ℕ) (n : ℕ) (x : Reading) where
+  bad-case : (y : Reading) (p : ℕ) → x ≡ numbers_in y → x ≡ Err p → y ≡ Err p
   unfolding numbers_in
-  bad-case (good vs) p e f = clash (let g : BadSpelling p ≡ Good = sym f ∙ ap (λ (z : Numbers). z.spelling) e in cc)
-  bad-case (bad q) p e f = let g : BadSpelling p ≡ BadSpelling q = sym f ∙ ap (λ (z : Numbers). z.spelling) e in cc
+  bad-case (Ok vs) p e f = clash (let g : ◌≡◌ {A = Reading} (Err p) (Ok (values_in vs)) = sym f ∙ e in cc)
+  bad-case (Err q) p e f = sym e ∙ f
 
-  good-case : (y : Reading) → read_line (numbers n) l ≡ y → x ≡ numbers_in y → x.spelling ≡ Good → ToldGood y n x.values
+  good-case : (y : Reading) → read_line (numbers n) l ≡ y → x ≡ numbers_in y → (values : List ℕ) → x ≡ Ok values → ToldGood y n values
   unfolding numbers_in
-  good-case (good vs) r e f =
+  good-case (Ok vs) r e values f =
       let k : length vs ≡ n = in-range-long n vs ((line-good (numbers n) l vs).0 r).1 in
-      record { vs = vs; is = refl; held = λ few. ap (λ (z : Numbers). take n z.values) e ∙ take-values vs n (sym k) few }
-  good-case (bad q) r e f = clash (let g : Good ≡ BadSpelling q = sym f ∙ ap (λ (z : Numbers). z.spelling) e in cc)
+      let g : ◌≡◌ {A = Reading} (Ok values) (Ok (values_in vs)) = sym f ∙ e in
+      let same : values ≡ values_in vs = cc in
+      record { vs = vs; is = refl; held = λ few. ap (take n) same ∙ take-values vs n (sym k) few }
+  good-case (Err q) r e values f = clash (let g : ◌≡◌ {A = Reading} (Ok values) (Err q) = sym f ∙ e in cc)
 
   module _ (e : x ≡ numbers_in (read_line (numbers n) l)) where
-    pub told-bad : (p : ℕ) → x.spelling ≡ BadSpelling p → read_line (numbers n) l ≡ bad p
+    pub told-bad : (p : ℕ) → x ≡ Err p → read_line (numbers n) l ≡ Err p
     told-bad p = bad-case (read_line (numbers n) l) p e
 
-    pub told-good : x.spelling ≡ Good → ToldGood (read_line (numbers n) l) n x.values
+    pub told-good : (values : List ℕ) → x ≡ Ok values → ToldGood (read_line (numbers n) l) n values
     told-good = good-case (read_line (numbers n) l) refl e

@@ -6,15 +6,16 @@ use native.Mathlib.Omega.{arith}
 use native.Mathlib.Decide.{dec_lt}
 use lib.ListN.{length, get_or}
 use borrow.Author.Tests.{lt-ltb, le-ltb}
+use Rattle.std.specs.Prelude.{Ok, Err}
 use Rattle.ring.specs.Limits.{Limits}
 use Rattle.ring.specs.Lists.{Each, none, more, Some, here, there}
-use Rattle.text.specs.Bytes.{number, lf}
 use Rattle.text.specs.Number.{limit}
 use Rattle.text.specs.Field.{top}
 use Rattle.text.specs.WriteLine.{write_line, FitsShape}
-use Rattle.text.specs.ReadLine.{Reading, good, bad, read_line}
+use Rattle.text.specs.ReadLine.{Reading, read_line}
 use Rattle.text.specs.FirstFault.{FirstFault}
 use Rattle.text.specs.Shapes.{numbers, numbers_line}
+use Rattle.text.specs.declared.field.Field.TheVariants.{Number}
 use Rattle.text.proofs.Apart.{clash}
 use Rattle.text.proofs.LineLaws.{line-good, line-bad}
 use Rattle.table.specs.Lines.{lines}
@@ -47,30 +48,30 @@ spelled-in (suc n) (v ∷ vs) r = more r.0 (spelled-in n vs r.1)
 
 -- what a line is read to
 pub data NumbersRead (n : ℕ) (l : List ℕ) : Reading → Type 0 where
-  are_numbers : {vs : List ℕ} → l ≡ numbers_line vs → length vs ≡ n → Spelled vs → NumbersRead n l (good vs)
-  no_numbers : {p : ℕ} → ((vs : List ℕ) → l ≡ numbers_line vs → length vs ≡ n → Spelled vs → ⊥) → FirstFault (numbers n) l p → NumbersRead n l (bad p)
+  are_numbers : {vs : List ℕ} → l ≡ numbers_line vs → length vs ≡ n → Spelled vs → NumbersRead n l (Ok vs)
+  no_numbers : {p : ℕ} → ((vs : List ℕ) → l ≡ numbers_line vs → length vs ≡ n → Spelled vs → ⊥) → FirstFault (numbers n) l p → NumbersRead n l (Err p)
 
-pub numbers-line-read : (n : ℕ) (vs : List ℕ) → length vs ≡ n → Spelled vs → read_line (numbers n) (numbers_line vs) ≡ good vs
+pub numbers-line-read : (n : ℕ) (vs : List ℕ) → length vs ≡ n → Spelled vs → read_line (numbers n) (numbers_line vs) ≡ Ok vs
 numbers-line-read n vs e h = rw (← e) ((line-good (numbers (length vs)) (numbers_line vs) vs).1 (refl, in-range vs h))
 
 pub numbers-read : (n : ℕ) (l : List ℕ) → NumbersRead n l (read_line (numbers n) l)
 numbers-read n l = go (read_line (numbers n) l) refl
   where
     go : (x : Reading) → read_line (numbers n) l ≡ x → NumbersRead n l x
-    go (good vs) e =
+    go (Ok vs) e =
         let w = (line-good (numbers n) l vs).0 e in
         let k : length vs ≡ n = in-range-long n vs w.1 in
         are_numbers {vs = vs} (w.0 ∙ ap (λ x. write_line (numbers x) vs) (sym k)) k (spelled-in n vs w.1)
-    go (bad p) e = no_numbers (λ vs w k h. clash (cc (numbers-line-read n vs k h))) ((line-bad (numbers n) l p).0 e)
+    go (Err p) e = no_numbers (λ vs w k h. clash (cc (numbers-line-read n vs k h))) ((line-bad (numbers n) l p).0 e)
 
 -- a line of numbers in front of a text is its first line
 no-lf : (n : ℕ) → Each NoLf (numbers n)
 no-lf zero = none
-no-lf (suc n) = more (λ (e : number ≡ lf). omega arith) (no-lf n)
+no-lf (suc n) = more tt (no-lf n)
 
 pub numbers-first : (vs : List ℕ) → 1 ≤ length vs → Spelled vs → FirstLine (numbers_line vs)
 numbers-first [] h s = absurd (omega arith)
-numbers-first (v ∷ vs) h s = written-first number (numbers (length vs)) (v ∷ vs) (no-lf (suc (length vs))) (in-range (v ∷ vs) s)
+numbers-first (v ∷ vs) h s = written-first Number (numbers (length vs)) (v ∷ vs) (no-lf (suc (length vs))) (in-range (v ∷ vs) s)
 
 -- ---- amounts
 

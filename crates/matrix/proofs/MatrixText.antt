@@ -11,11 +11,11 @@ use borrow.Author.Tests.{le-ltb, ltb-false, ne_eqb}
 use Rattle.ring.specs.Limits.{Limits, desk}
 use Rattle.ring.specs.Lists.{Each, none, more}
 use Rattle.ring.proofs.Side.{cond-elim}
+use Rattle.text.specs.ReadLine.{Reading}
 use Rattle.text.specs.Bytes.{tab, digit0}
 use Rattle.text.specs.Number.{limit, digits}
 use Rattle.text.specs.Field.{spell}
 use Rattle.text.specs.WriteLine.{end_of, write_line}
-use Rattle.text.specs.ReadLine.{Reading}
 use Rattle.text.specs.Shapes.{numbers, numbers_line}
 use Rattle.text.proofs.Digits.{by_digits, digits-one, digits_more}
 use Rattle.table.specs.Lines.{lines}

@@ -9,6 +9,7 @@ use lib.Seq.{sets, sets-eq, length-sets, get_or-append-add, get_or-take, length-
 use mir.Syntax.{w32}
 use mir.Val.{Fits}
 use borrow.Author.Tests.{lt-ltb, le-ltb}
+use Rattle.std.specs.Prelude.{Ok, Err}
 use Rattle.ring.specs.Limits.{desk}
 use Rattle.ring.specs.Ring.{ring_of}
 use Rattle.ring.specs.Lists.{Each, none, more}
@@ -16,7 +17,7 @@ use Rattle.ring.specs.Row.{row}
 use Rattle.ring.proofs.Side.{cond-elim}
 use Rattle.ring.proofs.Listed.{listed_same}
 use Rattle.text.specs.Bytes.{tab}
-use Rattle.text.specs.ReadLine.{read_line}
+use Rattle.text.specs.ReadLine.{Reading, read_line}
 use Rattle.text.specs.Shapes.{numbers}
 use Rattle.text.proofs.Apart.{clash}
 use Rattle.text.proofs.LineLaws.{bad-within}
@@ -35,8 +36,6 @@ use Rattle.matrix.specs.Matrix.{entry, Node}
 use Rattle.matrix.specs.Demands.{pairs_from, rows_by}
 use Rattle.matrix.specs.Read.{Matrix, matrix, no_matrix, fields_in, lines_of, judge_down, square_judged, matrix_of, table_from}
 use Rattle.matrix.specs.Arrays.{numbers_in, at, lay_from, empty, laid, Square, square_in}
-use Rattle.matrix.specs.declared.line.Numbers.{Numbers}
-use Rattle.matrix.specs.declared.line.Spelling.TheVariants.{Good, Bad as BadSpelling}
 use Rattle.matrix.specs.declared.square.Lines.{Lines}
 use Rattle.matrix.specs.declared.square.Lines.TheVariants.{Read, Refused}
 use Rattle.matrix.proofs.LineSteps.{ToldGood, told-bad, told-good}
@@ -190,8 +189,8 @@ ring-few n v e f = let q = sym e ∙ f in go (rw q at (size-judged desk n))
     go (right_size few many) = many
 
 -- the first line's faulty byte is within the text
-pub first-place : (s : List ℕ) (end : ℕ) → length s ≤ desk.bytes → LineEnds s 0 end → (count : ℕ) (x : Numbers) → x ≡ numbers_in (read_line (numbers count) (take (end - 0) (drop 0 s)))
-    → (p : ℕ) → x.spelling ≡ BadSpelling p → p ≤ desk.bytes
+pub first-place : (s : List ℕ) (end : ℕ) → length s ≤ desk.bytes → LineEnds s 0 end → (count : ℕ) (x : Reading) → x ≡ numbers_in (read_line (numbers count) (take (end - 0) (drop 0 s)))
+    → (p : ℕ) → x ≡ Err p → p ≤ desk.bytes
 first-place s end short ends count x ex p f =
     let first : List ℕ = take (end - 0) (drop 0 s) in
     omega (arith, bad-within (numbers count) first p (told-bad first count x ex p f), length-take (end - 0) (drop 0 s), ends.within)
@@ -214,14 +213,14 @@ module _ (s : List ℕ) (fibres : ℕ) (t : Table) where
     first-line : lines s ≡ first ∷ lines (drop end s)
     first-line = line_at s 0 end there ends
 
-    module _ (count : ℕ) (ec : count ≡ fields_in first) (x : Numbers) (ex : x ≡ numbers_in (read_line (numbers count) first)) where
-      pub first-misshapen : (p byte : ℕ) → x.spelling ≡ BadSpelling p → byte ≡ p + 1 → t ≡ table_in (refused Misshapen 1 byte) → t ≡ matrix_result
+    module _ (count : ℕ) (ec : count ≡ fields_in first) (x : Reading) (ex : x ≡ numbers_in (read_line (numbers count) first)) where
+      pub first-misshapen : (p byte : ℕ) → x ≡ Err p → byte ≡ p + 1 → t ≡ table_in (refused Misshapen 1 byte) → t ≡ matrix_result
       unfolding matrix_of table_from
       first-misshapen p byte f b e = e ∙ ap table_in (sym (rw (le-ltb desk.bytes (length s) short, first-line, ← ec, told-bad first count x ex p f, b)))
 
-      module _ (f : x.spelling ≡ Good) (n : ℕ) (en : n ≡ count) (v : Verdict) (ev : v ≡ judge_size desk n) where
-        abbrev told : ToldGood (read_line (numbers count) first) count x.values
-        told = told-good first count x ex f
+      module _ (values : List ℕ) (f : x ≡ Ok values) (n : ℕ) (en : n ≡ count) (v : Verdict) (ev : v ≡ judge_size desk n) where
+        abbrev told : ToldGood (read_line (numbers count) first) count values
+        told = told-good first count x ex values f
 
         pub ring-fault : (reason : Reason) → v ≡ Err reason → t ≡ table_in (refused reason 1 1) → t ≡ matrix_result
         unfolding matrix_of table_from

@@ -6,8 +6,9 @@ use native.Mathlib.Omega.{arith}
 use native.Mathlib.Numerals.{add-one}
 use lib.ListN.{length, get_or, set, take, drop, drop_of_length-le, length-append, length-drop, length-take}
 use lib.Seq.{sets, take-suc, length-take-le}
+use Rattle.std.specs.Prelude.{Ok, Err}
 use Rattle.ring.specs.Limits.{desk}
-use Rattle.text.specs.ReadLine.{read_line}
+use Rattle.text.specs.ReadLine.{Reading, read_line}
 use Rattle.text.specs.Shapes.{numbers}
 use Rattle.text.proofs.LineLaws.{bad-within}
 use Rattle.table.specs.Lines.{lines}
@@ -20,12 +21,10 @@ use Rattle.matrix.specs.Read.{Matrix, no_matrix, numbers_or, unless_at, judge_am
 use Rattle.matrix.specs.Arrays.{numbers_in, lay_from, empty, laid, Square, beside_entries, square_in}
 use Rattle.matrix.specs.declared.byte.Found.{Found}
 use Rattle.matrix.specs.declared.byte.Found.TheVariants.{Nothing, At}
-use Rattle.matrix.specs.declared.line.Numbers.{Numbers}
-use Rattle.matrix.specs.declared.line.Spelling.TheVariants.{Good, Bad as BadSpelling}
 use Rattle.matrix.specs.declared.square.Lines.TheVariants.{Read}
 use Rattle.matrix.proofs.LineSteps.{ToldGood, told-bad, told-good}
 use Rattle.matrix.proofs.ByteSteps.{amount-few, part-byte}
-use Rattle.text.proofs.Writing.{sets-append}
+use Rattle.text.proofs.Stored.{sets-append}
 
 -- ---- a line: its values before t are kept
 
@@ -72,8 +71,8 @@ lines_start s n entries none =
     record { m = []; rest = rw e; many = refl; held = none; placed = refl; lined = refl; most = omega arith; within = omega arith }
 
 -- the faulty byte of a line is within the text
-pub line-place : (s : List ℕ) (n at end : ℕ) → LineEnds s at end → (x : Numbers) → x ≡ numbers_in (read_line (numbers n) (take (end - at) (drop at s)))
-    → (p : ℕ) → x.spelling ≡ BadSpelling p → length s ≤ desk.bytes → p ≤ desk.bytes
+pub line-place : (s : List ℕ) (n at end : ℕ) → LineEnds s at end → (x : Reading) → x ≡ numbers_in (read_line (numbers n) (take (end - at) (drop at s)))
+    → (p : ℕ) → x ≡ Err p → length s ≤ desk.bytes → p ≤ desk.bytes
 line-place s n at end ends x ex p f short =
     omega (arith, bad-within (numbers n) (take (end - at) (drop at s)) p (told-bad (take (end - at) (drop at s)) n x ex p f), length-take (end - at) (drop at s), ends.within)
 
@@ -105,7 +104,7 @@ module _ (s : List ℕ) (n : ℕ) (entries : List ℕ) (start count line at : �
       let z : n - count ≡ 0 = omega arith in
       rw (on.rest, z, drop_of_length-le s none, on.held)
 
-  module _ (there : at < length s) (l : count < n) (end : ℕ) (ends : LineEnds s at end) (x : Numbers) (ex : x ≡ numbers_in (read_line (numbers n) (take (end - at) (drop at s)))) where
+  module _ (there : at < length s) (l : count < n) (end : ℕ) (ends : LineEnds s at end) (x : Reading) (ex : x ≡ numbers_in (read_line (numbers n) (take (end - at) (drop at s)))) where
     abbrev text : List ℕ
     text = take (end - at) (drop at s)
 
@@ -115,25 +114,25 @@ module _ (s : List ℕ) (n : ℕ) (entries : List ℕ) (start count line at : �
         let z : n - count ≡ suc (n - count - 1) = omega arith in
         on.rest ∙ ap (λ k. lines_of desk n line k on.m (lines (drop at s))) z ∙ rw (line_at s at end there ends)
 
-    pub line-misshapen : (p byte : ℕ) (r : Square) → x.spelling ≡ BadSpelling p → byte ≡ p + 1 → r ≡ square_in (no_matrix Misshapen line byte) → r ≡ square_in whole
+    pub line-misshapen : (p byte : ℕ) (r : Square) → x ≡ Err p → byte ≡ p + 1 → r ≡ square_in (no_matrix Misshapen line byte) → r ≡ square_in whole
     unfolding numbers_or
     line-misshapen p byte r f b e = e ∙ ap square_in (sym (next-line ∙ rw (told-bad text n x ex p f, b)))
 
-    module _ (f : x.spelling ≡ Good) (few : n ≤ desk.nodes) (v : Found) (ev : v ≡ judge_amounts desk 0 (take n x.values)) where
-      abbrev told : ToldGood (read_line (numbers n) text) n x.values
-      told = told-good text n x ex f
+    module _ (values : List ℕ) (f : x ≡ Ok values) (few : n ≤ desk.nodes) (v : Found) (ev : v ≡ judge_amounts desk 0 (take n values)) where
+      abbrev told : ToldGood (read_line (numbers n) text) n values
+      told = told-good text n x ex values f
 
       judged : whole ≡ unless_at v line (entry_byte told.vs) (lines_of desk n (line + 1) (n - count - 1) (on.m ++ told.vs ∷ []) (lines (drop end s)))
       unfolding numbers_or
       judged = let w : v ≡ judge_amounts desk 0 told.vs = ev ∙ ap (judge_amounts desk 0) (told.held few) in next-line ∙ rw (told.is, ← w)
 
-      pub line-too-much : (reason : Reason) (k byte : ℕ) (r : Square) → v ≡ At reason k → byte ≡ entry_byte x.values k → r ≡ square_in (no_matrix reason line byte) → r ≡ square_in whole
+      pub line-too-much : (reason : Reason) (k byte : ℕ) (r : Square) → v ≡ At reason k → byte ≡ entry_byte values k → r ≡ square_in (no_matrix reason line byte) → r ≡ square_in whole
       unfolding unless_at
       line-too-much reason k byte r g b e =
-          let q : byte ≡ entry_byte told.vs k = b ∙ part-byte n k x.values told.vs (told.held few) (amount-few n k x.values v reason ev g) in
+          let q : byte ≡ entry_byte told.vs k = b ∙ part-byte n k values told.vs (told.held few) (amount-few n k values v reason ev g) in
           e ∙ ap square_in (sym (judged ∙ rw (g, q)))
 
-      pub reads-line : v ≡ Nothing → (new : List ℕ) → new ≡ sets entries start (take n x.values) → ReadingLines s n new (start + desk.nodes) (count + 1) (line + 1) end
+      pub reads-line : v ≡ Nothing → (new : List ℕ) → new ≡ sets entries start (take n values) → ReadingLines s n new (start + desk.nodes) (count + 1) (line + 1) end
       unfolding unless_at laid
       reads-line g new e =
           let k : n - count - 1 ≡ n - (count + 1) = omega arith in

@@ -3,18 +3,19 @@ use Prim.Native.Nat.{ℕ, suc, zero, ◌+◌, ◌≤◌, ◌<◌}
 use mathlib.Core.List.{List, [], ◌∷◌, ◌++◌, append_assoc, append-nil}
 use mathlib.Core.Path.{◌≡◌, refl, ap, ◌∙◌, sym}
 use native.Mathlib.Omega.{arith}
-use lib.ListN.{length, set, take, replicate, length-replicate}
+use lib.ListN.{length, set, take, replicate, length-replicate, length-take}
 use lib.Seq.{length-take-le}
 use Rattle.ring.specs.Limits.{desk}
 use Rattle.ring.specs.declared.types.Row.{Row}
 use Rattle.ring.specs.Columns.{listed, column}
 use Rattle.ring.proofs.Listed.{listed-snoc, listed-length}
-use Rattle.text.specs.Bytes.{number}
+use Rattle.text.specs.declared.field.Field.{Field}
+use Rattle.text.specs.declared.field.Field.TheVariants.{Number}
 use Rattle.text.specs.Shapes.{numbers, numbers_line}
 use Rattle.text.specs.WriteLine.{write_line}
-use Rattle.text.specs.Written.{Written}
+use Rattle.text.specs.Written.{Passed}
 use Rattle.text.proofs.Lengths.{line-short}
-use Rattle.text.proofs.Pieces.{Pieces}
+use Rattle.text.proofs.Pieces.{Pieces, text-short}
 use Rattle.table.proofs.Columns.{column-more}
 use Rattle.matrix.specs.Matrix.{write_matrix}
 use Rattle.matrix.specs.Demands.{sum_of}
@@ -26,7 +27,7 @@ use Rattle.matrix.proofs.LineSteps.{take-values}
 pub take-numbers : (n m : ℕ) → n ≤ m → take n (numbers m) ≡ numbers n
 take-numbers zero m l = refl
 take-numbers (suc n) zero l = absurd (omega arith)
-take-numbers (suc n) (suc m) l = ap (λ (s : List ℕ). number ∷ s) (take-numbers n m (omega arith))
+take-numbers (suc n) (suc m) l = ap (λ (s : List Field). Number ∷ s) (take-numbers n m (omega arith))
 
 module _ (n : ℕ) (values : List ℕ) (l : n ≤ desk.nodes) (room : length values ≡ desk.nodes) where
   line-is : write_line (take n (numbers desk.nodes)) (take n values) ≡ numbers_line (take n values)
@@ -34,14 +35,16 @@ module _ (n : ℕ) (values : List ℕ) (l : n ≤ desk.nodes) (room : length val
       let e : length (take n values) ≡ n = length-take-le n values (omega arith) in
       rw (take-numbers n desk.nodes l, e)
 
-  pub numbers-measured : (r : ℕ) → r ≡ length (write_line (take n (numbers desk.nodes)) (take n values)) → r ≡ length (numbers_line (take n values))
-  numbers-measured r e = e ∙ ap length line-is
-
   pub numbers-room : (at size : ℕ) → at + length (numbers_line (take n values)) ≤ size → at + length (write_line (take n (numbers desk.nodes)) (take n values)) ≤ size
   numbers-room at size h = omega (arith, ap length line-is)
 
-  pub numbers-written : (old new : List ℕ) (at r : ℕ) → Written old at (write_line (take n (numbers desk.nodes)) (take n values)) new r → Written old at (numbers_line (take n values)) new r
-  numbers-written old new at r w = rw line-is at w
+  pub numbers-passed : (after : List ℕ → ℕ → List ℕ → List ℕ) (old new : List ℕ) (at r : ℕ) → Passed after old at (write_line (take n (numbers desk.nodes)) (take n values)) new r
+      → Passed after old at (numbers_line (take n values)) new r
+  numbers-passed after old new at r w = rw line-is at w
+
+  -- so few can be measured
+  pub numbers-placed : 0 + length (numbers_line (take n values)) ≤ 18446744073709551615
+  numbers-placed = omega (arith, line-short (numbers (length (take n values))) (take n values), length-replicate (length (take n values)) Number, length-take n values)
 
 -- ---- a line's sums: those before node t + 1 stand in the column
 
@@ -69,14 +72,12 @@ module _ (f : ℕ → ℕ) (n nodes : ℕ) (few : n ≤ desk.nodes) (e : nodes �
   taken : take nodes values ≡ listed f 1 n
   taken = rw (held, e) (take-values (listed f 1 n) n (sym (listed-length f 1 n)) few)
 
-  pub sums-measured : (r : ℕ) → r ≡ length (numbers_line (take nodes values)) → r ≡ length (numbers_line (listed f 1 n))
-  sums-measured r h = h ∙ ap (λ vs. length (numbers_line vs)) taken
-
   pub sums-room : (at size : ℕ) → at + length (numbers_line (listed f 1 n)) ≤ size → at + length (numbers_line (take nodes values)) ≤ size
   sums-room at size h = omega (arith, ap (λ vs. length (numbers_line vs)) taken)
 
-  pub sums-written : (old new : List ℕ) (at r : ℕ) → Written old at (numbers_line (take nodes values)) new r → Written old at (numbers_line (listed f 1 n)) new r
-  sums-written old new at r w = rw taken at w
+  pub sums-passed : (after : List ℕ → ℕ → List ℕ → List ℕ) (old new : List ℕ) (at r : ℕ) → Passed after old at (numbers_line (take nodes values)) new r
+      → Passed after old at (numbers_line (listed f 1 n)) new r
+  sums-passed after old new at r w = rw taken at w
 
 -- ---- the lines
 
@@ -107,4 +108,8 @@ module _ (rs : List Row) (n : ℕ) where
 
       short-line : (k : ℕ) → length (line_text k) ≤ 1000
       short-line k =
-          omega (arith, line-short (numbers (length (sums_line (k + 1)))) (sums_line (k + 1)), length-replicate (length (sums_line (k + 1))) number, listed-length (sum_of rs (k + 1)) 1 n)
+          omega (arith, line-short (numbers (length (sums_line (k + 1)))) (sums_line (k + 1)), length-replicate (length (sums_line (k + 1))) Number, listed-length (sum_of rs (k + 1)) 1 n)
+
+  -- so few can be measured
+  pub matrix-placed : n ≤ desk.nodes → length (lines_text n) ≤ 18446744073709551615
+  matrix-placed l = omega (arith, text-short line_text lines_text (matrix-pieces l) n)

@@ -1,12 +1,10 @@
 -- Internal: a line's numbers, the entries of a matrix and the rows of a table as the code's arrays hold them.
-use Rattle.std.specs.Prelude.{ℕ, ◌+◌, ◌*◌, ◌-◌, ◌≤◌, ◌<◌, List, [], ◌∷◌, get_or, replicate}
+use Rattle.std.specs.Prelude.{ℕ, ◌+◌, ◌*◌, ◌-◌, ◌≤◌, ◌<◌, List, [], ◌∷◌, get_or, replicate, Ok, Err}
 use Rattle.std.proofs.lemmas.List.Edits.{sets}
 use Rattle.ring.specs.Limits.{desk}
 use Rattle.ring.specs.Columns.{column}
-use Rattle.text.specs.ReadLine.{Reading, good, bad}
+use Rattle.text.specs.ReadLine.{Reading}
 use Rattle.matrix.specs.Read.{Matrix, matrix, no_matrix}
-use Rattle.matrix.specs.declared.line.Numbers.{Numbers}
-use Rattle.matrix.specs.declared.line.Spelling.TheVariants.{Good, Bad}
 use Rattle.matrix.specs.declared.square.Lines.{Lines}
 use Rattle.matrix.specs.declared.square.Lines.TheVariants.{Read, Refused}
 
@@ -15,9 +13,9 @@ abbrev pub values_in : List ℕ → List ℕ
 values_in vs = column (λ v. v) desk.nodes vs
 
 -- what a line of numbers says
-unfoldable pub numbers_in : Reading → Numbers
-numbers_in (good vs) = record { spelling = Good; values = values_in vs }
-numbers_in (bad p) = record { spelling = Bad p; values = values_in [] }
+unfoldable pub numbers_in : Reading → Reading
+numbers_in (Ok vs) = Ok (values_in vs)
+numbers_in (Err p) = Err p
 
 -- the place of entry i, j
 abbrev pub place_of : ℕ → ℕ → ℕ

@@ -1,10 +1,10 @@
 -- Internal: reading a matrix line by line, then entry by entry, each step as the code takes it; `Matrix` and `Says` and the theorems of `proofs/` pin it down.
-use Rattle.std.specs.Prelude.{ℕ, zero, suc, ◌+◌, ◌-◌, cond, List, [], ◌∷◌, ◌++◌, ltb, eqb, length}
+use Rattle.std.specs.Prelude.{ℕ, zero, suc, ◌+◌, ◌-◌, cond, List, [], ◌∷◌, ◌++◌, ltb, eqb, length, Ok, Err}
 use Rattle.ring.specs.Limits.{Limits}
 use Rattle.ring.specs.Ring.{ring_of}
 use Rattle.ring.specs.Columns.{listed}
 use Rattle.text.specs.Bytes.{tab}
-use Rattle.text.specs.ReadLine.{Reading, good, bad, read_line}
+use Rattle.text.specs.ReadLine.{Reading, read_line}
 use Rattle.text.specs.Shapes.{numbers}
 use Rattle.table.specs.Lines.{lines}
 use Rattle.table.specs.Judge.{judge_size}
@@ -33,8 +33,8 @@ fields_in [] = 1
 fields_in (b ∷ t) = cond (eqb b tab) 1 0 + fields_in t
 
 unfoldable pub numbers_or : Reading → ℕ → (List ℕ → Matrix) → Matrix
-numbers_or (good vs) line next = next vs
-numbers_or (bad p) line next = no_matrix Misshapen line (p + 1)
+numbers_or (Ok vs) line next = next vs
+numbers_or (Err p) line next = no_matrix Misshapen line (p + 1)
 
 -- what is found against a line as a whole
 unfoldable pub unless : Verdict → ℕ → Matrix → Matrix

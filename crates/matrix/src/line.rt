@@ -1,7 +1,7 @@
 // A line of numbers: how many fields it has, its values, and what is found against them.
 ghost use Rattle.std.specs.Prelude.{◌≡◌, ◌≤◌, length, set, take};
 ghost use Rattle.ring.specs.Limits.{desk};
-ghost use Rattle.text.specs.ReadLine.{bad, read_line};
+ghost use Rattle.text.specs.ReadLine.{read_line};
 ghost use Rattle.text.specs.Shapes.{numbers};
 ghost use Rattle.matrix.specs.Read.{fields_in, judge_amounts};
 ghost use Rattle.matrix.specs.Arrays.{numbers_in};
@@ -9,21 +9,7 @@ ghost use Rattle.matrix.specs.Arrays.{numbers_in};
 use crate::byte::Found;
 use ring::{AMOUNT, LINKS};
 use table::Reason;
-use text::Field;
-
-// Whether a line is so many numbers; where not, the place of its first faulty byte.
-#[derive(Drop)]
-pub(crate) enum Spelling {
-    Good,
-    Bad(usize),
-}
-
-// The values stand from place 0 on. Those that have no room are left out: a line with more is read for its spelling alone.
-#[derive(Drop)]
-pub(crate) struct Numbers {
-    pub spelling: Spelling,
-    pub values: [u32; LINKS],
-}
+use text::{Field, end_of, read_field};
 
 // How many fields a line has: its tabs, and one.
 pub(crate) fn fields(line: &[u8]) -> usize
@@ -39,16 +25,6 @@ pub(crate) fn fields(line: &[u8]) -> usize
     count
 }
 
-#[tactic(auto, unfolding(crate::specs::Arrays::numbers_in, ring::specs::Columns::column))]
-fn faulty(p: usize) -> Numbers
-    ensures { result ≡ numbers_in (bad p) }
-{
-    Numbers {
-        spelling: Spelling::Bad(p),
-        values: [0u32; LINKS],
-    }
-}
-
 // Keeps the value of field t where there is room for it.
 fn put(values: &mut [u32; LINKS], t: usize, v: u32)
     ensures { values.new ≡ set values.old t v }
@@ -58,30 +34,23 @@ fn put(values: &mut [u32; LINKS], t: usize, v: u32)
     }
 }
 
-// Reads a line of n numbers.
-pub(crate) fn read_numbers(line: &[u8], n: usize) -> Numbers
+// Reads a line of n numbers: its values from place 0 on, or the place of its first faulty byte. Values that have no room are left out: a line with more is read
+// for its spelling alone.
+pub(crate) fn read_numbers(line: &[u8], n: usize) -> Result<[u32; LINKS], usize>
     ensures { result ≡ numbers_in (read_line (numbers n) line.now) }
 {
     let mut values = [0u32; LINKS];
     let mut p: usize = 0;
     for t in 0..n {
-        match text::read_entry(line, p, n - t - 1) {
-            Field::Bad(q) => {
-                return faulty(q);
-            }
-            Field::Is(v, q) => {
+        match read_field(line, p, Field::Number, end_of(n - t - 1)) {
+            Err(q) => return Err(q),
+            Ok((v, q)) => {
                 put(&mut values, t, v);
                 p = q;
             }
         }
     }
-    if p == line.len() {
-        return Numbers {
-            spelling: Spelling::Good,
-            values,
-        };
-    }
-    faulty(p)
+    if p == line.len() { Ok(values) } else { Err(p) }
 }
 
 // The first n values: the first that is over the limit.

@@ -6,7 +6,7 @@ ghost use Rattle.table.specs.Arrays.{beside, table_in};
 ghost use Rattle.matrix.specs.Read.{lines_of, square_judged, matrix_of, table_from};
 
 use crate::judge::judge_square;
-use crate::line::{Spelling, fields, read_numbers};
+use crate::line::{fields, read_numbers};
 use crate::rows::rows_of;
 use crate::square::{Lines, SQUARE, read_lines};
 use ring::{BYTES, ROWS};
@@ -60,12 +60,14 @@ pub fn read_matrix(
     }
     let end = line_end(s, 0);
     let count = fields(&s[0..end]);
-    if let Spelling::Bad(p) = read_numbers(&s[0..end], count).spelling {
-        return refusal(first, second, amount, Reason::Misshapen, 1, byte_at(p));
+    match read_numbers(&s[0..end], count) {
+        Err(p) => refusal(first, second, amount, Reason::Misshapen, 1, byte_at(p)),
+        Ok(_values) => {
+            let n = count as u32;
+            if let Err(reason) = judge_size(n) {
+                return refusal(first, second, amount, reason, 1, 1);
+            }
+            read_square(s, n, fibres, first, second, amount)
+        }
     }
-    let n = count as u32;
-    if let Err(reason) = judge_size(n) {
-        return refusal(first, second, amount, reason, 1, 1);
-    }
-    read_square(s, n, fibres, first, second, amount)
 }

@@ -7,7 +7,7 @@ ghost use Rattle.matrix.specs.Read.{no_matrix, lines_of};
 ghost use Rattle.matrix.specs.Arrays.{at as entry_at, empty, beside_entries, square_in};
 
 use crate::byte::{Found, entry_byte};
-use crate::line::{Spelling, judge_amounts, read_numbers};
+use crate::line::{judge_amounts, read_numbers};
 use ring::{LINKS, wide};
 use table::{Reason, byte_at, line_end};
 
@@ -69,26 +69,22 @@ pub(crate) fn read_lines(s: &[u8], n: usize, entries: &mut [u32; SQUARE]) -> Lin
             return refused(entries, Reason::Misshapen, line, 1);
         }
         let end = line_end(s, at);
-        let numbers = read_numbers(&s[at..end], n);
-        match numbers.spelling {
-            Spelling::Bad(p) => {
+        match read_numbers(&s[at..end], n) {
+            Err(p) => {
                 return refused(entries, Reason::Misshapen, line, byte_at(p));
             }
-            Spelling::Good => {
-                let values = numbers.values;
-                match judge_amounts(n, &values) {
-                    Found::At(reason, k) => {
-                        return refused(entries, reason, line, entry_byte(k, &values));
-                    }
-                    Found::Nothing => {
-                        keep(entries, start, n, &values);
-                        start += LINKS;
-                        count += 1;
-                        line += 1;
-                        at = end;
-                    }
+            Ok(values) => match judge_amounts(n, &values) {
+                Found::At(reason, k) => {
+                    return refused(entries, reason, line, entry_byte(k, &values));
                 }
-            }
+                Found::Nothing => {
+                    keep(entries, start, n, &values);
+                    start += LINKS;
+                    count += 1;
+                    line += 1;
+                    at = end;
+                }
+            },
         }
     }
     if count < n {

@@ -4,14 +4,14 @@ ghost use Rattle.ring.specs.Limits.{desk};
 ghost use Rattle.ring.specs.Columns.{listed, rows_in};
 ghost use Rattle.text.specs.Shapes.{numbers_line};
 ghost use Rattle.text.specs.WriteLine.{write_line};
-ghost use Rattle.text.specs.Written.{Written};
+ghost use Rattle.text.specs.Written.{Passed, Written};
 ghost use Rattle.matrix.specs.Matrix.{write_matrix};
 ghost use Rattle.matrix.specs.Demands.{sum_of, matrix_of_rows};
 ghost use Rattle.matrix.specs.Arrays.{Amounts, values_in};
 
 use crate::sums::sum_of;
 use ring::{LINKS, ROWS, wide};
-use text::NUMBER;
+use text::{Field, Measure, Pass, Write, write_line};
 
 // The sums of line i of a matrix of n nodes.
 fn line_of(
@@ -34,65 +34,43 @@ fn line_of(
     values
 }
 
-// How many bytes a line has, of the first n fields of a shape and the first n values.
-fn part_length(n: usize, shape: &[u8], values: &[u32]) -> usize
-    requires few_nodes { n ≤ desk.nodes }
-    requires in_shape { n ≤ length shape.now }
-    requires has_values { n ≤ length values.now }
-    ensures { result ≡ length (write_line (take n shape.now) (take n values.now)) }
-{
-    text::line_length(&shape[0..n], &values[0..n])
-}
-
-// Writes it from `at` on, and answers the place behind it.
-fn write_part(buf: &mut [u8], at: usize, n: usize, shape: &[u8], values: &[u32]) -> usize
+// Writes a line of the first n fields of a shape and the first n values from `at` on, or only measures it, and answers the place behind it.
+fn write_part<P: Pass>(
+    buf: &mut [u8],
+    at: usize,
+    n: usize,
+    shape: &[Field],
+    values: &[u32],
+) -> usize
     requires in_shape { n ≤ length shape.now }
     requires has_values { n ≤ length values.now }
     requires has_room { at + length (write_line (take n shape.now) (take n values.now)) ≤
-        length buf.old }
-    ensures { Written buf.old at
+        P.room buf.old }
+    ensures { Passed P.after buf.old at
         (write_line (take n shape.now) (take n values.now)) buf.new result }
 {
-    text::write_line(buf, at, &shape[0..n], &values[0..n])
+    write_line::<P>(buf, at, &shape[0..n], &values[0..n])
 }
 
-// How many bytes the line of the first n values has.
+// The same of the line of the first n values.
+fn write_numbers<P: Pass>(buf: &mut [u8], at: usize, n: usize, values: &[u32; LINKS]) -> usize
+    requires few_nodes { n ≤ desk.nodes }
+    requires has_room { at + length (numbers_line (take n values.now)) ≤ P.room buf.old }
+    ensures { Passed P.after buf.old at (numbers_line (take n values.now)) buf.new result }
+{
+    write_part::<P>(buf, at, n, &[Field::Number; LINKS], values)
+}
+
+// How many bytes that line has.
 pub(crate) fn numbers_length(n: usize, values: &[u32; LINKS]) -> usize
     requires { n ≤ desk.nodes }
     ensures { result ≡ length (numbers_line (take n values.now)) }
 {
-    part_length(n, &[NUMBER; LINKS], values)
+    write_numbers::<Measure>(&mut [], 0, n, values)
 }
 
-// Writes it from `at` on, and answers the place behind it.
-fn write_numbers(buf: &mut [u8], at: usize, n: usize, values: &[u32; LINKS]) -> usize
-    requires few_nodes { n ≤ desk.nodes }
-    requires has_room { at + length (numbers_line (take n values.now)) ≤ length buf.old }
-    ensures { Written buf.old at (numbers_line (take n values.now)) buf.new result }
-{
-    write_part(buf, at, n, &[NUMBER; LINKS], values)
-}
-
-// How many bytes line i of the matrix of a table's rows has.
-fn sums_length(
-    i: u32,
-    n: u32,
-    count: usize,
-    first: &[u32; ROWS],
-    second: &[u32; ROWS],
-    amount: &[u32; ROWS],
-) -> usize
-    requires few_nodes { n ≤ desk.nodes }
-    requires amounts { Amounts count amount.now }
-    ensures { let rs = rows_in count first.now second.now amount.now in
-        result ≡ length (numbers_line (listed (sum_of rs i) 1 n)) }
-{
-    let n = wide(n);
-    numbers_length(n, &line_of(i, n, count, first, second, amount))
-}
-
-// Writes it from `at` on, and answers the place behind it.
-fn write_sums(
+// Writes line i of the matrix of a table's rows from `at` on, or only measures it, and answers the place behind it.
+fn write_sums<P: Pass>(
     buf: &mut [u8],
     at: usize,
     i: u32,
@@ -105,13 +83,36 @@ fn write_sums(
     requires few_nodes { n ≤ desk.nodes }
     requires amounts { Amounts count amount.now }
     requires has_room { let rs = rows_in count first.now second.now amount.now in
-        at + length (numbers_line (listed (sum_of rs i) 1 n)) ≤ length buf.old }
+        at + length (numbers_line (listed (sum_of rs i) 1 n)) ≤ P.room buf.old }
     ensures { let rs = rows_in count first.now second.now amount.now in
-        Written buf.old at (numbers_line (listed (sum_of rs i) 1 n)) buf.new result }
+        Passed P.after buf.old at (numbers_line (listed (sum_of rs i) 1 n)) buf.new result }
 {
     let nodes = wide(n);
     let values = line_of(i, nodes, count, first, second, amount);
-    write_numbers(buf, at, nodes, &values)
+    write_numbers::<P>(buf, at, nodes, &values)
+}
+
+// Writes all lines from the buffer's start on, or only measures them.
+fn write_lines<P: Pass>(
+    buf: &mut [u8],
+    n: u32,
+    count: usize,
+    first: &[u32; ROWS],
+    second: &[u32; ROWS],
+    amount: &[u32; ROWS],
+) -> usize
+    requires few_nodes { n ≤ desk.nodes }
+    requires amounts { Amounts count amount.now }
+    requires has_room { let rs = rows_in count first.now second.now amount.now in
+        length (write_matrix (matrix_of_rows n rs)) ≤ P.room buf.old }
+    ensures { let rs = rows_in count first.now second.now amount.now in
+        Passed P.after buf.old 0 (write_matrix (matrix_of_rows n rs)) buf.new result }
+{
+    let mut p: usize = 0;
+    for k in 0..n {
+        p = write_sums::<P>(buf, p, k + 1, n, count, first, second, amount);
+    }
+    p
 }
 
 // How many bytes the matrix of a table's rows has.
@@ -127,11 +128,7 @@ pub fn matrix_length<'a>(
     ensures { let rs = rows_in count first.now second.now amount.now in
         result ≡ length (write_matrix (matrix_of_rows n rs)) }
 {
-    let mut size: usize = 0;
-    for k in 0..n {
-        size += sums_length(k + 1, n, count, first, second, amount);
-    }
-    size
+    write_lines::<Measure>(&mut [], n, count, first, second, amount)
 }
 
 // Writes it at the start of a buffer that has room for it, and answers its length.
@@ -150,9 +147,5 @@ pub fn write_matrix<'a>(
     ensures { let rs = rows_in count first.now second.now amount.now in
         Written buf.old 0 (write_matrix (matrix_of_rows n rs)) buf.new result }
 {
-    let mut p: usize = 0;
-    for k in 0..n {
-        p = write_sums(buf, p, k + 1, n, count, first, second, amount);
-    }
-    p
+    write_lines::<Write>(buf, n, count, first, second, amount)
 }

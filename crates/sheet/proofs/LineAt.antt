@@ -10,7 +10,6 @@ use Rattle.ring.specs.Routing.{way_number, way_of}
 use Rattle.ring.specs.declared.types.Way.TheVariants.{Front, Back}
 use Rattle.ring.specs.Columns.{listed}
 use Rattle.ring.proofs.Listed.{listed-snoc}
-use Rattle.text.specs.Mark.{mark_byte}
 use Rattle.text.specs.Field.{spell}
 use Rattle.text.specs.WriteLine.{write_line}
 use Rattle.text.specs.Shapes.{link_shape, sent_line, link_line}
@@ -32,7 +31,7 @@ lines-listed line f k =
 
 -- a way is spelled by whether it is 0
 pub way-spelled : (i j d f b w : ℕ) → sent_line i j d f b (way_number (way_of w)) ≡ sent_line i j d f b w
-unfolding write_line spell mark_byte
+unfolding write_line spell
 way-spelled i j d f b w = go (eqb w 0) refl
   where
     go : (t : Bool) → eqb w 0 ≡ t → sent_line i j d f b (way_number (cond t Front Back)) ≡ sent_line i j d f b w

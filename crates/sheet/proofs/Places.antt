@@ -14,7 +14,6 @@ use Rattle.ring.specs.declared.types.Ring.{Ring}
 use Rattle.ring.specs.Sheet.{Sheet}
 use Rattle.ring.specs.declared.types.Link.{Link}
 use Rattle.text.specs.Field.{spell}
-use Rattle.text.specs.Mark.{mark_byte}
 use Rattle.text.specs.WriteLine.{write_line}
 use Rattle.text.specs.ReadLine.{read_line}
 use Rattle.text.specs.Answers.{two_in, three_in, sent_in}
@@ -90,7 +89,7 @@ module _ {t : List ℕ} {line : ℕ} where
 
   -- a D and a C line differ in their letter
   pub sent-or-cut : {r : Routed} {c : Cut} → SentIs t line r → CutIs t line c → ⊥
-  unfolding write_line spell mark_byte
+  unfolding write_line spell
   sent-or-cut a b = omega (arith, ap (λ l. get_or l 0 0) (line-one a.text b.text refl))
 
 -- ---- one way on

@@ -18,15 +18,16 @@ use Rattle.ring.specs.Sheet.{Sheet}
 use Rattle.ring.specs.declared.types.Link.{Link}
 use Rattle.text.specs.Number.{limit}
 use Rattle.text.specs.Answers.{three_in}
-use Rattle.text.specs.Bytes.{letter_c, letter_d, letter_l, number}
+use Rattle.text.specs.Bytes.{letter_c, letter_d, letter_l}
 use Rattle.text.specs.Field.{spell}
-use Rattle.text.specs.Mark.{mark_byte}
 use Rattle.text.specs.WriteLine.{write_line}
 use Rattle.text.specs.Shapes.{cut_shape, ring_line, sent_line, cut_line, link_line, last_line}
 use Rattle.text.specs.ReadLine.{read_line}
 use Rattle.text.specs.declared.TwoNumbers.{TwoNumbers}
 use Rattle.text.specs.declared.ThreeNumbers.{ThreeNumbers}
 use Rattle.text.specs.declared.SentRow.{SentRow}
+use Rattle.text.specs.declared.field.Field.{Field}
+use Rattle.text.specs.declared.field.Field.TheVariants.{Letter, Number}
 use Rattle.text.proofs.Apart.{clash}
 use Rattle.table.specs.Lines.{lines}
 use Rattle.table.specs.Judge.{judge_ring}
@@ -154,7 +155,7 @@ module _ (limits : Limits) (judging : Bool) (x : Sheet) where
 
 -- a C line is no D line: they differ in their letter
 cut-no-row : (g h m i j d f b w : ℕ) → cut_line g h m ≡ sent_line i j d f b w → ⊥
-unfolding write_line spell mark_byte
+unfolding write_line spell
 cut-no-row g h m i j d f b w e = let q : letter_c ≡ letter_d = ap (λ l. get_or l 0 0) e in omega arith
 
 cut-not-sent : (g h m : ℕ) {y : SentRow} → SentRead (cut_line g h m) y → (limits : Limits) (judging : Bool) (ring : Ring) (rs : List Routed) (z : ThreeNumbers)
@@ -167,23 +168,20 @@ cut-not-sent g h m (no_sent {p} misread fault) limits judging ring rs z = (p, re
 pub sent-first : (i j d f b w : ℕ) → SentSpelled i j d f b w → FirstLine (sent_line i j d f b w)
 sent-first i j d f b w h =
     written-first _ _ _
-    (more (λ e. omega arith) (more (λ e. omega arith) (more (λ e. omega arith) (more (λ e. omega arith) (more (λ e. omega arith) (more (λ e. omega arith) (more (λ e. omega arith) none)))))))
+    (more (λ e. omega arith) (more tt (more tt (more tt (more tt (more tt (more tt none)))))))
     (sent-in-range i j d f b w h)
 
-four-marks : (f : ℕ) → NoLf f → Each NoLf (f ∷ number ∷ number ∷ number ∷ [])
-four-marks f h = more h (more number-marks (more number-marks (more number-marks none)))
-  where
-    number-marks : NoLf number
-    number-marks e = omega arith
+three-numbers : (f : Field) → NoLf f → Each NoLf (f ∷ Number ∷ Number ∷ Number ∷ [])
+three-numbers f h = more h (more tt (more tt (more tt none)))
 
 pub cut-first : (g h m : ℕ) → g < limit → h < limit → m < limit → FirstLine (cut_line g h m)
-cut-first g h m a b c = written-first _ _ _ (four-marks letter_c (λ e. omega arith)) (cut-in-range g h m a b c)
+cut-first g h m a b c = written-first _ _ _ (three-numbers (Letter letter_c) (λ e. omega arith)) (cut-in-range g h m a b c)
 
 pub link-first : (k s u : ℕ) → k < limit → s < limit → u < limit → FirstLine (link_line k s u)
-link-first k s u a b c = written-first _ _ _ (four-marks letter_l (λ e. omega arith)) (link-in-range k s u a b c)
+link-first k s u a b c = written-first _ _ _ (three-numbers (Letter letter_l) (λ e. omega arith)) (link-in-range k s u a b c)
 
 pub last-first : (p z : ℕ) → p < limit → z < limit → FirstLine (last_line p z)
-last-first p z a b = written-first _ _ _ (more (λ e. omega arith) (more (λ e. omega arith) (more (λ e. omega arith) none))) (last-in-range p z a b)
+last-first p z a b = written-first _ _ _ (more (λ e. omega arith) (more tt (more tt none))) (last-in-range p z a b)
 
 module _ (limits : Limits) (judging : Bool) (x : Sheet) where
   pub rest_read : {state : State} {text : List ℕ} → Rest limits judging x state text → (line : ℕ) → check_from limits judging state line (lines text) ≡ accepted x

@@ -5,6 +5,7 @@ ghost use Rattle.text.specs.Written.{Written};
 ghost use Rattle.sheet.specs.WriteSheet.{routed_line};
 
 use ring::{BACK, FRONT, Routed, Way};
+use text::{SENT, Write, line_length, write_line};
 
 // A way as a number.
 fn way_number(way: Way) -> u32
@@ -23,14 +24,16 @@ pub(crate) fn row_length(row: Routed) -> usize
     let sent = row.sent;
     let demand = sent.row;
     let way = way_number(row.way);
-    text::sent_length(
+    let values = [
+        0,
         demand.first,
         demand.second,
         demand.amount,
         sent.front,
         sent.back,
         way,
-    )
+    ];
+    line_length(&SENT, &values)
 }
 
 // A row's line, from `at` on; answers the place behind it.
@@ -41,14 +44,14 @@ pub(crate) fn write_row(buf: &mut [u8], at: usize, row: Routed) -> usize
     let sent = row.sent;
     let demand = sent.row;
     let way = way_number(row.way);
-    text::write_sent(
-        buf,
-        at,
+    let values = [
+        0,
         demand.first,
         demand.second,
         demand.amount,
         sent.front,
         sent.back,
         way,
-    )
+    ];
+    write_line::<Write>(buf, at, &SENT, &values)
 }

@@ -7,6 +7,7 @@ use mathlib.Core.Path.{◌≡◌, refl, ap, sym, ◌∙◌, subst}
 use native.Mathlib.Omega.{arith}
 use Rattle.ring.specs.Limits.{Limits}
 use Rattle.ring.specs.declared.types.Ring.{Ring}
+use Rattle.text.specs.declared.field.Field.{Field}
 use Rattle.text.specs.FieldByte.{field_byte, ring_byte}
 use Rattle.text.specs.WriteLine.{write_line}
 use Rattle.text.proofs.LineLaws.{one-fault}
@@ -56,7 +57,7 @@ one-due one (line_faulty is f) (line_missing none) = absurd (none _ is)
 one-due {Fault = P} one (line_faulty {l} {p} is f) (line_faulty {l = m} {p = q} it g) =
     ap (λ p. p + 1) (one m p q (subst (λ s. P s p) (line-one is it refl) f) g)
 
-pub one-shape-byte : {t shape : List ℕ} {line b c : ℕ} → ShapeByte t shape line b → ShapeByte t shape line c → b ≡ c
+pub one-shape-byte : {t : List ℕ} {shape : List Field} {line b c : ℕ} → ShapeByte t shape line b → ShapeByte t shape line c → b ≡ c
 one-shape-byte x y = one-due (λ l p q f g. one-fault f g) x y
 
 one-line-byte : {t : List ℕ} {line b c : ℕ} → LineByte t line b → LineByte t line c → b ≡ c

@@ -10,7 +10,7 @@ use Rattle.ring.specs.declared.types.Row.{Row}
 use Rattle.ring.specs.Columns.{listed, column, rows_in}
 use Rattle.ring.proofs.Laid.{zeros-at}
 use Rattle.ring.proofs.Listed.{listed-shift, listed_same}
-use Rattle.text.proofs.Writing.{sets-append}
+use Rattle.text.proofs.Stored.{sets-append}
 
 module _ {A : Type 0} (f : A → ℕ) (size : ℕ) where
   pub column-length : (l : List A) → length (column f size l) ≡ size

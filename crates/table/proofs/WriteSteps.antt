@@ -4,6 +4,7 @@ use mathlib.Core.List.{List, [], ◌∷◌, ◌++◌, append_assoc, append-nil}
 use mathlib.Core.Path.{◌≡◌, refl, ap, ◌∙◌, sym}
 use native.Mathlib.Omega.{arith}
 use lib.ListN.{length, get_or, length-append}
+use Rattle.ring.specs.Limits.{desk}
 use Rattle.ring.specs.Ring.{ring_of}
 use Rattle.ring.specs.declared.types.Row.{Row}
 use Rattle.ring.specs.Columns.{listed, rows_in, row_at}
@@ -11,8 +12,8 @@ use Rattle.ring.proofs.Listed.{listed-snoc}
 use Rattle.text.specs.Shapes.{ring_shape, row_shape, ring_line, row_line}
 use Rattle.text.specs.Written.{Written}
 use Rattle.text.proofs.Lengths.{line-short}
-use Rattle.text.proofs.Writing.{written_behind, written-length}
-use Rattle.text.proofs.Pieces.{Pieces}
+use Rattle.text.proofs.Stored.{written_behind, written-length}
+use Rattle.text.proofs.Pieces.{Pieces, text-short}
 use Rattle.table.specs.Table.{write_rows, write_table}
 
 rows_more : (rs : List Row) (r : Row) → write_rows (rs ++ r ∷ []) ≡ write_rows rs ++ row_line r.first r.second r.amount
@@ -37,13 +38,13 @@ module _ (first second amount : List ℕ) where
           let e : 0 + k ≡ k = omega arith in
           ap write_rows (listed-snoc (row_at first second amount) 0 k ∙ ap (λ m. rows_in k first second amount ++ row_at first second amount m ∷ []) e) ∙ rows_more (rows_in k first second amount) (row_at first second amount k)
 
-pub row-short : (i j d size : ℕ) → size ≡ length (row_line i j d) → size ≤ 1000
-row-short i j d size e = omega (arith, line-short row_shape (0 ∷ i ∷ j ∷ d ∷ []))
-
 -- ---- R n fibres, and the rows behind it
 
-pub ring-short : (n fibres size : ℕ) → size ≡ length (ring_line n fibres) → size ≤ 100
-ring-short n fibres size e = omega (arith, line-short ring_shape (0 ∷ n ∷ fibres ∷ []))
+-- so few rows can be measured
+pub rows-placed : (n fibres count at : ℕ) (first second amount : List ℕ) → at ≡ length (ring_line n fibres) → count ≤ desk.rows
+    → at + length (write_rows (rows_in count first second amount)) ≤ 18446744073709551615
+rows-placed n fibres count at first second amount e few =
+    omega (arith, line-short ring_shape (0 ∷ n ∷ fibres ∷ []), text-short (row_line_at first second amount) (rows_text first second amount) (row-pieces first second amount) count)
 
 module _ (n fibres : ℕ) (rs : List Row) where
   whole_long : length (write_table (ring_of n fibres) rs) ≡ length (ring_line n fibres) + length (write_rows rs)

@@ -3,6 +3,7 @@ use Rattle.std.specs.Prelude.{ℕ, ◌+◌, ◌≤◌, ◌<◌, List, ◌∷◌,
 use Rattle.text.specs.Number.{limit}
 use Rattle.text.specs.FieldByte.{ring_byte, row_byte}
 use Rattle.text.specs.FirstFault.{FirstFault}
+use Rattle.text.specs.declared.field.Field.{Field}
 use Rattle.text.specs.Shapes.{ring_shape, row_shape, ring_line, row_line}
 use Rattle.ring.specs.Limits.{Limits}
 use Rattle.ring.specs.declared.types.Ring.{Ring}
@@ -144,7 +145,7 @@ pub data DueByte (t : List ℕ) (line : ℕ) (Fault : List ℕ → ℕ → Type 
   line_faulty : {l : List ℕ} {p : ℕ} → LineIs (lines t) line l → Fault l p → DueByte t line Fault (p + 1)
 
 -- where a line of this shape is due it is the first byte at which no line of the shape goes on like this
-abbrev pub ShapeByte : List ℕ → List ℕ → ℕ → ℕ → Type 0
+abbrev pub ShapeByte : List ℕ → List Field → ℕ → ℕ → Type 0
 ShapeByte t shape line = DueByte t line (FirstFault shape)
 
 -- 2: by the shape that is due

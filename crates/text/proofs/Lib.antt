@@ -16,8 +16,10 @@ pub mod LineText
 pub mod Local
 pub mod Begun
 -- what the code's steps say
-pub mod Tests
 pub mod Lengths
-pub mod NumberSteps
 pub mod Writing
+pub mod WritingLine
+pub mod ReadingLine
+pub mod Tests
+pub mod Stored
 pub mod Pieces

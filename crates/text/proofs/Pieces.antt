@@ -1,14 +1,16 @@
 -- Lines one behind the other, measured and written in a loop: what is done so far is the text of the lines before place k. Stated over any lines.
 use Prim.Native.Nat.{ℕ, zero, suc, ◌+◌, ◌-◌, ◌*◌, ◌≤◌, ◌<◌}
 use mathlib.Core.List.{List, [], ◌++◌}
-use mathlib.Core.Path.{◌≡◌, refl, ap, ◌∙◌}
+use mathlib.Core.Path.{◌≡◌, ap, ◌∙◌, sym}
 use native.Mathlib.Nat.{le_refl}
 use native.Mathlib.Omega.{arith}
 use lib.ListN.{length, length-append}
 use mir.Syntax.{w64}
 use mir.Val.{Fits}
-use Rattle.text.specs.Written.{Written}
-use Rattle.text.proofs.Writing.{written_behind, written-length}
+use Rattle.text.specs.Pass.{Passes, stored}
+use Rattle.text.specs.Written.{Passed, Written}
+use Rattle.text.specs.Passes.{writes}
+use Rattle.text.proofs.Writing.{written_behind as passed_behind, room-kept}
 
 -- `text k` is the lines at the places before k, each of at most 1,000 bytes
 pub record Pieces (line text : ℕ → List ℕ) : Type 0 where
@@ -60,28 +62,48 @@ text-short line text pieces (suc k) =
     let e : suc k ≡ k + 1 = omega arith in
     rw e (omega (arith, text-short line text pieces k, more-long line text pieces k, pieces.short k))
 
--- ---- writing: the lines before place k stand in the buffer from `at` on, and the next goes to the place p
+-- ---- measured or written: the lines before place k are behind a pass from `at` on, and the next goes to the place p
 
-pub record WritingLines (line text : ℕ → List ℕ) (count at : ℕ) (old buf : List ℕ) (k p : ℕ) : Type 0 where
+pub record PassingLines (room : List ℕ → ℕ) (after : List ℕ → ℕ → List ℕ → List ℕ) (line text : ℕ → List ℕ) (count at : ℕ) (old buf : List ℕ) (k p : ℕ) : Type 0 where
   pub pieces : Pieces line text
-  pub written : Written old at (text k) buf p
+  pub passed : Passed after old at (text k) buf p
   pub within : k ≤ count
-  pub room : at + length (text count) ≤ length old
+  pub fits : at + length (text count) ≤ room old
+
+module _ {room : List ℕ → ℕ} {after : List ℕ → ℕ → List ℕ → List ℕ} (pass : Passes room after) (line text : ℕ → List ℕ) where
+  pub passing-starts : Pieces line text → (count at : ℕ) (old : List ℕ) → at + length (text count) ≤ room old → PassingLines room after line text count at old old 0 at
+  passing-starts pieces count at old fits =
+      let e = pieces.none in
+      record { pieces = pieces; passed = rw e (record { place = omega arith; buffer = sym (pass.nothing old at) }); within = omega arith; fits = fits }
+
+  module _ (count at : ℕ) (old buf : List ℕ) (k p : ℕ) (passing : PassingLines room after line text count at old buf k p) where
+    module _ (l : k < count) where
+      pub line-room : p + length (line k) ≤ room buf
+      line-room = omega (arith, passing.passed.place, passing.fits, line-fits line text passing.pieces k count l, room-kept pass old buf (text k) at p passing.passed)
+
+      pub passes-line : (new : List ℕ) (q : ℕ) → Passed after buf p (line k) new q → PassingLines room after line text count at old new (k + 1) q
+      passes-line new q w =
+          let e = passing.pieces.more k in
+          record { pieces = passing.pieces; passed = rw e (passed_behind pass old buf new (text k) (line k) at p q passing.passed w); within = omega arith; fits = passing.fits }
+
+    pub lines-passed : count ≤ k → Passed after old at (text count) buf p
+    lines-passed h = let e : count ≡ k = omega (arith, passing.within) in rw e passing.passed
+
+-- ---- written: the same at the pass that stores
+
+abbrev pub WritingLines : (ℕ → List ℕ) → (ℕ → List ℕ) → ℕ → ℕ → List ℕ → List ℕ → ℕ → ℕ → Type 0
+WritingLines = PassingLines length stored
 
 pub writing-lines-start : (line text : ℕ → List ℕ) → Pieces line text → (count at : ℕ) (old : List ℕ) → at + length (text count) ≤ length old → WritingLines line text count at old old 0 at
-writing-lines-start line text pieces count at old room =
-    let e = pieces.none in
-    record { pieces = pieces; written = rw e (record { place = omega arith; buffer = refl }); within = omega arith; room = room }
+writing-lines-start = passing-starts writes
 
 module _ (line text : ℕ → List ℕ) (count at : ℕ) (old buf : List ℕ) (k p : ℕ) (writing : WritingLines line text count at old buf k p) where
   pub lines-keep-length : length buf ≡ length old
-  lines-keep-length = written-length old buf (text k) at p writing.written
+  lines-keep-length = room-kept writes old buf (text k) at p writing.passed
 
   module _ (l : k < count) where
     pub line-has-room : p + length (line k) ≤ length buf
-    line-has-room = omega (arith, writing.written.place, writing.room, line-fits line text writing.pieces k count l, lines-keep-length)
+    line-has-room = line-room writes line text count at old buf k p writing l
 
     pub writes_line : (new : List ℕ) (q : ℕ) → Written buf p (line k) new q → WritingLines line text count at old new (k + 1) q
-    writes_line new q w =
-        let e = writing.pieces.more k in
-        record { pieces = writing.pieces; written = rw e (written_behind old buf new (text k) (line k) at p q writing.written w); within = omega arith; room = writing.room }
+    writes_line = passes-line writes line text count at old buf k p writing l

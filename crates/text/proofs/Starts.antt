@@ -7,13 +7,24 @@ use native.Mathlib.Omega.{arith}
 use lib.ListN.{length, take, drop, length-append, length-take}
 use mir.Val.{Fits}
 use mir.Syntax.{w32}
+use Rattle.text.specs.declared.field.Field.{Field}
 use Rattle.text.specs.WriteLine.{end_of, write_line}
 use Rattle.text.specs.Field.{spell}
+use Rattle.text.specs.Pass.{kept}
+use Rattle.text.specs.Written.{Passed}
 use Rattle.text.specs.FieldByte.{field_byte, row_byte, sent_byte}
 use Rattle.text.proofs.Lengths.{line-short}
 
--- the code's steps
-module _ (shape values : List ℕ) (k r : ℕ) (is : r ≡ length (write_line (take k shape) values)) where
+-- the code's steps: a line is measured ..
+module _ (shape : List Field) (values : List ℕ) where
+  pub line-placed : length shape ≤ 1000 → 0 + length (write_line shape values) ≤ 18446744073709551615
+  line-placed short = omega (arith, line-short shape values)
+
+  pub line-measured : (new : List ℕ) (r : ℕ) → Passed kept [] 0 (write_line shape values) new r → r ≡ length (write_line shape values)
+  line-measured new r w = omega (arith, w.place)
+
+-- .. and one more than the fields before it is a field's byte
+module _ (shape : List Field) (values : List ℕ) (k r : ℕ) (is : r ≡ length (write_line (take k shape) values)) where
   pub before-fits : length shape ≤ 1000 → Fits w32 r
   before-fits h = omega (arith, line-short (take k shape) values, length-take k shape)
 
@@ -35,7 +46,7 @@ skip : (p q : List ℕ) (n : ℕ) → drop (length p + n) (p ++ q) ≡ drop n q
 skip [] q n = let e : 0 + n ≡ n = omega arith in ap (λ (m : ℕ). drop m q) e
 skip (x ∷ p) q n = let e : length (x ∷ p) + n ≡ suc (length p + n) = omega arith in rw e (skip p q n)
 
-behind : (fs vs : List ℕ) (k : ℕ) → k ≤ length fs → length fs ≤ length vs → drop (length (write_line (take k fs) vs)) (write_line fs vs) ≡ write_line (drop k fs) (drop k vs)
+behind : (fs : List Field) (vs : List ℕ) (k : ℕ) → k ≤ length fs → length fs ≤ length vs → drop (length (write_line (take k fs) vs)) (write_line fs vs) ≡ write_line (drop k fs) (drop k vs)
 unfolding write_line
 behind fs vs zero a b = refl
 behind [] vs (suc k) a b = absurd (omega arith)
@@ -46,9 +57,29 @@ behind (f ∷ fs) (v ∷ vs) (suc k) a b =
     length-append (spell f v) (end_of (length (take k fs)) ∷ write_line (take k fs) vs) in
     rw e (skip (spell f v) rest (suc (length (write_line (take k fs) vs))) ∙ behind fs vs k (omega arith) (omega arith))
 
-pub from_byte : (shape vs : List ℕ) (k : ℕ) → k ≤ length shape → length shape ≤ length vs
+pub from_byte : (shape : List Field) (vs : List ℕ) (k : ℕ) → k ≤ length shape → length shape ≤ length vs
     → drop (field_byte shape vs k - 1) (write_line shape vs) ≡ write_line (drop k shape) (drop k vs)
 unfolding field_byte
 from_byte shape vs k a b =
     let e : length (write_line (take k shape) vs) + 1 - 1 ≡ length (write_line (take k shape) vs) = omega arith in
     rw e (behind shape vs k a b)
+
+-- a field further right starts no earlier
+
+more-before : (shape : List Field) (vs : List ℕ) (k m : ℕ) → k ≤ m → length (write_line (take k shape) vs) ≤ length (write_line (take m shape) vs)
+unfolding write_line
+more-before shape vs zero m h = omega arith
+more-before shape vs (suc k) zero h = absurd (omega arith)
+more-before [] vs (suc k) (suc m) h = omega arith
+more-before (f ∷ fs) [] (suc k) (suc m) h = omega arith
+more-before (f ∷ fs) (v ∷ vs) (suc k) (suc m) h =
+    omega (
+      arith,
+      more-before fs vs k m (omega arith),
+      length-append (spell f v) (end_of (length (take k fs)) ∷ write_line (take k fs) vs),
+      length-append (spell f v) (end_of (length (take m fs)) ∷ write_line (take m fs) vs),
+    )
+
+pub byte-rises : (shape : List Field) (vs : List ℕ) (k m : ℕ) → k ≤ m → field_byte shape vs k ≤ field_byte shape vs m
+unfolding field_byte
+byte-rises shape vs k m h = omega (arith, more-before shape vs k m h)

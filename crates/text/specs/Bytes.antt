@@ -46,13 +46,3 @@ letter_f = 70
 -- B: a row that goes back
 abbrev pub letter_b : ℕ
 letter_b = 66
-
--- ---- what stands in a shape for a field that is no letter
-
--- n: a number
-abbrev pub number : ℕ
-number = 110
-
--- w: a way, F or B
-abbrev pub way : ℕ
-way = 119

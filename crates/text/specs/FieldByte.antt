@@ -2,9 +2,10 @@
 use Rattle.std.specs.Prelude.{ℕ, ◌+◌, List, [], ◌∷◌, length, take}
 use Rattle.text.specs.Shapes.{ring_shape, row_shape, sent_shape}
 use Rattle.text.specs.WriteLine.{write_line}
+use Rattle.text.specs.declared.field.Field.{Field}
 
 -- k fields stand before the field; each is written with the byte behind it
-unfoldable pub field_byte : List ℕ → List ℕ → ℕ → ℕ
+unfoldable pub field_byte : List Field → List ℕ → ℕ → ℕ
 field_byte shape vs k = length (write_line (take k shape) vs) + 1
 
 -- in the line R n fibres; the letter is field 0

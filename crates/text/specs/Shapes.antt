@@ -1,35 +1,37 @@
 -- To believe: the six lines of a table and a sheet, and a line of numbers (Rules, the grammar): shape and text.
 use Rattle.std.specs.Prelude.{ℕ, List, [], ◌∷◌, length, replicate}
-use Rattle.text.specs.Bytes.{letter_r, letter_d, letter_c, letter_l, letter_z, number, way}
+use Rattle.text.specs.Bytes.{letter_r, letter_d, letter_c, letter_l, letter_z}
 use Rattle.text.specs.WriteLine.{write_line}
+use Rattle.text.specs.declared.field.Field.{Field}
+use Rattle.text.specs.declared.field.Field.TheVariants.{Letter, Number, Way}
 
 -- R n fibres
-abbrev pub ring_shape : List ℕ
-ring_shape = letter_r ∷ number ∷ number ∷ []
+abbrev pub ring_shape : List Field
+ring_shape = Letter letter_r ∷ Number ∷ Number ∷ []
 
 -- D i j amount, in a table
-abbrev pub row_shape : List ℕ
-row_shape = letter_d ∷ number ∷ number ∷ number ∷ []
+abbrev pub row_shape : List Field
+row_shape = Letter letter_d ∷ Number ∷ Number ∷ Number ∷ []
 
 -- D i j amount front back F-or-B, in a sheet
-abbrev pub sent_shape : List ℕ
-sent_shape = letter_d ∷ number ∷ number ∷ number ∷ number ∷ number ∷ way ∷ []
+abbrev pub sent_shape : List Field
+sent_shape = Letter letter_d ∷ Number ∷ Number ∷ Number ∷ Number ∷ Number ∷ Way ∷ []
 
 -- C g h across
-abbrev pub cut_shape : List ℕ
-cut_shape = letter_c ∷ number ∷ number ∷ number ∷ []
+abbrev pub cut_shape : List Field
+cut_shape = Letter letter_c ∷ Number ∷ Number ∷ Number ∷ []
 
 -- L link split-load unsplit-load
-abbrev pub link_shape : List ℕ
-link_shape = letter_l ∷ number ∷ number ∷ number ∷ []
+abbrev pub link_shape : List Field
+link_shape = Letter letter_l ∷ Number ∷ Number ∷ Number ∷ []
 
 -- Z unsplit-peak size
-abbrev pub last_shape : List ℕ
-last_shape = letter_z ∷ number ∷ number ∷ []
+abbrev pub last_shape : List Field
+last_shape = Letter letter_z ∷ Number ∷ Number ∷ []
 
 -- a line of n numbers and no letter, in a matrix
-abbrev pub numbers : ℕ → List ℕ
-numbers n = replicate n number
+abbrev pub numbers : ℕ → List Field
+numbers n = replicate n Number
 
 -- ---- their texts: the letter is the first field, and its value is 0
 

@@ -1,8 +1,12 @@
--- Internal: what a writer does to a buffer.
+-- To believe: what a writer does to a buffer, by what a pass leaves of the buffer behind a text that begins at a place.
 use Rattle.std.specs.Prelude.{ℕ, ◌+◌, ◌≡◌, List, length}
-use Rattle.std.proofs.lemmas.List.Edits.{sets}
+use Rattle.text.specs.Pass.{stored}
 
--- the text stands in the buffer from `at` on, the other bytes stay as they were, and the result is the place behind the text
-pub record Written (old : List ℕ) (at : ℕ) (text new : List ℕ) (result : ℕ) : Type 0 where
+-- the buffer is left behind the text that begins at `at`, and the result is the place behind the text
+pub record Passed (after : List ℕ → ℕ → List ℕ → List ℕ) (old : List ℕ) (at : ℕ) (text new : List ℕ) (result : ℕ) : Type 0 where
   pub place : result ≡ at + length text
-  pub buffer : new ≡ sets old at text
+  pub buffer : new ≡ after old at text
+
+-- the text stands in the buffer from `at` on, and the other bytes stay as they were
+abbrev pub Written : List ℕ → ℕ → List ℕ → List ℕ → ℕ → Type 0
+Written = Passed stored

@@ -1,64 +1,57 @@
-// One field of a line, a number or a mark, and the byte behind it.
+//! One field of a line, and the byte behind it.
 ghost use Rattle.std.specs.Prelude.{◌≡◌, [], ◌∷◌, ◌++◌, ◌+◌, ◌≤◌, length};
 ghost use Rattle.text.specs.Field.{spell};
 ghost use Rattle.text.specs.ReadLine.{field_at};
-ghost use Rattle.text.specs.Written.{Written};
+ghost use Rattle.text.specs.Written.{Passed};
 
-use crate::mark::{mark_byte, read_mark};
-use crate::number::{number_length, read_number, write_number};
+use crate::mark::{FRONT, read_mark};
+use crate::number::{read_number, write_number};
+use crate::pass::Pass;
 
-// What a shape names a field by, where it is no letter.
-pub const NUMBER: u8 = b'n';
-
-pub(crate) const WAY: u8 = b'w';
-
-// A field that was read: its value and the place behind it and its end; or the place of the faulty byte.
-#[derive(Drop)]
+/// What stands in a field: one certain letter, a number, or a way, F or B.
+#[derive(Clone, Copy, Debug, PartialEq, Eq)]
 pub enum Field {
-    Is(u32, usize),
-    Bad(usize),
+    Letter(u8),
+    Number,
+    Way,
 }
 
-// Reads the field f at `at` and the byte `end` behind it.
+/// Reads the field at a place, and the byte `end` behind it: its value and the place behind that byte; or the place of the first faulty byte.
 #[tactic(auto, unfolding(crate::specs::ReadLine::field_at))]
-pub(crate) fn read_field(s: &[u8], at: usize, f: u8, end: u8) -> Field
-    ensures { result ≡ field_at f s.now at end }
+pub fn read_field(text: &[u8], at: usize, field: Field, end: u8) -> Result<(u32, usize), usize>
+    ensures { result ≡ field_at field text.now at end }
 {
-    if f == NUMBER {
-        read_number(s, at, end)
-    } else {
-        read_mark(s, at, f, end)
+    match field {
+        Field::Number => read_number(text, at, end),
+        _ => read_mark(text, at, field, end),
     }
 }
 
-// How many bytes the value v of the field f has.
+/// Writes a value of the field from a place on, and answers the place behind it.
 #[tactic(auto, unfolding(crate::specs::Field::spell))]
-pub(crate) fn value_length(f: u8, v: u32) -> usize
-    ensures { result ≡ length (spell f v) }
+fn write_value<P: Pass>(buffer: &mut [u8], at: usize, field: Field, value: u32) -> usize
+    requires { at + length (spell field value) ≤ P.room buffer.old }
+    ensures { Passed P.after buffer.old at (spell field value) buffer.new result }
 {
-    if f == NUMBER { number_length(v) } else { 1 }
-}
-
-// Writes the value v of the field f from `at` on, and answers the place behind it.
-#[tactic(auto, unfolding(crate::specs::Field::spell))]
-fn write_value(buf: &mut [u8], at: usize, f: u8, v: u32) -> usize
-    requires { at + length (spell f v) ≤ length buf.old }
-    ensures { Written buf.old at (spell f v) buf.new result }
-{
-    if f == NUMBER {
-        write_number(buf, at, v)
-    } else {
-        buf[at] = mark_byte(f, v);
-        at + 1
+    match field {
+        Field::Letter(letter) => P::put(buffer, at, letter),
+        Field::Number => write_number::<P>(buffer, at, value),
+        Field::Way if value == FRONT => P::put(buffer, at, b'F'),
+        Field::Way => P::put(buffer, at, b'B'),
     }
 }
 
-// The same, with the byte `end` behind it.
-pub(crate) fn write_field(buf: &mut [u8], at: usize, f: u8, v: u32, end: u8) -> usize
-    requires { at + length (spell f v) + 1 ≤ length buf.old }
-    ensures { Written buf.old at (spell f v ++ end ∷ []) buf.new result }
+/// The same, with the byte `end` behind it.
+pub(crate) fn write_field<P: Pass>(
+    buffer: &mut [u8],
+    at: usize,
+    field: Field,
+    value: u32,
+    end: u8,
+) -> usize
+    requires { at + length (spell field value) + 1 ≤ P.room buffer.old }
+    ensures { Passed P.after buffer.old at (spell field value ++ end ∷ []) buffer.new result }
 {
-    let p = write_value(buf, at, f, v);
-    buf[p] = end;
-    p + 1
+    let next = write_value::<P>(buffer, at, field, value);
+    P::put(buffer, next, end)
 }

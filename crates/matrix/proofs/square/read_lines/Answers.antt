@@ -12,8 +12,8 @@ returns-then-n-count c = search (rules, left_over)
 pub byte_at-requires : goal.byte_at-requires
 byte_at-requires c = search line-place
 
-pub returns-in-Bad : goal.returns-in-Bad
-returns-in-Bad c = let due : c.loop-at.count < c.args.n = omega arith in search line-misshapen
+pub returns-in-Err : goal.returns-in-Err
+returns-in-Err c = let due : c.loop-at.count < c.args.n = omega arith in search line-misshapen
 
 pub entry_byte-requires : goal.entry_byte-requires
 entry_byte-requires c = search (rules, amount-place)

@@ -1,7 +1,6 @@
--- The length of a matrix: the lines before place k are counted (`Measuring`).
-use Rattle.text.proofs.Pieces.{measuring-starts}
-use Rattle.matrix.proofs.WriteSteps.{matrix-pieces}
+-- A matrix of few lines can be measured.
+use Rattle.matrix.proofs.WriteSteps.{matrix-placed}
 use Rattle.matrix.proofs.write.matrix_length.Goals as goal
 
-pub loop-k-init : goal.loop-k-init
-loop-k-init c = search (measuring-starts, matrix-pieces)
+pub write_lines-requires-clause-has_room : goal.write_lines-requires-clause-has_room
+write_lines-requires-clause-has_room c = matrix-placed _ _ c.requires.few_nodes

@@ -1,10 +1,9 @@
--- `text::line::line_length` meets its contract: no line is long.
-use Rattle.text.proofs.Lengths.{field-fits, sum_fits}
-use Rattle.std.proofs.Common.{rules}
+-- A line that is written to no buffer is measured.
+use Rattle.text.proofs.Starts.{line-placed, line-measured}
 use Rattle.text.proofs.line.line_length.Goals as goal
 
-pub overflow_add-sum : goal.overflow_add-sum
-overflow_add-sum c = search (field-fits, rules)
+pub write_line-requires-clause-room : goal.write_line-requires-clause-room
+write_line-requires-clause-room c = search line-placed
 
-pub overflow_add-sum-in-loop-t : goal.overflow_add-sum-in-loop-t
-overflow_add-sum-in-loop-t c = search (sum_fits, rules)
+pub returns : goal.returns
+returns c = search line-measured

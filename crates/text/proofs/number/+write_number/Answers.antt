@@ -1,22 +1,19 @@
--- `text::number::write_number` meets its contract: one digit is written by itself, and the last of several behind those of n / BASE.
+-- One digit is written by itself, and the last of several behind those of n / BASE.
 use Rattle.std.proofs.Common.{arith}
-use Rattle.text.proofs.Writing.{one-fits, one-digit, rest-fits, last_fits, last-fits-next, last-digit}
+use Rattle.text.proofs.Writing.{one-fits, one-digit, digits-fit, last-fits, last-digit}
 use Rattle.text.proofs.number.+write_number.Goals as goal
 
-pub bounds-buf-at : goal.bounds-buf-at
-bounds-buf-at t c = search one-fits
+pub put-requires : goal.put-requires
+put-requires g t c = one-fits g.met.P.Pass.laws _ _ _ c.if-n-lt-MORE.true c.requires
 
-pub returns-then-n-lt-BASE : goal.returns-then-n-lt-BASE
-returns-then-n-lt-BASE t c = search one-digit
+pub returns-then-n-lt-MORE : goal.returns-then-n-lt-MORE
+returns-then-n-lt-MORE g t c = one-digit g.met.P.Pass.laws _ _ _ _ _ c.if-n-lt-MORE.true c.put.ensures
 
-pub write_number-p-requires : goal.write_number-p-requires
-write_number-p-requires t c = (omega arith, search rest-fits)
+pub write_number-next-requires : goal.write_number-next-requires
+write_number-next-requires g t c κs within = (omega arith, (within, digits-fit g.met.P.Pass.laws _ _ _ c.if-n-lt-MORE.false (omega arith) c.requires))
 
-pub bounds-buf-p : goal.bounds-buf-p
-bounds-buf-p t c = search last_fits
-
-pub overflow_add-result-2 : goal.overflow_add-result-2
-overflow_add-result-2 t c = search last-fits-next
+pub put-requires-2 : goal.put-requires-2
+put-requires-2 g t c = last-fits g.met.P.Pass.laws _ _ _ c.if-n-lt-MORE.false (omega arith) c.requires _ _ c.write_number-next.ensures
 
 pub returns : goal.returns
-returns t c = search last-digit
+returns g t c = last-digit g.met.P.Pass.laws _ _ _ c.if-n-lt-MORE.false (omega arith) c.requires _ _ c.write_number-next.ensures _ _ c.put-2.ensures
