@@ -1,4 +1,4 @@
--- To believe: what a writer does to a buffer, by what a pass leaves of the buffer behind a text that begins at a place.
+-- Internal: what a writer does to a buffer, by what a pass leaves of the buffer behind a text that begins at a place.
 use Rattle.std.specs.Prelude.{ℕ, ◌+◌, ◌≡◌, List, length}
 use Rattle.text.specs.Pass.{stored}
 

@@ -3,11 +3,11 @@ use Rattle.std.proofs.Common.{arith}
 use Rattle.text.proofs.Writing.{one-fits, one-digit, digits-fit, last-fits, last-digit}
 use Rattle.text.proofs.number.+write_number.Goals as goal
 
-pub put-requires : goal.put-requires
-put-requires g t c = one-fits g.met.P.Pass.laws _ _ _ c.if-n-lt-MORE.true c.requires
-
 pub returns-then-n-lt-MORE : goal.returns-then-n-lt-MORE
 returns-then-n-lt-MORE g t c = one-digit g.met.P.Pass.laws _ _ _ _ _ c.if-n-lt-MORE.true c.put.ensures
+
+pub put-requires : goal.put-requires
+put-requires g t c = one-fits g.met.P.Pass.laws _ _ _ c.if-n-lt-MORE.true c.requires
 
 pub write_number-next-requires : goal.write_number-next-requires
 write_number-next-requires g t c κs within = (omega arith, (within, digits-fit g.met.P.Pass.laws _ _ _ c.if-n-lt-MORE.false (omega arith) c.requires))
