@@ -8,7 +8,7 @@ use Rattle.ring.specs.Routing.{way_number}
 use Rattle.text.specs.Shapes.{sent_shape}
 use Rattle.text.specs.Written.{Written}
 use Rattle.text.proofs.Lengths.{line-short}
-use Rattle.text.proofs.Writing.{written_behind, written-length}
+use Rattle.text.proofs.Stored.{written_behind, written-length}
 use Rattle.sheet.specs.WriteSheet.{routed_line, lines_of}
 use Rattle.sheet.proofs.LineAt.{lines_more}
 
