@@ -8,6 +8,6 @@ mod pair; // the first parallel split pair
 mod rows; // the D lines
 mod values; // what a text is read to
 
-pub use check::{Answer, check_sheet};
+pub use check::check_sheet;
 pub use pair::{Pair, first_pair};
 pub use values::{SheetValues, no_values};

@@ -18,9 +18,10 @@ use Rattle.ring.proofs.OurPlan.{plan-true, plan-demands}
 use Rattle.table.specs.Table.{InRange}
 use Rattle.table.specs.ReadTable.{table_of}
 use Rattle.table.specs.Arrays.{beside, table_in}
-use Rattle.table.specs.declared.reason.Reason.{Reason}
-use Rattle.table.specs.declared.read.Answer.{Answer}
-use Rattle.table.specs.declared.read.Answer.TheVariants.{Is, Refused}
+use Rattle.std.specs.Prelude.{Ok, Err}
+use Rattle.table.specs.Answer.{Answer}
+use Rattle.table.specs.declared.read.Counted.{Counted}
+use Rattle.table.specs.declared.reason.Refusal.{Refusal}
 use Rattle.table.proofs.TableText.{desk-spelled, table-text}
 use Rattle.table.proofs.Told.{Told, told-table, told-refusal}
 use Rattle.router.specs.Rows as router
@@ -72,30 +73,30 @@ module _ (n fibres count : ℕ) (first second amount : List ℕ) (table : router
 -- ---- a table that was read
 
 module _ (s old : List ℕ) (answer : Answer) (first second amount : List ℕ) (e : beside answer first second amount ≡ table_in (table_of desk s)) where
-  pub route-refused : (reason : Reason) (line byte : ℕ) (r : Reply) → answer ≡ Refused reason line byte → r ≡ reply_of (refuse reason line byte) → Fills (table_routed s) old old r
+  pub route-refused : (x : Refusal) (r : Reply) → answer ≡ Err x → r ≡ reply_of (refuse x.reason x.line x.byte) → Fills (table_routed s) old old r
   unfolding table_routed of_table
-  route-refused reason line byte r a = refuses (table_routed s) old reason line byte r (rw (told-refusal s _ e reason line byte a))
+  route-refused x r a = refuses (table_routed s) old x.reason x.line x.byte r (rw (told-refusal s _ e x.reason x.line x.byte a))
 
-  module _ (n fibres count : ℕ) (a : answer ≡ Is n fibres count) where
-    told : Told s n fibres count first second amount
-    told = told-table s _ e n fibres count a
+  module _ (y : Counted) (a : answer ≡ Ok y) where
+    told : Told s y.ring.nodes y.ring.fibres y.count first second amount
+    told = told-table s _ e y.ring.nodes y.ring.fibres y.count a
 
-    range : InRange desk (ring_of n fibres) (rows_in count first second amount)
-    range = ((table-text desk desk-spelled s (ring_of n fibres) (rows_in count first second amount)).0 told.is).1
+    range : InRange desk (ring_of y.ring.nodes y.ring.fibres) (rows_in y.count first second amount)
+    range = ((table-text desk desk-spelled s (ring_of y.ring.nodes y.ring.fibres) (rows_in y.count first second amount)).0 told.is).1
 
-    pub router-takes : router.Table n count first second amount
+    pub router-takes : router.Table y.ring.nodes y.count first second amount
     router-takes =
         record {
           two = range.few;
           links = range.many;
           few = told.room;
-          nodes = λ k l. each_at (OnRing n) (row_at first second amount) 0 count range.rows.nodes k (omega arith) (omega arith);
-          small = λ k l. each_at (λ r. r.amount ≤ desk.amount) (row_at first second amount) 0 count range.amounts k (omega arith) (omega arith);
+          nodes = λ k l. each_at (OnRing y.ring.nodes) (row_at first second amount) 0 y.count range.rows.nodes k (omega arith) (omega arith);
+          small = λ k l. each_at (λ r. r.amount ≤ desk.amount) (row_at first second amount) 0 y.count range.amounts k (omega arith) (omega arith);
         }
 
-    pub rows-rise : TableRows n (rows_in count first second amount)
+    pub rows-rise : TableRows y.ring.nodes (rows_in y.count first second amount)
     rows-rise = range.rows
 
-    pub route-fills : (new : List ℕ) (r : Reply) → Fills (write (write_sheet (plan (ring_of n fibres) (rows_in count first second amount)))) old new r → Fills (table_routed s) old new r
+    pub route-fills : (new : List ℕ) (r : Reply) → Fills (write (write_sheet (plan (ring_of y.ring.nodes y.ring.fibres) (rows_in y.count first second amount)))) old new r → Fills (table_routed s) old new r
     unfolding table_routed of_table
     route-fills new r = same-fills old new r (rw told.is)

@@ -8,8 +8,8 @@ put_route-requires-clause-table c = search router-takes
 pub put_route-requires-clause-table_rows : goal.put_route-requires-clause-table_rows
 put_route-requires-clause-table_rows c = search rows-rise
 
-pub returns-in-Refused : goal.returns-in-Refused
-returns-in-Refused c = search (route-refused, route-fills)
+pub returns-in-Err : goal.returns-in-Err
+returns-in-Err c = search (route-refused, route-fills)
 
-pub returns-in-Is : goal.returns-in-Is
-returns-in-Is c = search route-fills
+pub returns-in-Ok : goal.returns-in-Ok
+returns-in-Ok c = search route-fills
