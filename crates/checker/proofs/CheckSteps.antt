@@ -51,11 +51,9 @@ use Rattle.sheet.specs.Verdicts.{cut_verdict}
 use Rattle.checker.specs.Parts.{NextEnds, cut_from, Columns, RowsMean, rows_at, rows_refused, RowsRead, Weighed, StepMeans, steps_on, step_refused, TailRead, sheet_with, ended, EndMeans, ends_with, end_refused, EndRead, WeighedRead}
 use Rattle.sheet.specs.declared.Figures.{Figures}
 use Rattle.checker.specs.declared.values.SheetValues.{SheetValues}
-use Rattle.checker.specs.declared.check.Answer.TheVariants.{Is}
-use Rattle.checker.specs.declared.ending.Step.{Step}
-use Rattle.checker.specs.declared.ending.Step.TheVariants.{On, Refused as StepRefused}
+use Rattle.table.specs.declared.reason.Refusal.{Refusal}
+use Rattle.checker.specs.Answer.{Step, refusal_of, refusing, RowsStep, ends_at}
 use Rattle.checker.specs.declared.row_lines.RowsEnd.{RowsEnd}
-use Rattle.checker.specs.declared.row_lines.RowsEnd.TheVariants.{At, Refused as RowsRefused}
 use Rattle.sheet.proofs.Back.{numbers-length}
 use Rattle.checker.proofs.NextLine.{next-line, next-rest, step-at}
 
@@ -93,11 +91,11 @@ module _ (s : List ℕ) (at line n fibres : ℕ) (rs : List Routed) (g h number 
 
       go : (u : Step) → StepMeans s result (λ p. accepted (sheet_with (ring_of n fibres) rs (cut_of g h number) w.split w.unsplit w.peak size)) u →
           EndMeans (ring_of n fibres) rs result old (ended old (record { ring = ring_of n fibres; cut = cut_of g h number; peak = w.peak; size = size }) w.split w.unsplit) u
-      go (On p) (steps_on l e) =
+      go (Ok p) (steps_on l e) =
           ends_with {at = p} (cut_of g h number) w.peak size w.split w.unsplit e refl
           (loads-column n many (split_load (sents rs)) w.split w.split w.unsplit (λ (l : Link). l.split) weights.splits (λ k. refl))
           (loads-column n many (unsplit_load rs) w.unsplit w.split w.unsplit (λ (l : Link). l.unsplit) weights.unsplits (λ k. refl))
-      go (StepRefused reason place byte) (step_refused e) = end_refused {reason = reason} {line = place} {byte = byte} e
+      go (Err x) (step_refused {reason} {line = place} {byte} e) = end_refused {reason = reason} {line = place} {byte = byte} e
 
 -- ---- from the C line on
 
@@ -119,7 +117,7 @@ module _ (count : ℕ) (v : SheetValues) where
         let b = next-rest s at to ends in
         rw (ex, a, b)
 
-    pub no-cut-line : (p far byte : ℕ) (new : SheetValues) → x ≡ NotThree p → far ≡ max no_row p → byte ≡ far + 1 → EndRead s at line no_row (ring_of n fibres) count v new (StepRefused Misshapen line byte)
+    pub no-cut-line : (p far byte : ℕ) (new : SheetValues) → x ≡ NotThree p → far ≡ max no_row p → byte ≡ far + 1 → EndRead s at line no_row (ring_of n fibres) count v new (refusing Misshapen line byte)
     unfolding cut_turn after
     no-cut-line p far byte new q f b = end_refused {reason = Misshapen} {line = line} {byte = byte} (cut-led ∙ rw (q, b, f))
 
@@ -128,7 +126,7 @@ module _ (count : ℕ) (v : SheetValues) where
       unfolding judge_cut
       cut_judged = let d = demands-in in sym (ef ∙ rw (← d))
 
-      pub cut-fault : (reason : Reason) (new : SheetValues) → found ≡ Err reason → EndRead s at line no_row (ring_of n fibres) count v new (StepRefused reason line 1)
+      pub cut-fault : (reason : Reason) (new : SheetValues) → found ≡ Err reason → EndRead s at line no_row (ring_of n fibres) count v new (refusing reason line 1)
       unfolding cut_turn unless after when
       cut-fault reason new q = end_refused {reason = reason} {line = line} {byte = 1} (cut-led ∙ rw (is, cut_judged ∙ q))
 
@@ -144,14 +142,12 @@ module _ (count : ℕ) (v : SheetValues) where
 abbrev from_rows : List ℕ → Ring → ℕ → Result
 from_rows s ring from = check_from desk true (rows ring []) 2 (lines (drop from s))
 
-rows-stopped : {s : List ℕ} {ring : Ring} {result : Result} {v : SheetValues} {end : RowsEnd} {reason : Reason} {line byte : ℕ} →
-    RowsMean s ring result v end → end ≡ RowsRefused reason line byte → result ≡ refused reason line byte
+rows-stopped : {s : List ℕ} {ring : Ring} {result : Result} {v : SheetValues} {end : RowsStep} {x : Refusal} →
+    RowsMean s ring result v end → end ≡ Err x → result ≡ refused x.reason x.line x.byte
 rows-stopped (rows_at rs c e w o l t h) q = clash (cc)
-rows-stopped {reason = reason} {line = line} {byte = byte} (rows_refused {reason = a} {line = b} {byte = d} e) q =
-    let ea : a ≡ reason = cc in
-    let eb : b ≡ line = cc in
-    let ed : d ≡ byte = cc in
-    e ∙ rw (ea, eb, ed)
+rows-stopped {x = x} (rows_refused {reason = a} {line = b} {byte = d} e) q =
+    let same : refusal_of a b d ≡ x = cc in
+    e ∙ ap (λ (y : Refusal). refused y.reason y.line y.byte) same
 
 -- what is known where the rows end
 record RowsEnded (s : List ℕ) (ring : Ring) (result : Result) (v : SheetValues) (count at line no_row : ℕ) : Type 0 where
@@ -164,13 +160,14 @@ record RowsEnded (s : List ℕ) (ring : Ring) (result : Result) (v : SheetValues
   table : Table ring.nodes count v.first v.second v.amount
   halves : Halves count v.front v.back
 
-rows-ended : {s : List ℕ} {ring : Ring} {result : Result} {v : SheetValues} {end : RowsEnd} {count at line no_row : ℕ} →
-    RowsMean s ring result v end → end ≡ At count at line no_row → RowsEnded s ring result v count at line no_row
+rows-ended : {s : List ℕ} {ring : Ring} {result : Result} {v : SheetValues} {end : RowsStep} {count at line no_row : ℕ} →
+    RowsMean s ring result v end → end ≡ ends_at count at line no_row → RowsEnded s ring result v count at line no_row
 rows-ended {count = count} {at = at} {line = line} {no_row = no_row} (rows_at {count = a} {at = b} {line = d} {q = k} rs c e w o l t h) q =
-    let ea : a ≡ count = cc in
-    let eb : b ≡ at = cc in
-    let ed : d ≡ line = cc in
-    let ek : k ≡ no_row = cc in
+    let same : ◌≡◌ {A = RowsEnd} (record { count = a; at = b; line = d; no_row = k }) (record { count = count; at = at; line = line; no_row = no_row }) = cc in
+    let ea : a ≡ count = ap (λ (x : RowsEnd). x.count) same in
+    let eb : b ≡ at = ap (λ (x : RowsEnd). x.at) same in
+    let ed : d ≡ line = ap (λ (x : RowsEnd). x.line) same in
+    let ek : k ≡ no_row = ap (λ (x : RowsEnd). x.no_row) same in
     record {
       rs = rs;
       columns = rw (← ea) c;
@@ -185,59 +182,57 @@ rows-ended (rows_refused e) q = clash (cc)
 
 -- values with the same figures and the same columns
 same-values : {count many : ℕ} {figures : Figures} {l1 m1 l2 m2 l3 m3 l4 m4 l5 m5 l6 m6 l7 m7 l8 m8 : List ℕ} → count ≡ many → l1 ≡ m1 → l2 ≡ m2 → l3 ≡ m3 → l4 ≡ m4 → l5 ≡ m5 → l6 ≡ m6
-    → l7 ≡ m7 → l8 ≡ m8 → beside (Is count) (record { figures = figures; first = l1; second = l2; amount = l3; front = l4; back = l5; way = l6; split = l7; unsplit = l8 })
-    ≡ beside (Is many) (record { figures = figures; first = m1; second = m2; amount = m3; front = m4; back = m5; way = m6; split = m7; unsplit = m8 })
+    → l7 ≡ m7 → l8 ≡ m8 → beside (Ok count) (record { figures = figures; first = l1; second = l2; amount = l3; front = l4; back = l5; way = l6; split = l7; unsplit = l8 })
+    ≡ beside (Ok many) (record { figures = figures; first = m1; second = m2; amount = m3; front = m4; back = m5; way = m6; split = m7; unsplit = m8 })
 same-values e e1 e2 e3 e4 e5 e6 e7 e8 = rw (e, e1, e2, e3, e4, e5, e6, e7, e8)
 
-module _ (s : List ℕ) (from n : ℕ) (v : SheetValues) (end : RowsEnd) (read : RowsRead s from n v end) where
-  pub rows-stop : (fibres : ℕ) (reason : Reason) (line byte : ℕ) (r : Checked) → end ≡ RowsRefused reason line byte → r ≡ checked_in (refused reason line byte) →
+module _ (s : List ℕ) (from n : ℕ) (v : SheetValues) (end : RowsStep) (read : RowsRead s from n v end) where
+  pub rows-stop : (fibres : ℕ) (x : Refusal) (r : Checked) → end ≡ Err x → r ≡ checked_in (refused x.reason x.line x.byte) →
       r ≡ checked_in (check_from desk true (rows (ring_of n fibres) []) 2 (lines (drop from s)))
-  rows-stop fibres reason line byte r q e = e ∙ ap checked_in (sym (rows-stopped (read.means fibres) q))
+  rows-stop fibres x r q e = e ∙ ap checked_in (sym (rows-stopped (read.means fibres) q))
 
-  module _ (count at line no_row : ℕ) (q : end ≡ At count at line no_row) where
-    known : (fibres : ℕ) → RowsEnded s (ring_of n fibres) (from_rows s (ring_of n fibres) from) v count at line no_row
+  module _ (y : RowsEnd) (q : end ≡ Ok y) where
+    known : (fibres : ℕ) → RowsEnded s (ring_of n fibres) (from_rows s (ring_of n fibres) from) v y.count y.at y.line y.no_row
     known fibres = rows-ended (read.means fibres) q
 
     -- what is known of the columns is known whatever the fibres
-    pub place-within : at ≤ length s
+    pub place-within : y.at ≤ length s
     place-within = (known 0).within
 
-    pub no-row-within : length s ≤ desk.bytes → no_row ≤ desk.bytes
+    pub no-row-within : length s ≤ desk.bytes → y.no_row ≤ desk.bytes
     no-row-within short = omega (arith, (known 0).inside)
 
-    pub lines_fit : line + n < desk.bytes
+    pub lines_fit : y.line + n < desk.bytes
     lines_fit = omega (arith, (known 0).lined, (known 0).table.few, (known 0).table.links)
 
-    pub rows-table : Table n count v.first v.second v.amount
+    pub rows-table : Table n y.count v.first v.second v.amount
     rows-table = (known 0).table
 
-    pub rows-halves : Halves count v.front v.back
+    pub rows-halves : Halves y.count v.front v.back
     rows-halves = (known 0).halves
 
-    module _ (fibres : ℕ) (new : SheetValues) (step : Step) (end_read : EndRead s at line no_row (ring_of n fibres) count v new step) where
+    module _ (fibres : ℕ) (new : SheetValues) (step : Step) (end_read : EndRead s y.at y.line y.no_row (ring_of n fibres) y.count v new step) where
       abbrev rest : Result
-      rest = cut_from (ring_of n fibres) (rows_held count v) line no_row (lines (drop at s))
+      rest = cut_from (ring_of n fibres) (rows_held y.count v) y.line y.no_row (lines (drop y.at s))
 
       is-result : from_rows s (ring_of n fibres) from ≡ rest
-      is-result = (known fibres).is ∙ ap (λ rs. cut_from (ring_of n fibres) rs line no_row (lines (drop at s))) (sym (known fibres).columns.is)
+      is-result = (known fibres).is ∙ ap (λ rs. cut_from (ring_of n fibres) rs y.line y.no_row (lines (drop y.at s))) (sym (known fibres).columns.is)
 
-      pub end-stops : (reason : Reason) (place byte : ℕ) (r : Checked) → step ≡ StepRefused reason place byte → r ≡ checked_in (refused reason place byte) →
+      pub end-stops : (x : Refusal) (r : Checked) → step ≡ Err x → r ≡ checked_in (refused x.reason x.line x.byte) →
           r ≡ checked_in (check_from desk true (rows (ring_of n fibres) []) 2 (lines (drop from s)))
-      end-stops reason place byte r f er = er ∙ ap checked_in (sym (is-result ∙ go end_read f))
+      end-stops x r f er = er ∙ ap checked_in (sym (is-result ∙ go end_read f))
         where
-          go : {step : Step} → EndMeans (ring_of n fibres) (rows_held count v) rest v new step → step ≡ StepRefused reason place byte → rest ≡ refused reason place byte
+          go : {step : Step} → EndMeans (ring_of n fibres) (rows_held y.count v) rest v new step → step ≡ Err x → rest ≡ refused x.reason x.line x.byte
           go (ends_with c top size split unsplit a b d u) g = clash (cc)
-          go (end_refused {reason = x} {line = y} {byte = z} a) g =
-              let ex : x ≡ reason = cc in
-              let ey : y ≡ place = cc in
-              let ez : z ≡ byte = cc in
-              a ∙ rw (ex, ey, ez)
+          go (end_refused {reason = k} {line = l} {byte = m} a) g =
+              let same : refusal_of k l m ≡ x = cc in
+              a ∙ ap (λ (y : Refusal). refused y.reason y.line y.byte) same
 
-      pub sheet-ends : (p : ℕ) → step ≡ On p → beside (Is count) new ≡ checked_in (check_from desk true (rows (ring_of n fibres) []) 2 (lines (drop from s)))
+      pub sheet-ends : (p : ℕ) → step ≡ Ok p → beside (Ok y.count) new ≡ checked_in (check_from desk true (rows (ring_of n fibres) []) 2 (lines (drop from s)))
       unfolding checked_in
       sheet-ends p f = go end_read f
         where
-          go : {step : Step} → EndMeans (ring_of n fibres) (rows_held count v) rest v new step → step ≡ On p → beside (Is count) new ≡ checked_in (from_rows s (ring_of n fibres) from)
+          go : {step : Step} → EndMeans (ring_of n fibres) (rows_held y.count v) rest v new step → step ≡ Ok p → beside (Ok y.count) new ≡ checked_in (from_rows s (ring_of n fibres) from)
           go (ends_with c top size split unsplit a b d u) g =
               let k = (known fibres).columns in
               let whole : from_rows s (ring_of n fibres) from ≡ accepted (sheet_with (ring_of n fibres) (known fibres).rs c split unsplit top size) =

@@ -42,14 +42,14 @@ use Rattle.sheet.specs.Check.{Result, accepted, refused, cut_of, link_of, when, 
 use Rattle.sheet.specs.Says.{links, end}
 use Rattle.sheet.specs.Verdicts.{link_verdict, last_verdict, whole_verdict}
 use Rattle.checker.specs.Parts.{NextEnds, Weighed, StepMeans, steps_on, step_refused, Within, LinksRead, LastRead, WholeRead, TailRead, sheet_with}
-use Rattle.checker.specs.declared.ending.Step.{Step}
-use Rattle.checker.specs.declared.ending.Step.TheVariants.{On, Refused}
+use Rattle.table.specs.declared.reason.Refusal.{Refusal}
+use Rattle.checker.specs.Answer.{Step, refusal_of, refusing}
 use Rattle.sheet.proofs.Back.{numbers-length, number_at}
 use Rattle.checker.proofs.NextLine.{step-at}
 use Rattle.sheet.proofs.Truth.{link-true, last-true}
 
 -- a refusal is no place of the text
-not_on : {s : List ℕ} {reason : Reason} {line byte : ℕ} → Within s (Refused reason line byte)
+not_on : {s : List ℕ} {reason : Reason} {line byte : ℕ} → Within s (refusing reason line byte)
 not_on = record { place = λ at q. clash (cc) }
 
 -- ---- the loads that are due
@@ -85,7 +85,7 @@ module _ (s : List ℕ) (from n start : ℕ) (split unsplit : List ℕ) where
   links-start w m l = record { within = w; upto = omega arith; lined = omega arith; many = m; low = l; rest = λ fibres rs c split_peak top largest q. refl }
 
   module _ (at line k : ℕ) (reading : LinksReading s from n start split unsplit at line k) where
-    pub links-done : (m : ℕ) → m ≡ n → m ≤ k → LinksRead s from n start split unsplit (On at)
+    pub links-done : (m : ℕ) → m ≡ n → m ≤ k → LinksRead s from n start split unsplit (Ok at)
     links-done m em h =
         let e : k ≡ n = omega (arith, reading.upto) in
         let q : line ≡ start + n = omega (arith, reading.lined) in
@@ -113,7 +113,7 @@ module _ (s : List ℕ) (from n start : ℕ) (split unsplit : List ℕ) where
       pub link-place : (p : ℕ) → x ≡ NotThree p → length s ≤ desk.bytes → p ≤ desk.bytes
       link-place p q short = omega (arith, three-within link_shape (take (to - at) (drop at s)) p (sym ex ∙ q), length-take (to - at) (drop at s), ends.within)
 
-      pub no_link : (p byte : ℕ) → x ≡ NotThree p → byte ≡ p + 1 → LinksRead s from n start split unsplit (Refused Misshapen line byte)
+      pub no_link : (p byte : ℕ) → x ≡ NotThree p → byte ≡ p + 1 → LinksRead s from n start split unsplit (refusing Misshapen line byte)
       unfolding link_turn after
       no_link p byte q b =
           record {
@@ -130,7 +130,7 @@ module _ (s : List ℕ) (from n start : ℕ) (split unsplit : List ℕ) where
             let u1 = unsplit-due reading.many w k (omega arith) in
             sym (ev ∙ rw (edue, s1, u1, e))
 
-        pub link-fault : (reason : Reason) → v ≡ Err reason → LinksRead s from n start split unsplit (Refused reason line 1)
+        pub link-fault : (reason : Reason) → v ≡ Err reason → LinksRead s from n start split unsplit (refusing reason line 1)
         unfolding link_turn unless after when
         link-fault reason q =
             record {
@@ -186,7 +186,7 @@ module _ (s : List ℕ) (at line top size : ℕ) (to : ℕ) (ends : NextEnds s a
   pub last-place : (p : ℕ) → x ≡ NotTwo p → length s ≤ desk.bytes → p ≤ desk.bytes
   last-place p q short = omega (arith, two-within last_shape (take (to - at) (drop at s)) p (sym ex ∙ q), length-take (to - at) (drop at s), ends.within)
 
-  pub no_last : (p byte : ℕ) → x ≡ NotTwo p → byte ≡ p + 1 → LastRead s at line top size (Refused Misshapen line byte)
+  pub no_last : (p byte : ℕ) → x ≡ NotTwo p → byte ≡ p + 1 → LastRead s at line top size (refusing Misshapen line byte)
   unfolding last_turn after
   no_last p byte q b = record { within = not_on; means = λ ring rs c ks all et ez. step_refused {reason = Misshapen} {line = line} {byte = byte} (last-led ring rs c ks all ∙ rw (q, b)) }
 
@@ -195,7 +195,7 @@ module _ (s : List ℕ) (at line top size : ℕ) (to : ℕ) (ends : NextEnds s a
     unfolding judge_last
     last_judged ring rs et ez = sym (ev ∙ rw (ez, et))
 
-    pub last-fault : (reason : Reason) → v ≡ Err reason → LastRead s at line top size (Refused reason line 1)
+    pub last-fault : (reason : Reason) → v ≡ Err reason → LastRead s at line top size (refusing reason line 1)
     unfolding last_turn unless after when
     last-fault reason q =
         record {
@@ -217,14 +217,14 @@ module _ (s : List ℕ) (at line top size : ℕ) (to : ℕ) (ends : NextEnds s a
           rw (is, last_judged ring rs et ez ∙ q) in
           last-led ring rs c ks all ∙ turned ∙ rw (ep, es)
 
-      pub left_over : to < length s → LastRead s at line top size (Refused Misshapen (line + 1) 1)
+      pub left_over : to < length s → LastRead s at line top size (refusing Misshapen (line + 1) 1)
       left_over h =
           record {
             within = not_on;
             means = λ ring rs c ks all et ez. step_refused {reason = Misshapen} {line = line + 1} {byte = 1} (ended ring rs c ks all et ez ∙ some-line s to h (record { ring = ring; rows = rs; cut = c; links = ks; peak = top; size = size }) (line + 1));
           }
 
-      pub last_done : length s ≤ to → LastRead s at line top size (On to)
+      pub last_done : length s ≤ to → LastRead s at line top size (Ok to)
       last_done h =
           record {
             within = record { place = λ p f. let g : p ≡ to = cc in rw g ends.within };
@@ -233,25 +233,23 @@ module _ (s : List ℕ) (at line top size : ℕ) (to : ℕ) (ends : NextEnds s a
 
 -- ---- a step that was refused is refused, and one that goes on goes on from its place
 
-step-stops : {s : List ℕ} {result : Result} {goes other : ℕ → Result} {r : Step} {reason : Reason} {line byte : ℕ} → StepMeans s result goes r → r ≡ Refused reason line byte → StepMeans s result other (Refused reason line byte)
+step-stops : {s : List ℕ} {result : Result} {goes other : ℕ → Result} {r : Step} {x : Refusal} → StepMeans s result goes r → r ≡ Err x → StepMeans s result other (Err x)
 step-stops (steps_on w e) q = clash (cc)
-step-stops {reason = reason} {line = line} {byte = byte} (step_refused {reason = a} {line = b} {byte = c} e) q =
-    let ea : a ≡ reason = cc in
-    let eb : b ≡ line = cc in
-    let ec : c ≡ byte = cc in
-    step_refused {reason = reason} {line = line} {byte = byte} (e ∙ rw (ea, eb, ec))
+step-stops {s} {result} {other = other} {x = x} (step_refused {reason = a} {line = b} {byte = c} e) q =
+    let same : refusal_of a b c ≡ x = cc in
+    subst (λ y. StepMeans s result other (Err y)) same (step_refused {reason = a} {line = b} {byte = c} e)
 
-step-goes : {s : List ℕ} {result : Result} {goes : ℕ → Result} {r : Step} {at : ℕ} → StepMeans s result goes r → r ≡ On at → result ≡ goes at
+step-goes : {s : List ℕ} {result : Result} {goes : ℕ → Result} {r : Step} {at : ℕ} → StepMeans s result goes r → r ≡ Ok at → result ≡ goes at
 step-goes {goes = goes} {at = at} (steps_on {at = b} w e) q = let eb : b ≡ at = cc in e ∙ ap goes eb
 step-goes (step_refused e) q = clash (cc)
 
 -- ---- the whole
 
 module _ (s : List ℕ) (at line number split_peak top size largest : ℕ) (r : Step) (last : LastRead s at line top size r) where
-  pub whole-stops : (reason : Reason) (place byte : ℕ) → r ≡ Refused reason place byte → WholeRead s at line number split_peak top size largest (Refused reason place byte)
-  whole-stops reason place byte q = record { means = λ ring rs g h ks all es et el ez. step-stops (last.means ring rs (cut_of g h number) ks all et ez) q }
+  pub whole-stops : (x : Refusal) → r ≡ Err x → WholeRead s at line number split_peak top size largest (Err x)
+  whole-stops x q = record { means = λ ring rs g h ks all es et el ez. step-stops (last.means ring rs (cut_of g h number) ks all et ez) q }
 
-  module _ (to : ℕ) (q : r ≡ On to) (v : Verdict) (ev : v ≡ whole_verdict split_peak number largest top) where
+  module _ (to : ℕ) (q : r ≡ Ok to) (v : Verdict) (ev : v ≡ whole_verdict split_peak number largest top) where
     module _ (ring : Ring) (rs : List Routed) (g h : ℕ) (ks : List Link) (all : ring.nodes ≤ length ks) (es : split_peak ≡ peak (split_load (sents rs)) ring.nodes) (et : top ≡ peak (unsplit_load rs) ring.nodes)
         (el : largest ≡ largest_split (sents rs)) (ez : size ≡ line_size sonet_sizes ring.fibres top) where
       abbrev x : Sheet
@@ -264,12 +262,12 @@ module _ (s : List ℕ) (at line number split_peak top size largest : ℕ) (r : 
       result : check_from desk true (links ring rs (cut_of g h number) ks) line (lines (drop at s)) ≡ whole_result x v
       result = step-goes (last.means ring rs (cut_of g h number) ks all et ez) q ∙ ap (whole_result x) whole-judged
 
-    pub whole-fault : (reason : Reason) → v ≡ Err reason → WholeRead s at line number split_peak top size largest (Refused reason 0 0)
+    pub whole-fault : (reason : Reason) → v ≡ Err reason → WholeRead s at line number split_peak top size largest (refusing reason 0 0)
     unfolding whole_result
     whole-fault reason f =
         record { means = λ ring rs g h ks all es et el ez. step_refused {reason = reason} {line = 0} {byte = 0} (result ring rs g h ks all es et el ez ∙ ap (whole_result (x ring rs g h ks all es et el ez)) f) }
 
-    pub whole-fine : v ≡ Ok tt → WholeRead s at line number split_peak top size largest (On to)
+    pub whole-fine : v ≡ Ok tt → WholeRead s at line number split_peak top size largest (Ok to)
     unfolding whole_result
     whole-fine f =
         record {
@@ -279,10 +277,10 @@ module _ (s : List ℕ) (at line number split_peak top size largest : ℕ) (r : 
 -- ---- the L lines, the Z line and the whole
 
 module _ (s : List ℕ) (at line n number : ℕ) (split unsplit : List ℕ) (split_peak top size largest : ℕ) (r : Step) (read : LinksRead s at n line split unsplit r) where
-  pub tail-stops : (reason : Reason) (place byte : ℕ) → r ≡ Refused reason place byte → TailRead s at line n number split unsplit split_peak top size largest (Refused reason place byte)
-  tail-stops reason place byte q = record { means = λ fibres rs g h w ez. step-stops (read.means fibres rs (cut_of g h number) split_peak top largest w) q }
+  pub tail-stops : (x : Refusal) → r ≡ Err x → TailRead s at line n number split unsplit split_peak top size largest (Err x)
+  tail-stops x q = record { means = λ fibres rs g h w ez. step-stops (read.means fibres rs (cut_of g h number) split_peak top largest w) q }
 
-  module _ (behind : ℕ) (q : r ≡ On behind) where
+  module _ (behind : ℕ) (q : r ≡ Ok behind) where
     pub tail-goes : (t : Step) → WholeRead s behind (line + n) number split_peak top size largest t → TailRead s at line n number split unsplit split_peak top size largest t
     tail-goes t whole =
         record {

@@ -44,7 +44,7 @@ use Rattle.checker.specs.Parts.{sent_verdict, NextEnds, first_of, cut_from, rows
 use Rattle.sheet.specs.Says.{rows}
 use Rattle.checker.specs.Arrays.{no_values}
 use Rattle.checker.specs.declared.values.SheetValues.{SheetValues}
-use Rattle.checker.specs.declared.row_lines.RowsEnd.TheVariants.{At, Refused}
+use Rattle.checker.specs.Answer.{ends_at, rows_refusing}
 use Rattle.sheet.proofs.Back as back-law
 use Rattle.checker.proofs.NextLine.{next-line, step_from, step-at}
 use Rattle.sheet.proofs.Last.{last_more}
@@ -225,7 +225,7 @@ each_more (more q e) p = more q (each_more e p)
 module _ (s : List ℕ) (n from line a b count at : ℕ) (v : SheetValues) (reading : RowsReading s n from line a b count at v.first v.second v.amount v.front v.back v.way) where
   module _ (to : ℕ) (ends : NextEnds s at to) (x : SentRow) (ex : x ≡ sent_in (read_line sent_shape (take (to - at) (drop at s)))) where
     -- the next line is no D line: the rows end here
-    pub rows_end : (p : ℕ) → x ≡ NotSent p → RowsRead s from n v (At count at line p)
+    pub rows_end : (p : ℕ) → x ≡ NotSent p → RowsRead s from n v (ends_at count at line p)
     unfolding cut_from turn row_turn
     rows_end p q =
         let e = reading.many in
@@ -268,7 +268,7 @@ module _ (s : List ℕ) (n from line a b count at : ℕ) (v : SheetValues) (read
           let q : sent_verdict desk n (length reading.rs) (last_of reading.rs).first (last_of reading.rs).second (routed_of i j d f k w) ≡ found = rw (← e, u, w') (sym ef) in
           reading.rest fibres ∙ step-at desk true s at to ends (rows (ring_of n fibres) reading.rs) tt line ∙ rw (← ex, is, q)
 
-      pub row-stops : (reason : Reason) (byte : ℕ) → found ≡ Err reason → byte ≡ row_fault n i j d reason → RowsRead s from n v (Refused reason line byte)
+      pub row-stops : (reason : Reason) (byte : ℕ) → found ≡ Err reason → byte ≡ row_fault n i j d reason → RowsRead s from n v (rows_refusing reason line byte)
       unfolding unless after
       row-stops reason byte q b = record { means = λ fibres. rows_refused {reason = reason} {line = line} {byte = byte} (led fibres ∙ rw (q, b)) }
 

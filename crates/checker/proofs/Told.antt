@@ -19,8 +19,9 @@ use Rattle.sheet.specs.WriteSheet.{figures_of}
 use Rattle.checker.specs.Arrays.{rows_held, values_of, Checked, beside, checked_in}
 use Rattle.sheet.specs.Check.{Result, accepted, refused, check}
 use Rattle.checker.specs.declared.values.SheetValues.{SheetValues}
-use Rattle.checker.specs.declared.check.Answer.{Answer}
-use Rattle.checker.specs.declared.check.Answer.TheVariants.{Is, Refused}
+use Rattle.std.specs.Prelude.{Ok}
+use Rattle.table.specs.declared.reason.Refusal.{Refusal}
+use Rattle.checker.specs.Answer.{Step, refusal_of, refusing}
 use Rattle.sheet.proofs.Back.{links-back}
 use Rattle.sheet.proofs.Promised.{check-text}
 use Rattle.checker.proofs.RowsSteps.{columns-back}
@@ -36,11 +37,11 @@ pub record Told (s : List ℕ) (v : SheetValues) (count : ℕ) : Type 0 where
 sents-in : (count : ℕ) (first second amount front back way : List ℕ) → sents_in count first second amount front back ≡ sents (routed_in count first second amount front back way)
 sents-in count first second amount front back way = sym (listed-map (λ (r : Routed). r.sent) (routed_at first second amount front back way) 0 count)
 
-module _ (s : List ℕ) (answer : Answer) (v : SheetValues) where
-  a-sheet : (r : Result) → check desk s ≡ r → beside answer v ≡ checked_in r → (count : ℕ) → answer ≡ Is count → Told s v count
+module _ (s : List ℕ) (answer : Step) (v : SheetValues) where
+  a-sheet : (r : Result) → check desk s ≡ r → beside answer v ≡ checked_in r → (count : ℕ) → answer ≡ Ok count → Told s v count
   unfolding checked_in sheet_in
   a-sheet (accepted x) q e count a =
-      let p : Is count ≡ Is (length x.rows) = sym a ∙ ap (λ (y : Checked). y.answer) e in
+      let p : Ok count ≡ Ok (length x.rows) = sym a ∙ ap (λ (y : Checked). y.answer) e in
       let k : count ≡ length x.rows = cc in
       let ev : v ≡ values_of (figures_of x) x.rows x.links = ap (λ (y : Checked). y.values) e in
       let h = ((check-text desk desk-spelled s x).0 q).1 in
@@ -57,21 +58,19 @@ module _ (s : List ℕ) (answer : Answer) (v : SheetValues) where
         room = omega arith;
         links = rw ev h.0.many;
       }
-  a-sheet (refused reason line byte) q e count a = clash (let p : Is count ≡ Refused reason line byte = sym a ∙ ap (λ (y : Checked). y.answer) e in cc)
+  a-sheet (refused reason line byte) q e count a = clash (let p : Ok count ≡ refusing reason line byte = sym a ∙ ap (λ (y : Checked). y.answer) e in cc)
 
-  a-refusal : (r : Result) → check desk s ≡ r → beside answer v ≡ checked_in r → (reason : Reason) (line byte : ℕ) → answer ≡ Refused reason line byte → check desk s ≡ refused reason line byte
+  a-refusal : (r : Result) → check desk s ≡ r → beside answer v ≡ checked_in r → (reason : Reason) (line byte : ℕ) → answer ≡ refusing reason line byte → check desk s ≡ refused reason line byte
   unfolding checked_in
-  a-refusal (accepted x) q e reason line byte a = clash (let p : Refused reason line byte ≡ Is (length x.rows) = sym a ∙ ap (λ (y : Checked). y.answer) e in cc)
+  a-refusal (accepted x) q e reason line byte a = clash (let p : refusing reason line byte ≡ Ok (length x.rows) = sym a ∙ ap (λ (y : Checked). y.answer) e in cc)
   a-refusal (refused why at on) q e reason line byte a =
-      let p : Refused reason line byte ≡ Refused why at on = sym a ∙ ap (λ (y : Checked). y.answer) e in
-      let kw : why ≡ reason = cc in
-      let kl : at ≡ line = cc in
-      let kb : on ≡ byte = cc in
-      q ∙ rw (kw, kl, kb)
+      let p : refusing reason line byte ≡ refusing why at on = sym a ∙ ap (λ (y : Checked). y.answer) e in
+      let same : refusal_of why at on ≡ refusal_of reason line byte = cc in
+      q ∙ ap (λ (x : Refusal). refused x.reason x.line x.byte) same
 
   module _ (e : beside answer v ≡ checked_in (check desk s)) where
-    pub told-sheet : (count : ℕ) → answer ≡ Is count → Told s v count
+    pub told-sheet : (count : ℕ) → answer ≡ Ok count → Told s v count
     told-sheet = a-sheet (check desk s) refl e
 
-    pub told-refusal : (reason : Reason) (line byte : ℕ) → answer ≡ Refused reason line byte → check desk s ≡ refused reason line byte
+    pub told-refusal : (reason : Reason) (line byte : ℕ) → answer ≡ refusing reason line byte → check desk s ≡ refused reason line byte
     told-refusal = a-refusal (check desk s) refl e

@@ -10,8 +10,8 @@ use Rattle.sheet.specs.WriteSheet.{figures_of}
 use Rattle.sheet.specs.Check.{Result, accepted, refused}
 use Rattle.sheet.specs.declared.Figures.{Figures}
 use Rattle.checker.specs.declared.values.SheetValues.{SheetValues}
-use Rattle.checker.specs.declared.check.Answer.{Answer}
-use Rattle.checker.specs.declared.check.Answer.TheVariants.{Is, Refused}
+use Rattle.std.specs.Prelude.{Ok}
+use Rattle.checker.specs.Answer.{Step, refusing}
 
 -- no figure
 abbrev pub no_figures : Figures
@@ -43,14 +43,14 @@ rows_held count v = routed_in count v.first v.second v.amount v.front v.back v.w
 
 -- an answer beside the values that were lent
 pub record Checked : Type 0 where
-  pub answer : Answer
+  pub answer : Step
   pub values : SheetValues
 
-abbrev pub beside : Answer → SheetValues → Checked
+abbrev pub beside : Step → SheetValues → Checked
 beside answer values = record { answer = answer; values = values }
 
 -- what checking a text gives; a refusal returns only reason, line and byte
 unfoldable pub checked_in : Result → Checked
 unfolding no_values column
-checked_in (accepted x) = beside (Is (length x.rows)) (values_of (figures_of x) x.rows x.links)
-checked_in (refused reason line byte) = beside (Refused reason line byte) no_values
+checked_in (accepted x) = beside (Ok (length x.rows)) (values_of (figures_of x) x.rows x.links)
+checked_in (refused reason line byte) = beside (refusing reason line byte) no_values

@@ -30,10 +30,8 @@ use Rattle.sheet.specs.Check.{Result, accepted, refused, cut_of, cut_turn, after
 use Rattle.sheet.specs.Says.{rows, links}
 use Rattle.checker.specs.Arrays.{rows_held}
 use Rattle.checker.specs.declared.values.SheetValues.{SheetValues}
-use Rattle.checker.specs.declared.row_lines.RowsEnd.{RowsEnd}
-use Rattle.checker.specs.declared.row_lines.RowsEnd.TheVariants.{At, Refused as RowsRefused}
-use Rattle.checker.specs.declared.ending.Step.{Step}
-use Rattle.checker.specs.declared.ending.Step.TheVariants.{On, Refused as StepRefused}
+use Rattle.checker.specs.Answer.{Step, refusing, RowsStep, ends_at, rows_refusing}
+use Rattle.std.specs.Prelude.{Ok}
 
 -- ---- the next line
 
@@ -75,13 +73,13 @@ pub record Columns (rs : List Routed) (count : ℕ) (v : SheetValues) : Type 0 w
   pub is : rows_held count v ≡ rs
 
 -- what the rows that were read lead to, and what is known of their columns
-pub data RowsMean (s : List ℕ) (ring : Ring) (result : Result) (v : SheetValues) : RowsEnd → Type 0 where
+pub data RowsMean (s : List ℕ) (ring : Ring) (result : Result) (v : SheetValues) : RowsStep → Type 0 where
   rows_at : {count at line q : ℕ} (rs : List Routed) → Columns rs count v → result ≡ cut_from ring rs line q (lines (drop at s))
-      → at ≤ length s → q ≤ length s → line ≡ count + 2 → Table ring.nodes count v.first v.second v.amount → Halves count v.front v.back → RowsMean s ring result v (At count at line q)
-  rows_refused : {reason : Reason} {line byte : ℕ} → result ≡ refused reason line byte → RowsMean s ring result v (RowsRefused reason line byte)
+      → at ≤ length s → q ≤ length s → line ≡ count + 2 → Table ring.nodes count v.first v.second v.amount → Halves count v.front v.back → RowsMean s ring result v (ends_at count at line q)
+  rows_refused : {reason : Reason} {line byte : ℕ} → result ≡ refused reason line byte → RowsMean s ring result v (rows_refusing reason line byte)
 
 -- whatever the fibres: rows are judged by the number of nodes alone
-pub record RowsRead (s : List ℕ) (from n : ℕ) (v : SheetValues) (end : RowsEnd) : Type 0 where
+pub record RowsRead (s : List ℕ) (from n : ℕ) (v : SheetValues) (end : RowsStep) : Type 0 where
   pub means : (fibres : ℕ) →
       RowsMean s (ring_of n fibres) (check_from desk true (rows (ring_of n fibres) []) 2 (lines (drop from s))) v end
 
@@ -97,12 +95,12 @@ pub record Weighed (n : ℕ) (rs : List Routed) (split unsplit : List ℕ) (spli
 
 -- a step leads on from a place of the text, or is refused
 pub data StepMeans (s : List ℕ) (result : Result) (goes_on : ℕ → Result) : Step → Type 0 where
-  steps_on : {at : ℕ} → at ≤ length s → result ≡ goes_on at → StepMeans s result goes_on (On at)
-  step_refused : {reason : Reason} {line byte : ℕ} → result ≡ refused reason line byte → StepMeans s result goes_on (StepRefused reason line byte)
+  steps_on : {at : ℕ} → at ≤ length s → result ≡ goes_on at → StepMeans s result goes_on (Ok at)
+  step_refused : {reason : Reason} {line byte : ℕ} → result ≡ refused reason line byte → StepMeans s result goes_on (refusing reason line byte)
 
 -- where a step leads on, it is within the text
 pub record Within (s : List ℕ) (r : Step) : Type 0 where
-  pub place : (at : ℕ) → r ≡ On at → at ≤ length s
+  pub place : (at : ℕ) → r ≡ Ok at → at ≤ length s
 
 -- the sheet of rows, of a cut and of true figures
 abbrev pub sheet_with : Ring → List Routed → Cut → List ℕ → List ℕ → ℕ → ℕ → Sheet
@@ -155,8 +153,8 @@ pub data EndMeans (ring : Ring) (rs : List Routed) (result : Result) (old new : 
   ends_with : {at : ℕ} (c : Cut) (top size : ℕ) (split unsplit : List ℕ) → result ≡ accepted (sheet_with ring rs c split unsplit top size)
       → new ≡ ended old (figures_of (sheet_with ring rs c split unsplit top size)) split unsplit
       → split ≡ column (λ (l : Link). l.split) desk.nodes (links_in ring.nodes split unsplit)
-      → unsplit ≡ column (λ (l : Link). l.unsplit) desk.nodes (links_in ring.nodes split unsplit) → EndMeans ring rs result old new (On at)
-  end_refused : {reason : Reason} {line byte : ℕ} → result ≡ refused reason line byte → EndMeans ring rs result old new (StepRefused reason line byte)
+      → unsplit ≡ column (λ (l : Link). l.unsplit) desk.nodes (links_in ring.nodes split unsplit) → EndMeans ring rs result old new (Ok at)
+  end_refused : {reason : Reason} {line byte : ℕ} → result ≡ refused reason line byte → EndMeans ring rs result old new (refusing reason line byte)
 
 -- from the C line on
 abbrev pub EndRead : List ℕ → ℕ → ℕ → ℕ → Ring → ℕ → SheetValues → SheetValues → Step → Type 0

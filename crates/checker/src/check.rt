@@ -7,31 +7,30 @@ ghost use Rattle.sheet.specs.Check.{refused, check_from, check};
 ghost use Rattle.sheet.specs.Says.{rows};
 ghost use Rattle.checker.specs.Arrays.{beside, checked_in};
 
-use crate::ending::{Step, finish};
+use crate::ending::finish;
 use crate::next::next_end;
-use crate::row_lines::{RowsEnd, read_rows};
+use crate::row_lines::read_rows;
 use crate::values::{SheetValues, clear};
 use ring::{BYTES, Ring};
-use table::{Reason, byte_at, judge_ring, ring_fault};
+use table::{Reason, Refusal, byte_at, judge_ring, ring_fault};
 use text::TwoNumbers;
 
-// How many rows an accepted sheet has; or the reason, the line and the byte of it.
-#[derive(Clone, Copy)]
-pub enum Answer {
-    Is(usize),
-    Refused(Reason, u32, u32),
-}
-
 // A refusal beside values of no sheet.
-fn refusal(values: &mut SheetValues, reason: Reason, line: u32, byte: u32) -> Answer
+fn refuse(values: &mut SheetValues, reason: Reason, line: u32, byte: u32) -> Result<usize, Refusal>
     ensures { beside result values.new ≡ checked_in (refused reason line byte) }
 {
     clear(values);
-    Answer::Refused(reason, line, byte)
+    Err(Refusal { reason, line, byte })
 }
 
 // A sheet of a ring of n nodes and so many fibres, from the place `from` behind its R line on.
-fn check_rows(s: &[u8], from: usize, n: u32, fibres: u32, values: &mut SheetValues) -> Answer
+fn check_rows(
+    s: &[u8],
+    from: usize,
+    n: u32,
+    fibres: u32,
+    values: &mut SheetValues,
+) -> Result<usize, Refusal>
     requires begins_inside { from ≤ length s.now }
     requires text_fits { length s.now ≤ desk.bytes }
     requires ring_suffices { desk.fewest ≤ n }
@@ -40,29 +39,31 @@ fn check_rows(s: &[u8], from: usize, n: u32, fibres: u32, values: &mut SheetValu
         (check_from desk true (rows (ring_of n fibres) []) 2 (lines (drop from s.now))) }
 {
     match read_rows(s, from, n, values) {
-        RowsEnd::Refused(reason, line, byte) => refusal(values, reason, line, byte),
-        RowsEnd::At(count, at, line, no_row) => {
-            match finish(s, at, line, no_row, n, fibres, count, values) {
-                Step::Refused(reason, place, byte) => refusal(values, reason, place, byte),
-                Step::On(_) => Answer::Is(count),
+        Err(stop) => refuse(values, stop.reason, stop.line, stop.byte),
+        Ok(end) => {
+            match finish(
+                s, end.at, end.line, end.no_row, n, fibres, end.count, values,
+            ) {
+                Err(stop) => refuse(values, stop.reason, stop.line, stop.byte),
+                Ok(_) => Ok(end.count),
             }
         }
     }
 }
 
-// The values stand in those that are lent, whatever was there before; after a refusal all is zero.
-pub fn check_sheet(s: &[u8], values: &mut SheetValues) -> Answer
+// How many rows an accepted sheet has. The values stand in those that are lent, whatever was there before; after a refusal all is zero.
+pub fn check_sheet(s: &[u8], values: &mut SheetValues) -> Result<usize, Refusal>
     ensures { beside result values.new ≡ checked_in (check desk s.now) }
 {
     if BYTES < s.len() {
-        return refusal(values, Reason::TooLong, 0, 0);
+        return refuse(values, Reason::TooLong, 0, 0);
     }
     let end = next_end(s, 0);
     match text::read_ring(&s[0..end]) {
-        TwoNumbers::Bad(p) => refusal(values, Reason::Misshapen, 1, byte_at(p)),
+        TwoNumbers::Bad(p) => refuse(values, Reason::Misshapen, 1, byte_at(p)),
         TwoNumbers::Are(n, fibres) => {
             if let Err(reason) = judge_ring(Ring { nodes: n, fibres }) {
-                return refusal(values, reason, 1, ring_fault(n, fibres, reason));
+                return refuse(values, reason, 1, ring_fault(n, fibres, reason));
             }
             check_rows(s, end, n, fibres, values)
         }

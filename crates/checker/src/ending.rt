@@ -12,18 +12,11 @@ use crate::values::SheetValues;
 use ring::{Cut, LINKS, Ring, must_carry, wide};
 use sheet::Figures;
 use sonet::Sonet;
-use table::{Reason, byte_at};
+use table::{Reason, Refusal, byte_at};
 use text::{ThreeNumbers, TwoNumbers};
 use weight::weigh;
 
-// The place behind what was read; or the reason, the line and the byte of it.
-#[derive(Clone, Copy)]
-pub(crate) enum Step {
-    On(usize),
-    Refused(Reason, u32, u32),
-}
-
-// The L lines, each held against its link's loads.
+// The L lines, each held against its link's loads: the place behind them.
 fn check_links<'a>(
     s: &[u8],
     from: usize,
@@ -31,7 +24,7 @@ fn check_links<'a>(
     from_line: u32,
     split: &'a [u32; LINKS],
     unsplit: &'a [u32; LINKS],
-) -> Step
+) -> Result<usize, Refusal>
     requires begins_inside { from ≤ length s.now }
     requires text_fits { length s.now ≤ desk.bytes }
     requires links_fit { n ≤ desk.nodes }
@@ -45,23 +38,31 @@ fn check_links<'a>(
         let end = next_end(s, at);
         match text::read_link(&s[at..end]) {
             ThreeNumbers::Bad(p) => {
-                return Step::Refused(Reason::Misshapen, line, byte_at(p));
+                return Err(Refusal {
+                    reason: Reason::Misshapen,
+                    line,
+                    byte: byte_at(p),
+                });
             }
             ThreeNumbers::Are(x, a, b) => {
                 let due = k as u32 + 1;
                 if let Err(reason) = judge_link(due, split[k], unsplit[k], x, a, b) {
-                    return Step::Refused(reason, line, 1);
+                    return Err(Refusal {
+                        reason,
+                        line,
+                        byte: 1,
+                    });
                 }
                 at = end;
                 line += 1;
             }
         }
     }
-    Step::On(at)
+    Ok(at)
 }
 
 // The Z line, held against the unsplit peak and its size; nothing may follow it.
-fn check_last(s: &[u8], at: usize, line: u32, peak: u32, size: u32) -> Step
+fn check_last(s: &[u8], at: usize, line: u32, peak: u32, size: u32) -> Result<usize, Refusal>
     requires begins_inside { at ≤ length s.now }
     requires text_fits { length s.now ≤ desk.bytes }
     requires line_fits { line ≤ desk.bytes }
@@ -69,15 +70,28 @@ fn check_last(s: &[u8], at: usize, line: u32, peak: u32, size: u32) -> Step
 {
     let end = next_end(s, at);
     match text::read_last(&s[at..end]) {
-        TwoNumbers::Bad(p) => Step::Refused(Reason::Misshapen, line, byte_at(p)),
+        TwoNumbers::Bad(p) => Err(Refusal {
+            reason: Reason::Misshapen,
+            line,
+            byte: byte_at(p),
+        }),
         TwoNumbers::Are(p, z) => {
             if let Err(reason) = judge_last(peak, size, p, z) {
-                return Step::Refused(reason, line, 1);
+                return Err(Refusal {
+                    reason,
+                    line,
+                    byte: 1,
+                });
             }
             if end < s.len() {
-                return Step::Refused(Reason::Misshapen, line + 1, 1);
+                let left_over = Refusal {
+                    reason: Reason::Misshapen,
+                    line: line + 1,
+                    byte: 1,
+                };
+                return Err(left_over);
             }
-            Step::On(end)
+            Ok(end)
         }
     }
 }
@@ -92,18 +106,20 @@ fn check_whole(
     peak: u32,
     size: u32,
     largest: u32,
-) -> Step
+) -> Result<usize, Refusal>
     requires begins_inside { at ≤ length s.now }
     requires text_fits { length s.now ≤ desk.bytes }
     requires line_fits { line ≤ desk.bytes }
     ensures { WholeRead s.now at line number split_peak peak size largest result }
 {
-    match check_last(s, at, line, peak, size) {
-        Step::Refused(reason, place, byte) => Step::Refused(reason, place, byte),
-        Step::On(end) => match judge_whole(split_peak, number, largest, peak) {
-            Err(reason) => Step::Refused(reason, 0, 0),
-            Ok(()) => Step::On(end),
-        },
+    let end = check_last(s, at, line, peak, size)?;
+    match judge_whole(split_peak, number, largest, peak) {
+        Err(reason) => Err(Refusal {
+            reason,
+            line: 0,
+            byte: 0,
+        }),
+        Ok(()) => Ok(end),
     }
 }
 
@@ -120,7 +136,7 @@ fn check_tail<'a>(
     peak: u32,
     size: u32,
     largest: u32,
-) -> Step
+) -> Result<usize, Refusal>
     requires begins_inside { at ≤ length s.now }
     requires text_fits { length s.now ≤ desk.bytes }
     requires links_fit { n ≤ desk.nodes }
@@ -128,19 +144,8 @@ fn check_tail<'a>(
     ensures { TailRead s.now at line n number split.now unsplit.now
         split_peak peak size largest result }
 {
-    match check_links(s, at, n, line, split, unsplit) {
-        Step::Refused(reason, place, byte) => Step::Refused(reason, place, byte),
-        Step::On(behind) => check_whole(
-            s,
-            behind,
-            line + n,
-            number,
-            split_peak,
-            peak,
-            size,
-            largest,
-        ),
-    }
+    let behind = check_links(s, at, n, line, split, unsplit)?;
+    check_whole(s, behind, line + n, number, split_peak, peak, size, largest)
 }
 
 // From the L lines on, behind the cut g, h: the figures and loads of the sheet go beside its rows.
@@ -155,7 +160,7 @@ fn weighed(
     h: u32,
     number: u32,
     values: &mut SheetValues,
-) -> Step
+) -> Result<usize, Refusal>
     requires begins_inside { at ≤ length s.now }
     requires text_fits { length s.now ≤ desk.bytes }
     requires lines_fit { line + n ≤ desk.bytes }
@@ -207,7 +212,7 @@ pub(crate) fn finish(
     fibres: u32,
     count: usize,
     values: &mut SheetValues,
-) -> Step
+) -> Result<usize, Refusal>
     requires begins_inside { at ≤ length s.now }
     requires text_fits { length s.now ≤ desk.bytes }
     requires byte_fits { no_row ≤ desk.bytes }
@@ -218,7 +223,11 @@ pub(crate) fn finish(
 {
     let end = next_end(s, at);
     match text::read_cut(&s[at..end]) {
-        ThreeNumbers::Bad(p) => Step::Refused(Reason::Misshapen, line, byte_at(no_row.max(p))),
+        ThreeNumbers::Bad(p) => Err(Refusal {
+            reason: Reason::Misshapen,
+            line,
+            byte: byte_at(no_row.max(p)),
+        }),
         ThreeNumbers::Are(g, h, number) => {
             let verdict = judge_cut(
                 n,
@@ -231,7 +240,11 @@ pub(crate) fn finish(
                 number,
             );
             if let Err(reason) = verdict {
-                return Step::Refused(reason, line, 1);
+                return Err(Refusal {
+                    reason,
+                    line,
+                    byte: 1,
+                });
             }
             weighed(s, end, line + 1, n, fibres, count, g, h, number, values)
         }

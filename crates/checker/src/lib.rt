@@ -9,7 +9,7 @@ mod pair; // the first parallel split pair
 mod row_lines; // the D lines
 mod values; // what a text is read to
 
-pub use check::{Answer, check_sheet};
+pub use check::check_sheet;
 pub use held::Held;
 pub use pair::{Pair, first_pair};
 pub use values::{SheetValues, no_values};

@@ -8,19 +8,20 @@ use crate::judge::judge_sent;
 use crate::next::next_end;
 use crate::values::{SheetValues, clear};
 use ring::{Row, Sent};
-use table::{NO_ROW, Reason, row_fault};
+use table::{NO_ROW, Refusal, row_fault};
 use text::SentRow;
 
-// How many rows there are, where the line behind them begins, its number, and the place of its first byte at which no D line goes on; or the reason, the
-// line and the byte of it.
+// How many rows there are, where the line behind them begins, its number, and the place of its first byte at which no D line goes on.
 #[derive(Clone, Copy)]
-pub(crate) enum RowsEnd {
-    At(usize, usize, u32, usize),
-    Refused(Reason, u32, u32),
+pub(crate) struct RowsEnd {
+    pub count: usize,
+    pub at: usize,
+    pub line: u32,
+    pub no_row: usize,
 }
 
 // The rows of a ring of n nodes, from the place `from` on, into values of no sheet: up to a line that is no D line, or to a fault.
-fn fill_rows(s: &[u8], from: usize, n: u32, values: &mut SheetValues) -> RowsEnd
+fn fill_rows(s: &[u8], from: usize, n: u32, values: &mut SheetValues) -> Result<RowsEnd, Refusal>
     requires begins_inside { from ≤ length s.now }
     requires ring_suffices { desk.fewest ≤ n }
     requires links_fit { n ≤ desk.nodes }
@@ -35,7 +36,12 @@ fn fill_rows(s: &[u8], from: usize, n: u32, values: &mut SheetValues) -> RowsEnd
         let end = next_end(s, at);
         match text::read_sent(&s[at..end]) {
             SentRow::Bad(p) => {
-                return RowsEnd::At(count, at, line, p);
+                return Ok(RowsEnd {
+                    count,
+                    at,
+                    line,
+                    no_row: p,
+                });
             }
             SentRow::Is {
                 first: i,
@@ -56,7 +62,8 @@ fn fill_rows(s: &[u8], from: usize, n: u32, values: &mut SheetValues) -> RowsEnd
                     back: k,
                 };
                 if let Err(reason) = judge_sent(n, count, above, sent, w) {
-                    return RowsEnd::Refused(reason, line, row_fault(n, i, j, d, reason));
+                    let byte = row_fault(n, i, j, d, reason);
+                    return Err(Refusal { reason, line, byte });
                 }
                 values.first[count] = i;
                 values.second[count] = j;
@@ -74,7 +81,12 @@ fn fill_rows(s: &[u8], from: usize, n: u32, values: &mut SheetValues) -> RowsEnd
 }
 
 // The same into whatever values are lent: they are cleared first, since every figure and place that is read into none stays zero.
-pub(crate) fn read_rows(s: &[u8], from: usize, n: u32, values: &mut SheetValues) -> RowsEnd
+pub(crate) fn read_rows(
+    s: &[u8],
+    from: usize,
+    n: u32,
+    values: &mut SheetValues,
+) -> Result<RowsEnd, Refusal>
     requires begins_inside { from ≤ length s.now }
     requires ring_suffices { desk.fewest ≤ n }
     requires links_fit { n ≤ desk.nodes }

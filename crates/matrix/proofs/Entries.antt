@@ -15,8 +15,7 @@ use Rattle.matrix.specs.Matrix.{entry_byte, Node}
 use Rattle.matrix.specs.Read.{judge_entry, or_else, on_line, judge_across, line_of, judge_down}
 use Rattle.matrix.specs.declared.byte.Found.{Found}
 use Rattle.matrix.specs.declared.byte.Found.TheVariants.{Nothing, At}
-use Rattle.matrix.specs.declared.square.Lines.{Lines}
-use Rattle.matrix.specs.declared.square.Lines.TheVariants.{Read, Refused}
+use Rattle.matrix.specs.Answer.{Lines, refusing}
 
 -- what is wrong with an entry
 pub data WrongEntry (a : ℕ → ℕ → ℕ) (i j : ℕ) : Reason → Type 0 where
@@ -77,8 +76,8 @@ module _ (a : ℕ → ℕ → ℕ) where
   pub data DownJudged (n i k : ℕ) : Lines → Type 0 where
     down_wrong : {r : Reason} {line : ℕ} (at : ℕ) → i ≤ line → line < i + k → Node n at → WrongEntry a line at r
         → ((x y : ℕ) (s : Reason) → i ≤ x → Node n y → PairBefore x y line at → WrongEntry a x y s → ⊥)
-        → DownJudged n i k (Refused r line (entry_byte (line_of a n line) (at - 1)))
-    down_right : ((x y : ℕ) (s : Reason) → i ≤ x → x < i + k → Node n y → WrongEntry a x y s → ⊥) → DownJudged n i k Read
+        → DownJudged n i k (refusing r line (entry_byte (line_of a n line) (at - 1)))
+    down_right : ((x y : ℕ) (s : Reason) → i ≤ x → x < i + k → Node n y → WrongEntry a x y s → ⊥) → DownJudged n i k (Ok tt)
 
   pub down-judged : (n i k : ℕ) → DownJudged n i k (judge_down a n i k)
   unfolding judge_down on_line

@@ -9,7 +9,7 @@ use Rattle.matrix.specs.Matrix.{entry_byte}
 use Rattle.matrix.specs.Read.{judge_entry, or_else, on_line, judge_across, line_of, judge_down}
 use Rattle.matrix.specs.declared.byte.Found.{Found}
 use Rattle.matrix.specs.declared.byte.Found.TheVariants.{Nothing, At}
-use Rattle.matrix.specs.declared.square.Lines.TheVariants.{Read, Refused}
+use Rattle.matrix.specs.Answer.{refusing}
 
 module _ (a : ℕ → ℕ → ℕ) (n : ℕ) where
   -- ---- a line
@@ -46,7 +46,7 @@ module _ (a : ℕ → ℕ → ℕ) (n : ℕ) where
       unfolding judge_down
       down-next = let e : n + 1 - i ≡ suc (n + 1 - (i + 1)) = omega arith in down.rest ∙ rw (e, ← ev)
 
-      pub line-fault : (reason : Reason) (k byte : ℕ) → v ≡ At reason k → byte ≡ entry_byte (line_of a n i) k → Refused reason i byte ≡ judge_down a n 1 n
+      pub line-fault : (reason : Reason) (k byte : ℕ) → v ≡ At reason k → byte ≡ entry_byte (line_of a n i) k → refusing reason i byte ≡ judge_down a n 1 n
       unfolding on_line
       line-fault reason k byte f b = sym (down-next ∙ rw (f, b))
 
@@ -54,6 +54,6 @@ module _ (a : ℕ → ℕ → ℕ) (n : ℕ) where
       unfolding on_line
       line-fine f = record { rest = down-next ∙ rw f }
 
-    pub down-done : n + 1 ≤ i → Read ≡ judge_down a n 1 n
+    pub down-done : n + 1 ≤ i → Ok tt ≡ judge_down a n 1 n
     unfolding judge_down
     down-done l = let e : n + 1 - i ≡ 0 = omega arith in sym (down.rest ∙ rw e)

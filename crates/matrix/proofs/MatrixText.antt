@@ -25,8 +25,8 @@ use Rattle.table.proofs.Judged.{SizeJudged, not_so_many, right_size, size-judged
 use Rattle.table.proofs.LinesOf.{join-lines}
 use Rattle.matrix.specs.Matrix.{entry, write_matrix, Node, InRange}
 use Rattle.matrix.specs.Read.{Matrix, matrix, no_matrix, fields_in, numbers_or, unless, lines_of, judge_down, after_square, square_judged, matrix_lines, matrix_of}
-use Rattle.matrix.specs.declared.square.Lines.{Lines}
-use Rattle.matrix.specs.declared.square.Lines.TheVariants.{Read}
+use Rattle.matrix.specs.Answer.{Lines}
+use Rattle.std.specs.Prelude.{Ok}
 use Rattle.matrix.proofs.LinesText.{Spelled, NumbersRead, are_numbers, no_numbers, numbers-read, numbers-line-read, numbers-first, FineLine, LinesRead, lines_are, lines_refused, lines-read, written-lines-read}
 use Rattle.matrix.proofs.Entries.{WrongEntry, not_zero, not_mirror, DownJudged, down_wrong, down_right, down-judged}
 
@@ -129,14 +129,14 @@ spelled-line limits small none = none
 spelled-line limits small (more {a = a} h hs) = let q : a < limit = omega arith in more q (spelled-line limits small hs)
 
 -- a square in range is fine
-right-square : (limits : Limits) (n : ℕ) (m : List (List ℕ)) → InRange limits n m → judge_down (entry m) n 1 n ≡ Read
+right-square : (limits : Limits) (n : ℕ) (m : List (List ℕ)) → InRange limits n m → judge_down (entry m) n 1 n ≡ Ok tt
 right-square limits n m range = go (down-judged (entry m) n 1 n)
   where
     right : {i j : ℕ} {r : Reason} → Node n i → Node n j → WrongEntry (entry m) i j r → ⊥
     right {i} p q (not_zero e w) = w (rw (← e) (range.zeros i p))
     right {i} {j} p q (not_mirror e w) = w (range.symmetric i j p q)
 
-    go : {z : Lines} → DownJudged (entry m) n 1 n z → z ≡ Read
+    go : {z : Lines} → DownJudged (entry m) n 1 n z → z ≡ Ok tt
     go (down_wrong at a b c d e) = absurd (right (a, omega arith) c d)
     go (down_right all) = refl
 

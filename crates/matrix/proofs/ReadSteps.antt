@@ -27,6 +27,7 @@ use Rattle.table.specs.Judge.{judge_size}
 use Rattle.table.specs.ReadTable.{accepted, refused}
 use Rattle.table.specs.Arrays.{Table, table_in}
 use Rattle.table.specs.declared.reason.Reason.{Reason}
+use Rattle.table.specs.declared.reason.Refusal.{Refusal}
 use Rattle.table.specs.declared.reason.Reason.TheVariants.{TooLong, Misshapen}
 use Rattle.table.specs.Verdict.{Verdict}
 use Rattle.std.specs.Prelude.{Ok, Err}
@@ -36,8 +37,7 @@ use Rattle.matrix.specs.Matrix.{entry, Node}
 use Rattle.matrix.specs.Demands.{pairs_from, rows_by}
 use Rattle.matrix.specs.Read.{Matrix, matrix, no_matrix, fields_in, lines_of, judge_down, square_judged, matrix_of, table_from}
 use Rattle.matrix.specs.Arrays.{numbers_in, at, lay_from, empty, laid, Square, square_in}
-use Rattle.matrix.specs.declared.square.Lines.{Lines}
-use Rattle.matrix.specs.declared.square.Lines.TheVariants.{Read, Refused}
+use Rattle.matrix.specs.Answer.{Lines, refusing}
 use Rattle.matrix.proofs.LineSteps.{ToldGood, told-bad, told-good}
 use Rattle.matrix.proofs.LinesText.{FineLine, LinesRead, lines_are, lines-read}
 use Rattle.matrix.proofs.Entries.{down-same}
@@ -120,19 +120,17 @@ module _ (s : List ℕ) (n fibres : ℕ) (few : n ≤ desk.nodes) where
   result = table_in (table_from fibres (square_judged whole))
 
   module _ (x : Square) where
-    refused-case : (y : Matrix) → x ≡ square_in y → (reason : Reason) (line byte : ℕ) → x.lines ≡ Refused reason line byte → y ≡ no_matrix reason line byte
+    refused-case : (y : Matrix) → x ≡ square_in y → (reason : Reason) (line byte : ℕ) → x.lines ≡ refusing reason line byte → y ≡ no_matrix reason line byte
     unfolding square_in
-    refused-case (matrix k m) e reason line byte f = clash (let g : Refused reason line byte ≡ Read = sym f ∙ ap (λ (z : Square). z.lines) e in cc)
+    refused-case (matrix k m) e reason line byte f = clash (let g : refusing reason line byte ≡ Ok tt = sym f ∙ ap (λ (z : Square). z.lines) e in cc)
     refused-case (no_matrix why at on) e reason line byte f =
-        let g : Refused reason line byte ≡ Refused why at on = sym f ∙ ap (λ (z : Square). z.lines) e in
-        let p : why ≡ reason = cc in
-        let q : at ≡ line = cc in
-        let b : on ≡ byte = cc in
-        rw (p, q, b)
+        let g : refusing reason line byte ≡ refusing why at on = sym f ∙ ap (λ (z : Square). z.lines) e in
+        let same : ◌≡◌ {A = Refusal} (record { reason = why; line = at; byte = on }) (record { reason = reason; line = line; byte = byte }) = cc in
+        ap (λ (z : Refusal). no_matrix z.reason z.line z.byte) same
 
-    holds-case : (y : Matrix) → whole ≡ y → x ≡ square_in y → x.lines ≡ Read → Holds s n x.entries
+    holds-case : (y : Matrix) → whole ≡ y → x ≡ square_in y → x.lines ≡ Ok tt → Holds s n x.entries
     unfolding square_in
-    holds-case (no_matrix why at on) w e f = clash (let g : Read ≡ Refused why at on = sym f ∙ ap (λ (z : Square). z.lines) e in cc)
+    holds-case (no_matrix why at on) w e f = clash (let g : Ok tt ≡ refusing why at on = sym f ∙ ap (λ (z : Square). z.lines) e in cc)
     holds-case (matrix k m) w e f = go k w (subst (LinesRead desk n n [] (lines s)) w (lines-read (lines s) 1 n []))
       where
         go : (k : ℕ) → whole ≡ matrix k m → LinesRead desk n n [] (lines s) (matrix k m) → Holds s n x.entries
@@ -148,22 +146,22 @@ module _ (s : List ℕ) (n fibres : ℕ) (few : n ≤ desk.nodes) where
       ex : x ≡ square_in whole
       ex = rw en at given
 
-      pub lines_refused : (reason : Reason) (line byte : ℕ) (t : Table) → x.lines ≡ Refused reason line byte → t ≡ table_in (refused reason line byte) → t ≡ result
+      pub lines_refused : (z : Refusal) (t : Table) → x.lines ≡ Err z → t ≡ table_in (refused z.reason z.line z.byte) → t ≡ result
       unfolding square_judged table_from
-      lines_refused reason line byte t f e = e ∙ ap table_in (sym (rw (refused-case whole ex reason line byte f)))
+      lines_refused z t f e = e ∙ ap table_in (sym (rw (refused-case whole ex z.reason z.line z.byte f)))
 
-      module _ (f : x.lines ≡ Read) (found : Lines) (ef : found ≡ judge_down (at x.entries) n 1 n) where
+      module _ (f : x.lines ≡ Ok tt) (found : Lines) (ef : found ≡ judge_down (at x.entries) n 1 n) where
         abbrev holds : Holds s n x.entries
         holds = holds-case whole refl ex f
 
         judged : judge_down (entry holds.m) n 1 n ≡ found
         judged = sym (ef ∙ down-same (at x.entries) (entry holds.m) n holds.same 1 n (omega arith) (omega arith))
 
-        pub square-refused : (reason : Reason) (line byte : ℕ) (t : Table) → found ≡ Refused reason line byte → t ≡ table_in (refused reason line byte) → t ≡ result
+        pub square-refused : (z : Refusal) (t : Table) → found ≡ Err z → t ≡ table_in (refused z.reason z.line z.byte) → t ≡ result
         unfolding square_judged table_from
-        square-refused reason line byte t g e = e ∙ ap table_in (sym (rw (holds.is, judged, g)))
+        square-refused z t g e = e ∙ ap table_in (sym (rw (holds.is, judged, g)))
 
-        pub rows_made : (t : Table) → found ≡ Read → t ≡ table_in (accepted (ring_of n fibres) (rows_by n (at x.entries))) → t ≡ result
+        pub rows_made : (t : Table) → found ≡ Ok tt → t ≡ table_in (accepted (ring_of n fibres) (rows_by n (at x.entries))) → t ≡ result
         unfolding square_judged table_from
         rows_made t g e = e ∙ ap table_in (sym (rw (holds.is, judged, g) (ap (accepted (ring_of n fibres)) (sym (rows_same (at x.entries) (entry holds.m) n holds.same)))))
 

@@ -30,7 +30,7 @@ use Rattle.matrix.specs.Read.{Matrix, matrix, no_matrix, fields_in, numbers_or, 
 use Rattle.matrix.specs.Says.{NumbersAre, EntryIs, NoFirstLine, NoLaterLine, LeftOver, WrongSize, WrongAmount, WrongEntry, not_zero, not_mirror, FirstFaulty, Says, LineByte, first_due, later_due, none_due, EntryStarts, FaultyByte, ByteIs, stage, Earlier, Given, Accepted}
 use Rattle.matrix.specs.Back.{Reads}
 use Rattle.matrix.specs.declared.byte.Found.{Found}
-use Rattle.matrix.specs.declared.square.Lines.{Lines}
+use Rattle.matrix.specs.Answer.{Lines}
 use Rattle.matrix.proofs.LinesText.{NumbersRead, are_numbers, no_numbers, numbers-read, FirstOver, AmountsJudged, amount_over, amounts_within, amounts-judged}
 use Rattle.matrix.proofs.MatrixText.{fields-are}
 use Rattle.matrix.proofs.Entries.{WrongEntry as Wrong, not_zero as zero-wrong, not_mirror as mirror-wrong, DownJudged, down_wrong, down_right, down-judged}

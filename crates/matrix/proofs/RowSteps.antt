@@ -15,7 +15,7 @@ use Rattle.ring.specs.declared.types.Row.{Row}
 use Rattle.ring.specs.Columns.{listed, column}
 use Rattle.table.specs.ReadTable.{accepted}
 use Rattle.table.specs.Arrays.{NoRows, beside, table_in}
-use Rattle.table.specs.declared.read.Answer.TheVariants.{Is}
+use Rattle.table.specs.Answer.{counted}
 use Rattle.table.proofs.Columns.{column-more}
 use Rattle.matrix.specs.Demands.{pairs_from, above_zero, rows_by}
 
@@ -176,7 +176,7 @@ module _ (n : ℕ) (a : ℕ → ℕ → ℕ) where
             room = omega (arith, g.room);
           }
 
-    pub gathered : (fibres : ℕ) → n < i → beside (Is n fibres count) first second amount ≡ table_in (accepted (ring_of n fibres) (rows_by n a))
+    pub gathered : (fibres : ℕ) → n < i → beside (counted n fibres count) first second amount ≡ table_in (accepted (ring_of n fibres) (rows_by n a))
     unfolding table_in pairs_from listed above_zero
     gathered fibres l =
         let f : n + 1 - j ≡ 0 = omega (arith, g.order) in

@@ -21,7 +21,7 @@ use Rattle.matrix.specs.Read.{Matrix, no_matrix, numbers_or, unless_at, judge_am
 use Rattle.matrix.specs.Arrays.{numbers_in, lay_from, empty, laid, Square, beside_entries, square_in}
 use Rattle.matrix.specs.declared.byte.Found.{Found}
 use Rattle.matrix.specs.declared.byte.Found.TheVariants.{Nothing, At}
-use Rattle.matrix.specs.declared.square.Lines.TheVariants.{Read}
+use Rattle.std.specs.Prelude.{Ok}
 use Rattle.matrix.proofs.LineSteps.{ToldGood, told-bad, told-good}
 use Rattle.matrix.proofs.ByteSteps.{amount-few, part-byte}
 use Rattle.text.proofs.Stored.{sets-append}
@@ -98,7 +98,7 @@ module _ (s : List ℕ) (n : ℕ) (entries : List ℕ) (start count line at : �
       let z : n - count ≡ suc (n - count - 1) = omega arith in
       e ∙ ap square_in (sym (on.rest ∙ ap (λ k. lines_of desk n line k on.m (lines (drop at s))) z ∙ rw (drop_of_length-le s none)))
 
-  pub lines-read : length s ≤ at → n ≤ count → beside_entries Read entries ≡ square_in whole
+  pub lines-read : length s ≤ at → n ≤ count → beside_entries (Ok tt) entries ≡ square_in whole
   unfolding lines_of lines square_in
   lines-read none l =
       let z : n - count ≡ 0 = omega arith in

@@ -11,12 +11,13 @@ use Rattle.ring.specs.Columns.{listed, column, row_at, rows_in}
 use Rattle.text.proofs.Apart.{clash}
 use Rattle.table.specs.Arrays.{Table, table_in}
 use Rattle.table.specs.declared.reason.Reason.{Reason}
-use Rattle.table.specs.declared.read.Answer.TheVariants.{Is, Refused}
+use Rattle.table.specs.Answer.{counted, refusing}
 use Rattle.table.proofs.Columns.{rows_back}
 use Rattle.matrix.specs.Demands.{rows_of_matrix}
 use Rattle.matrix.specs.Matrix.{entry}
 use Rattle.matrix.specs.Read.{Matrix, matrix, no_matrix, matrix_of, table_from}
 use Rattle.matrix.specs.Arrays.{Amounts}
+use Rattle.table.proofs.AnswerLaws.{same-counted, same-refusal}
 use Rattle.matrix.proofs.MatrixText.{desk-possible, matrix-text}
 use Rattle.matrix.proofs.RowLaws.{rows_few}
 
@@ -27,36 +28,35 @@ pub record Told (s : List ℕ) (n count : ℕ) (first second amount : List ℕ) 
   pub room : count ≤ desk.rows
 
 module _ (s : List ℕ) (fibres : ℕ) (t : Table) where
-  a-matrix : (r : Matrix) → matrix_of desk s ≡ r → t ≡ table_in (table_from fibres r) → (n same count : ℕ) → t.answer ≡ Is n same count → Told s n count t.first t.second t.amount
+  a-matrix : (r : Matrix) → matrix_of desk s ≡ r → t ≡ table_in (table_from fibres r) → (n same count : ℕ) → t.answer ≡ counted n same count → Told s n count t.first t.second t.amount
   unfolding table_in table_from
   a-matrix (matrix k m) q e n same count a =
       let rs : List Row = rows_of_matrix k m in
-      let p : Is n same count ≡ Is k fibres (length rs) = sym a ∙ ap (λ (x : Table). x.answer) e in
-      let kn : n ≡ k = cc in
-      let kc : count ≡ length rs = cc in
+      let p : counted n same count ≡ counted k fibres (length rs) = sym a ∙ ap (λ (x : Table). x.answer) e in
+      let parts = same-counted n same count k fibres (length rs) p in
+      let kn : n ≡ k = parts.nodes in
+      let kc : count ≡ length rs = parts.count in
       let h : length rs ≤ desk.rows = rows_few (entry m) k ((matrix-text desk desk-possible s k m).0 q).1.many in
       let ef : t.first ≡ column (λ (r : Row). r.first) desk.rows rs = ap (λ (x : Table). x.first) e in
       let es : t.second ≡ column (λ (r : Row). r.second) desk.rows rs = ap (λ (x : Table). x.second) e in
       let ea : t.amount ≡ column (λ (r : Row). r.amount) desk.rows rs = ap (λ (x : Table). x.amount) e in
       record { m = m; is = rw kn q; rows = rw (kn, kc, ef, es, ea) (rows_back desk.rows rs h); room = omega arith }
-  a-matrix (no_matrix reason line byte) q e n same count a = clash (let p : Is n same count ≡ Refused reason line byte = sym a ∙ ap (λ (x : Table). x.answer) e in cc)
+  a-matrix (no_matrix reason line byte) q e n same count a = clash (let p : counted n same count ≡ refusing reason line byte = sym a ∙ ap (λ (x : Table). x.answer) e in cc)
 
-  a-refusal : (r : Matrix) → matrix_of desk s ≡ r → t ≡ table_in (table_from fibres r) → (reason : Reason) (line byte : ℕ) → t.answer ≡ Refused reason line byte
+  a-refusal : (r : Matrix) → matrix_of desk s ≡ r → t ≡ table_in (table_from fibres r) → (reason : Reason) (line byte : ℕ) → t.answer ≡ refusing reason line byte
       → matrix_of desk s ≡ no_matrix reason line byte
   unfolding table_in table_from
-  a-refusal (matrix k m) q e reason line byte a = clash (let p : Refused reason line byte ≡ Is k fibres (length (rows_of_matrix k m)) = sym a ∙ ap (λ (x : Table). x.answer) e in cc)
+  a-refusal (matrix k m) q e reason line byte a = clash (let p : refusing reason line byte ≡ counted k fibres (length (rows_of_matrix k m)) = sym a ∙ ap (λ (x : Table). x.answer) e in cc)
   a-refusal (no_matrix why at on) q e reason line byte a =
-      let p : Refused reason line byte ≡ Refused why at on = sym a ∙ ap (λ (x : Table). x.answer) e in
-      let kw : why ≡ reason = cc in
-      let kl : at ≡ line = cc in
-      let kb : on ≡ byte = cc in
-      q ∙ rw (kw, kl, kb)
+      let p : refusing reason line byte ≡ refusing why at on = sym a ∙ ap (λ (x : Table). x.answer) e in
+      let same = same-refusal reason why line byte at on p in
+      q ∙ rw (sym same.reason, sym same.line, sym same.byte)
 
   module _ (e : t ≡ table_in (table_from fibres (matrix_of desk s))) where
-    pub told-matrix : (n same count : ℕ) → t.answer ≡ Is n same count → Told s n count t.first t.second t.amount
+    pub told-matrix : (n same count : ℕ) → t.answer ≡ counted n same count → Told s n count t.first t.second t.amount
     told-matrix = a-matrix (matrix_of desk s) refl e
 
-    pub told-refusal : (reason : Reason) (line byte : ℕ) → t.answer ≡ Refused reason line byte → matrix_of desk s ≡ no_matrix reason line byte
+    pub told-refusal : (reason : Reason) (line byte : ℕ) → t.answer ≡ refusing reason line byte → matrix_of desk s ≡ no_matrix reason line byte
     told-refusal = a-refusal (matrix_of desk s) refl e
 
 -- rows whose amounts are within the limit, as their arrays have them

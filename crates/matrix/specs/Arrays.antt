@@ -5,8 +5,8 @@ use Rattle.ring.specs.Limits.{desk}
 use Rattle.ring.specs.Columns.{column}
 use Rattle.text.specs.ReadLine.{Reading}
 use Rattle.matrix.specs.Read.{Matrix, matrix, no_matrix}
-use Rattle.matrix.specs.declared.square.Lines.{Lines}
-use Rattle.matrix.specs.declared.square.Lines.TheVariants.{Read, Refused}
+use Rattle.matrix.specs.Answer.{Lines, refusing}
+use Rattle.std.specs.Prelude.{Ok}
 
 -- numbers from place 0 on, zeros behind them
 abbrev pub values_in : List ℕ → List ℕ
@@ -49,8 +49,8 @@ beside_entries lines entries = record { lines = lines; entries = entries }
 
 unfoldable pub square_in : Matrix → Square
 unfolding laid
-square_in (matrix n m) = beside_entries Read (laid m)
-square_in (no_matrix reason line byte) = beside_entries (Refused reason line byte) empty
+square_in (matrix n m) = beside_entries (Ok tt) (laid m)
+square_in (no_matrix reason line byte) = beside_entries (refusing reason line byte) empty
 
 -- rows in columns whose amounts are within 9,999, so that sums fit
 pub record Amounts (count : ℕ) (amount : List ℕ) : Type 0 where

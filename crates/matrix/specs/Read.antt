@@ -17,8 +17,8 @@ use Rattle.matrix.specs.Matrix.{entry, entry_byte}
 use Rattle.matrix.specs.Demands.{rows_of_matrix}
 use Rattle.matrix.specs.declared.byte.Found.{Found}
 use Rattle.matrix.specs.declared.byte.Found.TheVariants.{Nothing, At}
-use Rattle.matrix.specs.declared.square.Lines.{Lines}
-use Rattle.matrix.specs.declared.square.Lines.TheVariants.{Read, Refused}
+use Rattle.matrix.specs.Answer.{Lines, refusing}
+use Rattle.std.specs.Prelude.{Ok, Err}
 
 -- a ring of n nodes and the lines; or a reason, a line and a byte of it
 pub data Matrix : Type 0 where
@@ -77,7 +77,7 @@ or_else (Err reason) k next = At reason k
 
 unfoldable pub on_line : Found → ℕ → (ℕ → ℕ) → Lines → Lines
 on_line Nothing line byte next = next
-on_line (At reason k) line byte next = Refused reason line (byte k)
+on_line (At reason k) line byte next = refusing reason line (byte k)
 
 -- the entries i, j and on, k of them
 unfoldable pub judge_across : (ℕ → ℕ → ℕ) → ℕ → ℕ → ℕ → Found
@@ -92,12 +92,12 @@ line_of a n i = listed (a i) 1 n
 -- the lines i and on, k of them
 unfoldable pub judge_down : (ℕ → ℕ → ℕ) → ℕ → ℕ → ℕ → Lines
 unfolding judge_across on_line
-judge_down a n i zero = Read
+judge_down a n i zero = Ok tt
 judge_down a n i (suc k) = on_line (judge_across a i 1 n) i (entry_byte (line_of a n i)) (judge_down a n (i + 1) k)
 
 unfoldable pub after_square : Lines → Matrix → Matrix
-after_square Read x = x
-after_square (Refused reason line byte) x = no_matrix reason line byte
+after_square (Ok tt) x = x
+after_square (Err r) x = no_matrix r.reason r.line r.byte
 
 unfoldable pub square_judged : Matrix → Matrix
 unfolding judge_down after_square

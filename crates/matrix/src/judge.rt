@@ -5,9 +5,9 @@ ghost use Rattle.matrix.specs.Read.{judge_entry, judge_across, judge_down};
 ghost use Rattle.matrix.specs.Arrays.{at};
 
 use crate::byte::{Found, square_byte};
-use crate::square::{Lines, SQUARE, get};
+use crate::square::{SQUARE, get};
 use ring::wide;
-use table::Reason;
+use table::{Reason, Refusal};
 
 // The entry x at i, j, whose mirror entry is y.
 #[tactic(auto, unfolding(crate::specs::Read::judge_entry))]
@@ -39,14 +39,18 @@ fn judge_across(n: u32, i: u32, square: &[u32; SQUARE]) -> Found
 }
 
 // All lines.
-pub(crate) fn judge_square(n: u32, square: &[u32; SQUARE]) -> Lines
+pub(crate) fn judge_square(n: u32, square: &[u32; SQUARE]) -> Result<(), Refusal>
     requires { n ≤ desk.nodes }
     ensures { result ≡ judge_down (at square.now) n 1 n }
 {
     for i in 1..n + 1 {
         if let Found::At(reason, k) = judge_across(n, i, square) {
-            return Lines::Refused(reason, i, square_byte(k, i, n, square));
+            return Err(Refusal {
+                reason,
+                line: i,
+                byte: square_byte(k, i, n, square),
+            });
         }
     }
-    Lines::Read
+    Ok(())
 }

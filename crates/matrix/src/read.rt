@@ -8,9 +8,9 @@ ghost use Rattle.matrix.specs.Read.{lines_of, square_judged, matrix_of, table_fr
 use crate::judge::judge_square;
 use crate::line::{fields, read_numbers};
 use crate::rows::rows_of;
-use crate::square::{Lines, SQUARE, read_lines};
+use crate::square::{SQUARE, read_lines};
 use ring::{BYTES, ROWS};
-use table::{Answer, Reason, byte_at, clear, judge_size, line_end, refusal};
+use table::{Counted, Reason, Refusal, byte_at, clear, judge_size, line_end, refuse};
 
 // The lines of a matrix of n nodes, then its entries.
 #[tactic(auto, using(crate::proofs::ReadSteps::reads_square))]
@@ -21,7 +21,7 @@ fn read_square(
     first: &mut [u32; ROWS],
     second: &mut [u32; ROWS],
     amount: &mut [u32; ROWS],
-) -> Answer
+) -> Result<Counted, Refusal>
     requires few_nodes { n ≤ desk.nodes }
     requires short_text { length s.now ≤ desk.bytes }
     ensures { let read = lines_of desk n 1 n [] (lines s.now) in
@@ -29,11 +29,11 @@ fn read_square(
         ≡ table_in (table_from fibres (square_judged read)) }
 {
     let mut entries = [0u32; SQUARE];
-    if let Lines::Refused(reason, line, byte) = read_lines(s, ring::wide(n), &mut entries) {
-        return refusal(first, second, amount, reason, line, byte);
+    if let Err(stop) = read_lines(s, ring::wide(n), &mut entries) {
+        return refuse(first, second, amount, stop.reason, stop.line, stop.byte);
     }
-    if let Lines::Refused(reason, line, byte) = judge_square(n, &entries) {
-        return refusal(first, second, amount, reason, line, byte);
+    if let Err(stop) = judge_square(n, &entries) {
+        return refuse(first, second, amount, stop.reason, stop.line, stop.byte);
     }
     clear(first, second, amount);
     rows_of(n, fibres, &entries, first, second, amount)
@@ -48,24 +48,24 @@ pub fn read_matrix(
     first: &mut [u32; ROWS],
     second: &mut [u32; ROWS],
     amount: &mut [u32; ROWS],
-) -> Answer
+) -> Result<Counted, Refusal>
     ensures { beside result first.new second.new amount.new
         ≡ table_in (table_from fibres (matrix_of desk s.now)) }
 {
     if BYTES < s.len() {
-        return refusal(first, second, amount, Reason::TooLong, 0, 0);
+        return refuse(first, second, amount, Reason::TooLong, 0, 0);
     }
     if s.is_empty() {
-        return refusal(first, second, amount, Reason::Misshapen, 1, 1);
+        return refuse(first, second, amount, Reason::Misshapen, 1, 1);
     }
     let end = line_end(s, 0);
     let count = fields(&s[0..end]);
     match read_numbers(&s[0..end], count) {
-        Err(p) => refusal(first, second, amount, Reason::Misshapen, 1, byte_at(p)),
+        Err(p) => refuse(first, second, amount, Reason::Misshapen, 1, byte_at(p)),
         Ok(_values) => {
             let n = count as u32;
             if let Err(reason) = judge_size(n) {
-                return refusal(first, second, amount, reason, 1, 1);
+                return refuse(first, second, amount, reason, 1, 1);
             }
             read_square(s, n, fibres, first, second, amount)
         }

@@ -8,8 +8,8 @@ ghost use Rattle.matrix.specs.Demands.{rows_by};
 ghost use Rattle.matrix.specs.Arrays.{at};
 
 use crate::square::{SQUARE, get};
-use ring::ROWS;
-use table::Answer;
+use ring::{ROWS, Ring};
+use table::{Counted, Refusal};
 
 // One loop over the pairs: behind the last node of a line it goes on with the next line.
 pub(crate) fn rows_of(
@@ -19,7 +19,7 @@ pub(crate) fn rows_of(
     first: &mut [u32; ROWS],
     second: &mut [u32; ROWS],
     amount: &mut [u32; ROWS],
-) -> Answer
+) -> Result<Counted, Refusal>
     requires few_nodes { n ≤ desk.nodes }
     requires no_rows { NoRows first.old second.old amount.old }
     ensures { beside result first.new second.new amount.new
@@ -45,5 +45,8 @@ pub(crate) fn rows_of(
             }
         }
     }
-    Answer::Is(n, fibres, count)
+    Ok(Counted {
+        ring: Ring { nodes: n, fibres },
+        count,
+    })
 }

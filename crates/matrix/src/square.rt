@@ -9,17 +9,10 @@ ghost use Rattle.matrix.specs.Arrays.{at as entry_at, empty, beside_entries, squ
 use crate::byte::{Found, entry_byte};
 use crate::line::{judge_amounts, read_numbers};
 use ring::{LINKS, wide};
-use table::{Reason, byte_at, line_end};
+use table::{Reason, Refusal, byte_at, line_end};
 
 // Each line of the square has room for the largest ring.
 pub(crate) const SQUARE: usize = LINKS * LINKS;
-
-// Whether nothing was found; where something was, the reason, the line and the byte of it.
-#[derive(Drop)]
-pub(crate) enum Lines {
-    Read,
-    Refused(Reason, u32, u32),
-}
 
 // The entry i, j.
 pub(crate) fn get(square: &[u32; SQUARE], i: u32, j: u32) -> u32
@@ -45,15 +38,15 @@ fn keep(square: &mut [u32; SQUARE], start: usize, n: usize, values: &[u32; LINKS
 
 // A refusal leaves an empty square.
 #[tactic(auto, unfolding(crate::specs::Arrays::square_in))]
-fn refused(entries: &mut [u32; SQUARE], reason: Reason, line: u32, byte: u32) -> Lines
+fn refused(entries: &mut [u32; SQUARE], reason: Reason, line: u32, byte: u32) -> Result<(), Refusal>
     ensures { beside_entries result entries.new ≡ square_in (no_matrix reason line byte) }
 {
     *entries = [0u32; SQUARE];
-    Lines::Refused(reason, line, byte)
+    Err(Refusal { reason, line, byte })
 }
 
 // The lines of a matrix of n nodes. A line behind the n-th is left over, and a missing one is the one after the last.
-pub(crate) fn read_lines(s: &[u8], n: usize, entries: &mut [u32; SQUARE]) -> Lines
+pub(crate) fn read_lines(s: &[u8], n: usize, entries: &mut [u32; SQUARE]) -> Result<(), Refusal>
     requires few_nodes { n ≤ desk.nodes }
     requires short_text { length s.now ≤ desk.bytes }
     requires no_entries { entries.old ≡ empty }
@@ -90,5 +83,5 @@ pub(crate) fn read_lines(s: &[u8], n: usize, entries: &mut [u32; SQUARE]) -> Lin
     if count < n {
         return refused(entries, Reason::Misshapen, line, 1);
     }
-    Lines::Read
+    Ok(())
 }

@@ -9,10 +9,11 @@ use Rattle.ring.specs.Columns.{rows_in}
 use Rattle.table.specs.Table.{InRange}
 use Rattle.table.specs.ReadTable.{table_of}
 use Rattle.table.specs.Arrays.{beside, table_in}
-use Rattle.table.specs.declared.reason.Reason.{Reason}
 use Rattle.table.specs.declared.reason.Reason.TheVariants.{SumTooMuch}
-use Rattle.table.specs.declared.read.Answer.{Answer}
-use Rattle.table.specs.declared.read.Answer.TheVariants.{Is, Refused}
+use Rattle.std.specs.Prelude.{Ok, Err}
+use Rattle.table.specs.Answer.{Answer}
+use Rattle.table.specs.declared.read.Counted.{Counted}
+use Rattle.table.specs.declared.reason.Refusal.{Refusal}
 use Rattle.table.proofs.TableText.{desk-spelled, table-text}
 use Rattle.table.proofs.Told.{Told, told-table, told-refusal}
 use Rattle.matrix.specs.Matrix.{write_matrix}
@@ -28,30 +29,30 @@ use Rattle.ringkit.specs.declared.Reply.{Reply}
 use Rattle.ringkit.proofs.FillSteps.{refuses, same-fills}
 
 module _ (s old : List ℕ) (answer : Answer) (first second amount : List ℕ) (e : beside answer first second amount ≡ table_in (table_of desk s)) where
-  pub written-refused : (reason : Reason) (line byte : ℕ) (r : Reply) → answer ≡ Refused reason line byte → r ≡ reply_of (refuse reason line byte) → Fills (matrix_written s) old old r
+  pub written-refused : (x : Refusal) (r : Reply) → answer ≡ Err x → r ≡ reply_of (refuse x.reason x.line x.byte) → Fills (matrix_written s) old old r
   unfolding matrix_written of_rows
-  written-refused reason line byte r a = refuses (matrix_written s) old reason line byte r (rw (told-refusal s _ e reason line byte a))
+  written-refused x r a = refuses (matrix_written s) old x.reason x.line x.byte r (rw (told-refusal s _ e x.reason x.line x.byte a))
 
-  module _ (n fibres count : ℕ) (a : answer ≡ Is n fibres count) where
+  module _ (y : Counted) (a : answer ≡ Ok y) where
     abbrev rows : List Row
-    rows = rows_in count first second amount
+    rows = rows_in y.count first second amount
 
-    told : Told s n fibres count first second amount
-    told = told-table s _ e n fibres count a
+    told : Told s y.ring.nodes y.ring.fibres y.count first second amount
+    told = told-table s _ e y.ring.nodes y.ring.fibres y.count a
 
-    range : InRange desk (ring_of n fibres) rows
-    range = ((table-text desk desk-spelled s (ring_of n fibres) rows).0 told.is).1
+    range : InRange desk (ring_of y.ring.nodes y.ring.fibres) rows
+    range = ((table-text desk desk-spelled s (ring_of y.ring.nodes y.ring.fibres) rows).0 told.is).1
 
-    pub sums-take : Amounts count amount
-    sums-take = amounts-in count first second amount told.room range.amounts
+    pub sums-take : Amounts y.count amount
+    sums-take = amounts-in y.count first second amount told.room range.amounts
 
-    pub nodes-have-room : n ≤ desk.nodes
+    pub nodes-have-room : y.ring.nodes ≤ desk.nodes
     nodes-have-room = range.many
 
     pub sums-refused : (x : Sums) (line : ℕ) (r : Reply) → x ≡ judge_sums desk rows → x ≡ Pass line → r ≡ reply_of (refuse SumTooMuch line 1) → Fills (matrix_written s) old old r
     unfolding matrix_written of_rows unless_pass
     sums-refused x line r es ex = refuses (matrix_written s) old SumTooMuch line 1 r (let f : judge_sums desk rows ≡ Pass line = sym es ∙ ex in rw (told.is, f))
 
-    pub written-fills : (x : Sums) (new : List ℕ) (r : Reply) → x ≡ judge_sums desk rows → x ≡ Fit → Fills (write (write_matrix (matrix_of_rows n rows))) old new r → Fills (matrix_written s) old new r
+    pub written-fills : (x : Sums) (new : List ℕ) (r : Reply) → x ≡ judge_sums desk rows → x ≡ Fit → Fills (write (write_matrix (matrix_of_rows y.ring.nodes rows))) old new r → Fills (matrix_written s) old new r
     unfolding matrix_written of_rows unless_pass
     written-fills x new r es ex = same-fills old new r (let f : judge_sums desk rows ≡ Fit = sym es ∙ ex in rw (told.is, f))

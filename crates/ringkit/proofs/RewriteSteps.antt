@@ -10,10 +10,11 @@ use Rattle.table.specs.Judge.{other_fibres}
 use Rattle.table.specs.Table.{write_table}
 use Rattle.table.specs.ReadTable.{table_of}
 use Rattle.table.specs.Arrays.{beside, table_in}
-use Rattle.table.specs.declared.reason.Reason.{Reason}
 use Rattle.table.specs.declared.reason.Reason.TheVariants.{Fibres}
-use Rattle.table.specs.declared.read.Answer.{Answer}
-use Rattle.table.specs.declared.read.Answer.TheVariants.{Is, Refused}
+use Rattle.std.specs.Prelude.{Ok, Err}
+use Rattle.table.specs.Answer.{Answer}
+use Rattle.table.specs.declared.read.Counted.{Counted}
+use Rattle.table.specs.declared.reason.Refusal.{Refusal}
 use Rattle.table.proofs.Told as table-told
 use Rattle.matrix.specs.Read.{matrix_of, table_from}
 use Rattle.matrix.proofs.Told as matrix-told
@@ -26,17 +27,17 @@ use Rattle.ringkit.proofs.FillSteps.{refuses, same-fills}
 -- ---- from its own text
 
 module _ (s old : List ℕ) (answer : Answer) (first second amount : List ℕ) (e : beside answer first second amount ≡ table_in (table_of desk s)) where
-  pub table_refused : (reason : Reason) (line byte : ℕ) (r : Reply) → answer ≡ Refused reason line byte → r ≡ reply_of (refuse reason line byte) → Fills (table_afresh s) old old r
+  pub table_refused : (x : Refusal) (r : Reply) → answer ≡ Err x → r ≡ reply_of (refuse x.reason x.line x.byte) → Fills (table_afresh s) old old r
   unfolding table_afresh of_table
-  table_refused reason line byte r a = refuses (table_afresh s) old reason line byte r (rw (table-told.told-refusal s _ e reason line byte a))
+  table_refused x r a = refuses (table_afresh s) old x.reason x.line x.byte r (rw (table-told.told-refusal s _ e x.reason x.line x.byte a))
 
-  module _ (n fibres count : ℕ) (a : answer ≡ Is n fibres count) where
-    pub rows-have-room : count ≤ desk.rows
-    rows-have-room = (table-told.told-table s _ e n fibres count a).room
+  module _ (y : Counted) (a : answer ≡ Ok y) where
+    pub rows-have-room : y.count ≤ desk.rows
+    rows-have-room = (table-told.told-table s _ e y.ring.nodes y.ring.fibres y.count a).room
 
-    pub table-fills : (new : List ℕ) (r : Reply) → Fills (write (write_table (ring_of n fibres) (rows_in count first second amount))) old new r → Fills (table_afresh s) old new r
+    pub table-fills : (new : List ℕ) (r : Reply) → Fills (write (write_table (ring_of y.ring.nodes y.ring.fibres) (rows_in y.count first second amount))) old new r → Fills (table_afresh s) old new r
     unfolding table_afresh of_table
-    table-fills new r = same-fills old new r (rw (table-told.told-table s _ e n fibres count a).is)
+    table-fills new r = same-fills old new r (rw (table-told.told-table s _ e y.ring.nodes y.ring.fibres y.count a).is)
 
 -- ---- from a matrix, on a ring of so many fibres
 
@@ -49,17 +50,17 @@ module _ (s old : List ℕ) (fibres : ℕ) (other : Bool) (eo : other ≡ other_
     known : other_fibres fibres ≡ false
     known = sym eo ∙ o
 
-    pub matrix_refused : (reason : Reason) (line byte : ℕ) (r : Reply) → answer ≡ Refused reason line byte → r ≡ reply_of (refuse reason line byte) → Fills (matrix_read fibres s) old old r
+    pub matrix_refused : (x : Refusal) (r : Reply) → answer ≡ Err x → r ≡ reply_of (refuse x.reason x.line x.byte) → Fills (matrix_read fibres s) old old r
     unfolding matrix_read of_table table_from
-    matrix_refused reason line byte r a = refuses (matrix_read fibres s) old reason line byte r (rw (known, matrix-told.told-refusal s fibres _ e reason line byte a))
+    matrix_refused x r a = refuses (matrix_read fibres s) old x.reason x.line x.byte r (rw (known, matrix-told.told-refusal s fibres _ e x.reason x.line x.byte a))
 
-    module _ (n same count : ℕ) (a : answer ≡ Is n same count) where
-      pub matrix-rows-have-room : count ≤ desk.rows
-      matrix-rows-have-room = (matrix-told.told-matrix s fibres _ e n same count a).room
+    module _ (y : Counted) (a : answer ≡ Ok y) where
+      pub matrix-rows-have-room : y.count ≤ desk.rows
+      matrix-rows-have-room = (matrix-told.told-matrix s fibres _ e y.ring.nodes y.ring.fibres y.count a).room
 
-      pub matrix-fills : (new : List ℕ) (r : Reply) → Fills (write (write_table (ring_of n fibres) (rows_in count first second amount))) old new r → Fills (matrix_read fibres s) old new r
+      pub matrix-fills : (new : List ℕ) (r : Reply) → Fills (write (write_table (ring_of y.ring.nodes fibres) (rows_in y.count first second amount))) old new r → Fills (matrix_read fibres s) old new r
       unfolding matrix_read of_table table_from
       matrix-fills new r =
-          let told = matrix-told.told-matrix s fibres _ e n same count a in
+          let told = matrix-told.told-matrix s fibres _ e y.ring.nodes y.ring.fibres y.count a in
           let rows = told.rows in
           same-fills old new r (rw (known, told.is, rows))

@@ -21,9 +21,10 @@ use Rattle.ring.proofs.OurPlan.{plan-true, plan-demands}
 use Rattle.table.specs.Table.{InRange}
 use Rattle.table.specs.ReadTable.{table_of}
 use Rattle.table.specs.Arrays.{beside, table_in}
-use Rattle.table.specs.declared.reason.Reason.{Reason}
-use Rattle.table.specs.declared.read.Answer.{Answer}
-use Rattle.table.specs.declared.read.Answer.TheVariants.{Is, Refused}
+use Rattle.std.specs.Prelude.{Ok, Err}
+use Rattle.table.specs.Answer.{Answer}
+use Rattle.table.specs.declared.read.Counted.{Counted}
+use Rattle.table.specs.declared.reason.Refusal.{Refusal}
 use Rattle.table.proofs.TableText.{desk-spelled, table-text}
 use Rattle.text.proofs.Apart.{clash}
 use Rattle.table.proofs.Told.{told-table, told-refusal}
@@ -118,38 +119,36 @@ module _ (count : ℕ) (first second amount : List ℕ) where
 -- ---- a table that was read
 
 module _ (s : List ℕ) (answer : Answer) (first second amount : List ℕ) (e : beside answer first second amount ≡ table_in (table_of desk s)) where
-  pub room-for : (n fibres count : ℕ) → answer ≡ Is n fibres count → count ≤ desk.rows
-  room-for n fibres count a = (told-table s _ e n fibres count a).room
+  pub room-for : (y : Counted) → answer ≡ Ok y → y.count ≤ desk.rows
+  room-for y a = (told-table s _ e y.ring.nodes y.ring.fibres y.count a).room
 
-  pub read-table : (n fibres count : ℕ) → answer ≡ Is n fibres count → (rs : List Routed) → demands (sents rs) ≡ rows_in count first second amount → TableRead s rs (Is n fibres count)
-  read-table n fibres count a rs is =
+  pub read-table : (y : Counted) → answer ≡ Ok y → (rs : List Routed) → demands (sents rs) ≡ rows_in y.count first second amount → TableRead s rs (Ok y)
+  read-table y a rs is =
       record {
-        table = λ m f c b.
-            let en : n ≡ m = cc in
-            let ef : fibres ≡ f = cc in
-            (told-table s _ e n fibres count a).is ∙ rw (is, en, ef);
-        refusal = λ reason line byte b. told-refusal s _ e reason line byte (a ∙ b);
+        table = λ z b.
+            let same : y ≡ z = cc in
+            (told-table s _ e y.ring.nodes y.ring.fibres y.count a).is ∙ rw (is, ← same);
+        refusal = λ x b. told-refusal s _ e x.reason x.line x.byte (a ∙ b);
       }
 
-  pub read-refusal : (reason : Reason) (line byte : ℕ) → answer ≡ Refused reason line byte → (rs : List Routed) → TableRead s rs answer
-  read-refusal reason line byte a rs =
+  pub read-refusal : (x : Refusal) → answer ≡ Err x → (rs : List Routed) → TableRead s rs answer
+  read-refusal x a rs =
       record {
-        table = λ m f c b. clash (let p : Refused reason line byte ≡ Is m f c = sym a ∙ b in cc);
-        refusal = told-refusal s _ e;
+        table = λ y b. clash (let p : Err x ≡ Ok y = sym a ∙ b in cc);
+        refusal = λ z b. told-refusal s _ e z.reason z.line z.byte b;
       }
 
 -- ---- its route
 
 module _ (s : List ℕ) (rs : List Routed) (answer : Answer) (read : TableRead s rs answer) where
-  pub route-refused : (old : List ℕ) (reason : Reason) (line byte : ℕ) (r : Reply) → answer ≡ Refused reason line byte → r ≡ reply_of (refuse reason line byte) →
-      Fills (table_routed s) old old r
+  pub route-refused : (old : List ℕ) (x : Refusal) (r : Reply) → answer ≡ Err x → r ≡ reply_of (refuse x.reason x.line x.byte) → Fills (table_routed s) old old r
   unfolding table_routed of_table
-  route-refused old reason line byte r a = refuses (table_routed s) old reason line byte r (rw (read.refusal reason line byte a))
+  route-refused old x r a = refuses (table_routed s) old x.reason x.line x.byte r (rw (read.refusal x a))
 
-  module _ (n fibres count : ℕ) (a : answer ≡ Is n fibres count) where
-    pub read-range : InRange desk (ring_of n fibres) (demands (sents rs))
-    read-range = ((table-text desk desk-spelled s (ring_of n fibres) (demands (sents rs))).0 (read.table n fibres count a)).1
+  module _ (y : Counted) (a : answer ≡ Ok y) where
+    pub read-range : InRange desk y.ring (demands (sents rs))
+    read-range = ((table-text desk desk-spelled s y.ring (demands (sents rs))).0 (read.table y a)).1
 
-    pub route-fills : (old new : List ℕ) (r : Reply) → Fills (write (write_sheet (plan (ring_of n fibres) (demands (sents rs))))) old new r → Fills (table_routed s) old new r
+    pub route-fills : (old new : List ℕ) (r : Reply) → Fills (write (write_sheet (plan y.ring (demands (sents rs))))) old new r → Fills (table_routed s) old new r
     unfolding table_routed of_table
-    route-fills old new r = same-fills old new r (rw (read.table n fibres count a))
+    route-fills old new r = same-fills old new r (rw (read.table y a))

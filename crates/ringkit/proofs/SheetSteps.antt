@@ -7,15 +7,15 @@ use mathlib.Core.Path.{◌≡◌, ap, ◌∙◌, sym}
 use Rattle.ring.specs.Columns.{sents_in}
 use Rattle.ring.specs.Limits.{desk}
 use Rattle.table.specs.Reasons.{number_of}
-use Rattle.table.specs.declared.reason.Reason.{Reason}
 use Rattle.sheet.specs.Arrays.{sheet_in}
 use Rattle.checker.specs.Arrays.{rows_held, beside, checked_in}
 use Rattle.sheet.specs.Check.{check}
 use Rattle.checker.specs.FindPair.{first_pair}
 use Rattle.sheet.specs.WriteSheet.{write_sheet}
 use Rattle.checker.specs.declared.values.SheetValues.{SheetValues}
-use Rattle.checker.specs.declared.check.Answer.{Answer}
-use Rattle.checker.specs.declared.check.Answer.TheVariants.{Is, Refused}
+use Rattle.std.specs.Prelude.{Ok, Err}
+use Rattle.table.specs.declared.reason.Refusal.{Refusal}
+use Rattle.checker.specs.Answer.{Step}
 use Rattle.checker.specs.declared.pair.Pair.{Pair}
 use Rattle.checker.specs.declared.pair.Pair.TheVariants.{Are, None}
 use Rattle.checker.proofs.HeldRows.{held-length}
@@ -25,21 +25,21 @@ use Rattle.ringkit.specs.SheetCalls.{verdict_reply, sheet_checked, pair_reply, q
 use Rattle.ringkit.specs.declared.Reply.{Reply}
 use Rattle.ringkit.proofs.FillSteps.{refuses}
 
-module _ (s : List ℕ) (answer : Answer) (v : SheetValues) (e : beside answer v ≡ checked_in (check desk s)) where
-  module _ (reason : Reason) (line byte : ℕ) (a : answer ≡ Refused reason line byte) where
-    pub check-refused : (r : Reply) → r ≡ reply_of (refuse reason line byte) → r ≡ sheet_checked s
+module _ (s : List ℕ) (answer : Step) (v : SheetValues) (e : beside answer v ≡ checked_in (check desk s)) where
+  module _ (x : Refusal) (a : answer ≡ Err x) where
+    pub check-refused : (r : Reply) → r ≡ reply_of (refuse x.reason x.line x.byte) → r ≡ sheet_checked s
     unfolding sheet_checked
-    check-refused r q = q ∙ sym (ap verdict_reply (told-refusal s answer v e reason line byte a))
+    check-refused r q = q ∙ sym (ap verdict_reply (told-refusal s answer v e x.reason x.line x.byte a))
 
-    pub pair-refused : (m : ℕ) → m ≡ number_of reason → record { reason = m; line = line; byte = byte; first = 0; second = 0 } ≡ sheet_parallel s
+    pub pair-refused : (m : ℕ) → m ≡ number_of x.reason → record { reason = m; line = x.line; byte = x.byte; first = 0; second = 0 } ≡ sheet_parallel s
     unfolding sheet_parallel question_reply
-    pair-refused m q = rw q (sym (ap question_reply (told-refusal s answer v e reason line byte a)))
+    pair-refused m q = rw q (sym (ap question_reply (told-refusal s answer v e x.reason x.line x.byte a)))
 
-    pub sheet-refused : (old : List ℕ) (r : Reply) → r ≡ reply_of (refuse reason line byte) → Fills (sheet_afresh s) old old r
+    pub sheet-refused : (old : List ℕ) (r : Reply) → r ≡ reply_of (refuse x.reason x.line x.byte) → Fills (sheet_afresh s) old old r
     unfolding sheet_afresh of_sheet
-    sheet-refused old r = refuses (sheet_afresh s) old reason line byte r (ap of_sheet (told-refusal s answer v e reason line byte a))
+    sheet-refused old r = refuses (sheet_afresh s) old x.reason x.line x.byte r (ap of_sheet (told-refusal s answer v e x.reason x.line x.byte a))
 
-  module _ (count : ℕ) (a : answer ≡ Is count) where
+  module _ (count : ℕ) (a : answer ≡ Ok count) where
     told : Told s v count
     told = told-sheet s answer v e count a
 

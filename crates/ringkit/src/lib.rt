@@ -31,14 +31,14 @@ ghost use Rattle.ringkit.specs.TableCalls.{table_afresh, table_routed};
 ghost use Rattle.ringkit.specs.MatrixCalls.{matrix_read, matrix_written};
 ghost use Rattle.ringkit.specs.SheetCalls.{sheet_checked, sheet_parallel, sheet_afresh};
 
-use checker::{Answer as Judged, Held, Pair};
+use checker::{Held, Pair};
 pub use line::RefusalLine;
 use matrix::Sums;
 use reading::read_rows;
 use ring::{LINKS, ROWS, Ring};
 use rows::{Columns, Rows};
 use sheet::Figures;
-use table::{Answer, Reason};
+use table::Reason;
 pub use working::{
     ringkit_work_add, ringkit_work_change, ringkit_work_remove, ringkit_work_row,
     ringkit_work_start, ringkit_work_write,
@@ -128,9 +128,15 @@ fn rewrite_table(table: &[u8], buffer: &mut [u8]) -> Reply
     let mut amount = [0u32; ROWS];
     let answer = table::read_table(table, &mut first, &mut second, &mut amount);
     match answer {
-        Answer::Refused(reason, line, byte) => refusal(reason, line, byte),
-        Answer::Is(n, fibres, count) => put_table(
-            buffer, n, fibres, count, &first, &second, &amount,
+        Err(refused) => refusal(refused.reason, refused.line, refused.byte),
+        Ok(read) => put_table(
+            buffer,
+            read.ring.nodes,
+            read.ring.fibres,
+            read.count,
+            &first,
+            &second,
+            &amount,
         ),
     }
 }
@@ -156,8 +162,11 @@ fn read_matrix(matrix: &[u8], fibres: u32, buffer: &mut [u8]) -> Reply
     let mut amount = [0u32; ROWS];
     let answer = matrix::read_matrix(matrix, fibres, &mut first, &mut second, &mut amount);
     match answer {
-        Answer::Refused(reason, line, byte) => refusal(reason, line, byte),
-        Answer::Is(n, _, count) => put_table(buffer, n, fibres, count, &first, &second, &amount),
+        Err(refused) => refusal(refused.reason, refused.line, refused.byte),
+        Ok(read) => {
+            let n = read.ring.nodes;
+            put_table(buffer, n, fibres, read.count, &first, &second, &amount)
+        }
     }
 }
 
@@ -210,8 +219,10 @@ fn write_matrix(table: &[u8], buffer: &mut [u8]) -> Reply
     let mut amount = [0u32; ROWS];
     let answer = table::read_table(table, &mut first, &mut second, &mut amount);
     match answer {
-        Answer::Refused(reason, line, byte) => refusal(reason, line, byte),
-        Answer::Is(n, _, count) => {
+        Err(refused) => refusal(refused.reason, refused.line, refused.byte),
+        Ok(read) => {
+            let n = read.ring.nodes;
+            let count = read.count;
             let sums = matrix::judge_sums(count, &first, &second, &amount);
             match sums {
                 Sums::Pass(line) => refusal(Reason::SumTooMuch, line, 1),
@@ -280,8 +291,8 @@ fn route(table: &[u8], buffer: &mut [u8]) -> Reply
 {
     let mut rows = Columns::new();
     match read_rows(table, &mut rows) {
-        Answer::Refused(reason, line, byte) => refusal(reason, line, byte),
-        Answer::Is(nodes, fibres, _) => put_route(buffer, Ring { nodes, fibres }, &mut rows),
+        Err(refused) => refusal(refused.reason, refused.line, refused.byte),
+        Ok(read) => put_route(buffer, read.ring, &mut rows),
     }
 }
 
@@ -305,8 +316,8 @@ fn check(sheet: &[u8]) -> Reply
     let mut values = checker::no_values();
     let answer = checker::check_sheet(sheet, &mut values);
     match answer {
-        Judged::Refused(why, at, byte) => refusal(why, at, byte),
-        Judged::Is(_) => Reply {
+        Err(why) => refusal(why.reason, why.line, why.byte),
+        Ok(_) => Reply {
             reason: 0,
             line: 0,
             byte: 0,
@@ -343,14 +354,14 @@ fn first_parallel(sheet: &[u8]) -> PairReply
     let mut values = checker::no_values();
     let answer = checker::check_sheet(sheet, &mut values);
     match answer {
-        Judged::Refused(reason, line, byte) => PairReply {
-            reason: reason.number(),
-            line,
-            byte,
+        Err(refused) => PairReply {
+            reason: refused.reason.number(),
+            line: refused.line,
+            byte: refused.byte,
             first: 0,
             second: 0,
         },
-        Judged::Is(count) => {
+        Ok(count) => {
             let pair = checker::first_pair(
                 count,
                 &values.first,
@@ -393,8 +404,8 @@ fn rewrite_sheet(sheet: &[u8], buffer: &mut [u8]) -> Reply
     let mut values = checker::no_values();
     let answer = checker::check_sheet(sheet, &mut values);
     match answer {
-        Judged::Refused(reason, line, byte) => refusal(reason, line, byte),
-        Judged::Is(count) => {
+        Err(refused) => refusal(refused.reason, refused.line, refused.byte),
+        Ok(count) => {
             let x = values.figures;
             let held = Held {
                 count,

@@ -7,7 +7,7 @@ ghost use Rattle.ringkit.specs.Reading.{TableRead};
 
 use ring::{ROWS, Routed, Row, Sent, Way};
 use rows::Columns;
-use table::Answer;
+use table::{Counted, Refusal};
 
 // The first `count` rows of a table's columns.
 fn gather(
@@ -40,7 +40,7 @@ fn gather(
 }
 
 // Reads a table into columns that hold no row. What it is read to first is let go on return, so that it takes no stack beside the routing.
-pub(crate) fn read_rows(table: &[u8], rows: &mut Columns) -> Answer
+pub(crate) fn read_rows(table: &[u8], rows: &mut Columns) -> Result<Counted, Refusal>
     requires { rows.old ≡ [] }
     ensures { TableRead table.now rows.new result }
 {
@@ -48,8 +48,8 @@ pub(crate) fn read_rows(table: &[u8], rows: &mut Columns) -> Answer
     let mut second = [0u32; ROWS];
     let mut amount = [0u32; ROWS];
     let answer = table::read_table(table, &mut first, &mut second, &mut amount);
-    if let Answer::Is(_, _, count) = answer {
-        gather(rows, count, &first, &second, &amount);
+    if let Ok(read) = answer {
+        gather(rows, read.count, &first, &second, &amount);
     }
     answer
 }

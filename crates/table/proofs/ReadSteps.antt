@@ -29,7 +29,7 @@ use Rattle.table.specs.declared.reason.Reason.{Reason}
 use Rattle.table.specs.declared.reason.Reason.TheVariants.{TooLong, Misshapen}
 use Rattle.table.specs.Verdict.{Verdict}
 use Rattle.std.specs.Prelude.{Ok, Err}
-use Rattle.table.specs.declared.read.Answer.TheVariants.{Is, Refused}
+use Rattle.table.specs.Answer.{counted, refusing}
 use Rattle.table.proofs.Judged.{RowJudged, row_fine, row-judged}
 use Rattle.table.proofs.LineSteps.{line_at}
 use Rattle.table.proofs.Columns.{column-more}
@@ -58,7 +58,7 @@ pub record Reading (s : List ℕ) (n fibres from line a b count at : ℕ) (first
   pub within : at ≤ length s
 
 -- columns as they are made are those of no row
-pub no_rows : (reason : Reason) (line byte : ℕ) (first second amount : List ℕ) → NoRows first second amount → beside (Refused reason line byte) first second amount ≡ table_in (refused reason line byte)
+pub no_rows : (reason : Reason) (line byte : ℕ) (first second amount : List ℕ) → NoRows first second amount → beside (refusing reason line byte) first second amount ≡ table_in (refused reason line byte)
 unfolding table_in column
 no_rows reason line byte first second amount none = rw (none.firsts, none.seconds, none.amounts)
 
@@ -79,7 +79,7 @@ reading-starts s n fibres from first second amount w none =
 
 module _ (s : List ℕ) (n fibres from line a b count at : ℕ) (first second amount : List ℕ) (reading : Reading s n fibres from line a b count at first second amount) where
   -- no line is left
-  pub all_read : length s ≤ at → beside (Is n fibres count) first second amount ≡ table_in (whole s n fibres from)
+  pub all_read : length s ≤ at → beside (counted n fibres count) first second amount ≡ table_in (whole s n fibres from)
   unfolding rows_of lines table_in
   all_read k = rw (reading.rest, drop_of_length-le s k, reading.many, reading.firsts, reading.seconds, reading.amounts)
 

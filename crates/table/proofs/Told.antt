@@ -13,7 +13,8 @@ use Rattle.ring.specs.declared.types.Row.{Row}
 use Rattle.ring.specs.Columns.{column, rows_in}
 use Rattle.table.specs.Arrays.{Table, table_in}
 use Rattle.table.specs.declared.reason.Reason.{Reason}
-use Rattle.table.specs.declared.read.Answer.TheVariants.{Is, Refused}
+use Rattle.table.specs.Answer.{counted, refusing}
+use Rattle.table.proofs.AnswerLaws.{same-counted, same-refusal}
 use Rattle.table.proofs.TableText.{desk-spelled, table-text}
 use Rattle.table.proofs.Columns.{rows_back}
 
@@ -22,33 +23,32 @@ pub record Told (s : List ℕ) (n fibres count : ℕ) (first second amount : Lis
   pub room : count ≤ desk.rows
 
 module _ (s : List ℕ) (t : Table) where
-  a-table : (r : Result) → table_of desk s ≡ r → t ≡ table_in r → (n fibres count : ℕ) → t.answer ≡ Is n fibres count → Told s n fibres count t.first t.second t.amount
+  a-table : (r : Result) → table_of desk s ≡ r → t ≡ table_in r → (n fibres count : ℕ) → t.answer ≡ counted n fibres count → Told s n fibres count t.first t.second t.amount
   unfolding table_in
   a-table (accepted ring rs) q e n fibres count a =
-      let p : Is n fibres count ≡ Is ring.nodes ring.fibres (length rs) = sym a ∙ ap (λ (x : Table). x.answer) e in
-      let kn : n ≡ ring.nodes = cc in
-      let kf : fibres ≡ ring.fibres = cc in
-      let kc : count ≡ length rs = cc in
+      let p : counted n fibres count ≡ counted ring.nodes ring.fibres (length rs) = sym a ∙ ap (λ (x : Table). x.answer) e in
+      let same = same-counted n fibres count ring.nodes ring.fibres (length rs) p in
+      let kn : n ≡ ring.nodes = same.nodes in
+      let kf : fibres ≡ ring.fibres = same.fibres in
+      let kc : count ≡ length rs = same.count in
       let h : length rs ≤ desk.rows = ((table-text desk desk-spelled s ring rs).0 q).1.count in
       let ef : t.first ≡ column (λ (r : Row). r.first) desk.rows rs = ap (λ (x : Table). x.first) e in
       let es : t.second ≡ column (λ (r : Row). r.second) desk.rows rs = ap (λ (x : Table). x.second) e in
       let ea : t.amount ≡ column (λ (r : Row). r.amount) desk.rows rs = ap (λ (x : Table). x.amount) e in
       record { is = q ∙ sym (rw (kn, kf, kc, ef, es, ea, rows_back desk.rows rs h)); room = omega arith }
-  a-table (refused reason line byte) q e n fibres count a = clash (let p : Is n fibres count ≡ Refused reason line byte = sym a ∙ ap (λ (x : Table). x.answer) e in cc)
+  a-table (refused reason line byte) q e n fibres count a = clash (let p : counted n fibres count ≡ refusing reason line byte = sym a ∙ ap (λ (x : Table). x.answer) e in cc)
 
-  a-refusal : (r : Result) → table_of desk s ≡ r → t ≡ table_in r → (reason : Reason) (line byte : ℕ) → t.answer ≡ Refused reason line byte → table_of desk s ≡ refused reason line byte
+  a-refusal : (r : Result) → table_of desk s ≡ r → t ≡ table_in r → (reason : Reason) (line byte : ℕ) → t.answer ≡ refusing reason line byte → table_of desk s ≡ refused reason line byte
   unfolding table_in
-  a-refusal (accepted ring rs) q e reason line byte a = clash (let p : Refused reason line byte ≡ Is ring.nodes ring.fibres (length rs) = sym a ∙ ap (λ (x : Table). x.answer) e in cc)
+  a-refusal (accepted ring rs) q e reason line byte a = clash (let p : refusing reason line byte ≡ counted ring.nodes ring.fibres (length rs) = sym a ∙ ap (λ (x : Table). x.answer) e in cc)
   a-refusal (refused why at on) q e reason line byte a =
-      let p : Refused reason line byte ≡ Refused why at on = sym a ∙ ap (λ (x : Table). x.answer) e in
-      let kw : why ≡ reason = cc in
-      let kl : at ≡ line = cc in
-      let kb : on ≡ byte = cc in
-      q ∙ rw (kw, kl, kb)
+      let p : refusing reason line byte ≡ refusing why at on = sym a ∙ ap (λ (x : Table). x.answer) e in
+      let same = same-refusal reason why line byte at on p in
+      q ∙ rw (sym same.reason, sym same.line, sym same.byte)
 
   module _ (e : t ≡ table_in (table_of desk s)) where
-    pub told-table : (n fibres count : ℕ) → t.answer ≡ Is n fibres count → Told s n fibres count t.first t.second t.amount
+    pub told-table : (n fibres count : ℕ) → t.answer ≡ counted n fibres count → Told s n fibres count t.first t.second t.amount
     told-table = a-table (table_of desk s) refl e
 
-    pub told-refusal : (reason : Reason) (line byte : ℕ) → t.answer ≡ Refused reason line byte → table_of desk s ≡ refused reason line byte
+    pub told-refusal : (reason : Reason) (line byte : ℕ) → t.answer ≡ refusing reason line byte → table_of desk s ≡ refused reason line byte
     told-refusal = a-refusal (table_of desk s) refl e

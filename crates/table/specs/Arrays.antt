@@ -4,8 +4,7 @@ use Rattle.ring.specs.Limits.{desk}
 use Rattle.ring.specs.declared.types.Row.{Row}
 use Rattle.ring.specs.Columns.{column}
 use Rattle.table.specs.ReadTable.{Result, accepted, refused}
-use Rattle.table.specs.declared.read.Answer.{Answer}
-use Rattle.table.specs.declared.read.Answer.TheVariants.{Is, Refused}
+use Rattle.table.specs.Answer.{Answer, counted, refusing}
 
 -- columns as they are made
 pub record NoRows (first second amount : List ℕ) : Type 0 where
@@ -31,5 +30,5 @@ beside_rows answer rs =
 -- the answer beside its rows; a refusal leaves none
 unfoldable pub table_in : Result → Table
 unfolding column
-table_in (accepted ring rs) = beside_rows (Is ring.nodes ring.fibres (length rs)) rs
-table_in (refused reason line byte) = beside_rows (Refused reason line byte) []
+table_in (accepted ring rs) = beside_rows (counted ring.nodes ring.fibres (length rs)) rs
+table_in (refused reason line byte) = beside_rows (refusing reason line byte) []

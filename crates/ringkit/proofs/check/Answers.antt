@@ -2,8 +2,8 @@
 use Rattle.ringkit.proofs.SheetSteps.{check-refused, check-accepted}
 use Rattle.ringkit.proofs.check.Goals as goal
 
-pub returns-in-Refused : goal.returns-in-Refused
-returns-in-Refused c = search check-refused
+pub returns-in-Err : goal.returns-in-Err
+returns-in-Err c = search check-refused
 
-pub returns-in-Is : goal.returns-in-Is
-returns-in-Is c = search (check-refused, check-accepted)
+pub returns-in-Ok : goal.returns-in-Ok
+returns-in-Ok c = search (check-refused, check-accepted)

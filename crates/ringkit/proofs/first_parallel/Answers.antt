@@ -8,8 +8,8 @@ first_pair-pair-requires c = search rows-have-room
 pub returns-in_default : goal.returns-in_default
 returns-in_default c = search (pair-refused, pair_found, no-pair-found)
 
-pub returns-in-Refused : goal.returns-in-Refused
-returns-in-Refused c = search pair-refused
+pub returns-in-Err : goal.returns-in-Err
+returns-in-Err c = search pair-refused
 
 pub returns-in-Are : goal.returns-in-Are
 returns-in-Are c = search pair_found

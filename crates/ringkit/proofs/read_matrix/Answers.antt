@@ -8,8 +8,8 @@ returns-then-other c = search (fibres-refused, matrix_refused, matrix-fills)
 pub put_table-requires : goal.put_table-requires
 put_table-requires c = search matrix-rows-have-room
 
-pub returns-in-Refused : goal.returns-in-Refused
-returns-in-Refused c = search (fibres-refused, matrix_refused, matrix-fills)
+pub returns-in-Err : goal.returns-in-Err
+returns-in-Err c = search (fibres-refused, matrix_refused, matrix-fills)
 
-pub returns-in-Is : goal.returns-in-Is
-returns-in-Is c = search matrix-fills
+pub returns-in-Ok : goal.returns-in-Ok
+returns-in-Ok c = search matrix-fills

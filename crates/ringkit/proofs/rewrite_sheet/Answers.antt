@@ -5,8 +5,8 @@ use Rattle.ringkit.proofs.rewrite_sheet.Goals as goal
 pub put_sheet-requires : goal.put_sheet-requires
 put_sheet-requires c = search (held-rows, links-have-room)
 
-pub returns-in-Refused : goal.returns-in-Refused
-returns-in-Refused c = search (sheet-refused, sheet-fills)
+pub returns-in-Err : goal.returns-in-Err
+returns-in-Err c = search (sheet-refused, sheet-fills)
 
-pub returns-in-Is : goal.returns-in-Is
-returns-in-Is c = search sheet-fills
+pub returns-in-Ok : goal.returns-in-Ok
+returns-in-Ok c = search sheet-fills

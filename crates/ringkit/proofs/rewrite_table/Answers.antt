@@ -5,8 +5,8 @@ use Rattle.ringkit.proofs.rewrite_table.Goals as goal
 pub put_table-requires : goal.put_table-requires
 put_table-requires c = search rows-have-room
 
-pub returns-in-Refused : goal.returns-in-Refused
-returns-in-Refused c = search (table_refused, table-fills)
+pub returns-in-Err : goal.returns-in-Err
+returns-in-Err c = search (table_refused, table-fills)
 
-pub returns-in-Is : goal.returns-in-Is
-returns-in-Is c = search table-fills
+pub returns-in-Ok : goal.returns-in-Ok
+returns-in-Ok c = search table-fills

@@ -5,8 +5,8 @@ use Rattle.ringkit.proofs.route.Goals as goal
 pub put_route-requires : goal.put_route-requires
 put_route-requires c = search read-range
 
-pub returns-in-Refused : goal.returns-in-Refused
-returns-in-Refused c = search route-refused
+pub returns-in-Err : goal.returns-in-Err
+returns-in-Err c = search route-refused
 
-pub returns-in-Is : goal.returns-in-Is
-returns-in-Is c = search route-fills
+pub returns-in-Ok : goal.returns-in-Ok
+returns-in-Ok c = search route-fills

@@ -8,8 +8,8 @@ judge_sums-sums-requires c = search sums-take
 pub put_matrix-requires : goal.put_matrix-requires
 put_matrix-requires c = search (sums-take, nodes-have-room)
 
-pub returns-in-Refused : goal.returns-in-Refused
-returns-in-Refused c = search (written-refused, sums-refused, written-fills)
+pub returns-in-Err : goal.returns-in-Err
+returns-in-Err c = search (written-refused, sums-refused, written-fills)
 
 pub returns-in-Pass : goal.returns-in-Pass
 returns-in-Pass c = search (written-refused, sums-refused, written-fills)

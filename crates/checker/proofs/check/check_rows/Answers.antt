@@ -17,11 +17,11 @@ finish-requires-clause-table c = search rows-table
 pub finish-requires-clause-halves : goal.finish-requires-clause-halves
 finish-requires-clause-halves c = search rows-halves
 
-pub returns-in-Refused : goal.returns-in-Refused
-returns-in-Refused c = search rows-stop
+pub returns-in-Err : goal.returns-in-Err
+returns-in-Err c = search rows-stop
 
-pub returns-in-Refused-finish : goal.returns-in-Refused-finish
-returns-in-Refused-finish c = search end-stops
+pub returns-in-Err-finish : goal.returns-in-Err-finish
+returns-in-Err-finish c = search end-stops
 
-pub returns-in-On : goal.returns-in-On
-returns-in-On c = search sheet-ends
+pub returns-in-Ok-finish : goal.returns-in-Ok-finish
+returns-in-Ok-finish c = search sheet-ends

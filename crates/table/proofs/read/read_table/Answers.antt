@@ -4,4 +4,4 @@ use Rattle.table.proofs.ReadSteps.{no_line}
 use Rattle.table.proofs.read.read_table.Goals as goal
 
 pub returns-then-is_empty : goal.returns-then-is_empty
-returns-then-is_empty c = no_line _ _ (search rules) c.refusal-then-is_empty.ensures
+returns-then-is_empty c = no_line _ _ (search rules) c.refuse-then-is_empty.ensures

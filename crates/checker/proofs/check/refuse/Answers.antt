@@ -2,7 +2,7 @@
 use Rattle.ring.specs.Columns.{column}
 use Rattle.checker.specs.Arrays.{checked_in}
 use Rattle.std.proofs.Common.{rules}
-use Rattle.checker.proofs.check.refusal.Goals as goal
+use Rattle.checker.proofs.check.refuse.Goals as goal
 
 pub returns : goal.returns
 unfolding checked_in column
