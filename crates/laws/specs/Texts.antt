@@ -1,7 +1,10 @@
--- To believe: how numbers are spelled, and which texts are a sheet or a matrix: each the contract of a function that does nothing.
+-- To believe: how numbers are spelled, what a line of a shape says, and which texts are a sheet or a matrix: each the contract of a function that does nothing.
 use Rattle.std.specs.Prelude.{ℕ, ◌<◌, List, ◌↔◌, ◌≡◌}
 use Rattle.ring.specs.Limits.{desk}
 use Rattle.text.specs.Number.{limit, digits, Spelling}
+use Rattle.text.specs.declared.field.Field.{Field}
+use Rattle.text.specs.WriteLine.{write_line, FitsShape}
+use Rattle.text.specs.FirstFault.{FirstFault}
 use Rattle.matrix.specs.Says as matrix
 use Rattle.sheet.specs.Says as sheet
 use Rattle.ringkit.specs.Texts.{SomeForm, SomeMatrix}
@@ -9,6 +12,14 @@ use Rattle.ringkit.specs.Texts.{SomeForm, SomeMatrix}
 -- bytes spell a number exactly where it is below the limit and they are its digits: 1 to 7 digits with no leading zero but 0 itself leave each number one spelling
 abbrev pub SpellingIs : Type 0
 SpellingIs = (number : ℕ) (bytes : List ℕ) → Spelling number bytes ↔ ((number < limit) × (bytes ≡ digits number))
+
+-- two lines of one shape that are written the same say the same values
+abbrev pub OneLine : Type 0
+OneLine = (shape : List Field) (us vs : List ℕ) → FitsShape shape us → FitsShape shape vs → write_line shape us ≡ write_line shape vs → us ≡ vs
+
+-- a text has a first faulty byte exactly where it is no line of the shape
+abbrev pub FaultyIs : Type 0
+FaultyIs = (shape : List Field) (s : List ℕ) → ((p : ℕ) × FirstFault shape s p) ↔ ((vs : List ℕ) → s ≡ write_line shape vs → FitsShape shape vs → ⊥)
 
 -- a text is well-formed exactly where it is a sheet of values in range, true or not
 abbrev pub WellFormedIs : Type 0

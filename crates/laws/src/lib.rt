@@ -14,6 +14,6 @@ pub use rules::{
     sending_rule,
 };
 pub use texts::{
-    accepted_matrix, cases_as_promised, cases_hold, no_lower_peak, numbers_spelled, plan_accepted,
-    same_sheet, true_sheet_accepted, well_formed_sheet,
+    accepted_matrix, cases_as_promised, cases_hold, lines_of_a_shape, no_lower_peak,
+    numbers_spelled, plan_accepted, same_sheet, true_sheet_accepted, well_formed_sheet,
 };

@@ -2,12 +2,18 @@
 ghost use Rattle.ring.specs.Limits.{desk};
 ghost use Rattle.sheet.specs.Cases.{CasesHold};
 ghost use Rattle.sheet.specs.Laws.{SameSheet, TrueAccepted, PlanAccepted, NoLowerPeak};
-ghost use Rattle.laws.specs.Texts.{SpellingIs, WellFormedIs, AcceptedMatrixIs};
+ghost use Rattle.laws.specs.Texts.{SpellingIs, OneLine, FaultyIs, WellFormedIs, AcceptedMatrixIs};
 ghost use Rattle.laws.specs.Cases.{CasesPromised};
 
 /// Numbers are spelled in one way each: by 1 to 7 digits with no leading zero but 0 itself.
 pub fn numbers_spelled()
     ensures { SpellingIs }
+{}
+
+/// A line of a shape says its values alone, and a text has a first faulty byte exactly where it is no line of the shape.
+pub fn lines_of_a_shape()
+    ensures one { OneLine }
+    ensures faulty { FaultyIs }
 {}
 
 /// A text is well-formed exactly where it is a sheet of values in range.
