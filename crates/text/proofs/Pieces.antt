@@ -48,10 +48,6 @@ module _ (line text : ℕ → List ℕ) (start count k size : ℕ) (measuring : 
   pub measure-fits : (r : ℕ) → k < count → r ≤ 1000 → start ≤ 100 → count ≤ 100000 → Fits w64 (size + r)
   measure-fits r l h m n = omega (arith, measuring.small)
 
-  pub measures_line : (r : ℕ) → k < count → r ≡ length (line k) → Measuring line text start count (k + 1) (size + r)
-  measures_line r l e =
-      record { pieces = measuring.pieces; is = omega (arith, measuring.is, more-long line text measuring.pieces k); within = omega arith; small = omega (arith, measuring.small, measuring.pieces.short k) }
-
   pub measured : count ≤ k → size ≡ start + length (text count)
   measured h = let e : count ≡ k = omega (arith, measuring.within) in rw e measuring.is
 
@@ -98,9 +94,6 @@ pub writing-lines-start : (line text : ℕ → List ℕ) → Pieces line text �
 writing-lines-start = passing-starts writes
 
 module _ (line text : ℕ → List ℕ) (count at : ℕ) (old buf : List ℕ) (k p : ℕ) (writing : WritingLines line text count at old buf k p) where
-  pub lines-keep-length : length buf ≡ length old
-  lines-keep-length = room-kept writes old buf (text k) at p writing.passed
-
   module _ (l : k < count) where
     pub line-has-room : p + length (line k) ≤ length buf
     line-has-room = line-room writes line text count at old buf k p writing l

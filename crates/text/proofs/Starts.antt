@@ -63,23 +63,3 @@ unfolding field_byte
 from_byte shape vs k a b =
     let e : length (write_line (take k shape) vs) + 1 - 1 ≡ length (write_line (take k shape) vs) = omega arith in
     rw e (behind shape vs k a b)
-
--- a field further right starts no earlier
-
-more-before : (shape : List Field) (vs : List ℕ) (k m : ℕ) → k ≤ m → length (write_line (take k shape) vs) ≤ length (write_line (take m shape) vs)
-unfolding write_line
-more-before shape vs zero m h = omega arith
-more-before shape vs (suc k) zero h = absurd (omega arith)
-more-before [] vs (suc k) (suc m) h = omega arith
-more-before (f ∷ fs) [] (suc k) (suc m) h = omega arith
-more-before (f ∷ fs) (v ∷ vs) (suc k) (suc m) h =
-    omega (
-      arith,
-      more-before fs vs k m (omega arith),
-      length-append (spell f v) (end_of (length (take k fs)) ∷ write_line (take k fs) vs),
-      length-append (spell f v) (end_of (length (take m fs)) ∷ write_line (take m fs) vs),
-    )
-
-pub byte-rises : (shape : List Field) (vs : List ℕ) (k m : ℕ) → k ≤ m → field_byte shape vs k ≤ field_byte shape vs m
-unfolding field_byte
-byte-rises shape vs k m h = omega (arith, more-before shape vs k m h)
