@@ -1,5 +1,6 @@
 /* What the library does once, to be counted from outside: it is all that the function `counted` does.
  *   once route TABLE, once check SHEET           what a call writes goes to standard output
+ *   once judge SHEET                             the values that the sheet says
  *   once add|change|remove|write [FIRST SECOND]  of a full working table of 32 offices, at its last place, a row of these nodes or else the dearest
  *   once kept, once afresh                       496 rows are added and removed again, with the largest cut behind each: kept by the library, or summed
  *                                                afresh here; all the cuts are said as one number, so that the two can be compared */
@@ -8,7 +9,7 @@
 #include <stdlib.h>
 #include <string.h>
 
-#include "ringkit.h"
+#include "../tests/desk/held.h"
 
 enum { N = RINGKIT_MAX_OFFICES, ROWS = RINGKIT_MAX_ROWS, MOST = RINGKIT_MAX_AMOUNT };
 
@@ -31,6 +32,16 @@ static uint32_t route(void)
 static uint32_t check(void)
 {
     return ringkit_check(text, length).reason;
+}
+
+static void take_down(void)
+{
+    hold(text, length);
+}
+
+static uint32_t judge(void)
+{
+    return judge_held().reason;
 }
 
 /* ---- a full working table: all pairs, from the last to the first, so that writing has the most to sort; and the row in question at the last place */
@@ -148,7 +159,7 @@ static const struct job {
     void (*prepare)(void);
     uint32_t (*call)(void);
 } JOBS[] = {
-    {"route", nothing, route}, {"check", nothing, check}, {"add", all_but_one, add}, {"change", all, change}, {"remove", all, removes}, {"write", all, writes},
+    {"route", nothing, route}, {"check", nothing, check}, {"judge", take_down, judge}, {"add", all_but_one, add}, {"change", all, change}, {"remove", all, removes}, {"write", all, writes},
     {"kept", draw, kept}, {"afresh", draw, afresh},
 };
 

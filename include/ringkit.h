@@ -1,4 +1,4 @@
-/* ringkit: plans a ring of offices, checks plans, and keeps a table at work. For C11 and C++11, x86-64 Linux.
+/* ringkit: plans a ring of offices, checks plans, as texts and as values, and keeps a table at work. For C11 and C++11, x86-64 Linux.
  *
  * A text is read as a table, as a sheet or as a matrix. Fields are parted by one tab, every line ends with LF, numbers are 1 to 7 digits with no leading
  * zero but 0 itself.
@@ -17,21 +17,25 @@
  *           and field i of line i is 0. The first line says how many offices there are;
  *           how many fibres, no line says
  *
- * Each call accepts its text, or refuses it with a reason, a line and a byte of that line. What it answers and what it writes is proved to be what the
- * definitions say, for every text and every buffer on these terms:
+ * A sheet may also be held as values, rows and links as structs, and be judged without a text (ringkit_judge).
+ *
+ * Each call accepts its text, or refuses it with a reason, a line and a byte of that line; of values the row or the link is said in place of the line. What it answers and
+ * what it writes is proved to be what the definitions say, for every text, all values and every buffer on these terms:
  *
  *   - A pointer and the length behind it name bytes that may be read (a text) or written (a buffer) until the call returns, fewer than
  *     2^63 of them. A length may be 0; its pointer is then not used, and may be NULL. No text needs a NUL at its end.
+ *   - A pointer to rows or links and the count behind it name so many whole structs, aligned as C aligns them, that may be read until the call returns, fewer than
+ *     2^63 bytes of them. Whatever numbers are in them, and whatever the counts are, the call ends with an answer. A count may be 0; its pointer is then not used, and
+ *     may be NULL. Nobody writes to rows or links during the call.
  *   - Text and buffer do not overlap, and nobody else writes to either during the call.
  *   - A pointer to a working table names a whole struct ringkit_work, whatever bytes are in it. It does not overlap the buffer, and nobody else
  *     writes to it during the call, nor reads it while a call alters it.
  *   - RINGKIT_STACK_BYTES of stack are free. That figure is measured and not proved.
  *
  * No call keeps anything from one call to the next but in the working table that it is lent, allocates, touches a file or errno, or changes the
- * text. Calls may run in any number of threads at the same time.
+ * text, the rows or the links. Calls may run in any number of threads at the same time.
  *
- * Later versions will add calls (judging rows without a text) and reasons. So recompile with the header of the library that is linked, and take any
- * reason but RINGKIT_OK for a refusal.
+ * Later versions will add calls and reasons. So recompile with the header of the library that is linked, and take any reason but RINGKIT_OK for a refusal.
  */
 #ifndef RINGKIT_H
 #define RINGKIT_H
@@ -44,7 +48,7 @@ extern "C" {
 #endif
 
 /* Grows by 1 whenever a call, an answer or a limit changes. */
-#define RINGKIT_VERSION 5
+#define RINGKIT_VERSION 6
 
 /* The limits of what is accepted. */
 #define RINGKIT_MAX_TEXT_BYTES 32768
@@ -54,6 +58,10 @@ extern "C" {
 #define RINGKIT_MAX_AMOUNT 9999
 #define RINGKIT_TWO_FIBRES 2
 #define RINGKIT_FOUR_FIBRES 4
+
+/* The way of a row that is held as a struct. Any number but RINGKIT_F is B. */
+#define RINGKIT_F 0
+#define RINGKIT_B 1
 
 /* One unit of an amount, a load or a line size. */
 #define RINGKIT_UNIT "STS-1"
@@ -70,8 +78,10 @@ extern "C" {
 #define RINGKIT_STACK_BYTES 28672
 
 /* Why a text is refused. Each is given exactly when it holds and nothing before it in this order does: the fibres that a matrix is read with; RINGKIT_TOO_LONG; then line by line,
- * and in a line by rising number, but RINGKIT_FIBRES behind 3 and RINGKIT_TOO_MANY_ROWS between 6 and 7; then, when all lines have passed, 13 and 14 of a sheet, the first
- * entry in reading order that is 17 or 18 of a matrix, and the first row that is 19 of a table to be written as a matrix; then 15.
+ * and in a line by rising number, 2 to 7, RINGKIT_FIBRES behind 3 and RINGKIT_TOO_MANY_ROWS between 6 and 7; then, when all lines have been read, of a sheet 8 to 12 line by line,
+ * and 13 and 14; of a matrix the first entry in reading order that is 17 or 18; of a table to be written as a matrix the first row that is 19; then 15. So a fault of form (2 to
+ * 7, 16) is told before a false figure (8 to 14), on whichever lines the two are: 4 on line 3 before 8 on line 2.
+ * Of values the order is 3, 20; then row by row 4, 5, 6, 16, 7, 8, 9; then 10; then 11, of the count of links and then link by link; then 12, 13, 14.
  * The calls of a working table have no text. Starting one tries 3, then 20, and writing it 15; the others try 22 of the place that is named, then 4, 5 and 7 of the row that
  * is given, and for adding 21. */
 enum ringkit_reason {
@@ -86,7 +96,7 @@ enum ringkit_reason {
     RINGKIT_WRONG_SUM = 8,      /* front + back is not 2 x amount */
     RINGKIT_WRONG_WAY = 9,      /* direction of an unsplit row differs from rule D: back 0 goes F, else front 0 goes B */
     RINGKIT_WRONG_CUT = 10,     /* not 1 <= g < h <= n, or across number false */
-    RINGKIT_WRONG_LINK = 11,    /* link out of order, or either load false */
+    RINGKIT_WRONG_LINK = 11,    /* link out of order, or either load false; of values also a count of links other than n */
     RINGKIT_WRONG_LAST = 12,    /* unsplit peak or size false */
     RINGKIT_NOT_TIGHT = 13,     /* split peak (halves) is not the across number */
     RINGKIT_OVER_BOUND = 14,    /* the bound of rule D broken: twice the unsplit peak over split peak (halves) + 3 x largest split amount */
@@ -114,6 +124,29 @@ typedef struct ringkit_reply {
     uint32_t byte;   /* 0 when accepted */
     size_t length;   /* bytes written to the buffer's start; 0 when refused, and of ringkit_check */
 } ringkit_reply;
+
+/* A row of a sheet that is held as values: what its D line says. Any numbers may be in it. */
+typedef struct ringkit_row {
+    uint32_t first;  /* the row's nodes, */
+    uint32_t second;
+    uint32_t amount; /* its amount, in units, */
+    uint32_t front;  /* what goes each way, in halves, */
+    uint32_t back;
+    uint32_t way;    /* and where the whole circuit goes: RINGKIT_F is 0, any other number is B */
+} ringkit_row;
+
+/* A link's loads, as its L line says them: split ones in halves, unsplit ones in units. */
+typedef struct ringkit_link {
+    uint32_t link;
+    uint32_t split;
+    uint32_t unsplit;
+} ringkit_link;
+
+/* The answer of ringkit_judge. */
+typedef struct ringkit_judge_reply {
+    uint32_t reason; /* an enum ringkit_reason: RINGKIT_OK, 3 to 14, 16 or 20 */
+    uint32_t place;  /* of the row (4 to 9 and 16) or of the link (11) that is at fault, counted from 1; 0 when accepted, for the other reasons, and for 11 of the count of links */
+} ringkit_judge_reply;
 
 /* The answer of ringkit_parallel. */
 typedef struct ringkit_pair_reply {
@@ -160,9 +193,15 @@ typedef struct ringkit_work_row_reply {
 /* Routes a table and writes its sheet. */
 ringkit_reply ringkit_route(const uint8_t *table, size_t table_length, uint8_t *buffer, size_t buffer_length);
 
-/* Checks a sheet, whatever tool made it. Accepted means that every figure is true, that no division of the demands, however fine, has a lower
+/* Checks a sheet, whatever tool made it: reads all its lines, and then judges what they say. Accepted means that every figure is true, that no division of the demands, however fine, has a lower
  * peak than the split peak, and that the unsplit peak is within the bound of rule D. */
 ringkit_reply ringkit_check(const uint8_t *sheet, size_t sheet_length);
+
+/* Judges a sheet that is held as values: rows in the order of the table, the ring, the cut of links g and h with its across number, the loads with their links, 1 to n in order, the
+ * unsplit peak and the size. It accepts what the checker accepts of the text that says these values, and names the row or the link where it refuses. What no text can say it
+ * judges too: larger numbers, more rows than a text has room for, and another count of links than n. */
+ringkit_judge_reply ringkit_judge(const ringkit_row *rows, size_t row_count, uint32_t n, uint32_t fibres, uint32_t g, uint32_t h, uint32_t across, const ringkit_link *links,
+                                  size_t link_count, uint32_t peak, uint32_t size);
 
 /* The first pair of split rows of a sheet that are parallel, by first and then by second; the sheet is checked before. */
 ringkit_pair_reply ringkit_parallel(const uint8_t *sheet, size_t sheet_length);

@@ -92,7 +92,7 @@ def tables_of_497():
 
 
 def sheets_of_497():
-    """16 in a sheet, which comes before 7, 8 and 9; on lines before it other reasons come first."""
+    """16 in a sheet, which comes before 7, and before 8 and 9 of any line; on lines before it the reasons of a table come first."""
     lines = shown(rules.sheet(3, tuple(LAST)))
     rows = [
         ("D|2|3|1|2|0|F", [16]), ("D|2|3|1|2|1|F", [16, 8]), ("D|2|3|1|2|0|B", [16, 9]), ("D|2|3|1|0|0|B", [16, 8, 9]),
@@ -104,7 +104,7 @@ def sheets_of_497():
     others = [
         ((2, 498), t(*lines[:497])), ((2, 498), t(*lines[:497], last, end="")), ((2, 498), t(*lines[:497], *lines[498:])),
         ((16, 498), t(*lines[:497], last)),
-        ((8, 497), t(*lines[:496], "D|2|3|1|2|1|F", last, *lines[497:])), ((9, 2), t(lines[0], "D|1|2|1|2|0|B", *lines[2:497], last, *lines[497:])),
+        ((16, 498), t(*lines[:496], "D|2|3|1|2|1|F", last, *lines[497:])), ((16, 498), t(lines[0], "D|1|2|1|2|0|B", *lines[2:497], last, *lines[497:])),
     ]
     for reply, text in others:
         assert first_reason_of_sheet(text) == reply, text[-40:]

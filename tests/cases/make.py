@@ -15,7 +15,7 @@ import matrix
 import rules
 import sheets
 from pointing import byte_of
-from reading import Sheet, first_reason, first_reason_of_sheet, holding, lines_of, rewritten
+from reading import FORM, Sheet, first_reason, first_reason_of_sheet, holding, line_by_line, lines_of, rewritten
 from sheets import damaged, full, pairs, t, write_table
 
 ROOM, PATTERN = 40000, 85
@@ -239,11 +239,19 @@ def around(text):
     return [0, need - 1, need, need + 1]
 
 
+def only_forms_win(text):
+    """That all lines are read before any is judged changes the answer of such texts alone as have a fault of form behind a false figure, and it is then that fault."""
+    now, line = refused("C", text) or (0, 0)
+    figure, before = line_by_line(text) or (0, 0)
+    assert (now, line) == (figure, before) or now in FORM and figure in (8, 9, 10, 11, 12) and before < line, text
+
+
 def of_sheets():
     """Each sheet is checked. Those that pass the lines, the first of each reason and some others are asked for a pair and written afresh too."""
     met = set()
-    for k, text in enumerate(dict.fromkeys([*sheets.all_texts(), *circuits.sheets()])):
+    for k, text in enumerate(dict.fromkeys([*sheets.all_texts(), *circuits.sheets(), *sheets.forms_behind_figures()])):
         reason = (refused("C", text) or (0, 0))[0]
+        only_forms_win(text)
         yield "C", text, 0
         if reason in (0, 13, 14) or reason not in met or k % 12 == 0:
             need = min(len(text), ROOM - 1)

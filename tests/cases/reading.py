@@ -1,10 +1,12 @@
 """Which refusal a table or a sheet gets, read from the rules alone: the reasons that hold of each line are collected, each judged by its own
-words, and the one that their order puts first is given."""
+words, and the one that their order puts first is given. A sheet is read, all its lines, and then judged (Rules, reading and judging)."""
+import judging
 import rules
+from judging import ORDER, Values
 
-LONGEST, MOST_ROWS = 32768, 496
-# by rising number, but 16 stands between 6 and 7 and 20 behind 3 (Rules, the order of reasons)
-ORDER = (1, 2, 3, 20, 4, 5, 6, 16, 7, 8, 9, 10, 11, 12, 13, 14)
+LONGEST = 32768
+# what reading gives; all else is found against what was read
+FORM = {1, 2, 3, 20, 4, 5, 6, 16, 7}
 # what follows the letter of a sheet's line: numbers, and for a row its way
 SHEET = {"R": 2, "D": 5, "C": 3, "L": 3, "Z": 2}
 
@@ -39,22 +41,6 @@ def lines_of(text):
     return out
 
 
-def of_ring(ring):
-    """3 and 20, which speak of the number of offices and of fibres."""
-    return {3: not 2 <= ring[0] <= 32, 20: ring[1] not in (2, 4)}
-
-
-def of_row(ring, before, at, row):
-    """4 to 7 and 16, which speak of a row's nodes, place and amount. Line 2 has the first row."""
-    return {
-        4: ring and not all(1 <= node <= ring[0] for node in row[:2]),
-        5: row[0] >= row[1],
-        6: before and row[:2] < before[:2],
-        16: at - 1 > MOST_ROWS,
-        7: row[2] > 9999,
-    }
-
-
 def those(tests):
     return {reason for reason, holds in tests.items() if holds}
 
@@ -63,10 +49,16 @@ def holding(lines, at):
     """The reasons that hold of a table's line."""
     ring = fields(lines[0], b"R", 2) if lines else None
     if at == 1:
-        return {2} if ring is None else those(of_ring(ring))
+        return {2} if ring is None else those(judging.of_ring(*ring))
     row = fields(lines[at - 1], b"D", 3)
     before = fields(lines[at - 2], b"D", 3) if at > 2 else None
-    return {2} if row is None else those(of_row(ring, before, at, row))
+    return {2} if row is None else of_row(ring, before, at, row)
+
+
+def of_row(ring, before, at, row):
+    """The reasons that hold of a row on a line, 4 where it is known how many offices there are. Line 2 has the first row."""
+    held = those(judging.of_row(ring[0] if ring else 0, before, at - 1, row))
+    return held if ring else held - {4}
 
 
 def first_of(held):
@@ -100,9 +92,8 @@ class Sheet:
         said = [values(line, "D") for line in self.lines[1:1 + self.count]]
         # figures can be told true from false where every row has its shape
         self.known = self.ring and None not in said
-        self.rows = [tuple(row[:3]) for row in said] if self.known else []
-        self.sent = [row[3:5] for row in said] if self.known else []
-        self.ways = [row[5] for row in said] if self.known else []
+        self.rows = [tuple(row) for row in said] if self.known else []
+        self.sent = [row[3:5] for row in self.rows]
 
     def due(self, at):
         """R; D for as long as lines begin with it; C; L for each link; Z; nothing after it."""
@@ -121,57 +112,60 @@ class Sheet:
         return values(self.lines[at - 1], letter) if letter and at <= len(self.lines) else None
 
     def holding(self, at):
-        """The reasons that hold of a line; a missing line is one past the last, where something is due."""
+        """The reasons that hold of a line, of reading and of judging; a missing line is one past the last, where something is due."""
         said = self.said(at)
         if said is None:
             return {2} if at <= len(self.lines) or self.due(at) else set()
-        return those(getattr(self, "of_" + self.due(at))(at, said))
+        letter = self.due(at)
+        if letter == "R":
+            return those(judging.of_ring(*said))
+        if letter == "D":
+            before = self.said(at - 1) if at > 2 else None
+            return of_row(self.ring, before, at, said) | those(judging.of_figures(said))
+        return self.false(at, said) if self.known and 1 <= self.ring[0] <= 32 else set()
 
-    def of_R(self, at, ring):
-        return of_ring(ring)
+    def false(self, at, said):
+        """10, 11 and 12, of a line behind rows that all have their shape."""
+        place = at - 2 - self.count
+        if self.due(at) == "C":
+            return those(judging.of_cut(self.values(cut=said)))
+        if self.due(at) == "L":
+            return those(judging.of_link(self.values(links=[said] * place), place))
+        return those(judging.of_last(self.values(last=said)))
 
-    def of_D(self, at, row):
-        *_, d, front, back, way = row
-        before = self.said(at - 1) if at > 2 else None
-        whole = not (front > 0 and back > 0)
-        own = {8: front + back != 2 * d, 9: whole and way != ("F" if back == 0 else "B")}
-        return {**of_row(self.ring, before, at, row), **own}
+    def values(self, cut=(0, 0, 0), links=(), last=(0, 0)):
+        return Values(*self.ring, self.rows, cut, links, last)
 
-    def of_C(self, at, cut):
-        g, h, across = cut
-        return {10: self.known and (not 1 <= g < h <= self.ring[0] or across != rules.across(self.rows, g, h))}
-
-    def of_L(self, at, link):
-        k = at - 2 - self.count
-        return {11: self.known and link != [k, rules.split_load(self.rows, self.sent, k), rules.unsplit_load(self.rows, self.ways, k)]}
-
-    def peaks(self):
-        links = range(1, self.ring[0] + 1)
-        return max(rules.split_load(self.rows, self.sent, k) for k in links), max(rules.unsplit_load(self.rows, self.ways, k) for k in links)
-
-    def of_Z(self, at, said):
-        if not self.known or not 1 <= self.ring[0] <= 32:
-            return {}
-        peak = self.peaks()[1]
-        return {12: said != [peak, rules.size_for(peak, self.ring[1])]}
-
-    def of_all(self):
-        """13 and 14, of a sheet whose lines all pass."""
-        split, unsplit = self.peaks()
-        bound = split + 3 * rules.largest_split(self.rows, self.sent)
-        return {13: split != self.said(2 + self.count)[2], 14: 2 * unsplit > bound}
+    def read(self):
+        """All values, of a text that reading accepts."""
+        cut, *links, last = (self.said(at) for at in range(self.count + 2, len(self.lines) + 1))
+        return self.values(cut, links, last)
 
     def held(self):
         """Line and reason of all that hold of a line."""
         return {(at, reason) for at in range(1, len(self.lines) + 2) for reason in self.holding(at)}
 
+    def line(self, reason, place):
+        """The line of what is found against the values: 10 and 12, which name no place, have their lines too, and 11 its link's."""
+        behind_rows = {10: 2, 11: 2 + place, 12: len(self.lines) - self.count}
+        return 0 if reason in (13, 14) else self.count + behind_rows[reason] if reason in behind_rows else place + 1
+
 
 def first_reason_of_sheet(text):
-    """The same for a sheet; 13 and 14 come after all lines and stand on line 0."""
+    """The same for a sheet: what reading gives, and where it gives nothing what judging finds; 13 and 14 stand on line 0."""
     if len(text) > LONGEST:
         return 1, 0
     sheet = Sheet(text)
-    return first_of(sheet.held()) or first_of((0, reason) for reason in those(sheet.of_all()))
+    misread = first_of(one for one in sheet.held() if one[1] in FORM)
+    if misread:
+        return misread
+    found = judging.judged(sheet.read())
+    return found and (found[0], sheet.line(*found))
+
+
+def line_by_line(text):
+    """What a sheet would get if each line were judged as it is read: the same, but where a fault of form stands behind a false figure."""
+    return (1, 0) if len(text) > LONGEST else first_of(Sheet(text).held()) or first_reason_of_sheet(text)
 
 
 def rewritten(text):

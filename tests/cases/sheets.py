@@ -2,7 +2,7 @@
 import random
 
 import rules
-from reading import Sheet, first_reason_of_sheet, lines_of
+from reading import Sheet, first_reason_of_sheet, line_by_line, lines_of
 
 
 def t(*lines, end="\n"):
@@ -237,7 +237,7 @@ def figures_refused():
 
 
 def two_faults():
-    """The line that comes first is given whatever its reason, and in a line the smaller reason; 13 and 14 come after all lines."""
+    """The line that comes first is given, of those with a fault of form if there are any, and in a line the smaller reason; 13 and 14 come after all lines."""
     lines = good()
     row = next(k for k, line in enumerate(lines) if line[0] == "D")
     cut = next(k for k, line in enumerate(lines) if line[0] == "C")
@@ -272,6 +272,53 @@ def two_faults():
     rows = [(k, k + 4, 1) for k in range(1, 5)]
     yield rules.text_of(rules.figures(8, rows, (1, 5), [[1, 1]] * 4, "FFFF"))
     yield rules.text_of(rules.figures(8, rows, (1, 2), [[1, 1]] * 4, "FFFF"))
+
+
+def early_figures(lines):
+    """One false figure on a line, at the first line of its kind or at the last that has one behind it: line, reason and the line's text."""
+    row = next(k for k, line in enumerate(lines) if line[0] == "D")
+    cut = next(k for k, line in enumerate(lines) if line[0] == "C")
+    return [
+        (row, 8, "D|1|3|10|19|2|F"), (row, 8, "D|1|3|10|65555|1|F"), (row + 1, 9, "D|1|4|4|0|8|F"), (cut - 2, 9, "D|3|6|4|8|0|B"),
+        (cut, 10, "C|1|1|0"), (cut, 10, lines[cut] + "1"), (cut + 1, 11, "L|2|1|1"), (cut + 1, 11, "L|1|0|0"), (cut + N - 1, 11, "L|6|0|0"), (len(lines) - 1, 12, "Z|1|12"),
+    ]
+
+
+def late_forms(lines):
+    """A fault of form on a late line: where the text changes, the lines from there on, and what they are given. Rows 3 and 7 of the seven, the cut, links and the end."""
+    row, cut, z = 3, next(k for k, line in enumerate(lines) if line[0] == "C"), len(lines) - 1
+    for at, reason, line in [
+        (row, 4, "D|2|8|5|10|0|F"), (cut - 1, 4, "D|0|5|1|2|0|F"), (row, 5, "D|5|5|5|10|0|F"), (cut - 1, 5, "D|5|4|1|2|0|F"), (row, 6, "D|1|3|5|10|0|F"), (cut - 1, 6, "D|3|5|1|2|0|F"),
+        (row, 7, "D|2|5|10000|20000|0|F"), (cut - 1, 7, "D|4|5|9999999|2|0|F"),
+        (row, 2, "D|2|5|05|10|0|F"), (cut - 1, 2, "D|4|5|1|2|0|X"), (cut - 1, 2, "D|4|5|1"), (cut, 2, "C|2|6|"), (cut, 2, "c"), (cut + 1, 2, "L|1|0|x"), (cut + 2, 2, ""), (cut + N, 2, "L|7|1"),
+        (z, 2, "Z|1|12|"), (z, 2, "Z|1"), (z, 2, "z|1|12"),
+    ]:
+        yield at, [line, *lines[at + 1:]], (reason, at + 1)
+    # a text that ends too early; a link that is left out, so that the last line is in its place; a line that is left over
+    yield from ((at, [], (2, at + 1)) for at in (cut, cut + 1, cut + N, z))
+    yield from ((at, lines[at + 1:], (2, z)) for at in (cut + 1, cut + N))
+    yield from ((z + 1, [more], (2, z + 2)) for more in (lines[z], "x"))
+
+
+def given_late(figure, form, text):
+    """A text that gets the one reason and line where each line is judged as it is read, and the other where all are read before."""
+    assert (line_by_line(text), first_reason_of_sheet(text)) == (figure, form), text[-80:]
+    return text
+
+
+def forms_behind_figures():
+    """A fault of form wins over a false figure on an earlier line; and 16, on the 497th row, over figures of the first rows and of the one before it."""
+    lines = good()
+    for early, reason, line in early_figures(lines):
+        for late, rest, form in late_forms(lines):
+            if late > early:
+                yield given_late((reason, early + 1), form, t(*lines[:early], line, *lines[early + 1:late], *rest))
+    rows = shown(rules.sheet(3, tuple([(1, 2, 1)] * 100 + [(1, 3, 0)] * 100 + [(2, 3, 1)] * 297)))
+    for at in (1, 101, 496):
+        nodes = "D|%s|%s" % tuple(rows[at].split("|")[1:3])
+        for reason, line in ((8, nodes + "|1|2|1|F"), (9, nodes + "|1|2|0|B")):
+            for more in (1, 3):
+                yield given_late((reason, at + 1), (16, 498), t(*rows[:at], line, *rows[at + 1:497], *rows[497:498] * more, *rows[498:]))
 
 
 def bounds():

@@ -10,8 +10,9 @@
 #include <sys/mman.h>
 #include <unistd.h>
 
-#include "ringkit.h"
+#include "held.h"
 
+_Static_assert(sizeof(ringkit_row) == 24 && sizeof(ringkit_link) == 12 && sizeof(ringkit_judge_reply) == 8, "numbers of 4 bytes, with no padding");
 _Static_assert(RINGKIT_SHEET_BYTES == 8 * (3 + 7 * RINGKIT_MAX_ROWS + 4 + 4 * RINGKIT_MAX_OFFICES + 3),
                "8 bytes for each field of the longest sheet, as in crates/ringkit");
 _Static_assert(RINGKIT_TABLE_BYTES == 8 * (3 + 4 * RINGKIT_MAX_ROWS), "8 bytes for each field of the longest table");
@@ -180,6 +181,65 @@ static void route(const char *name)
     make(name, ringkit_route, &table, &sheet, RINGKIT_SHEET_BYTES);
 }
 
+/* ---- values */
+
+static bool judged(ringkit_judge_reply reply, uint32_t reason, uint32_t place)
+{
+    return reply.reason == reason && reply.place == place;
+}
+
+/* What is found against the values that are held, their rows and links each before a fence, where they can only be read. */
+static void finds_held(const char *name, uint32_t reason, uint32_t place)
+{
+    static struct text rows, links;
+    rows.length = held.row_count * sizeof *held.rows;
+    links.length = held.link_count * sizeof *held.links;
+    memcpy(rows.bytes, held.rows, rows.length);
+    memcpy(buffer_area + AREA - links.length, held.links, links.length);
+    const ringkit_row *lent_rows = (const ringkit_row *)(const void *)fenced(&rows);
+    const ringkit_link *lent_links = (const ringkit_link *)(const void *)(buffer_area + AREA - links.length);
+    need(mprotect(buffer_area, AREA, PROT_READ) == 0, "mprotect");
+    ringkit_judge_reply reply = ringkit_judge(lent_rows, held.row_count, held.n, held.fibres, held.g, held.h, held.across, lent_links, held.link_count, held.peak, held.size);
+    need(mprotect(buffer_area, AREA, PROT_READ | PROT_WRITE) == 0, "mprotect");
+    expect(judged(reply, reason, place), "%s: judging finds %u at place %u", name, (unsigned)reply.reason, (unsigned)reply.place);
+}
+
+/* The values of a sheet of ours are accepted; its last row, its last link and its size are spoilt in turn, and a link is left out. */
+static void test_values(const char *name)
+{
+    hold(sheet.bytes, sheet.length);
+    finds_held(name, RINGKIT_OK, 0);
+    held.size++;
+    finds_held(name, RINGKIT_WRONG_LAST, 0);
+    held.links[held.link_count - 1].unsplit += 65536;
+    finds_held(name, RINGKIT_WRONG_LINK, (uint32_t)held.link_count);
+    held.link_count--;
+    finds_held(name, RINGKIT_WRONG_LINK, 0);
+    held.h = UINT32_MAX;
+    finds_held(name, RINGKIT_WRONG_CUT, 0);
+    held.rows[held.row_count - 1].front += 1;
+    finds_held(name, RINGKIT_WRONG_SUM, (uint32_t)held.row_count);
+    held.rows[0].second = UINT32_MAX;
+    finds_held(name, RINGKIT_NO_SUCH_NODE, 1);
+    held.fibres = 3;
+    finds_held(name, RINGKIT_FIBRES, 0);
+    held.n = RINGKIT_MAX_OFFICES + 1;
+    finds_held(name, RINGKIT_RING_SIZE, 0);
+}
+
+/* With no rows and no links the pointers are not used. */
+static void test_no_values(void)
+{
+    static const ringkit_link links[] = {{1, 0, 0}, {2, 0, 0}};
+    static const ringkit_row row = {1, 2, 0, 0, 0, RINGKIT_F};
+    expect(judged(ringkit_judge(NULL, 0, 2, 4, 1, 2, 0, links, 2, 0, 3), RINGKIT_OK, 0), "judge: no rows");
+    expect(judged(ringkit_judge(NULL, 0, 2, 4, 1, 2, 0, NULL, 0, 0, 3), RINGKIT_WRONG_LINK, 0), "judge: no rows and no links");
+    expect(judged(ringkit_judge(&row, 1, 2, 4, 1, 2, 0, NULL, 0, 0, 3), RINGKIT_WRONG_LINK, 0), "judge: no links");
+    expect(judged(ringkit_judge(NULL, 0, 0, 0, 0, 0, 0, NULL, 0, 0, 0), RINGKIT_RING_SIZE, 0), "judge: nothing");
+    expect(judged(ringkit_judge(NULL, 0, 2, 0, 0, 0, 0, NULL, 0, 0, 0), RINGKIT_FIBRES, 0), "judge: no fibres");
+    expect(judged(ringkit_judge(NULL, 0, 2, 2, 0, 0, 0, NULL, 0, 0, 0), RINGKIT_WRONG_CUT, 0), "judge: no cut");
+}
+
 static void test_table(const char *name)
 {
     route(name);
@@ -189,6 +249,7 @@ static void test_table(const char *name)
     writes(name, ringkit_route, &table, &sheet);
     writes(name, ringkit_rewrite_table, &table, &table);
     writes(name, ringkit_rewrite_sheet, &sheet, &sheet);
+    test_values(name);
 }
 
 /* Rows 1 and 3, both 1-2 on a ring of 4, are split and parallel. */
@@ -510,7 +571,7 @@ static void test_work(void)
 /* ---- what the header says of limits, and of no text at all */
 
 /* Both calls that route or rewrite give the table that reason, line and byte. */
-static void judged(const char *name, uint32_t reason, uint32_t line, uint32_t byte)
+static void table_judged(const char *name, uint32_t reason, uint32_t line, uint32_t byte)
 {
     writing *calls[] = {ringkit_route, ringkit_rewrite_table};
     for (unsigned k = 0; k < 2; k++) {
@@ -521,29 +582,29 @@ static void judged(const char *name, uint32_t reason, uint32_t line, uint32_t by
 static void test_limits(void)
 {
     one_row(RINGKIT_MIN_OFFICES, RINGKIT_MAX_AMOUNT);
-    judged("fewest offices, largest amount", RINGKIT_OK, 0, 0);
+    table_judged("fewest offices, largest amount", RINGKIT_OK, 0, 0);
     one_row(RINGKIT_MIN_OFFICES - 1, 1);
-    judged("too few offices", RINGKIT_RING_SIZE, 1, 3);
+    table_judged("too few offices", RINGKIT_RING_SIZE, 1, 3);
     one_row(RINGKIT_MIN_OFFICES, RINGKIT_MAX_AMOUNT + 1);
-    judged("too large an amount", RINGKIT_TOO_MUCH, 2, 7);
+    table_judged("too large an amount", RINGKIT_TOO_MUCH, 2, 7);
     one_row(RINGKIT_MAX_OFFICES + 1, 1);
-    judged("too many offices", RINGKIT_RING_SIZE, 1, 3);
+    table_judged("too many offices", RINGKIT_RING_SIZE, 1, 3);
     equal_rows(RINGKIT_MAX_ROWS);
-    judged("most offices, most rows", RINGKIT_OK, 0, 0);
+    table_judged("most offices, most rows", RINGKIT_OK, 0, 0);
     equal_rows(RINGKIT_MAX_ROWS + 1);
-    judged("too many rows", RINGKIT_TOO_MANY_ROWS, RINGKIT_MAX_ROWS + 2, 1);
+    table_judged("too many rows", RINGKIT_TOO_MANY_ROWS, RINGKIT_MAX_ROWS + 2, 1);
     table.length = 0;
     add(&table, "R\t2\t3\n");
-    judged("three fibres", RINGKIT_FIBRES, 1, 5);
+    table_judged("three fibres", RINGKIT_FIBRES, 1, 5);
     table.length = 0;
     add(&table, "R\t33\t3\n");
-    judged("too many offices and three fibres", RINGKIT_RING_SIZE, 1, 3);
+    table_judged("too many offices and three fibres", RINGKIT_RING_SIZE, 1, 3);
     equal_rows(RINGKIT_MAX_ROWS);
     table.length = RINGKIT_MAX_TEXT_BYTES;
     table.bytes[0] = 'r';
-    judged("longest text", RINGKIT_MISSHAPEN, 1, 1);
+    table_judged("longest text", RINGKIT_MISSHAPEN, 1, 1);
     table.length++;
-    judged("too long a text", RINGKIT_TOO_LONG, 0, 0);
+    table_judged("too long a text", RINGKIT_TOO_LONG, 0, 0);
 }
 
 /* A row behind the R line of a table of four offices, in the table's own calls. */
@@ -551,7 +612,7 @@ static void row_judged(const char *row, uint32_t reason, uint32_t byte)
 {
     table.length = 0;
     add(&table, "R\t4\t4\n%s", row);
-    judged(row, reason, 2, byte);
+    table_judged(row, reason, 2, byte);
 }
 
 /* A line behind the R line of a sheet, where a row or the cut is due. */
@@ -583,8 +644,22 @@ static void test_bytes(void)
     line_checked("D\t1\t2\t1\t1\t1\tFB\n", RINGKIT_MISSHAPEN, 14);
     line_checked("D\t1\t2\t1\t1\t1\t\n", RINGKIT_MISSHAPEN, 13);
     line_checked("D\t1\t2\t1\t1\t1\tF", RINGKIT_MISSHAPEN, 14);
-    line_checked("D\t1\t2\t1\t1\t2\tF\n", RINGKIT_WRONG_SUM, 1);
+    line_checked("D\t1\t2\t1\t1\t2\tF\nC\t1\t2\t0\nL\t0\t0\t0\nL\t0\t0\t0\nL\t0\t0\t0\nL\t0\t0\t0\nZ\t0\t0\n", RINGKIT_WRONG_SUM, 1);
     line_checked("", RINGKIT_MISSHAPEN, 1);
+}
+
+/* A fault of form wins over a false figure on a line before it, in all calls of a sheet. */
+static void test_late_form(void)
+{
+    sheet.length = 0;
+    add(&sheet, "R\t2\t4\nD\t1\t2\t1\t1\t2\tF\nC\t1\t2\t9\nL\t1\t0\t0\nL\t2\t0\t0\nZ\t0\t3");
+    expect(says(ringkit_check(fenced(&sheet), sheet.length), RINGKIT_MISSHAPEN, 6, 6, 0), "check: no LF behind a false row");
+    expect(finds(ringkit_parallel(fenced(&sheet), sheet.length), RINGKIT_MISSHAPEN, 6, 6, 0, 0), "parallel: no LF behind a false row");
+    judges("rewriting: no LF behind a false row", ringkit_rewrite_sheet, &sheet, RINGKIT_MISSHAPEN, 6, 6);
+    add(&sheet, "\n");
+    expect(says(ringkit_check(fenced(&sheet), sheet.length), RINGKIT_WRONG_SUM, 2, 1, 0), "check: a false row and a false cut");
+    expect(finds(ringkit_parallel(fenced(&sheet), sheet.length), RINGKIT_WRONG_SUM, 2, 1, 0, 0), "parallel: a false row and a false cut");
+    judges("rewriting: a false row and a false cut", ringkit_rewrite_sheet, &sheet, RINGKIT_WRONG_SUM, 2, 1);
 }
 
 static void test_no_text(void)
@@ -606,6 +681,8 @@ enum { SMALL_STACK = 128 * 1024, BESIDE = 4, TURNS = 25 };
 static void *test_texts(void *unused)
 {
     test_no_text();
+    test_no_values();
+    test_late_form();
     test_pair();
     test_limits();
     test_bytes();

@@ -1,5 +1,5 @@
-/* stack CALL [TEXT]: how many bytes of stack the call touches, and whether it is accepted: on the text of a file, of a working table on a full one, or on a small
- * one. It runs in a thread that has as much stack as the header promises to be enough, painted before the call and looked at after it, with a page below it that may
+/* stack CALL [TEXT]: how many bytes of stack the call touches, and whether it is accepted: on the text of a file, of values on those that the text says, of a working table
+ * on a full one, or on a small one. It runs in a thread that has as much stack as the header promises to be enough, painted before the call and looked at after it, with a page below it that may
  * not be touched. A process makes one call, and calls no memset and no memcpy before it, so that this call also binds them, as any program's first call may. */
 #define _DEFAULT_SOURCE
 #include <pthread.h>
@@ -7,7 +7,7 @@
 #include <string.h>
 #include <sys/mman.h>
 
-#include "ringkit.h"
+#include "held.h"
 
 enum { STACK = RINGKIT_STACK_BYTES, PAGE = 4096, PAINT = 0xa5, MOST = RINGKIT_MAX_TEXT_BYTES + 1 };
 
@@ -39,6 +39,11 @@ static uint32_t rewrite_sheet(void)
 static uint32_t check(void)
 {
     return ringkit_check(text, length).reason;
+}
+
+static uint32_t judge(void)
+{
+    return judge_held().reason;
 }
 
 static uint32_t parallel(void)
@@ -95,6 +100,7 @@ static const struct named {
     {"ringkit_rewrite_table", rewrite_table, TABLE},
     {"ringkit_rewrite_sheet", rewrite_sheet, SHEET},
     {"ringkit_check", check, SHEET},
+    {"ringkit_judge", judge, SHEET},
     {"ringkit_parallel", parallel, SHEET},
     {"ringkit_read_matrix", read_matrix, MATRIX},
     {"ringkit_write_matrix", write_matrix, TABLE},
@@ -194,6 +200,7 @@ int main(int count, char **words)
         fputs("usage: stack CALL [TEXT]\n", stderr);
         return 2;
     }
+    hold(text, length);
     take_work(works && name != NULL ? RINGKIT_MAX_ROWS : 1);
     size_t depth = touched(&d);
     printf("%zu bytes of stack, %s\n", depth, d.reason == RINGKIT_OK ? "accepted" : "refused");

@@ -1,7 +1,7 @@
 /* Makes calls of the library for a twin that cannot link it, one after the other until standard input ends. Numbers on the pipes have 8 bytes, the
  * lowest first. A request is the lengths of a call's name, of its text and of an area, where in the area the lent buffer begins and ends, where in the
  * text a working table begins, that is handed over as one, the four numbers that the call is told beside the text (0 where it is told none), and then the
- * name, the text and the area. The answer is the reply's seven numbers, 0 for a byte that it does not have and behind its last, and then text and area as the call leaves them. */
+ * name, the text and the area. Values to be judged are a text of numbers of 4 bytes: rows, links and the other figures, with the counts of rows and links told beside it. The answer is the reply's seven numbers, 0 for a byte that it does not have and behind its last, and then text and area as the call leaves them. */
 #include <stdio.h>
 #include <stdlib.h>
 #include <string.h>
@@ -16,13 +16,15 @@ struct answer {
     uint64_t reason, line, byte, numbers[4];
 };
 
-/* A call has one of four forms, and those of the working table a fifth. */
+/* A call has one of four forms, those of the working table a fifth, and judging values a sixth. */
 typedef ringkit_reply writing(const uint8_t *, size_t, uint8_t *, size_t);
 typedef ringkit_reply telling(const uint8_t *, size_t, uint32_t, uint8_t *, size_t);
 typedef ringkit_reply judging(const uint8_t *, size_t);
 typedef ringkit_pair_reply finding(const uint8_t *, size_t);
 typedef struct answer working(ringkit_work *, const uint64_t told[4], uint8_t *, size_t);
+typedef struct answer holding(const struct request *, const uint8_t *);
 
+static holding judge_values;
 static working work_start, work_add, work_change, work_remove, work_row, work_write;
 
 static const struct call {
@@ -31,6 +33,7 @@ static const struct call {
     telling *tell;
     judging *judge;
     finding *find;
+    holding *hold;
     working *work;
 } CALLS[] = {
     {.name = "Route", .write = ringkit_route},
@@ -40,6 +43,7 @@ static const struct call {
     {.name = "Parallel", .find = ringkit_parallel},
     {.name = "ReadMatrix", .tell = ringkit_read_matrix},
     {.name = "WriteMatrix", .write = ringkit_write_matrix},
+    {.name = "Judge", .hold = judge_values},
     {.name = "WorkStart", .work = work_start},
     {.name = "WorkAdd", .work = work_add},
     {.name = "WorkChange", .work = work_change},
@@ -116,6 +120,18 @@ static struct answer work_write(ringkit_work *work, const uint64_t told[4], uint
     return reply(ringkit_work_write(work, buffer, length));
 }
 
+static struct answer judge_values(const struct request *r, const uint8_t *text)
+{
+    const ringkit_row *rows = (const ringkit_row *)(const void *)text;
+    const ringkit_link *links = (const ringkit_link *)(const void *)(rows + r->told[0]);
+    const uint32_t *last = (const uint32_t *)(const void *)(links + r->told[1]);
+    if (r->text_length != sizeof *rows * r->told[0] + sizeof *links * r->told[1] + 7 * sizeof *last) {
+        fail("the twin's values have another size than the library's");
+    }
+    ringkit_judge_reply judged = ringkit_judge(rows, r->told[0], last[0], last[1], last[2], last[3], last[4], links, r->told[1], last[5], last[6]);
+    return (struct answer){judged.reason, 0, 0, {judged.place}};
+}
+
 /* The working table in what is handed over as a text, with as many bytes behind it as before it. */
 static ringkit_work *lent_table(const struct request *r, uint8_t *text)
 {
@@ -129,6 +145,9 @@ static struct answer make(const struct call *call, const struct request *r, uint
 {
     if (call->work != NULL) {
         return call->work(lent_table(r, text), r->told, area + r->begin, r->end - r->begin);
+    }
+    if (call->hold != NULL) {
+        return call->hold(r, text);
     }
     if (call->write != NULL) {
         return reply(call->write(text, r->text_length, area + r->begin, r->end - r->begin));

@@ -1,5 +1,5 @@
 -- The triangle under its loops: a line is changed link by link, and the lines of a row, from its first node on, are its share of every number.
-use Rattle.std.proofs.Common.{◌≡◌, ℕ, suc, ◌+◌, ◌-◌, ◌<◌, ◌≤◌, Bool, true, false, cond, List, length, get_or, set, sym, refl, ap, ◌∙◌, arith, length-set, get_or-set_other, get_or-set_same, w32, Fits, le-leb}
+use Rattle.std.proofs.Common.{◌≡◌, ℕ, suc, ◌+◌, ◌-◌, ◌<◌, ◌≤◌, Bool, true, false, cond, List, length, get_or, set, sym, refl, ap, ◌∙◌, arith, length-set, get_or-set_other, get_or-set_same, w32, Fits, le-leb, nat_le, ◌%◌}
 use mathlib.Core.Bool.{xor}
 use native.Mathlib.Decide.{ℕ_discrete, dec_lt, dec_le}
 use borrow.Author.Tests.{lt-leb}
@@ -7,10 +7,10 @@ use Rattle.ring.specs.Row.{row, in_front}
 use Rattle.ring.specs.declared.types.Row.{Row}
 use Rattle.ring.specs.Cut.{part}
 use Rattle.ring.proofs.Side.{Side, before, within, after, side, in-front, before-front, after_front}
-use Rattle.across.specs.Triangle.{most_links, most_pairs, offset, place_of, at}
-use Rattle.across.specs.Step.{type_end, step, stepped, step_row}
+use Rattle.across.specs.Triangle.{most_links, most_pairs, offset, place_of, at, triangle}
+use Rattle.across.specs.Step.{type_end, raised, lowered, stepped, step_row}
 use Rattle.across.specs.Lines.{Pairwise, LineStep, LineFits}
-use Rattle.across.proofs.Places.{apart, line-below, triangle-is, all-pairs}
+use Rattle.across.proofs.Places.{apart, line-below, triangle-length, triangle-at, triangle-is, all-pairs}
 
 -- the line of link h, which has h - 1 places, lies in the triangle
 pub line_in : (h : ℕ) → h ≤ most_links → offset h + (h - 1) ≤ most_pairs
@@ -71,49 +71,46 @@ unfolding part xor
 part_of r g h x y p q = rw (p, q)
 
 -- nothing is added to a number that fits
-step-none : (add : Bool) (y : ℕ) → y < type_end → step add y 0 ≡ y
-step-none true y l = omega arith
-step-none false y l = omega arith
+raised-none : (y : ℕ) → y < type_end → raised y 0 ≡ y
+raised-none y l = omega arith
 
 -- where the loop stands: the lines before h are changed by the row's share
-pub record Rowing (add : Bool) (n : ℕ) (r : Row) (old now : List ℕ) (h : ℕ) : Type 0 where
+pub record Rowing (n : ℕ) (r : Row) (old now : List ℕ) (h : ℕ) : Type 0 where
   pub past : r.first ≤ h
   pub reached : r.first < h → h ≤ n + 1
   pub size : length now ≡ length old
-  pub changed : Pairwise most_links (λ g k. k < h → at now g k ≡ step add (at old g k) (part r g k))
+  pub changed : Pairwise most_links (λ g k. k < h → at now g k ≡ raised (at old g k) (part r g k))
   pub kept : Pairwise most_links (λ g k. h ≤ k → at now g k ≡ at old g k)
 
--- every number of an array fits
-abbrev Fit : List ℕ → Type 0
-Fit t = (x : ℕ) → Fits w32 (get_or t x 0)
+-- a triangle as it is lent: each number fits
+pub record Lent (t : List ℕ) : Type 0 where
+  pub size : length t ≡ most_pairs
+  pub fits : (x : ℕ) → Fits w32 (get_or t x 0)
 
-module _ (add : Bool) (n i j d : ℕ) (old : List ℕ) (size : length old ≡ most_pairs) (fit : Fit old) (low : 1 ≤ i) (few : n ≤ most_links) where
-  abbrev r : Row
-  r = row i j d
-
+module _ (n : ℕ) (r : Row) (i j : ℕ) (ei : i ≡ r.first) (ej : j ≡ r.second) (old : List ℕ) (lent : Lent old) (low : 1 ≤ r.first) (few : n ≤ most_links) where
   abbrev op : ℕ → ℕ
-  op y = step add y d
+  op y = raised y r.amount
 
   -- a pair that the row does not lie across
-  none : (g k : ℕ) (x : Bool) → in_front r g ≡ x → in_front r k ≡ x → at old g k ≡ step add (at old g k) (part r g k)
+  none : (g k : ℕ) (x : Bool) → in_front r g ≡ x → in_front r k ≡ x → at old g k ≡ raised (at old g k) (part r g k)
   unfolding xor
-  none g k true p q = rw (part_of r g k true true p q) (sym (step-none add (at old g k) (omega (arith, fit (place_of g k)))))
-  none g k false p q = rw (part_of r g k false false p q) (sym (step-none add (at old g k) (omega (arith, fit (place_of g k)))))
+  none g k true p q = rw (part_of r g k true true p q) (sym (raised-none (at old g k) (omega (arith, lent.fits (place_of g k)))))
+  none g k false p q = rw (part_of r g k false false p q) (sym (raised-none (at old g k) (omega (arith, lent.fits (place_of g k)))))
 
-  pub rows_start : Rowing add n r old old i
+  pub rows_start : Rowing n r old old i
   rows_start =
       record {
         past = omega arith;
         reached = λ l. omega arith;
         size = refl;
-        changed = λ g k a b c l. none g k false (before-front r g (omega arith)) (before-front r k l);
+        changed = λ g k a b c l. none g k false (before-front r g (omega arith)) (before-front r k (omega arith));
         kept = λ g k a b c _. refl;
       }
 
-  module _ (now : List ℕ) (h : ℕ) (s : Rowing add n r old now h) (on : h < n + 1) where
+  module _ (now : List ℕ) (h : ℕ) (s : Rowing n r old now h) (on : h < n + 1) where
     module _ (new : List ℕ) where
       -- the lines before stay as they were changed, those behind as they were; and the line of h is as it is due
-      turned : (l m : ℕ) → LineStep op h l m now new → ((g : ℕ) → 1 ≤ g → g < h → at new g h ≡ step add (at old g h) (part r g h)) → Rowing add n r old new (h + 1)
+      turned : (l m : ℕ) → LineStep op h l m now new → ((g : ℕ) → 1 ≤ g → g < h → at new g h ≡ raised (at old g h) (part r g h)) → Rowing n r old new (h + 1)
       turned l m t due =
           record {
             past = omega arith;
@@ -134,46 +131,46 @@ module _ (add : Bool) (n i j d : ℕ) (old : List ℕ) (size : length old ≡ mo
       moved l m t g a b p q = t.within g p q ∙ ap op (s.kept g h a b (omega arith) (omega arith))
 
       -- h lies in the front: links before the front change
-      pub turn_in : h < j → LineStep op h 1 i now new → Rowing add n r old new (h + 1)
+      pub turn_in : h < j → LineStep op h 1 i now new → Rowing n r old new (h + 1)
       unfolding xor
       turn_in l t = turned 1 i t due
         where
           here : in_front r h ≡ true
-          here = in-front r h s.past l
+          here = in-front r h s.past (omega arith)
 
-          due : (g : ℕ) → 1 ≤ g → g < h → at new g h ≡ step add (at old g h) (part r g h)
+          due : (g : ℕ) → 1 ≤ g → g < h → at new g h ≡ raised (at old g h) (part r g h)
           due g a b =
               elim (dec_lt g i) [
-                | yes z ↦ rw (part_of r g h false true (before-front r g z) here) (moved 1 i t g a b a z)
+                | yes z ↦ rw (part_of r g h false true (before-front r g (omega arith)) here) (moved 1 i t g a b a z)
                 | no z ↦ same 1 i t g a b (λ y. omega arith) ∙ none g h true (in-front r g (omega arith) (omega arith)) here
               ]
 
       -- h lies behind it: links of the front change
-      pub turn-behind : j ≤ h → LineStep op h i j now new → Rowing add n r old new (h + 1)
+      pub turn-behind : j ≤ h → LineStep op h i j now new → Rowing n r old new (h + 1)
       unfolding xor
       turn-behind l t = turned i j t due
         where
           here : in_front r h ≡ false
-          here = after_front r h l
+          here = after_front r h (omega arith)
 
-          due : (g : ℕ) → 1 ≤ g → g < h → at new g h ≡ step add (at old g h) (part r g h)
+          due : (g : ℕ) → 1 ≤ g → g < h → at new g h ≡ raised (at old g h) (part r g h)
           due g a b = go (side r g)
             where
-              go : Side r g → at new g h ≡ step add (at old g h) (part r g h)
+              go : Side r g → at new g h ≡ raised (at old g h) (part r g h)
               go (before z p) = same i j t g a b (λ y. omega arith) ∙ none g h false p here
-              go (within z y p) = rw (part_of r g h true false p here) (moved i j t g a b z y)
+              go (within z y p) = rw (part_of r g h true false p here) (moved i j t g a b (omega arith) (omega arith))
               go (after z p) = same i j t g a b (λ y. omega arith) ∙ none g h false p here
 
-  pub rows-done : (now : List ℕ) (h : ℕ) → n + 1 ≤ h → Rowing add n r old now h → now ≡ step_row add n r old
+  pub rows-done : (now : List ℕ) (h : ℕ) → n + 1 ≤ h → Rowing n r old now h → now ≡ step_row raised n r old
   unfolding step_row
   rows-done now h l s =
-      triangle-is (stepped add n r old) most_links now (s.size ∙ size ∙ sym all-pairs) (λ g k a b c. go g k a b c)
+      triangle-is (stepped raised n r old) most_links now (s.size ∙ lent.size ∙ sym all-pairs) (λ g k a b c. go g k a b c)
     where
       -- the lines behind n were not reached; where the row's first node lies behind n, it has no share in them up to that node
-      early : (k : ℕ) → k < h → n < k → k < i
-      early k y z = elim (dec_lt i h) [ yes p ↦ absurd (omega (arith, s.reached p)) | no p ↦ omega arith ]
+      early : (k : ℕ) → k < h → n < k → k < r.first
+      early k y z = elim (dec_lt r.first h) [ yes p ↦ absurd (omega (arith, s.reached p)) | no p ↦ omega arith ]
 
-      go : Pairwise most_links (λ g k. at now g k ≡ stepped add n r old g k)
+      go : Pairwise most_links (λ g k. at now g k ≡ stepped raised n r old g k)
       go g k a b c =
           elim (dec_le k n) [
             | yes z ↦ rw (le-leb k n z) (s.changed g k a b c (omega arith))
@@ -184,3 +181,18 @@ module _ (add : Bool) (n i j d : ℕ) (old : List ℕ) (size : length old ≡ mo
                   | no y ↦ s.kept g k a b c (omega arith)
                 ])
           ]
+
+-- ---- a row is taken off
+
+-- to add what an amount lacks of the type's end is to take the amount
+lowered-is : (y d rest : ℕ) (b : Bool) → rest ≡ (type_end - d) % type_end → raised y (cond b rest 0) ≡ lowered y (cond b d 0)
+lowered-is y d rest true e = omega arith
+lowered-is y d rest false e = omega arith
+
+pub taken-is : (n : ℕ) (r : Row) (rest : ℕ) (old : List ℕ) → rest ≡ (type_end - r.amount) % type_end → step_row raised n (row r.first r.second rest) old ≡ step_row lowered n r old
+unfolding step_row part
+taken-is n r rest old e =
+    triangle-is (stepped lowered n r old) most_links (triangle (stepped raised n (row r.first r.second rest) old) most_links) (triangle-length _ most_links)
+    (λ g h a b c.
+    triangle-at (stepped raised n (row r.first r.second rest) old) most_links g h a b c ∙
+    ap (λ x. cond (nat_le h n) x (at old g h)) (lowered-is (at old g h) r.amount rest (xor (in_front r g) (in_front r h)) e))

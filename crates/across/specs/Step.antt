@@ -1,5 +1,5 @@
 -- To believe: a row is put on a triangle, or taken off it: each pair's number is raised or lowered by the row's share of it.
-use Rattle.std.specs.Prelude.{ℕ, ◌+◌, ◌-◌, ◌%◌, Bool, cond, List, nat_le}
+use Rattle.std.specs.Prelude.{ℕ, ◌+◌, ◌-◌, ◌%◌, cond, List, nat_le}
 use Rattle.ring.specs.declared.types.Row.{Row}
 use Rattle.ring.specs.Cut.{part}
 use Rattle.across.specs.Triangle.{most_links, at, triangle}
@@ -8,13 +8,16 @@ use Rattle.across.specs.Triangle.{most_links, at, triangle}
 abbrev pub type_end : ℕ
 type_end = 4294967296
 
--- a number raised by an amount, or lowered by it
-abbrev pub step : Bool → ℕ → ℕ → ℕ
-step add number amount = cond add (number + amount) (number + (type_end - amount)) % type_end
+-- a number raised by an amount, and one lowered by it
+abbrev pub raised : ℕ → ℕ → ℕ
+raised number amount = (number + amount) % type_end
+
+abbrev pub lowered : ℕ → ℕ → ℕ
+lowered number amount = (number + (type_end - amount)) % type_end
 
 -- the pairs of a ring of n nodes change by the row's share; those of links behind it stay
-abbrev pub stepped : Bool → ℕ → Row → List ℕ → ℕ → ℕ → ℕ
-stepped add n r t g h = cond (nat_le h n) (step add (at t g h) (part r g h)) (at t g h)
+abbrev pub stepped : (ℕ → ℕ → ℕ) → ℕ → Row → List ℕ → ℕ → ℕ → ℕ
+stepped change n r t g h = cond (nat_le h n) (change (at t g h) (part r g h)) (at t g h)
 
-unfoldable pub step_row : Bool → ℕ → Row → List ℕ → List ℕ
-step_row add n r t = triangle (stepped add n r t) most_links
+unfoldable pub step_row : (ℕ → ℕ → ℕ) → ℕ → Row → List ℕ → List ℕ
+step_row change n r t = triangle (stepped change n r t) most_links

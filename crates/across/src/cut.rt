@@ -1,4 +1,4 @@
-// Rule A: the cut with the largest across number; ties go to the smallest g, then the smallest h.
+//! Rule A: the cut with the largest across number; ties go to the smallest g, then the smallest h.
 ghost use Rattle.std.specs.Prelude.{◌≡◌, ◌≤◌};
 ghost use Rattle.ring.specs.RuleA.{largest_cut};
 ghost use Rattle.across.specs.Triangle.{most_links, at};
@@ -7,6 +7,7 @@ use crate::PAIRS;
 use crate::place::get;
 use ring::Cut;
 
+/// The largest cut of a ring of n nodes, 2 to 32.
 pub fn largest_cut(triangle: &[u32; PAIRS], n: usize) -> Cut
     requires two { 2 ≤ n }
     requires few { n ≤ most_links }

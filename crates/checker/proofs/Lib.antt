@@ -1,10 +1,8 @@
-pub mod JudgeSteps
-pub mod NextLine
-pub mod RowsSteps
-pub mod EndSteps
-pub mod HeldRows
+pub mod Found
+pub mod Reasons
 pub mod CheckSteps
-pub mod Told
+pub mod Promised
+pub mod CasesHold
 pub mod PairTests
 pub mod PairSteps
 pub mod PairLaws

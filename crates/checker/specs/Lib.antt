@@ -1,6 +1,7 @@
-pub mod Answer
-pub mod Arrays
-pub mod Rows
-pub mod Parts
 pub mod Pair
 pub mod FindPair
+pub mod Check
+pub mod Says
+pub mod Printed
+pub mod Cases
+pub mod Laws

@@ -1,71 +1,57 @@
-// A sheet's text to its values in arrays, judged line by line.
-ghost use Rattle.std.specs.Prelude.{true, ◌≡◌, [], ◌≤◌, length, drop};
+//! A sheet's text, checked: it is read, and then what was read is judged.
+ghost use Rattle.std.specs.Prelude.{◌≡◌, [], ◌≤◌, ◌+◌, IfErr};
 ghost use Rattle.ring.specs.Limits.{desk};
-ghost use Rattle.ring.specs.Ring.{ring_of};
-ghost use Rattle.table.specs.Lines.{lines};
-ghost use Rattle.sheet.specs.Check.{refused, check_from, check};
-ghost use Rattle.sheet.specs.Says.{rows};
-ghost use Rattle.checker.specs.Arrays.{beside, checked_in};
+ghost use Rattle.sheet.specs.Answer.{with_values};
+ghost use Rattle.checker.specs.Check.{line_of, check};
 
-use crate::ending::finish;
-use crate::next::next_end;
-use crate::row_lines::read_rows;
-use crate::values::{SheetValues, clear};
-use ring::{BYTES, Ring};
-use table::{Reason, Refusal, byte_at, judge_ring, ring_fault};
-use text::TwoNumbers;
+use judge::judge;
+use ring::{LINKS, Link, wide};
+use rows::Columns;
+use sheet::{Figures, read_sheet};
+use table::{Finding, Reason, Refusal};
 
-// A refusal beside values of no sheet.
-fn refuse(values: &mut SheetValues, reason: Reason, line: u32, byte: u32) -> Result<usize, Refusal>
-    ensures { beside result values.new ≡ checked_in (refused reason line byte) }
+/// The line of a sheet of so many rows and nodes on which a finding against its values stands, counted from 1; 0 where it is against the sheet as a whole.
+#[tactic(auto, unfolding(crate::specs::Check::line_of))]
+fn line_of(rows: usize, nodes: u32, found: Finding) -> u32
+    requires few { rows ≤ desk.rows }
+    requires links { nodes ≤ desk.nodes }
+    requires near { found.place ≤ desk.rows + 1 }
+    ensures { result ≡ line_of rows nodes found.reason found.place }
 {
-    clear(values);
-    Err(Refusal { reason, line, byte })
-}
-
-// A sheet of a ring of n nodes and so many fibres, from the place `from` behind its R line on.
-fn check_rows(
-    s: &[u8],
-    from: usize,
-    n: u32,
-    fibres: u32,
-    values: &mut SheetValues,
-) -> Result<usize, Refusal>
-    requires begins_inside { from ≤ length s.now }
-    requires text_fits { length s.now ≤ desk.bytes }
-    requires ring_suffices { desk.fewest ≤ n }
-    requires links_fit { n ≤ desk.nodes }
-    ensures { beside result values.new ≡ checked_in
-        (check_from desk true (rows (ring_of n fibres) []) 2 (lines (drop from s.now))) }
-{
-    match read_rows(s, from, n, values) {
-        Err(stop) => refuse(values, stop.reason, stop.line, stop.byte),
-        Ok(end) => {
-            match finish(
-                s, end.at, end.line, end.no_row, n, fibres, end.count, values,
-            ) {
-                Err(stop) => refuse(values, stop.reason, stop.line, stop.byte),
-                Ok(_) => Ok(end.count),
-            }
-        }
+    let rows = rows as u32;
+    let place = found.place as u32;
+    match found.reason {
+        Reason::WrongSum | Reason::WrongWay => place + 1,
+        Reason::WrongCut => rows + 2,
+        Reason::WrongLink => rows + 2 + place,
+        Reason::WrongLast => rows + nodes + 3,
+        _ => 0,
     }
 }
 
-// How many rows an accepted sheet has. The values stand in those that are lent, whatever was there before; after a refusal all is zero.
-pub fn check_sheet(s: &[u8], values: &mut SheetValues) -> Result<usize, Refusal>
-    ensures { beside result values.new ≡ checked_in (check desk s.now) }
+/// Checks a sheet's text, whatever tool it comes from: its figures are answered, its rows are in the columns and its links in the array, link k at place k - 1. After a
+/// refusal the columns hold no row, and what the array holds means nothing.
+pub fn check_sheet(
+    text: &[u8],
+    rows: &mut Columns,
+    links: &mut [Link; LINKS],
+) -> Result<Figures, Refusal>
+    ensures value { with_values rows.new links.new result ≡ check desk text.now }
+    ensures empty { IfErr result (λ _. rows.new ≡ []) }
 {
-    if BYTES < s.len() {
-        return refuse(values, Reason::TooLong, 0, 0);
-    }
-    let end = next_end(s, 0);
-    match text::read_ring(&s[0..end]) {
-        TwoNumbers::Bad(p) => refuse(values, Reason::Misshapen, 1, byte_at(p)),
-        TwoNumbers::Are(n, fibres) => {
-            if let Err(reason) = judge_ring(Ring { nodes: n, fibres }) {
-                return refuse(values, reason, 1, ring_fault(n, fibres, reason));
-            }
-            check_rows(s, end, n, fibres, values)
+    let x = read_sheet(text, rows, links)?;
+    let nodes = x.ring.nodes;
+    let held = &links[..wide(nodes)];
+    match judge(x.ring, rows, x.cut, held, x.peak, x.size) {
+        Ok(()) => Ok(x),
+        Err(found) => {
+            let line = line_of(rows.len(), nodes, found);
+            rows.clear();
+            Err(Refusal {
+                reason: found.reason,
+                line,
+                byte: line.min(1),
+            })
         }
     }
 }

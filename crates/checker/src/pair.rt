@@ -1,16 +1,14 @@
-// The first pair of split rows that are parallel, in rule C's order.
-ghost use Rattle.std.specs.Prelude.{List, ◌≡◌, ℕ, ◌≤◌};
-ghost use Rattle.ring.specs.Limits.{desk};
-ghost use Rattle.ring.specs.Row.{row};
-ghost use Rattle.ring.specs.Routing.{sent};
+//! The first pair of split rows that are parallel, in rule C's order.
+ghost use Rattle.std.specs.Prelude.{◌≡◌};
+ghost use Rattle.ring.specs.Sheet.{sents};
 ghost use Rattle.ring.specs.Crossing.{distinct as distinct_of, between as between_of, parallel as parallel_of};
 ghost use Rattle.ring.specs.RuleC.{clash};
-ghost use Rattle.ring.specs.Columns.{sents_in};
 ghost use Rattle.checker.specs.FindPair.{first_pair};
 
-use ring::{ROWS, is_split};
+use ring::{Row, Sent, both_split};
+use rows::Rows;
 
-// Two rows by their places among all rows, counted from 1; or none.
+/// Two rows by their places among all rows, counted from 1; or none.
 #[derive(Clone, Copy)]
 pub enum Pair {
     Are(usize, usize),
@@ -19,63 +17,51 @@ pub enum Pair {
 
 // ---- two rows
 
-// Whether the nodes i, j and k, l of two rows are four.
-fn distinct(i: u32, j: u32, k: u32, l: u32) -> bool
-    ensures { result ≡ distinct_of (row i j 0) (row k l 0) }
+/// Whether the nodes of two rows are four.
+fn distinct(a: Row, b: Row) -> bool
+    ensures { result ≡ distinct_of a b }
 {
-    i != k && i != l && j != k && j != l
+    a.first != b.first && a.first != b.second && a.second != b.first && a.second != b.second
 }
 
-// Whether node x lies strictly between the nodes i and j.
-fn between(i: u32, j: u32, x: u32) -> bool
-    ensures { result ≡ between_of (row i j 0) x }
+/// Whether a node lies strictly between the nodes of a row.
+fn between(row: Row, node: u32) -> bool
+    ensures { result ≡ between_of row node }
 {
-    i < x && x < j
+    row.first < node && node < row.second
 }
 
-// Whether the rows i-j and k-l are parallel: they do not cross. The test is by nodes; one by fronts would need i < j and k < l.
-fn parallel(i: u32, j: u32, k: u32, l: u32) -> bool
-    ensures { result ≡ parallel_of (row i j 0) (row k l 0) }
+/// Whether two rows are parallel: they do not cross. The test is by nodes; one by fronts would need the first node of each below its second.
+fn parallel(a: Row, b: Row) -> bool
+    ensures { result ≡ parallel_of a b }
 {
-    let four = distinct(i, j, k, l);
-    let begins = between(i, j, k);
-    let ends = between(i, j, l);
+    let four = distinct(a, b);
+    let begins = between(a, b.first);
+    let ends = between(a, b.second);
     if four { begins == ends } else { true }
 }
 
-// Whether two rows are both split, and parallel.
-fn clashes(i: u32, j: u32, front: u32, back: u32, k: u32, l: u32, front2: u32, back2: u32) -> bool
-    ensures { result ≡ clash (sent i j 0 front back) (sent k l 0 front2 back2) }
+/// Whether two rows are both split, and parallel.
+#[tactic(auto, unfolding(ring::specs::RuleC::clash))]
+fn clashes(a: Sent, b: Sent) -> bool
+    ensures { result ≡ clash a b }
 {
-    if is_split(front, back) {
-        if is_split(front2, back2) {
-            return parallel(i, j, k, l);
-        }
-    }
-    false
+    both_split(a, b) && parallel(a.row, b.row)
 }
 
 // ---- all rows
 
-// By first and then by second. Amounts do not matter, so none are asked for.
-pub fn first_pair<'a>(
-    count: usize,
-    first: &'a [u32; ROWS],
-    second: &'a [u32; ROWS],
-    front: &'a [u32; ROWS],
-    back: &'a [u32; ROWS],
-) -> Pair
-    requires { count ≤ desk.rows }
-    ensures { (amount : List ℕ) → result ≡ first_pair
-        (sents_in count first.now second.now amount front.now back.now) }
+/// The first pair of split rows that are parallel, by first and then by second.
+pub fn first_pair<R: Rows>(rows: &R) -> Pair
+    ensures { result ≡ first_pair (sents (R.rows rows.now)) }
 {
     let mut found = Pair::None;
+    let count = rows.count();
     'search: for a in 0..count {
+        let one = rows.row(a).sent;
         for b in a + 1..count {
-            let clash = clashes(
-                first[a], second[a], front[a], back[a], first[b], second[b], front[b], back[b],
-            );
-            if clash {
+            let two = rows.row(b).sent;
+            if clashes(one, two) {
                 found = Pair::Are(a + 1, b + 1);
                 break 'search;
             }

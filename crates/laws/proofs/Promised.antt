@@ -7,13 +7,14 @@ use Rattle.ring.specs.Lists.{Each, none, more}
 use Rattle.ring.specs.Sheet.{plan}
 use Rattle.table.specs.Reasons.{number_of}
 use Rattle.table.specs.ReadTable as table
-use Rattle.sheet.specs.Check.{Result, accepted, refused, check, form}
+use Rattle.sheet.specs.Read.{Result, accepted, refused, read_sheet}
 use Rattle.sheet.specs.WriteSheet.{write_sheet}
-use Rattle.sheet.specs.Printed.{printed}
-use Rattle.sheet.specs.Says.{Accepted}
-use Rattle.sheet.specs.Cases.{Claim, Case, plan_of, refusal_of, Answer, text, Y, E, claim, routing, checking, claiming, computed, stated, cases}
-use Rattle.sheet.proofs.CasesHold.{cases-hold}
-use Rattle.sheet.proofs.SheetReasons.{given, accepted-is}
+use Rattle.checker.specs.Check.{check}
+use Rattle.checker.specs.Printed.{printed}
+use Rattle.checker.specs.Says.{Accepted}
+use Rattle.checker.specs.Cases.{Claim, Case, plan_of, refusal_of, Answer, text, Y, E, claim, routing, checking, claiming, computed, stated, cases}
+use Rattle.checker.proofs.CasesHold.{cases-hold}
+use Rattle.checker.proofs.Reasons.{given, accepted-is}
 use Rattle.ringkit.specs.Texts.{TableDue, sheet_due}
 use Rattle.ringkit.proofs.TableCalls.{read_is}
 use Rattle.laws.specs.Cases.{GivenNumber, planned, refused as refused_case, Promised, CasesPromised}
@@ -30,7 +31,7 @@ due t sheet (table.refused reason line byte) e a = absurd (no-text a)
 
 sheet-accepted : (t : List ℕ) (x : Result) → check desk t ≡ x → checking x ≡ Y → Accepted desk t
 unfolding checking
-sheet-accepted t (accepted x) e a = (accepted-is desk t).0 (record { x = x; is = e })
+sheet-accepted t (accepted x) e a = (accepted-is t).0 (record { x = x; is = e })
 sheet-accepted t (refused reason line byte) e a = absurd (no-yes a)
   where
     no-yes : {reason line byte : ℕ} → E reason line byte ≡ Y → ⊥
@@ -46,7 +47,7 @@ sheet-refused t number line byte (refused reason on at) e a =
     let numbers : number_of reason ≡ number = cc in
     let lines : on ≡ line = cc in
     let bytes : at ≡ byte = cc in
-    record { reason = reason; numbered = numbers; given = (given desk t reason line byte).0 (rw (← lines, ← bytes) e) }
+    record { reason = reason; numbered = numbers; given = (given t reason line byte).0 (rw (← lines, ← bytes) e) }
 
 -- ---- the list
 
@@ -63,14 +64,14 @@ promised [] e = none
 promised (plan_of rows sheet claims ∷ cs) e =
     let routed : routing (table.table_of desk (printed rows)) ≡ text (printed sheet) = cc in
     let checked : checking (check desk (printed sheet)) ≡ Y = cc in
-    let rest : map (claiming (form desk (printed sheet))) claims ++ computed cs ≡ map claim claims ++ stated cs = cc in
+    let rest : map (claiming (read_sheet desk (printed sheet))) claims ++ computed cs ≡ map claim claims ++ stated cs = cc in
     more (planned (due (printed rows) (printed sheet) _ refl routed) (sheet-accepted (printed sheet) _ refl checked))
-    (promised cs (behind (claiming (form desk (printed sheet))) claim claims rest))
+    (promised cs (behind (claiming (read_sheet desk (printed sheet))) claim claims rest))
 promised (refusal_of sheet reason line byte claims ∷ cs) e =
     let checked : checking (check desk (printed sheet)) ≡ E reason line byte = cc in
-    let rest : map (claiming (form desk (printed sheet))) claims ++ computed cs ≡ map claim claims ++ stated cs = cc in
+    let rest : map (claiming (read_sheet desk (printed sheet))) claims ++ computed cs ≡ map claim claims ++ stated cs = cc in
     more (refused_case (sheet-refused (printed sheet) reason line byte _ refl checked))
-    (promised cs (behind (claiming (form desk (printed sheet))) claim claims rest))
+    (promised cs (behind (claiming (read_sheet desk (printed sheet))) claim claims rest))
 
 pub cases-promised : CasesPromised
 cases-promised = promised cases cases-hold

@@ -4,9 +4,9 @@ use Rattle.ring.specs.Limits.{desk}
 use Rattle.ring.specs.Lists.{Each}
 use Rattle.table.specs.Reasons.{number_of}
 use Rattle.table.specs.declared.reason.Reason.{Reason}
-use Rattle.sheet.specs.Printed.{printed}
-use Rattle.sheet.specs.Says.{Given, Accepted}
-use Rattle.sheet.specs.Cases.{Text, Claim, Case, plan_of, refusal_of, cases}
+use Rattle.checker.specs.Printed.{printed}
+use Rattle.checker.specs.Says.{Given, Accepted}
+use Rattle.checker.specs.Cases.{Text, Claim, Case, plan_of, refusal_of, cases}
 use Rattle.ringkit.specs.Texts.{TableDue, sheet_due}
 
 -- the reason of this number is given, with its line and byte
@@ -16,7 +16,7 @@ pub record GivenNumber (sheet : List ℕ) (number line byte : ℕ) : Type 0 wher
   pub given : Given desk sheet reason line byte
 
 -- a case with a plan: the sheet is due to the table, and is accepted. A case with a refusal: it is given to the sheet. What is stated of a sheet besides is in
--- `CasesHold` (sheet)
+-- `CasesHold` (checker)
 pub data Promised : Case → Type 0 where
   planned : {table sheet : Text} {claims : List Claim} → TableDue sheet_due (printed table) (printed sheet) → Accepted desk (printed sheet)
       → Promised (plan_of table sheet claims)

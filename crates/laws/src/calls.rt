@@ -1,7 +1,7 @@
 // Laws over several calls.
 ghost use Rattle.ringkit.specs.Back.{TableThereAndBack, MatrixToTableToMatrix, TableToMatrixToTable};
 ghost use Rattle.ringkit.specs.WorkCalls.{RoutedAsNamed};
-ghost use Rattle.laws.specs.Calls.{SheetThereAndBack, RoutedChecked};
+ghost use Rattle.laws.specs.Calls.{SheetThereAndBack, RoutedChecked, RoutedJudged};
 
 /// A table there and back: an accepted table is read and written as the same bytes, values in range as a text of these values only.
 pub fn table_there_and_back()
@@ -31,4 +31,9 @@ pub fn routed_as_named()
 /// What routing wrote for an accepted table, with room, is a sheet to which checking says yes.
 pub fn routed_checked()
     ensures { RoutedChecked }
+{}
+
+/// What routing wrote for an accepted table, with room, is a sheet to whose values judging says yes.
+pub fn routed_judged()
+    ensures { RoutedJudged }
 {}

@@ -5,8 +5,8 @@ mod texts; // what texts are, and what holds of all sheets
 mod calls; // over several calls
 
 pub use calls::{
-    matrix_to_table_to_matrix, routed_as_named, routed_checked, sheet_there_and_back,
-    table_there_and_back, table_to_matrix_to_table,
+    matrix_to_table_to_matrix, routed_as_named, routed_checked, routed_judged,
+    sheet_there_and_back, table_there_and_back, table_to_matrix_to_table,
 };
 pub use rules::{
     across_numbers, directions_rule, fronts_and_backs, largest_cut_rule, line_sizes,
@@ -14,6 +14,7 @@ pub use rules::{
     sending_rule,
 };
 pub use texts::{
-    accepted_matrix, cases_as_promised, cases_hold, lines_of_a_shape, no_lower_peak,
-    numbers_spelled, plan_accepted, same_sheet, true_sheet_accepted, well_formed_sheet,
+    accepted_matrix, cases_as_promised, cases_hold, judged_in_range, lines_of_a_shape,
+    no_lower_peak, numbers_spelled, plan_accepted, same_sheet, true_sheet_accepted,
+    well_formed_sheet,
 };

@@ -1,7 +1,8 @@
 // What texts are, and what holds of all sheets.
 ghost use Rattle.ring.specs.Limits.{desk};
-ghost use Rattle.sheet.specs.Cases.{CasesHold};
-ghost use Rattle.sheet.specs.Laws.{SameSheet, TrueAccepted, PlanAccepted, NoLowerPeak};
+ghost use Rattle.sheet.specs.Laws.{SameSheet};
+ghost use Rattle.checker.specs.Cases.{CasesHold};
+ghost use Rattle.checker.specs.Laws.{TrueAccepted, PlanAccepted, NoLowerPeak, FormedIs, JudgedInRange};
 ghost use Rattle.laws.specs.Texts.{SpellingIs, OneLine, FaultyIs, WellFormedIs, AcceptedMatrixIs};
 ghost use Rattle.laws.specs.Cases.{CasesPromised};
 
@@ -16,9 +17,10 @@ pub fn lines_of_a_shape()
     ensures faulty { FaultyIs }
 {}
 
-/// A text is well-formed exactly where it is a sheet of values in range.
+/// A text is well-formed exactly where it is a sheet of values in range, and exactly where it would not be refused if reasons 8 to 14 were never given.
 pub fn well_formed_sheet()
-    ensures { WellFormedIs }
+    ensures is { WellFormedIs }
+    ensures never { FormedIs desk }
 {}
 
 /// A text is an accepted matrix exactly where it is the matrix of lines in range.
@@ -34,6 +36,11 @@ pub fn same_sheet()
 /// A true sheet in range is accepted.
 pub fn true_sheet_accepted()
     ensures { TrueAccepted desk }
+{}
+
+/// Values that judging accepts are in range, so that their sheet, written, is accepted.
+pub fn judged_in_range()
+    ensures { JudgedInRange }
 {}
 
 /// The plan of an accepted table is an accepted sheet.

@@ -13,7 +13,7 @@ use Rattle.text.specs.Shapes.{numbers, numbers_line}
 use Rattle.text.specs.FirstFault.{FirstFault}
 use Rattle.text.proofs.LineLaws.{one-fault}
 use Rattle.table.specs.declared.reason.Reason.{Reason}
-use Rattle.table.specs.declared.reason.Reason.TheVariants.{TooLong, Misshapen, RingSize, Fibres, NoRow, NoSuchNode, NotBelow, OutOfOrder, TooMany, TooMuch, Full, WrongSum, WrongWay, WrongCut, WrongLink, WrongLast, NotTight, OverBound, NotZero, NotSymmetric, SumTooMuch, NoRoom}
+use Rattle.table.specs.declared.reason.Reason.TheVariants.{TooLong, Misshapen, RingSize, TooMuch, NotZero, NotSymmetric}
 use Rattle.table.specs.Says.{DueByte}
 use Rattle.table.proofs.BytesGiven.{one-due}
 use Rattle.table.proofs.LineNumbers.{line-one}
@@ -97,19 +97,4 @@ one_byte limits t line b c RingSize x y = x ∙ sym y
 one_byte limits t line b c TooMuch x y = one-amount-byte x y
 one_byte limits t line b c NotZero x y = one-faulty-byte x y
 one_byte limits t line b c NotSymmetric x y = one-faulty-byte x y
-one_byte limits t line b c Fibres x y = absurd x
-one_byte limits t line b c NoSuchNode x y = absurd x
-one_byte limits t line b c NotBelow x y = absurd x
-one_byte limits t line b c OutOfOrder x y = absurd x
-one_byte limits t line b c TooMany x y = absurd x
-one_byte limits t line b c WrongSum x y = absurd x
-one_byte limits t line b c WrongWay x y = absurd x
-one_byte limits t line b c WrongCut x y = absurd x
-one_byte limits t line b c WrongLink x y = absurd x
-one_byte limits t line b c WrongLast x y = absurd x
-one_byte limits t line b c NotTight x y = absurd x
-one_byte limits t line b c OverBound x y = absurd x
-one_byte limits t line b c SumTooMuch x y = absurd x
-one_byte limits t line b c NoRow x y = absurd x
-one_byte limits t line b c Full x y = absurd x
-one_byte limits t line b c NoRoom x y = absurd x
+one_byte limits t line b c _ x y = absurd x

@@ -1,59 +1,47 @@
 -- Judging the square entry by entry and line by line: the entries passed are fine, and what is left is judged as the whole is.
 use Prim.Native.Nat.{ℕ, suc, ◌+◌, ◌-◌, ◌≤◌, ◌<◌}
+use mathlib.Core.List.{List}
 use mathlib.Core.Path.{◌≡◌, ◌∙◌, sym}
 use native.Mathlib.Omega.{arith}
+use Rattle.std.specs.Prelude.{Ok, Option, Some, None}
 use Rattle.table.specs.declared.reason.Reason.{Reason}
-use Rattle.table.specs.Verdict.{Verdict}
-use Rattle.std.specs.Prelude.{Ok, Err}
-use Rattle.matrix.specs.Matrix.{entry_byte}
-use Rattle.matrix.specs.Read.{judge_entry, or_else, on_line, judge_across, line_of, judge_down}
-use Rattle.matrix.specs.declared.byte.Found.{Found}
-use Rattle.matrix.specs.declared.byte.Found.TheVariants.{Nothing, At}
-use Rattle.matrix.specs.Answer.{refusing}
+use Rattle.matrix.specs.Matrix.{entry}
+use Rattle.matrix.specs.Read.{refusing, entry_fault, unless_fault, byte_of, judge_across, judge_down}
 
-module _ (a : ℕ → ℕ → ℕ) (n : ℕ) where
-  -- ---- a line
+module _ (m : List (List ℕ)) (n : ℕ) where
+  -- the lines before i are fine
+  pub record Down (i : ℕ) : Type 0 where
+    pub rest : judge_down m n 1 n ≡ judge_down m n i (n + 1 - i)
 
+  -- and of line i the entries before j
   pub record Across (i j : ℕ) : Type 0 where
-    pub rest : judge_across a i 1 n ≡ judge_across a i j (n + 1 - j)
+    pub rest : judge_down m n 1 n ≡ judge_across m i j (n + 1 - j) (judge_down m n (i + 1) (n + 1 - (i + 1)))
+
+  pub line-begins : (i : ℕ) → Down i → i < n + 1 → Across i 1
+  unfolding judge_down
+  line-begins i down l =
+      let e : n + 1 - i ≡ suc (n + 1 - (i + 1)) = omega arith in
+      let f : n + 1 - 1 ≡ n = omega arith in
+      record { rest = down.rest ∙ rw (e, f) }
 
   module _ (i j : ℕ) (across : Across i j) where
-    module _ (l : j < n + 1) (x y : ℕ) (ex : x ≡ a i j) (ey : y ≡ a j i) (v : Verdict) (ev : v ≡ judge_entry i j x y) where
-      across-next : judge_across a i 1 n ≡ or_else v (j - 1) (judge_across a i (j + 1) (n + 1 - (j + 1)))
+    module _ (l : j < n + 1) (x y : ℕ) (ex : x ≡ entry m i j) (ey : y ≡ entry m j i) (v : Option Reason) (ev : v ≡ entry_fault i j x y) where
+      next-entry : judge_down m n 1 n ≡ unless_fault v i (byte_of m i j) (judge_across m i (j + 1) (n + 1 - (j + 1)) (judge_down m n (i + 1) (n + 1 - (i + 1))))
       unfolding judge_across
-      across-next = let e : n + 1 - j ≡ suc (n + 1 - (j + 1)) = omega arith in across.rest ∙ rw (e, ← ex, ← ey, ← ev)
+      next-entry = let e : n + 1 - j ≡ suc (n + 1 - (j + 1)) = omega arith in across.rest ∙ rw (e, ← ex, ← ey, ← ev)
 
-      pub entry-fault : (reason : Reason) (wide-j : ℕ) → v ≡ Err reason → wide-j ≡ j → At reason (wide-j - 1) ≡ judge_across a i 1 n
-      unfolding or_else
-      entry-fault reason wide-j f e = sym (across-next ∙ rw (f, e))
+      pub entry-faulty : (reason : Reason) (byte : ℕ) → v ≡ Some reason → byte ≡ byte_of m i j → refusing reason i byte ≡ judge_down m n 1 n
+      unfolding unless_fault
+      entry-faulty reason byte f b = sym (next-entry ∙ rw (f, b))
 
-      pub entry-fine : v ≡ Ok tt → Across i (j + 1)
-      unfolding or_else
-      entry-fine f = record { rest = across-next ∙ rw f }
+      pub entry-fine : v ≡ None → Across i (j + 1)
+      unfolding unless_fault
+      entry-fine f = record { rest = next-entry ∙ rw f }
 
-    pub across-done : n + 1 ≤ j → Nothing ≡ judge_across a i 1 n
+    pub line-fine : n + 1 ≤ j → Down (i + 1)
     unfolding judge_across
-    across-done l = let e : n + 1 - j ≡ 0 = omega arith in sym (across.rest ∙ rw e)
+    line-fine l = let e : n + 1 - j ≡ 0 = omega arith in record { rest = across.rest ∙ rw e }
 
-  -- ---- all lines
-
-  pub record Down (i : ℕ) : Type 0 where
-    pub rest : judge_down a n 1 n ≡ judge_down a n i (n + 1 - i)
-
-  module _ (i : ℕ) (down : Down i) where
-    module _ (l : i < n + 1) (v : Found) (ev : v ≡ judge_across a i 1 n) where
-      down-next : judge_down a n 1 n ≡ on_line v i (entry_byte (line_of a n i)) (judge_down a n (i + 1) (n + 1 - (i + 1)))
-      unfolding judge_down
-      down-next = let e : n + 1 - i ≡ suc (n + 1 - (i + 1)) = omega arith in down.rest ∙ rw (e, ← ev)
-
-      pub line-fault : (reason : Reason) (k byte : ℕ) → v ≡ At reason k → byte ≡ entry_byte (line_of a n i) k → refusing reason i byte ≡ judge_down a n 1 n
-      unfolding on_line
-      line-fault reason k byte f b = sym (down-next ∙ rw (f, b))
-
-      pub line-fine : v ≡ Nothing → Down (i + 1)
-      unfolding on_line
-      line-fine f = record { rest = down-next ∙ rw f }
-
-    pub down-done : n + 1 ≤ i → Ok tt ≡ judge_down a n 1 n
-    unfolding judge_down
-    down-done l = let e : n + 1 - i ≡ 0 = omega arith in sym (down.rest ∙ rw e)
+  pub all-fine : (i : ℕ) → Down i → n + 1 ≤ i → Ok tt ≡ judge_down m n 1 n
+  unfolding judge_down
+  all-fine i down l = let e : n + 1 - i ≡ 0 = omega arith in sym (down.rest ∙ rw e)

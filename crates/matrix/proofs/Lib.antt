@@ -7,7 +7,6 @@ pub mod RoundTrip
 pub mod SumsGiven
 pub mod Rooms
 pub mod OneEach
-pub mod Told
 -- how they are shown
 pub mod LinesText
 pub mod AnyFields
@@ -16,11 +15,10 @@ pub mod Entries
 pub mod SumLaws
 pub mod RowLaws
 -- what the code's steps say
+pub mod NumbersSteps
 pub mod LineSteps
-pub mod ByteSteps
-pub mod SquareSteps
+pub mod ReadSteps
 pub mod JudgeSteps
-pub mod RowSteps
+pub mod FillSteps
 pub mod SumSteps
 pub mod WriteSteps
-pub mod ReadSteps

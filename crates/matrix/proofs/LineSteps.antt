@@ -1,67 +1,60 @@
--- A line of numbers under its loops: tabs are counted from the end, values are read into the column, and amounts judged in order.
+-- A line of numbers under its loops: tabs are counted from the end, and values are read one by one; and what is made of the line that was read.
 use Prim.Native.Nat.{ℕ, zero, suc, ◌+◌, ◌-◌, ◌≤◌, ◌<◌}
-use mathlib.Core.List.{List, [], ◌∷◌, ◌++◌, map}
+use mathlib.Core.Bool.{Bool, true, false, cond}
+use mathlib.Core.List.{List, [], ◌∷◌, ◌++◌}
 use mathlib.Core.Path.{◌≡◌, refl, ap, ◌∙◌, sym}
 use native.Mathlib.Omega.{arith}
-use lib.ListN.{length, get_or, set, take, drop, replicate, length-append, length-replicate, length-take, drop_of_length-le}
-use lib.Seq.{drop-length, length-take-le, get_or-take, sets-eq, take_at}
-use borrow.Author.Tests.{eq-eqb, ne_eqb, lt-ltb, le-ltb}
-use Rattle.std.specs.Prelude.{Result, Ok, Err}
+use lib.ListN.{length, take, length-replicate}
+use lib.Seq.{take_all}
+use borrow.Author.Tests.{eq-eqb, ne_eqb}
+use Rattle.std.specs.Prelude.{Result, Ok, Err, Option, Some, None}
 use Rattle.ring.specs.Limits.{desk}
-use Rattle.ring.specs.Columns.{column}
-use Rattle.text.specs.Bytes.{tab}
 use Rattle.text.specs.ReadLine.{Reading, field_at, field_then, fields_from, read_line}
-use Rattle.text.specs.WriteLine.{end_of, FitsShape}
-use Rattle.text.proofs.Apart.{clash}
-use Rattle.text.proofs.LineLaws.{line-good}
+use Rattle.text.specs.WriteLine.{end_of}
 use Rattle.text.specs.Shapes.{numbers}
 use Rattle.text.specs.declared.field.Field.TheVariants.{Number}
-use Rattle.text.proofs.Lists.{here}
-use Rattle.table.specs.declared.reason.Reason.TheVariants.{TooMuch}
-use Rattle.table.proofs.Columns.{column-more}
-use Rattle.matrix.specs.Read.{fields_in, judge_amounts}
-use Rattle.matrix.specs.Arrays.{values_in, numbers_in}
-use Rattle.matrix.specs.declared.byte.Found.TheVariants.{Nothing, At}
+use Rattle.text.proofs.Apart.{clash}
+use Rattle.text.proofs.LineLaws.{bad-within}
+use Rattle.table.specs.declared.reason.Refusal.{Refusal}
+use Rattle.table.specs.declared.reason.Reason.TheVariants.{Misshapen, TooMuch}
+use Rattle.matrix.specs.Matrix.{entry_byte}
+use Rattle.std.specs.List.{count_by}
+use Rattle.std.proofs.lemmas.List.Recursion.{is_count_by}
+use Rattle.matrix.proofs.AnyFields.{fields-some}
+use Rattle.table.specs.OnLine.{refusal, and_then, values_on}
+use Rattle.matrix.specs.Answer.{read_as}
+use Rattle.matrix.specs.Read.{Numbers, is_tab, fields_in, kept, first_over, unless_over, amounts_in}
+use Rattle.matrix.proofs.LinesText.{NumbersRead, are_numbers, numbers-read, over-within}
 
--- ---- fields: those from p on are counted
+-- ---- fields are what tabs part
 
-pub record Counted (s : List ℕ) (p count : ℕ) : Type 0 where
-  pub is : count ≡ fields_in (drop p s)
-  pub within : p ≤ length s
-  pub small : count + p ≤ length s + 1
-
-pub counted-starts : (s : List ℕ) → Counted s (length s) 1
+pub fields-tabs : (l : List ℕ) → count_by is_tab l + 1 ≡ fields_in l
 unfolding fields_in
-counted-starts s = record { is = rw (drop-length s); within = omega arith; small = omega arith }
-
-module _ (s : List ℕ) (p count : ℕ) (counted : Counted s p count) where
-  behind : 0 < p → drop (p - 1) s ≡ get_or s (p - 1) 0 ∷ drop p s
-  behind l = let e : (p - 1) + 1 ≡ p = omega arith in rw e at (here s (p - 1) (omega (arith, counted.within)))
-
-  pub counts-tab : 0 < p → get_or s (p - 1) 0 ≡ tab → Counted s (p - 1) (count + 1)
-  unfolding fields_in
-  counts-tab l e = record { is = rw (behind l, eq-eqb _ _ e) (omega (arith, counted.is)); within = omega (arith, counted.within); small = omega (arith, counted.small) }
-
-  pub counts-none : 0 < p → (get_or s (p - 1) 0 ≡ tab → ⊥) → Counted s (p - 1) count
-  unfolding fields_in
-  counts-none l e = record { is = rw (behind l, ne_eqb _ _ e) (omega (arith, counted.is)); within = omega (arith, counted.within); small = omega (arith, counted.small) }
+fields-tabs l = omega (arith, is_count_by (λ t. fields_in t - 1) is_tab refl (λ b t. more-tabs (is_tab b) (fields_in t) (fields-some t)) l, fields-some l)
+  where
+    more-tabs : (z : Bool) (n : ℕ) → 1 ≤ n → cond z 1 0 + n - 1 ≡ cond z (1 + (n - 1)) (n - 1)
+    more-tabs true n h = omega arith
+    more-tabs false n h = omega arith
 
 -- ---- values: those of the fields before t are read, and the next begins at p
 
-pub record ReadingOn (s : List ℕ) (n : ℕ) (values : List ℕ) (p t : ℕ) : Type 0 where
+take-push : (m : ℕ) (vs ws : List ℕ) → take m (take m vs ++ ws) ≡ take m (vs ++ ws)
+take-push zero vs ws = refl
+take-push (suc m) [] ws = refl
+take-push (suc m) (v ∷ vs) ws = ap (λ (l : List ℕ). v ∷ l) (take-push m vs ws)
+
+pub record ReadingOn (s : List ℕ) (n : ℕ) (read : List ℕ) (p t : ℕ) : Type 0 where
   pub vs : List ℕ
   pub rest : read_line (numbers n) s ≡ fields_from (numbers (n - t)) s p vs
-  pub many : t ≡ length vs
-  pub held : values ≡ values_in vs
-  pub within : t ≤ n
+  pub held : read ≡ take desk.nodes vs
 
-pub reading-starts : (s : List ℕ) (n : ℕ) → ReadingOn s n (replicate {A = ℕ} desk.nodes 0) 0 0
-unfolding read_line column
-reading-starts s n =
+pub reading-starts : (s : List ℕ) (n : ℕ) (read : List ℕ) → read ≡ [] → ReadingOn s n read 0 0
+unfolding read_line
+reading-starts s n read none =
     let e : n - 0 ≡ n = omega arith in
-    record { vs = []; rest = rw e; many = refl; held = refl; within = omega arith }
+    record { vs = []; rest = rw e; held = none }
 
-module _ (s : List ℕ) (n : ℕ) (values : List ℕ) (p t : ℕ) (on : ReadingOn s n values p t) where
+module _ (s : List ℕ) (n : ℕ) (read : List ℕ) (p t : ℕ) (on : ReadingOn s n read p t) where
   module _ (l : t < n) (end : ℕ) (behind_it : end ≡ end_of (n - t - 1)) (x : Result (ℕ × ℕ) ℕ) (ex : x ≡ field_at Number s p end) where
     next-is : read_line (numbers n) s ≡ field_then x (λ v q. fields_from (numbers (n - t - 1)) s q (on.vs ++ v ∷ []))
     unfolding fields_from
@@ -69,104 +62,100 @@ module _ (s : List ℕ) (n : ℕ) (values : List ℕ) (p t : ℕ) (on : ReadingO
         let e : n - t ≡ suc (n - t - 1) = omega arith in
         on.rest ∙ ap (λ k. fields_from (numbers k) s p on.vs) e ∙ rw (length-replicate (n - t - 1) Number, ← behind_it, ← ex)
 
-    pub reading-stops : (q : ℕ) → x ≡ Err q → Err q ≡ numbers_in (read_line (numbers n) s)
-    unfolding field_then numbers_in
+    pub reading-stops : (q : ℕ) → x ≡ Err q → read_as (Err q) read ≡ kept (read_line (numbers n) s)
+    unfolding field_then kept read_as
     reading-stops q f = let h : read_line (numbers n) s ≡ Err q = next-is ∙ rw f in rw h
 
-    pub reads-number : (v q : ℕ) (new : List ℕ) → x ≡ Ok (v, q) → new ≡ set values t v → ReadingOn s n new q (t + 1)
+    pub reads-number : (v q : ℕ) (new : List ℕ) → x ≡ Ok (v, q) → new ≡ take desk.nodes (read ++ v ∷ []) → ReadingOn s n new q (t + 1)
     unfolding field_then
     reads-number v q new f e =
         let k : n - t - 1 ≡ n - (t + 1) = omega arith in
-        record {
-          vs = on.vs ++ v ∷ [];
-          rest = next-is ∙ rw (f, k);
-          many = omega (arith, on.many, length-append on.vs (v ∷ []));
-          held = e ∙ rw on.held (column-more (λ (w : ℕ). w) desk.nodes on.vs v t on.many);
-          within = omega arith;
-        }
+        record { vs = on.vs ++ v ∷ []; rest = next-is ∙ rw (f, k); held = e ∙ rw on.held (take-push desk.nodes on.vs (v ∷ [])) }
 
   module _ (l : n ≤ t) where
     all_read : read_line (numbers n) s ≡ fields_from [] s p on.vs
     all_read = let e : n - t ≡ 0 = omega arith in rw e at on.rest
 
-    pub reading-done : p ≡ length s → Ok values ≡ numbers_in (read_line (numbers n) s)
-    unfolding fields_from numbers_in
+    pub reading-done : p ≡ length s → read_as (Ok tt) read ≡ kept (read_line (numbers n) s)
+    unfolding fields_from kept read_as
     reading-done e = rw (all_read, eq-eqb _ _ e, on.held)
 
-    pub reading-over : (p ≡ length s → ⊥) → Err p ≡ numbers_in (read_line (numbers n) s)
-    unfolding fields_from numbers_in
+    pub reading-over : (p ≡ length s → ⊥) → read_as (Err p) read ≡ kept (read_line (numbers n) s)
+    unfolding fields_from kept read_as
     reading-over e = rw (all_read, ne_eqb _ _ e)
-
--- ---- amounts: those before t are fine
-
-pub record Judging (n : ℕ) (values : List ℕ) (t : ℕ) : Type 0 where
-  pub rest : judge_amounts desk 0 (take n values) ≡ judge_amounts desk t (drop t (take n values))
-  pub within : t ≤ n
-  pub room : n ≤ length values
-
-module _ (n : ℕ) (values : List ℕ) (t : ℕ) (judging : Judging n values t) where
-  module _ (l : t < n) where
-    next-amount : drop t (take n values) ≡ get_or values t 0 ∷ drop (t + 1) (take n values)
-    next-amount = here (take n values) t (omega (arith, length-take-le n values judging.room)) ∙ ap (λ v. v ∷ drop (t + 1) (take n values)) (get_or-take n values t 0 l)
-
-    pub amount-fault : desk.amount < get_or values t 0 → At TooMuch t ≡ judge_amounts desk 0 (take n values)
-    unfolding judge_amounts
-    amount-fault h = sym (judging.rest ∙ rw (next-amount, lt-ltb _ _ h))
-
-    pub amount-fine : get_or values t 0 ≤ desk.amount → Judging n values (t + 1)
-    unfolding judge_amounts
-    amount-fine h = record { rest = judging.rest ∙ rw (next-amount, le-ltb _ _ h); within = omega arith; room = judging.room }
-
-  pub amounts-judged : n ≤ t → Nothing ≡ judge_amounts desk 0 (take n values)
-  unfolding judge_amounts
-  amounts-judged l =
-      let h : length (take n values) ≤ t = omega (arith, length-take n values) in
-      sym (judging.rest ∙ rw (drop_of_length-le (take n values) h))
 
 -- ---- what the caller learns
 
-map_same : (vs : List ℕ) → map (λ (v : ℕ). v) vs ≡ vs
-map_same [] = refl
-map_same (v ∷ vs) = ap (λ (l : List ℕ). v ∷ l) (map_same vs)
+module _ {E : Type 0} (x : Result Unit E) (read : List ℕ) where
+  pub read-not : (e : E) → x ≡ Err e → read_as x read ≡ Err e
+  unfolding read_as
+  read-not e is = rw is
 
--- values that have room are the first of the column
-pub take-values : (vs : List ℕ) (n : ℕ) → n ≡ length vs → n ≤ desk.nodes → take n (values_in vs) ≡ vs
-unfolding column
-take-values vs n e l =
-    let z = length-replicate {A = ℕ} desk.nodes 0 in
-    rw (map_same vs, sets-eq vs (replicate {A = ℕ} desk.nodes 0) 0 (omega arith)) (take_at vs _ n (sym e))
+  pub read-all : x ≡ Ok tt → read_as x read ≡ Ok read
+  unfolding read_as
+  read-all is = rw is
 
-pub in-range-long : (n : ℕ) (vs : List ℕ) → FitsShape (numbers n) vs → length vs ≡ n
-unfolding FitsShape
-in-range-long zero [] r = refl
-in-range-long zero (v ∷ vs) r = absurd r
-in-range-long (suc n) [] r = absurd r
-in-range-long (suc n) (v ∷ vs) r = ap suc (in-range-long n vs r.1)
+module _ (line : ℕ) (y : Reading) (x : Result Unit ℕ) (read : List ℕ) (ex : read_as x read ≡ y) where
+  pub line-wrong : (p : ℕ) → x ≡ Err p → (r : Refusal) → r ≡ refusal Misshapen line (p + 1) → read_as (Err r) read ≡ values_on line y
+  unfolding read_as values_on
+  line-wrong p e r er = rw (sym ex ∙ read-not x read p e, er)
 
--- a good line, and its values
-pub record ToldGood (y : Reading) (n : ℕ) (values : List ℕ) : Type 0 where
+  pub line-right : x ≡ Ok tt → read_as (Ok tt) read ≡ values_on line y
+  unfolding read_as values_on
+  line-right e = rw (sym ex ∙ read-all x read e)
+
+bad-kept : (line : ℕ) (y : Reading) (r : Refusal) → values_on line (kept y) ≡ Err r → values_on line y ≡ Err r
+unfolding kept values_on
+bad-kept line (Ok vs) r e = clash (cc)
+bad-kept line (Err p) r e = e
+
+-- numbers of which some were kept
+pub record Good (y : Reading) (read : List ℕ) : Type 0 where
   pub vs : List ℕ
   pub is : y ≡ Ok vs
-  pub held : n ≤ desk.nodes → take n values ≡ vs
+  pub held : read ≡ take desk.nodes vs
 
-module _ (l : List ℕ) (n : ℕ) (x : Reading) where
-  bad-case : (y : Reading) (p : ℕ) → x ≡ numbers_in y → x ≡ Err p → y ≡ Err p
-  unfolding numbers_in
-  bad-case (Ok vs) p e f = clash (let g : ◌≡◌ {A = Reading} (Err p) (Ok (values_in vs)) = sym f ∙ e in cc)
-  bad-case (Err q) p e f = sym e ∙ f
+good-kept : (line : ℕ) (y : Reading) (read : List ℕ) → values_on line (kept y) ≡ Ok read → Good y read
+unfolding kept values_on
+good-kept line (Ok vs) read e = record { vs = vs; is = refl; held = cc }
+good-kept line (Err p) read e = clash (cc)
 
-  good-case : (y : Reading) → read_line (numbers n) l ≡ y → x ≡ numbers_in y → (values : List ℕ) → x ≡ Ok values → ToldGood y n values
-  unfolding numbers_in
-  good-case (Ok vs) r e values f =
-      let k : length vs ≡ n = in-range-long n vs ((line-good (numbers n) l vs).0 r).1 in
-      let g : ◌≡◌ {A = Reading} (Ok values) (Ok (values_in vs)) = sym f ∙ e in
-      let same : values ≡ values_in vs = cc in
-      record { vs = vs; is = refl; held = λ few. ap (take n) same ∙ take-values vs n (sym k) few }
-  good-case (Err q) r e values f = clash (let g : ◌≡◌ {A = Reading} (Ok values) (Err q) = sym f ∙ e in cc)
+-- the faulty byte of a line is within the text
+pub line-place : (n : ℕ) (l : List ℕ) (x : Result Unit ℕ) (read : List ℕ) → read_as x read ≡ kept (read_line (numbers n) l) → (p : ℕ) → x ≡ Err p → length l ≤ desk.bytes → p ≤ desk.bytes
+unfolding kept
+line-place n l x read ex p e short = go (read_line (numbers n) l) refl (sym ex ∙ read-not x read p e)
+  where
+    go : (y : Reading) → read_line (numbers n) l ≡ y → kept y ≡ Err p → p ≤ desk.bytes
+    go (Ok vs) f g = clash (cc)
+    go (Err q) f g = let k : q ≡ p = cc in omega (arith, bad-within (numbers n) l q f)
 
-  module _ (e : x ≡ numbers_in (read_line (numbers n) l)) where
-    pub told-bad : (p : ℕ) → x ≡ Err p → read_line (numbers n) l ≡ Err p
-    told-bad p = bad-case (read_line (numbers n) l) p e
+module _ (n line : ℕ) (l : List ℕ) (x : Numbers) (ex : x ≡ values_on line (kept (read_line (numbers n) l))) where
+  pub told-bad : (r : Refusal) → x ≡ Err r → values_on line (read_line (numbers n) l) ≡ Err r
+  told-bad r e = bad-kept line (read_line (numbers n) l) r (sym ex ∙ e)
 
-    pub told-good : (values : List ℕ) → x ≡ Ok values → ToldGood (read_line (numbers n) l) n values
-    told-good = good-case (read_line (numbers n) l) refl e
+  pub told-good : (read : List ℕ) → x ≡ Ok read → Good (read_line (numbers n) l) read
+  told-good read e = good-kept line (read_line (numbers n) l) read (sym ex ∙ e)
+
+  pub not-numbers : (r : Refusal) → x ≡ Err r → (read : List ℕ) → read_as (Err r) read ≡ amounts_in desk line (read_line (numbers n) l)
+  unfolding amounts_in and_then read_as
+  not-numbers r e read = rw (told-bad r e)
+
+  module _ (few : n ≤ desk.nodes) (read : List ℕ) (e : x ≡ Ok read) where
+    -- all of so few numbers are kept
+    all-kept : read_line (numbers n) l ≡ Ok read
+    all-kept = let g = told-good read e in g.is ∙ ap Ok (go g.vs (sym g.held) (rw g.is at (numbers-read n l)))
+      where
+        go : (vs : List ℕ) → take desk.nodes vs ≡ read → NumbersRead n l (Ok vs) → vs ≡ read
+        go vs h (are_numbers t k s) = sym (take_all desk.nodes vs (omega arith)) ∙ h
+
+    module _ (v : Option ℕ) (ev : v ≡ first_over desk read) where
+      pub over-there : (k : ℕ) → v ≡ Some k → k ≤ length read
+      over-there k f = over-within desk read k (sym ev ∙ f)
+
+      pub numbers-over : (k byte : ℕ) → v ≡ Some k → byte ≡ entry_byte read k → read_as (Err (refusal TooMuch line byte)) read ≡ amounts_in desk line (read_line (numbers n) l)
+      unfolding amounts_in and_then values_on unless_over read_as
+      numbers-over k byte f b = rw (all-kept, ← ev, f, b)
+
+      pub numbers-fine : v ≡ None → read_as (Ok tt) read ≡ amounts_in desk line (read_line (numbers n) l)
+      unfolding amounts_in and_then values_on unless_over read_as
+      numbers-fine f = rw (all-kept, ← ev, f)

@@ -5,8 +5,13 @@ use mathlib.Core.Path.{◌≡◌, refl, ap, ◌∙◌, sym}
 use native.Mathlib.Omega.{arith}
 use native.Mathlib.Decide.{dec_lt}
 use lib.ListN.{length, get_or}
-use borrow.Author.Tests.{lt-ltb, le-ltb}
-use Rattle.std.specs.Prelude.{Ok, Err}
+use mathlib.Core.Bool.{Bool}
+use lib.Dec.{ltb}
+use borrow.Author.Tests.{lt-ltb, le-ltb, ltb-true, ltb-false}
+use Rattle.std.specs.List.{position_or_len}
+use Rattle.std.proofs.lemmas.List.Quantifiers.{position-Some}
+use Rattle.std.proofs.lemmas.List.Sums.{position_or_len_is, fails_before_first}
+use Rattle.std.specs.Prelude.{Ok, Err, Option, Some as at_place, None}
 use Rattle.ring.specs.Limits.{Limits}
 use Rattle.ring.specs.Lists.{Each, none, more, Some, here, there}
 use Rattle.text.specs.Number.{limit}
@@ -19,14 +24,12 @@ use Rattle.text.specs.declared.field.Field.TheVariants.{Number}
 use Rattle.text.proofs.Apart.{clash}
 use Rattle.text.proofs.LineLaws.{line-good, line-bad}
 use Rattle.table.specs.Lines.{lines}
-use Rattle.table.specs.declared.reason.Reason.{Reason}
-use Rattle.table.specs.declared.reason.Reason.TheVariants.{TooMuch}
+use Rattle.table.specs.declared.reason.Refusal.{Refusal}
+use Rattle.table.specs.declared.reason.Reason.TheVariants.{Misshapen, TooMuch}
 use Rattle.table.proofs.LinesOf.{NoLf, FirstLine, written-first}
 use Rattle.matrix.specs.Matrix.{write_matrix, entry_byte}
-use Rattle.matrix.specs.Read.{Matrix, matrix, no_matrix, numbers_or, unless_at, judge_amounts, lines_of}
-use Rattle.matrix.specs.declared.byte.Found.{Found}
-use Rattle.matrix.specs.declared.byte.Found.TheVariants.{Nothing, At}
-use Rattle.matrix.proofs.LineSteps.{in-range-long}
+use Rattle.table.specs.OnLine.{refusal, and_then, values_on}
+use Rattle.matrix.specs.Read.{Matrix, Numbers, first_over, unless_over, amounts_in, lines_of}
 
 -- ---- one line
 
@@ -39,12 +42,23 @@ unfolding FitsShape top
 in-range [] none = tt
 in-range (v ∷ vs) (more h hs) = (h, in-range vs hs)
 
+in-range-long : (n : ℕ) (vs : List ℕ) → FitsShape (numbers n) vs → length vs ≡ n
+unfolding FitsShape
+in-range-long zero [] r = refl
+in-range-long zero (v ∷ vs) r = absurd r
+in-range-long (suc n) [] r = absurd r
+in-range-long (suc n) (v ∷ vs) r = ap suc (in-range-long n vs r.1)
+
 pub spelled-in : (n : ℕ) (vs : List ℕ) → FitsShape (numbers n) vs → Spelled vs
 unfolding FitsShape top
 spelled-in zero [] r = none
 spelled-in zero (v ∷ vs) r = absurd r
 spelled-in (suc n) [] r = absurd r
 spelled-in (suc n) (v ∷ vs) r = more r.0 (spelled-in n vs r.1)
+
+pub spelled-line : (limits : Limits) {vs : List ℕ} → limits.amount < limit → Each (λ v. v ≤ limits.amount) vs → Spelled vs
+spelled-line limits small none = none
+spelled-line limits small (more {a = a} h hs) = let q : a < limit = omega arith in more q (spelled-line limits small hs)
 
 -- what a line is read to
 pub data NumbersRead (n : ℕ) (l : List ℕ) : Reading → Type 0 where
@@ -82,82 +96,108 @@ pub record FirstOver (limits : Limits) (vs : List ℕ) (x : ℕ) : Type 0 where
   pub over : limits.amount < get_or vs x 0
   pub first : (y : ℕ) → y < x → get_or vs y 0 ≤ limits.amount
 
-pub data AmountsJudged (limits : Limits) (k : ℕ) (vs : List ℕ) : Found → Type 0 where
-  amount_over : {at : ℕ} (x : ℕ) → at ≡ k + x → FirstOver limits vs x → AmountsJudged limits k vs (At TooMuch at)
-  amounts_within : Each (λ v. v ≤ limits.amount) vs → AmountsJudged limits k vs Nothing
+some_at : {P : ℕ → Type 0} (vs : List ℕ) (k : ℕ) → k < length vs → P (get_or vs k 0) → Some P vs
+some_at [] k l h = absurd (omega arith)
+some_at (v ∷ vs) zero l h = here h
+some_at (v ∷ vs) (suc k) l h = there (some_at vs k (omega arith) h)
 
-over-next : {limits : Limits} {vs : List ℕ} {x : ℕ} (v : ℕ) → v ≤ limits.amount → FirstOver limits vs x → FirstOver limits (v ∷ vs) (suc x)
-over-next {limits} {vs} {x} v k f = record { some = there f.some; within = omega (arith, f.within); over = f.over; first = go }
+each_by : {P : ℕ → Type 0} (vs : List ℕ) → ((k : ℕ) → k < length vs → P (get_or vs k 0)) → Each P vs
+each_by [] h = none
+each_by (v ∷ vs) h = more (h 0 (omega arith)) (each_by vs (λ k l. h (suc k) (omega arith)))
+
+pub each_at : {A : Type 0} {P : A → Type 0} {l : List A} → Each P l → (d : A) (k : ℕ) → k < length l → P (get_or l k d)
+each_at none d k h = absurd (omega arith)
+each_at (more p ps) d zero h = p
+each_at (more p ps) d (suc k) h = each_at ps d k (omega arith)
+
+module _ (limits : Limits) (vs : List ℕ) where
+  abbrev over : ℕ → Bool
+  over v = ltb limits.amount v
+
+  first-over : (k : ℕ) → first_over limits vs ≡ at_place k → FirstOver limits vs k
+  first-over k e =
+      let p = position-Some over vs k 0 e in
+      let l : limits.amount < get_or vs k 0 = ltb-true limits.amount (get_or vs k 0) p.1 in
+      record { some = some_at vs k p.0 l; within = p.0; over = l; first = λ y h. ltb-false limits.amount (get_or vs y 0) (p.2 y h) }
+
+  none-over : first_over limits vs ≡ None → Each (λ v. v ≤ limits.amount) vs
+  none-over e = each_by vs (λ k l. ltb-false limits.amount (get_or vs k 0) (fails_before_first over vs k 0 (omega (arith, all))))
+    where
+      all : length vs ≤ position_or_len over vs
+      all = elim (dec_lt (position_or_len over vs) (length vs)) [ yes l ↦ clash (cc (rw (lt-ltb _ _ l) at e)) | no l ↦ omega arith ]
+
+  -- the entry found stands in the line
+  pub over-within : (k : ℕ) → first_over limits vs ≡ at_place k → k ≤ length vs
+  over-within k e = omega (arith, (first-over k e).within)
+
+  fine-amounts : Each (λ v. v ≤ limits.amount) vs → first_over limits vs ≡ None
+  fine-amounts each =
+      let e = position_or_len_is over vs (length vs) 0 (omega arith) (λ k l. le-ltb limits.amount (get_or vs k 0) (each_at each 0 k l)) (λ l. absurd (omega arith)) in
+      rw (e, le-ltb (length vs) (length vs) (omega arith))
+
+-- what a line is read to where n numbers within the limit are due
+pub data LineRead (limits : Limits) (n line : ℕ) (l : List ℕ) : Numbers → Type 0 where
+  line_is : {vs : List ℕ} → l ≡ numbers_line vs → length vs ≡ n → Spelled vs → Each (λ v. v ≤ limits.amount) vs → LineRead limits n line l (Ok vs)
+  line_over : {vs : List ℕ} (x : ℕ) → l ≡ numbers_line vs → length vs ≡ n → Spelled vs → FirstOver limits vs x → LineRead limits n line l (Err (refusal TooMuch line (entry_byte vs x)))
+  line_not : {p : ℕ} → ((vs : List ℕ) → l ≡ numbers_line vs → length vs ≡ n → Spelled vs → ⊥) → FirstFault (numbers n) l p
+      → LineRead limits n line l (Err (refusal Misshapen line (p + 1)))
+
+pub line-read : (limits : Limits) (n line : ℕ) (l : List ℕ) → LineRead limits n line l (amounts_in limits line (read_line (numbers n) l))
+unfolding amounts_in and_then values_on unless_over
+line-read limits n line l = go (numbers-read n l)
   where
-    go : (y : ℕ) → y < suc x → get_or (v ∷ vs) y 0 ≤ limits.amount
-    go zero l = k
-    go (suc y) l = f.first y (omega arith)
+    amounts : {vs : List ℕ} (v : Option ℕ) → first_over limits vs ≡ v → l ≡ numbers_line vs → length vs ≡ n → Spelled vs → LineRead limits n line l (unless_over v line vs)
+    amounts {vs} (at_place k) f e w s = line_over k e w s (first-over limits vs k f)
+    amounts {vs} None f e w s = line_is e w s (none-over limits vs f)
 
-pub amounts-judged : (limits : Limits) (k : ℕ) (vs : List ℕ) → AmountsJudged limits k vs (judge_amounts limits k vs)
-unfolding judge_amounts
-amounts-judged limits k [] = amounts_within none
-amounts-judged limits k (v ∷ vs) =
-    elim (dec_lt limits.amount v) [
-      | yes l ↦ rw (lt-ltb limits.amount v l) (amount_over {at = k} 0 (omega arith) (record { some = here l; within = omega arith; over = l; first = λ y h. omega arith }))
-      | no l ↦ let h : v ≤ limits.amount = omega arith in rw (le-ltb limits.amount v h) (go h (amounts-judged limits (k + 1) vs))
-    ]
-  where
-    go : {x : Found} → v ≤ limits.amount → AmountsJudged limits (k + 1) vs x → AmountsJudged limits k (v ∷ vs) x
-    go h (amount_over {at} x e f) = amount_over {at = at} (suc x) (omega arith) (over-next v h f)
-    go h (amounts_within e) = amounts_within (more h e)
-
-pub fine-amounts : (limits : Limits) (k : ℕ) (vs : List ℕ) → Each (λ v. v ≤ limits.amount) vs → judge_amounts limits k vs ≡ Nothing
-unfolding judge_amounts
-fine-amounts limits k [] none = refl
-fine-amounts limits k (v ∷ vs) (more h hs) = rw (le-ltb limits.amount v h) (fine-amounts limits (k + 1) vs hs)
+    go : {x : Reading} → NumbersRead n l x → LineRead limits n line l (amounts_in limits line x)
+    go (are_numbers {vs} e k s) = amounts (first_over limits vs) refl e k s
+    go (no_numbers out fault) = line_not out fault
 
 -- ---- lines
 
--- a line of n values within the limit
-pub record FineLine (limits : Limits) (n : ℕ) (vs : List ℕ) : Type 0 where
-  pub wide : length vs ≡ n
-  pub amounts : Each (λ v. v ≤ limits.amount) vs
+-- lines of n values, each within the limit
+abbrev pub Wide : ℕ → List (List ℕ) → Type 0
+Wide n m = Each (λ vs. length vs ≡ n) m
+
+abbrev pub Within : Limits → List (List ℕ) → Type 0
+Within limits m = Each (Each (λ v. v ≤ limits.amount)) m
 
 -- the lines ls, of which `left` are due behind the lines m, are read to this
 pub data LinesRead (limits : Limits) (n left : ℕ) (m ls : List (List ℕ)) : Matrix → Type 0 where
   lines_are : {all : List (List ℕ)} (rest : List (List ℕ)) → all ≡ m ++ rest → flatten ls ≡ write_matrix rest → length rest ≡ left
-      → Each (FineLine limits n) rest → LinesRead limits n left m ls (matrix n all)
-  lines_refused : {r : Reason} {line byte : ℕ} → LinesRead limits n left m ls (no_matrix r line byte)
+      → Wide n rest → Within limits rest → LinesRead limits n left m ls (Ok (n, all))
+  lines_refused : {r : Refusal} → LinesRead limits n left m ls (Err r)
 
 module _ {limits : Limits} {n : ℕ} where
-  line-more : (line : ℕ) (byte : ℕ → ℕ) {left : ℕ} {m ls : List (List ℕ)} {l vs : List ℕ} {v : Found} {x : Matrix} → l ≡ numbers_line vs → length vs ≡ n
-      → AmountsJudged limits 0 vs v → LinesRead limits n left (m ++ vs ∷ []) ls x → LinesRead limits n (suc left) m (l ∷ ls) (unless_at v line byte x)
-  unfolding unless_at write_matrix flatten
-  line-more line byte e k (amount_over x at f) rest = lines_refused
-  line-more line byte {m = m} {vs = vs} e k (amounts_within a) (lines_are rest whole text many fine) =
-      lines_are (vs ∷ rest) (whole ∙ append_assoc m (vs ∷ []) rest) (rw (e, text)) (ap suc many) (more (record { wide = k; amounts = a }) fine)
-  line-more line byte e k (amounts_within a) lines_refused = lines_refused
+  line-more : {left : ℕ} {m ls : List (List ℕ)} {l vs : List ℕ} {x : Matrix} → l ≡ numbers_line vs → length vs ≡ n → Each (λ v. v ≤ limits.amount) vs
+      → LinesRead limits n left (m ++ vs ∷ []) ls x → LinesRead limits n (suc left) m (l ∷ ls) x
+  unfolding write_matrix flatten
+  line-more {m = m} {vs = vs} e k a (lines_are rest whole text many wide within) =
+      lines_are (vs ∷ rest) (whole ∙ append_assoc m (vs ∷ []) rest) (rw (e, text)) (ap suc many) (more k wide) (more a within)
+  line-more e k a lines_refused = lines_refused
 
   pub lines-read : (ls : List (List ℕ)) (line left : ℕ) (m : List (List ℕ)) → LinesRead limits n left m ls (lines_of limits n line left m ls)
-  unfolding lines_of numbers_or write_matrix flatten
-  lines-read [] line zero m = lines_are [] (sym (append-nil m)) refl refl none
+  unfolding lines_of and_then write_matrix flatten
+  lines-read [] line zero m = lines_are [] (sym (append-nil m)) refl refl none none
   lines-read (l ∷ ls) line zero m = lines_refused
   lines-read [] line (suc left) m = lines_refused
-  lines-read (l ∷ ls) line (suc left) m = go (numbers-read n l) (λ vs. lines-read ls (line + 1) left (m ++ vs ∷ []))
+  lines-read (l ∷ ls) line (suc left) m = go (line-read limits n line l) (λ vs. lines-read ls (line + 1) left (m ++ vs ∷ []))
     where
       next : List ℕ → Matrix
       next vs = lines_of limits n (line + 1) left (m ++ vs ∷ []) ls
 
-      go : {x : Reading} → NumbersRead n l x → ((vs : List ℕ) → LinesRead limits n left (m ++ vs ∷ []) ls (next vs))
-          → LinesRead limits n (suc left) m (l ∷ ls) (numbers_or x line λ vs. unless_at (judge_amounts limits 0 vs) line (entry_byte vs) (next vs))
-      go (are_numbers {vs} e k s) rest = line-more line (entry_byte vs) e k (amounts-judged limits 0 vs) (rest vs)
-      go (no_numbers h fault) rest = lines_refused
+      go : {x : Numbers} → LineRead limits n line l x → ((vs : List ℕ) → LinesRead limits n left (m ++ vs ∷ []) ls (next vs)) → LinesRead limits n (suc left) m (l ∷ ls) (and_then x next)
+      go (line_is {vs} e k s a) rest = line-more e k a (rest vs)
+      go (line_over x e k s f) rest = lines_refused
+      go (line_not out fault) rest = lines_refused
 
-  -- and back
-  pub written-lines-read : limits.amount < limit → 1 ≤ n → (line : ℕ) (m rest : List (List ℕ)) → Each (FineLine limits n) rest
-      → lines_of limits n line (length rest) m (lines (write_matrix rest)) ≡ matrix n (m ++ rest)
-  unfolding lines_of numbers_or unless_at write_matrix lines
-  written-lines-read small some line m [] none = ap (matrix n) (sym (append-nil m))
-  written-lines-read small some line m (vs ∷ rest) (more h hs) =
-      let s : Spelled vs = within small h.amounts in
-      rw (numbers-first vs (omega (arith, h.wide)) s (write_matrix rest), numbers-line-read n vs h.wide s, fine-amounts limits 0 vs h.amounts)
-      (written-lines-read small some (line + 1) (m ++ vs ∷ []) rest hs ∙ ap (matrix n) (append_assoc m (vs ∷ []) rest))
-    where
-      within : {vs : List ℕ} → limits.amount < limit → Each (λ v. v ≤ limits.amount) vs → Spelled vs
-      within small none = none
-      within small (more {a = a} h hs) = let q : a < limit = omega arith in more q (within small hs)
+-- and back
+pub written-lines-read : (limits : Limits) (n : ℕ) → limits.amount < limit → 1 ≤ n → (line : ℕ) (m rest : List (List ℕ)) → Wide n rest → Within limits rest
+    → lines_of limits n line (length rest) m (lines (write_matrix rest)) ≡ Ok (n, m ++ rest)
+unfolding lines_of and_then values_on amounts_in unless_over write_matrix lines
+written-lines-read limits n small some line m [] none none = ap (λ l. Ok (n, l)) (sym (append-nil m))
+written-lines-read limits n small some line m (vs ∷ rest) (more k ks) (more a bs) =
+    let s : Spelled vs = spelled-line limits small a in
+    rw (numbers-first vs (omega arith) s (write_matrix rest), numbers-line-read n vs k s, fine-amounts limits vs a)
+    (written-lines-read limits n small some (line + 1) (m ++ vs ∷ []) rest ks bs ∙ ap (λ l. Ok (n, l)) (append_assoc m (vs ∷ []) rest))

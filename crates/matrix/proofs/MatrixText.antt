@@ -9,7 +9,7 @@ use native.Mathlib.Decide.{ℕ_discrete}
 use lib.ListN.{length}
 use borrow.Author.Tests.{le-ltb, ltb-false, ne_eqb}
 use Rattle.ring.specs.Limits.{Limits, desk}
-use Rattle.ring.specs.Lists.{Each, none, more}
+use Rattle.ring.specs.Lists.{Each, more}
 use Rattle.ring.proofs.Side.{cond-elim}
 use Rattle.text.specs.ReadLine.{Reading}
 use Rattle.text.specs.Bytes.{tab, digit0}
@@ -20,14 +20,15 @@ use Rattle.text.specs.Shapes.{numbers, numbers_line}
 use Rattle.text.proofs.Digits.{by_digits, digits-one, digits_more}
 use Rattle.table.specs.Lines.{lines}
 use Rattle.table.specs.declared.reason.Reason.{Reason}
-use Rattle.table.specs.Verdict.{Verdict}
+use Rattle.table.specs.Verdict as of_table
 use Rattle.table.proofs.Judged.{SizeJudged, not_so_many, right_size, size-judged, fine-size}
 use Rattle.table.proofs.LinesOf.{join-lines}
 use Rattle.matrix.specs.Matrix.{entry, write_matrix, Node, InRange}
-use Rattle.matrix.specs.Read.{Matrix, matrix, no_matrix, fields_in, numbers_or, unless, lines_of, judge_down, after_square, square_judged, matrix_lines, matrix_of}
-use Rattle.matrix.specs.Answer.{Lines}
-use Rattle.std.specs.Prelude.{Ok}
-use Rattle.matrix.proofs.LinesText.{Spelled, NumbersRead, are_numbers, no_numbers, numbers-read, numbers-line-read, numbers-first, FineLine, LinesRead, lines_are, lines_refused, lines-read, written-lines-read}
+use Rattle.matrix.specs.Read.{Matrix, Verdict, fields_in, lines_of, judge_down, square_judged, on_first, matrix_lines, matrix_of}
+use Rattle.std.specs.Prelude.{Ok, Err}
+use Rattle.table.specs.OnLine.{and_then, values_on}
+use Rattle.table.specs.declared.reason.Refusal.{Refusal}
+use Rattle.matrix.proofs.LinesText.{Spelled, NumbersRead, are_numbers, no_numbers, numbers-read, numbers-line-read, numbers-first, spelled-line, Wide, Within, LinesRead, lines_are, lines_refused, lines-read, written-lines-read}
 use Rattle.matrix.proofs.Entries.{WrongEntry, not_zero, not_mirror, DownJudged, down_wrong, down_right, down-judged}
 
 -- ---- the fields of a line of numbers are its values
@@ -60,34 +61,26 @@ desk-possible = record { some = omega arith; amount = omega arith }
 
 -- ---- read, so written
 
-fine-square : {limits : Limits} {n : ℕ} {m : List (List ℕ)} → Each (FineLine limits n) m → Each (λ vs. length vs ≡ n) m
-fine-square none = none
-fine-square (more h hs) = more h.wide (fine-square hs)
-
-fine-amounts : {limits : Limits} {n : ℕ} {m : List (List ℕ)} → Each (FineLine limits n) m → Each (Each (λ v. v ≤ limits.amount)) m
-fine-amounts none = none
-fine-amounts (more h hs) = more h.amounts (fine-amounts hs)
-
 data MatrixRead (limits : Limits) (t : List ℕ) : Matrix → Type 0 where
-  matrix_is : {n : ℕ} {m : List (List ℕ)} → t ≡ write_matrix m → InRange limits n m → MatrixRead limits t (matrix n m)
-  matrix_refused : {r : Reason} {line byte : ℕ} → MatrixRead limits t (no_matrix r line byte)
+  matrix_is : {n : ℕ} {m : List (List ℕ)} → t ≡ write_matrix m → InRange limits n m → MatrixRead limits t (Ok (n, m))
+  matrix_refused : {r : Refusal} → MatrixRead limits t (Err r)
 
 module _ {limits : Limits} {t : List ℕ} (short : length t ≤ limits.bytes) where
   square-read : {n : ℕ} {ls : List (List ℕ)} {x : Matrix} → limits.fewest ≤ n → n ≤ limits.nodes → t ≡ flatten ls → LinesRead limits n n [] ls x
       → MatrixRead limits t (square_judged x)
-  unfolding square_judged after_square
+  unfolding square_judged and_then
   square-read few many whole lines_refused = matrix_refused
-  square-read {n} few many whole (lines_are {all = m} rest is text tall fine) = go (down-judged (entry m) n 1 n)
+  square-read {n} few many whole (lines_are {all = m} rest is text tall wide within) = go (down-judged m n 1 n)
     where
-      go : {z : Lines} → DownJudged (entry m) n 1 n z → MatrixRead limits t (after_square z (matrix n m))
+      go : {z : Verdict} → DownJudged m n 1 n z → MatrixRead limits t (and_then z (λ u. Ok (n, m)))
       go (down_wrong at a b c d e) = matrix_refused
       go (down_right right) =
           let written : t ≡ write_matrix m = whole ∙ text ∙ ap write_matrix (sym is) in
           matrix_is written (record {
             few = few;
             many = many;
-            square = record { tall = ap length is ∙ tall; wide = subst (Each (λ vs. length vs ≡ n)) (sym is) (fine-square fine) };
-            amounts = subst (Each (Each (λ v. v ≤ limits.amount))) (sym is) (fine-amounts fine);
+            square = record { tall = ap length is ∙ tall; wide = subst (Wide n) (sym is) wide };
+            amounts = subst (Within limits) (sym is) within;
             zeros = λ i p. elim (ℕ_discrete (entry m i i) 0) [ yes z ↦ z | no z ↦ absurd (right i i _ p.0 (omega (arith, p.1)) p (not_zero refl z)) ];
             symmetric = λ i j p q.
                 elim (ℕ_discrete i j) [
@@ -98,18 +91,18 @@ module _ {limits : Limits} {t : List ℕ} (short : length t ≤ limits.bytes) wh
           })
 
   lines-matrix : (ls : List (List ℕ)) → t ≡ flatten ls → MatrixRead limits t (matrix_lines limits ls)
-  unfolding matrix_lines numbers_or unless
+  unfolding matrix_lines and_then values_on on_first
   lines-matrix [] whole = matrix_refused
   lines-matrix (l ∷ ls) whole = go (numbers-read (fields_in l) l) (size-judged limits (fields_in l))
     where
       next : Matrix
       next = square_judged (lines_of limits (fields_in l) 1 (fields_in l) [] (l ∷ ls))
 
-      ring : {v : Verdict} → SizeJudged limits (fields_in l) v → MatrixRead limits t (unless v 1 next)
+      ring : {v : of_table.Verdict} → SizeJudged limits (fields_in l) v → MatrixRead limits t (and_then (on_first v) (λ u. next))
       ring (not_so_many w) = matrix_refused
       ring (right_size few many) = square-read few many whole (lines-read (l ∷ ls) 1 (fields_in l) [])
 
-      go : {x : Reading} {v : Verdict} → NumbersRead (fields_in l) l x → SizeJudged limits (fields_in l) v → MatrixRead limits t (numbers_or x 1 λ vs. unless v 1 next)
+      go : {x : Reading} {v : of_table.Verdict} → NumbersRead (fields_in l) l x → SizeJudged limits (fields_in l) v → MatrixRead limits t (and_then (values_on 1 x) (λ vs. and_then (on_first v) (λ u. next)))
       go (are_numbers e k s) judged = ring judged
       go (no_numbers h fault) judged = matrix_refused
 
@@ -120,39 +113,31 @@ matrix-read limits t =
 
 -- ---- written, so read
 
-fine-lines : {limits : Limits} {n : ℕ} {m : List (List ℕ)} → Each (λ vs. length vs ≡ n) m → Each (Each (λ v. v ≤ limits.amount)) m → Each (FineLine limits n) m
-fine-lines none none = none
-fine-lines (more w ws) (more a bs) = more (record { wide = w; amounts = a }) (fine-lines ws bs)
-
-spelled-line : (limits : Limits) {vs : List ℕ} → limits.amount < limit → Each (λ v. v ≤ limits.amount) vs → Spelled vs
-spelled-line limits small none = none
-spelled-line limits small (more {a = a} h hs) = let q : a < limit = omega arith in more q (spelled-line limits small hs)
-
 -- a square in range is fine
-right-square : (limits : Limits) (n : ℕ) (m : List (List ℕ)) → InRange limits n m → judge_down (entry m) n 1 n ≡ Ok tt
-right-square limits n m range = go (down-judged (entry m) n 1 n)
+right-square : (limits : Limits) (n : ℕ) (m : List (List ℕ)) → InRange limits n m → judge_down m n 1 n ≡ Ok tt
+right-square limits n m range = go (down-judged m n 1 n)
   where
-    right : {i j : ℕ} {r : Reason} → Node n i → Node n j → WrongEntry (entry m) i j r → ⊥
+    right : {i j : ℕ} {r : Reason} → Node n i → Node n j → WrongEntry m i j r → ⊥
     right {i} p q (not_zero e w) = w (rw (← e) (range.zeros i p))
     right {i} {j} p q (not_mirror e w) = w (range.symmetric i j p q)
 
-    go : {z : Lines} → DownJudged (entry m) n 1 n z → z ≡ Ok tt
+    go : {z : Verdict} → DownJudged m n 1 n z → z ≡ Ok tt
     go (down_wrong at a b c d e) = absurd (right (a, omega arith) c d)
     go (down_right all) = refl
 
 module _ (limits : Limits) (possible : Possible limits) where
-  first-written : (n : ℕ) (m : List (List ℕ)) → InRange limits n m → (l : List (List ℕ)) → lines (write_matrix m) ≡ l → matrix_lines limits l ≡ matrix n m
-  unfolding matrix_lines numbers_or unless square_judged after_square write_matrix
+  first-written : (n : ℕ) (m : List (List ℕ)) → InRange limits n m → (l : List (List ℕ)) → lines (write_matrix m) ≡ l → matrix_lines limits l ≡ Ok (n, m)
+  unfolding matrix_lines and_then values_on on_first square_judged write_matrix
   first-written n [] range l e = absurd (omega (arith, range.square.tall, range.few, possible.some))
   first-written n (vs ∷ m) range l e = go range.square.wide range.amounts
     where
-      lines-back : (ls : List (List ℕ)) → lines (write_matrix (vs ∷ m)) ≡ ls → lines_of limits n 1 n [] ls ≡ matrix n (vs ∷ m)
+      lines-back : (ls : List (List ℕ)) → lines (write_matrix (vs ∷ m)) ≡ ls → lines_of limits n 1 n [] ls ≡ Ok (n, vs ∷ m)
       lines-back ls e =
           rw (← e)
-          (subst (λ k. lines_of limits n 1 k [] (lines (write_matrix (vs ∷ m))) ≡ matrix n (vs ∷ m)) range.square.tall
-          (written-lines-read {limits = limits} possible.amount (omega (arith, range.few, possible.some)) 1 [] (vs ∷ m) (fine-lines range.square.wide range.amounts)))
+          (subst (λ k. lines_of limits n 1 k [] (lines (write_matrix (vs ∷ m))) ≡ Ok (n, vs ∷ m)) range.square.tall
+          (written-lines-read limits n possible.amount (omega (arith, range.few, possible.some)) 1 [] (vs ∷ m) range.square.wide range.amounts))
 
-      go : Each (λ us. length us ≡ n) (vs ∷ m) → Each (Each (λ v. v ≤ limits.amount)) (vs ∷ m) → matrix_lines limits l ≡ matrix n (vs ∷ m)
+      go : Each (λ us. length us ≡ n) (vs ∷ m) → Each (Each (λ v. v ≤ limits.amount)) (vs ∷ m) → matrix_lines limits l ≡ Ok (n, vs ∷ m)
       go (more w ws) (more a bs) =
           let s : Spelled vs = spelled-line limits possible.amount a in
           let some : 1 ≤ length vs = omega (arith, range.few, possible.some) in
@@ -160,14 +145,14 @@ module _ (limits : Limits) (possible : Possible limits) where
           let head : lines (write_matrix (vs ∷ m)) ≡ numbers_line vs ∷ lines (write_matrix m) = numbers-first vs some s (write_matrix m) in
           rw (← e, head, f, numbers-line-read n vs w s, fine-size limits n range.few range.many, lines-back _ head, right-square limits n (vs ∷ m) range)
 
-  written_read : (n : ℕ) (m : List (List ℕ)) → InRange limits n m → matrix_of limits (write_matrix m) ≡ matrix n m
+  written_read : (n : ℕ) (m : List (List ℕ)) → InRange limits n m → matrix_of limits (write_matrix m) ≡ Ok (n, m)
   unfolding matrix_of
   written_read n m range = rw (le-ltb limits.bytes (length (write_matrix m)) range.short) (first-written n m range _ refl)
 
   -- ---- both
 
-  pub matrix-text : (t : List ℕ) (n : ℕ) (m : List (List ℕ)) → (matrix_of limits t ≡ matrix n m) ↔ ((t ≡ write_matrix m) × InRange limits n m)
+  pub matrix-text : (t : List ℕ) (n : ℕ) (m : List (List ℕ)) → (matrix_of limits t ≡ Ok (n, m)) ↔ ((t ≡ write_matrix m) × InRange limits n m)
   matrix-text t n m = (λ e. go (subst (MatrixRead limits t) e (matrix-read limits t)), λ h. rw h.0 (written_read n m h.1))
     where
-      go : MatrixRead limits t (matrix n m) → (t ≡ write_matrix m) × InRange limits n m
+      go : MatrixRead limits t (Ok (n, m)) → (t ≡ write_matrix m) × InRange limits n m
       go (matrix_is text range) = (text, range)

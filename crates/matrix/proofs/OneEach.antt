@@ -4,7 +4,7 @@ use mathlib.Core.List.{List, [], ◌∷◌}
 use mathlib.Core.Path.{◌≡◌}
 use native.Mathlib.Omega.{arith}
 use native.Mathlib.Decide.{ℕ_discrete}
-use lib.ListN.{length, get_or, take}
+use lib.ListN.{get_or, take}
 use Rattle.ring.specs.Limits.{desk}
 use Rattle.ring.specs.declared.types.Ring.{Ring}
 use Rattle.ring.specs.Lists.{Each, none, more}
@@ -12,11 +12,8 @@ use Rattle.ring.specs.Row.{row, OnRing}
 use Rattle.ring.specs.declared.types.Row.{Row}
 use Rattle.table.specs.Table.{InRange as TableInRange}
 use Rattle.matrix.specs.Demands.{sum_of, OneEach, Passes}
-use Rattle.matrix.specs.Judged.{judge_sums}
-use Rattle.matrix.specs.declared.sums.Sums.TheVariants.{Fit}
-use Rattle.matrix.proofs.SumSteps.{part_of}
-use Rattle.matrix.proofs.SumLaws.{part-own, part-other, Rising, no_row, next_row, sum-none}
-use Rattle.matrix.proofs.SumsGiven.{sums-fit}
+use Rattle.matrix.proofs.LinesText.{each_at}
+use Rattle.matrix.proofs.SumLaws.{part_of, part-own, part-other, Rising, no_row, next_row, sum-none}
 use Rattle.matrix.proofs.RoundTrip.{rising-rows}
 
 -- ---- one row for a pair: each sum is an amount
@@ -42,21 +39,13 @@ rising-small most (more {a = r} {l = rs} o os) (more d ds) (next_row p rest) i j
     other : ((r.first ≡ i) × (r.second ≡ j) → ⊥) → sum_of rs i j ≤ most → part_of r i j + sum_of rs i j ≤ most
     other h small = omega (arith, part-other r i j h (λ z. omega (arith, z.0, z.1, o.order)))
 
-each_at : {P : Row → Type 0} {l : List Row} → Each P l → (d : Row) (k : ℕ) → k < length l → P (get_or l k d)
-each_at none d k h = absurd (omega arith)
-each_at (more p ps) d zero h = p
-each_at (more p ps) d (suc k) h = each_at ps d k (omega arith)
-
-pub one-each-fit : (ring : Ring) (rs : List Row) → TableInRange desk ring rs → OneEach rs → judge_sums desk rs ≡ Fit
-one-each-fit ring rs table each = (sums-fit desk rs).1 never
-  where
-    never : (k : ℕ) → Passes desk rs k → ⊥
-    never k p =
-        let r : Row = get_or rs (k - 1) (row 0 0 0) in
-        let o : OnRing ring.nodes r = each_at table.rows.nodes (row 0 0 0) (k - 1) (omega (arith, p.low, p.high)) in
-        omega (
-          arith,
-          p.wrong,
-          take-small k rs r.first r.second,
-          rising-small desk.amount table.rows.nodes table.amounts (rising-rows table.rows.nodes table.rows.order each.one) r.first r.second o.order,
-        )
+pub one-each-fit : (ring : Ring) (rs : List Row) → TableInRange desk ring rs → OneEach rs → (k : ℕ) → Passes desk rs k → ⊥
+one-each-fit ring rs table each k p =
+    let r : Row = get_or rs (k - 1) (row 0 0 0) in
+    let o : OnRing ring.nodes r = each_at table.rows.nodes (row 0 0 0) (k - 1) (omega (arith, p.low, p.high)) in
+    omega (
+      arith,
+      p.wrong,
+      take-small k rs r.first r.second,
+      rising-small desk.amount table.rows.nodes table.amounts (rising-rows table.rows.nodes table.rows.order each.one) r.first r.second o.order,
+    )

@@ -20,21 +20,20 @@ use Rattle.table.specs.Lines.{lines}
 use Rattle.table.specs.Reasons.{rank_of}
 use Rattle.table.specs.Says.{LineIs, at_first, behind, DueByte, line_missing, line_faulty}
 use Rattle.table.specs.declared.reason.Reason.{Reason}
-use Rattle.table.specs.declared.reason.Reason.TheVariants.{TooLong, Misshapen, RingSize, Fibres, NoRow, NoSuchNode, NotBelow, OutOfOrder, TooMany, TooMuch, Full, WrongSum, WrongWay, WrongCut, WrongLink, WrongLast, NotTight, OverBound, NotZero, NotSymmetric, SumTooMuch, NoRoom}
-use Rattle.table.specs.Verdict.{Verdict}
+use Rattle.table.specs.declared.reason.Reason.TheVariants.{TooLong, Misshapen, RingSize, TooMuch, NotZero, NotSymmetric}
+use Rattle.std.specs.Prelude.{Ok, Err}
+use Rattle.table.specs.OnLine.{refusal, and_then, values_on}
+use Rattle.table.specs.declared.reason.Refusal.{Refusal}
+use Rattle.table.specs.Verdict as of_table
 use Rattle.table.proofs.Judged.{SizeJudged, not_so_many, right_size, size-judged}
 use Rattle.table.proofs.LineNumbers.{line-one, LinesFrom, from_first, from_next, line-here, no-line-left}
 use Rattle.table.proofs.ReasonNumbers.{same_rank, no-rank-0}
 use Rattle.matrix.specs.Matrix.{entry, entry_byte, Node}
-use Rattle.matrix.specs.Read.{Matrix, matrix, no_matrix, fields_in, numbers_or, unless, unless_at, lines_of, line_of, after_square, square_judged, matrix_lines, matrix_of, judge_amounts}
+use Rattle.matrix.specs.Read.{Matrix, Numbers, Verdict, fields_in, lines_of, byte_of, square_judged, on_first, matrix_lines, matrix_of}
 use Rattle.matrix.specs.Says.{NumbersAre, EntryIs, NoFirstLine, NoLaterLine, LeftOver, WrongSize, WrongAmount, WrongEntry, not_zero, not_mirror, FirstFaulty, Says, LineByte, first_due, later_due, none_due, EntryStarts, FaultyByte, ByteIs, stage, Earlier, Given, Accepted}
-use Rattle.matrix.specs.Back.{Reads}
-use Rattle.matrix.specs.declared.byte.Found.{Found}
-use Rattle.matrix.specs.Answer.{Lines}
-use Rattle.matrix.proofs.LinesText.{NumbersRead, are_numbers, no_numbers, numbers-read, FirstOver, AmountsJudged, amount_over, amounts_within, amounts-judged}
+use Rattle.matrix.proofs.LinesText.{NumbersRead, are_numbers, no_numbers, numbers-read, FirstOver, LineRead, line_is, line_over, line_not, line-read, Spelled}
 use Rattle.matrix.proofs.MatrixText.{fields-are}
 use Rattle.matrix.proofs.Entries.{WrongEntry as Wrong, not_zero as zero-wrong, not_mirror as mirror-wrong, DownJudged, down_wrong, down_right, down-judged}
-use Rattle.matrix.proofs.RoundTrip.{from_one}
 use Rattle.matrix.proofs.AnyFields.{lines-ended, line-ended, fields-some, any-fault}
 use Rattle.matrix.proofs.BytesGiven.{numbers-one, amount-byte, one_byte}
 
@@ -63,22 +62,7 @@ told RingSize h = of_line refl (wrong_n h)
 told TooMuch h = of_line refl (wrong_amount h)
 told NotZero h = of_square refl h
 told NotSymmetric h = of_square refl h
-told Fibres h = absurd h
-told NoSuchNode h = absurd h
-told NotBelow h = absurd h
-told OutOfOrder h = absurd h
-told TooMany h = absurd h
-told WrongSum h = absurd h
-told WrongWay h = absurd h
-told WrongCut h = absurd h
-told WrongLink h = absurd h
-told WrongLast h = absurd h
-told NotTight h = absurd h
-told OverBound h = absurd h
-told SumTooMuch h = absurd h
-told NoRow h = absurd h
-told Full h = absurd h
-told NoRoom h = absurd h
+told _ h = absurd h
 
 line_low : {ls : List (List ℕ)} {line : ℕ} {l : List ℕ} → LineIs ls line l → 1 ≤ line
 line_low at_first = omega arith
@@ -87,8 +71,8 @@ line_low (behind p) = omega arith
 -- ---- a result that is right by what the reasons say
 
 data Right (limits : Limits) (t : List ℕ) : Matrix → Type 0 where
-  none_holds : {n : ℕ} {m : List (List ℕ)} → Accepted limits t → Right limits t (matrix n m)
-  first_holds : {r : Reason} {line byte : ℕ} → Given limits t r line byte → Right limits t (no_matrix r line byte)
+  none_holds : {s : ℕ × List (List ℕ)} → Accepted limits t → Right limits t (Ok s)
+  first_holds : {r : Refusal} → Given limits t r.reason r.line r.byte → Right limits t (Err r)
 
 -- nothing is said of the lines before this one
 record Clean (limits : Limits) (t : List ℕ) (line : ℕ) : Type 0 where
@@ -256,39 +240,35 @@ module _ (limits : Limits) (t : List ℕ) (us : List ℕ) (first : NumbersAre t 
             is = refl;
           }
 
-      wrong-in : {i j : ℕ} {r : Reason} → WrongEntry t i j r → (Node n i) × (Node n j) × Wrong (entry m) i j r
+      wrong-in : {i j : ℕ} {r : Reason} → WrongEntry t i j r → (Node n i) × (Node n j) × Wrong m i j r
       wrong-in (not_zero e h w) = let s = entry_in h in (s.row, s.column, zero-wrong e (λ z. w (s.is ∙ z)))
       wrong-in (not_mirror e h k w) = let s = entry_in h in let u = entry_in k in (s.row, s.column, mirror-wrong e (λ z. w (s.is ∙ z ∙ sym u.is)))
 
-      wrong-of : {i j : ℕ} {r : Reason} → Node n i → Node n j → Wrong (entry m) i j r → WrongEntry t i j r
+      wrong-of : {i j : ℕ} {r : Reason} → Node n i → Node n j → Wrong m i j r → WrongEntry t i j r
       wrong-of {i} {j} p q (zero-wrong e w) = not_zero e (entry_of i j p q) w
       wrong-of {i} {j} p q (mirror-wrong e w) = not_mirror e (entry_of i j p q) (entry_of j i q p) w
 
-      one-wrong : {i j : ℕ} {r s : Reason} → Wrong (entry m) i j r → Wrong (entry m) i j s → r ≡ s
+      one-wrong : {i j : ℕ} {r s : Reason} → Wrong m i j r → Wrong m i j s → r ≡ s
       one-wrong (zero-wrong e w) (zero-wrong f u) = refl
       one-wrong (zero-wrong e w) (mirror-wrong f u) = absurd (f e)
       one-wrong (mirror-wrong e w) (zero-wrong f u) = absurd (e f)
       one-wrong (mirror-wrong e w) (mirror-wrong f u) = refl
 
-      faulty-says : {i j : ℕ} {r : Reason} → Wrong (entry m) i j r → FirstFaulty t r i → (stage r ≡ 1) × Says limits t r i
+      faulty-says : {i j : ℕ} {r : Reason} → Wrong m i j r → FirstFaulty t r i → (stage r ≡ 1) × Says limits t r i
       unfolding Says
       faulty-says (zero-wrong e w) h = (refl, h)
       faulty-says (mirror-wrong e w) h = (refl, h)
 
-      faulty-byte : {i j byte : ℕ} {r : Reason} → Wrong (entry m) i j r → FaultyByte t r i byte → ByteIs limits t r i byte
+      faulty-byte : {i j byte : ℕ} {r : Reason} → Wrong m i j r → FaultyByte t r i byte → ByteIs limits t r i byte
       unfolding ByteIs
       faulty-byte (zero-wrong e w) h = h
       faulty-byte (mirror-wrong e w) h = h
 
-      starts-at : (i j : ℕ) → Node n i → EntryStarts t i j (entry_byte (line_of (entry m) n i) (j - 1))
-      starts-at i j p =
-          let high : i ≤ length m = omega (arith, p.1) in
-          let e : length (get_or m (i - 1) []) ≡ n = held.wide i p.0 high in
-          let k : line_of (entry m) n i ≡ get_or m (i - 1) [] = rw e at (from_one 0 (get_or m (i - 1) [])) in
-          record { vs = get_or m (i - 1) []; is = held.at i p.0 high; at = ap (λ vs. entry_byte vs (j - 1)) k }
+      starts-at : (i j : ℕ) → Node n i → EntryStarts t i j (byte_of m i j)
+      starts-at i j p = record { vs = get_or m (i - 1) []; is = held.at i p.0 (omega (arith, p.1)); at = refl }
 
-      square-right : {z : Lines} → DownJudged (entry m) n 1 n z → Right limits t (after_square z (matrix n m))
-      unfolding after_square
+      square-right : {z : Verdict} → DownJudged m n 1 n z → Right limits t (and_then z (λ u. Ok (n, m)))
+      unfolding and_then
       square-right (down_right all) = none_holds (λ r other h. go (told r h))
         where
           go : {r : Reason} {other : ℕ} → Told limits t other r → ⊥
@@ -317,7 +297,7 @@ module _ (limits : Limits) (t : List ℕ) (us : List ℕ) (first : NumbersAre t 
                   | yes b ↦ h.first i j r (inr (refl, b)) (wrong-of p q wrong)
                   | no b ↦
                       let e : h.j ≡ j = omega arith in
-                      let k : r ≡ s = one-wrong wrong (subst (λ y. Wrong (entry m) i y s) e (wrong-in h.wrong).2) in
+                      let k : r ≡ s = one-wrong wrong (subst (λ y. Wrong m i y s) e (wrong-in h.wrong).2) in
                       omega (arith, ap rank_of k)
                 ]
               ]
@@ -347,7 +327,7 @@ module _ (limits : Limits) (t : List ℕ) (us : List ℕ) (first : NumbersAre t 
 
     -- a line that is due is missing, or is not n numbers
     not-numbers : {line byte : ℕ} → Prev line → 1 ≤ line → line ≤ n → Clean limits t line → ((vs : List ℕ) → length vs ≡ n → NumbersAre t line vs → ⊥)
-        → DueByte t line (FirstFault (numbers n)) byte → Right limits t (no_matrix Misshapen line byte)
+        → DueByte t line (FirstFault (numbers n)) byte → Right limits t (Err (refusal Misshapen line byte))
     not-numbers prev low due clean out b = first_holds (misshapen-here low clean (no-line-here prev low due out) (no-line-byte prev due out b))
 
     left-over-here : {line : ℕ} {l : List ℕ} → LineIs (lines t) line l → n < line → Says limits t Misshapen line
@@ -362,35 +342,30 @@ module _ (limits : Limits) (t : List ℕ) (us : List ℕ) (first : NumbersAre t 
 
     lines-right : (ls : List (List ℕ)) (line left : ℕ) (m : List (List ℕ)) → 1 ≤ line → line + left ≡ n + 1 → LinesFrom (lines t) line ls → Prev line → Clean limits t line
         → Held m line → Right limits t (square_judged (lines_of limits n line left m ls))
-    unfolding lines_of numbers_or unless_at square_judged
+    unfolding lines_of and_then square_judged
     lines-right [] line zero m low due from prev clean held =
-        square-right m line held (omega (arith, held.count)) clean from (down-judged (entry m) n 1 n)
+        square-right m line held (omega (arith, held.count)) clean from (down-judged m n 1 n)
     lines-right (l ∷ ls) line zero m low due from prev clean held =
         first_holds (misshapen-here low clean (left-over-here (line-here from) (omega arith)) (none_due first (omega arith) refl))
     lines-right [] line (suc left) m low due from prev clean held =
         not-numbers prev low (omega arith) clean (λ vs k is. omega (arith, no-line-left from is.text)) (line_missing (λ l is. omega (arith, no-line-left from is)))
     lines-right (l ∷ ls) line (suc left) m low due from prev clean held =
-        go (numbers-read n l) (λ vs clean held. lines-right ls (line + 1) left (m ++ vs ∷ []) (omega arith) (omega arith) (from_next from) (is_later (line-here from) refl) clean held)
+        go (line-read limits n line l) (λ vs clean held. lines-right ls (line + 1) left (m ++ vs ∷ []) (omega arith) (omega arith) (from_next from) (is_later (line-here from) refl) clean held)
       where
         next : List ℕ → Matrix
         next vs = lines_of limits n (line + 1) left (m ++ vs ∷ []) ls
 
-        amounts : {vs : List ℕ} {v : Found} → NumbersAre t line vs → length vs ≡ n → AmountsJudged limits 0 vs v
-            → ((vs : List ℕ) → Clean limits t (line + 1) → Held (m ++ vs ∷ []) (line + 1) → Right limits t (square_judged (next vs)))
-            → Right limits t (square_judged (unless_at v line (entry_byte vs) (next vs)))
-        amounts {vs} is wide (amount_over {at} x e f) rest =
-            let k : x ≡ at = omega arith in
-            first_holds (subst (λ y. Given limits t TooMuch line (entry_byte vs y)) k (amount-given x low (omega arith) clean is wide f))
-        amounts {vs} is wide (amounts_within within) rest =
-            rest vs (clean-next clean (line-fine line low (omega arith) vs is wide within)) (held_next m line vs held is wide)
+        here-is : {vs : List ℕ} → l ≡ numbers_line vs → length vs ≡ n → Spelled vs → NumbersAre t line vs
+        here-is e wide spelled = record { text = subst (LineIs (lines t) line) e (line-here from); some = omega (arith, first.some); spelled = spelled }
 
-        go : {x : Reading} → NumbersRead n l x
+        go : {x : Numbers} → LineRead limits n line l x
             → ((vs : List ℕ) → Clean limits t (line + 1) → Held (m ++ vs ∷ []) (line + 1) → Right limits t (square_judged (next vs)))
-            → Right limits t (square_judged (numbers_or x line λ vs. unless_at (judge_amounts limits 0 vs) line (entry_byte vs) (next vs)))
-        go (are_numbers {vs} e wide spelled) rest =
-            let is : NumbersAre t line vs = record { text = subst (LineIs (lines t) line) e (line-here from); some = omega (arith, first.some); spelled = spelled } in
-            amounts is wide (amounts-judged limits 0 vs) rest
-        go (no_numbers out fault) rest =
+            → Right limits t (square_judged (and_then x next))
+        go (line_is {vs} e wide spelled within) rest =
+            let is = here-is e wide spelled in
+            rest vs (clean-next clean (line-fine line low (omega arith) vs is wide within)) (held_next m line vs held is wide)
+        go (line_over x e wide spelled f) rest = first_holds (amount-given x low (omega arith) clean (here-is e wide spelled) wide f)
+        go (line_not out fault) rest =
             not-numbers prev low (omega arith) clean (λ vs k is. out vs (line-one (line-here from) is.text refl) k is.spelled) (line_faulty (line-here from) fault)
 
 -- ---- the whole
@@ -406,7 +381,7 @@ module _ (limits : Limits) (t : List ℕ) where
       given-here RingSize refl (clean-start short) (record { at = refl; us = us; first = first; wrong = w }) (λ s l h. size-first limits t us first l h) refl
 
   all_right : length t ≤ limits.bytes → (ls : List (List ℕ)) → LinesFrom (lines t) 1 ls → Right limits t (matrix_lines limits ls)
-  unfolding matrix_lines numbers_or unless square_judged
+  unfolding matrix_lines and_then values_on on_first square_judged
   all_right short [] from =
       first_holds (misshapen-here (omega arith) (clean-start short) (first_says (λ vs is. omega (arith, no-line-left from is.text)))
       (first_due refl (line_missing (λ l is. omega (arith, no-line-left from is)))))
@@ -415,7 +390,7 @@ module _ (limits : Limits) (t : List ℕ) where
       next : Matrix
       next = square_judged (lines_of limits (fields_in l) 1 (fields_in l) [] (l ∷ ls))
 
-      ring : (us : List ℕ) {v : Verdict} → NumbersAre t 1 us → length us ≡ fields_in l → SizeJudged limits (fields_in l) v → Right limits t (unless v 1 next)
+      ring : (us : List ℕ) {v : of_table.Verdict} → NumbersAre t 1 us → length us ≡ fields_in l → SizeJudged limits (fields_in l) v → Right limits t (and_then (on_first v) (λ u. next))
       ring us first k (not_so_many w) =
           first_holds (size-given short first (subst (λ x. (x < limits.fewest) ⊎ (limits.nodes < x)) (sym k) w))
       ring us first k (right_size few many) =
@@ -423,7 +398,7 @@ module _ (limits : Limits) (t : List ℕ) where
           (lines-right limits t us first (omega arith) (omega arith) (l ∷ ls) 1 (length us) [] (omega arith) (omega arith) from (is_first refl) (clean-start short)
           (record { count = refl; at = λ i p q. absurd (omega arith); wide = λ i p q. absurd (omega arith) }))
 
-      go : {x : Reading} {v : Verdict} → NumbersRead (fields_in l) l x → SizeJudged limits (fields_in l) v → Right limits t (numbers_or x 1 λ vs. unless v 1 next)
+      go : {x : Reading} {v : of_table.Verdict} → NumbersRead (fields_in l) l x → SizeJudged limits (fields_in l) v → Right limits t (and_then (values_on 1 x) (λ vs. and_then (on_first v) (λ u. next)))
       go (are_numbers {vs = us} e k s) judged =
           ring us (record { text = subst (LineIs (lines t) 1) e (line-here from); some = omega (arith, fields-some l); spelled = s }) k judged
       go (no_numbers {p} out fault) judged =
@@ -463,22 +438,28 @@ one-given {limits} {t} {r} {s} {line} {other} {byte} {on} f g =
     let k : r ≡ s = same_rank r s (omega arith) in
     (k, e, one_byte limits t other byte on s (rw (k, e) at f.byte_is) g.byte_is)
 
-pub given : (limits : Limits) (t : List ℕ) (r : Reason) (line byte : ℕ) → (matrix_of limits t ≡ no_matrix r line byte) ↔ Given limits t r line byte
-given limits t r line byte = (λ e. there (subst (Right limits t) e (right limits t)), λ g. back g (right limits t))
+pub given : (limits : Limits) (t : List ℕ) (r : Refusal) → (matrix_of limits t ≡ Err r) ↔ Given limits t r.reason r.line r.byte
+given limits t r = (λ e. there (subst (Right limits t) e (right limits t)), λ g. back g (right limits t))
   where
-    there : Right limits t (no_matrix r line byte) → Given limits t r line byte
+    there : Right limits t (Err r) → Given limits t r.reason r.line r.byte
     there (first_holds g) = g
 
-    back : Given limits t r line byte → {x : Matrix} → Right limits t x → x ≡ no_matrix r line byte
-    back g (none_holds out) = absurd (out r line g.holds)
-    back g (first_holds f) = let o = one-given f g in rw (o.0, o.1, o.2)
+    back : Given limits t r.reason r.line r.byte → {x : Matrix} → Right limits t x → x ≡ Err r
+    back g (none_holds out) = absurd (out r.reason r.line g.holds)
+    back g (first_holds f) = let o = one-given f g in let a = o.0 in let b = o.1 in let c = o.2 in ap Err (λ i. record { reason = a i; line = b i; byte = c i })
+
+-- a text is read to a matrix
+pub record Reads (limits : Limits) (t : List ℕ) : Type 0 where
+  pub n : ℕ
+  pub m : List (List ℕ)
+  pub is : matrix_of limits t ≡ Ok (n, m)
 
 pub accepted-is : (limits : Limits) (t : List ℕ) → Reads limits t ↔ Accepted limits t
 accepted-is limits t = (λ h. there (subst (Right limits t) h.is (right limits t)), λ out. back out (matrix_of limits t) refl)
   where
-    there : {n : ℕ} {m : List (List ℕ)} → Right limits t (matrix n m) → Accepted limits t
+    there : {s : ℕ × List (List ℕ)} → Right limits t (Ok s) → Accepted limits t
     there (none_holds out) = out
 
     back : Accepted limits t → (x : Matrix) → matrix_of limits t ≡ x → Reads limits t
-    back out (matrix n m) e = record { n = n; m = m; is = e }
-    back out (no_matrix r line byte) e = absurd (out r line ((given limits t r line byte).0 e).holds)
+    back out (Ok s) e = record { n = s.0; m = s.1; is = e }
+    back out (Err r) e = absurd (out r.reason r.line ((given limits t r).0 e).holds)

@@ -7,9 +7,8 @@ use native.Mathlib.Decide.{dec_lt}
 use lib.ListN.{length, length-append}
 use Rattle.ring.specs.declared.types.Ring.{Ring}
 use Rattle.ring.specs.Limits.{desk}
-use Rattle.ring.specs.Lists.{Each, none, more}
 use Rattle.ring.specs.declared.types.Row.{Row}
-use Rattle.ring.specs.Columns.{listed}
+use Rattle.ring.specs.Lists.{listed, Each, none, more}
 use Rattle.ring.proofs.Listed.{listed-length, each-listed}
 use Rattle.text.specs.Number.{base, digits}
 use Rattle.text.specs.Field.{spell}
@@ -18,10 +17,8 @@ use Rattle.text.specs.Shapes.{numbers, numbers_line}
 use Rattle.text.proofs.Lengths.{one-long, more-long}
 use Rattle.table.specs.Table.{InRange as TableInRange}
 use Rattle.matrix.specs.Matrix.{write_matrix, IsSquare, InRange}
-use Rattle.matrix.specs.Demands.{sum_of, matrix_of_rows}
-use Rattle.matrix.specs.Judged.{judge_sums}
+use Rattle.matrix.specs.Demands.{sum_of, matrix_of_rows, Passes}
 use Rattle.matrix.specs.Room.{matrix_room}
-use Rattle.matrix.specs.declared.sums.Sums.TheVariants.{Fit}
 use Rattle.matrix.proofs.SumLaws.{sum-either, sum-diagonal}
 use Rattle.matrix.proofs.SumsGiven.{fit_small}
 use Rattle.matrix.proofs.RoundTrip.{entry-sum}
@@ -56,7 +53,7 @@ matrix-room n m few square amounts = omega (arith, matrix-bytes n m few square.w
 
 -- ---- the matrix of a table
 
-module _ (ring : Ring) (rs : List Row) (table : TableInRange desk ring rs) (fit : judge_sums desk rs ≡ Fit) where
+module _ (ring : Ring) (rs : List Row) (table : TableInRange desk ring rs) (fit : (k : ℕ) → Passes desk rs k → ⊥) where
   square-of-rows : IsSquare ring.nodes (matrix_of_rows ring.nodes rs)
   square-of-rows = record {
     tall = listed-length (λ i. listed (sum_of rs i) 1 ring.nodes) 1 ring.nodes;

@@ -10,26 +10,20 @@ use lib.ListN.{length, get_or}
 use Rattle.ring.specs.LineSize.{IsFibres}
 use Rattle.ring.specs.Ring.{ring_of}
 use Rattle.ring.specs.Limits.{Limits, desk}
-use Rattle.ring.specs.Lists.{Each, none, more, Steps, no_member, one_member, step, Pairs, no_pair, and_pairs}
+use Rattle.ring.specs.Lists.{listed, Each, none, more, Steps, no_member, one_member, step, Pairs, no_pair, and_pairs}
 use Rattle.ring.specs.Row.{OnRing, PairBefore, PairUpTo, InTableOrder, TableRows}
 use Rattle.ring.specs.declared.types.Row.{Row}
-use Rattle.ring.specs.Columns.{listed}
 use Rattle.ring.proofs.Listed.{listed_same, listed-shift}
 use Rattle.table.specs.Table.{write_table, table_room, InRange as TableInRange}
-use Rattle.table.proofs.Columns.{listed-members}
 use Rattle.table.proofs.TableText.{desk-spelled}
 use Rattle.table.proofs.Short.{table-short}
 use Rattle.matrix.specs.Matrix.{entry, IsSquare, Node, InRange}
 use Rattle.matrix.specs.Demands.{rows_of_matrix, sum_of, matrix_of_rows, OneEach}
+use Rattle.matrix.proofs.LinesText.{each_at}
 use Rattle.matrix.proofs.SumLaws.{part-other, sum-either, sum-diagonal, Rising, no_row, next_row, same-sums}
 use Rattle.matrix.proofs.RowLaws.{rows-rising, rows-each, rows_on, rows-some, rows_few, rows-sum}
 
 -- ---- lists by place
-
-each_at : {A : Type 0} {P : A → Type 0} {l : List A} → Each P l → (d : A) (k : ℕ) → k < length l → P (get_or l k d)
-each_at none d k h = absurd (omega arith)
-each_at (more p ps) d zero h = p
-each_at (more p ps) d (suc k) h = each_at ps d k (omega arith)
 
 listed_at : {A : Type 0} (f : ℕ → A) (d : A) (k m x : ℕ) → x < m → get_or (listed f k m) x d ≡ f (k + x)
 unfolding listed
@@ -37,7 +31,12 @@ listed_at f d k zero x l = absurd (omega arith)
 listed_at f d k (suc m) zero l = let e : k + 0 ≡ k = omega arith in rw e
 listed_at f d k (suc m) (suc x) l = let e : k + suc x ≡ suc k + x = omega arith in rw e (listed_at f d (suc k) m x (omega arith))
 
-pub from_one : {A : Type 0} (d : A) (l : List A) → listed (λ k. get_or l (k - 1) d) 1 (length l) ≡ l
+listed-members : {A : Type 0} (d : A) (l : List A) → listed (λ k. get_or l k d) 0 (length l) ≡ l
+unfolding listed
+listed-members d [] = refl
+listed-members d (x ∷ l) = ap (λ m. x ∷ m) (listed-shift (λ k. get_or (x ∷ l) k d) 0 (length l) ∙ listed-members d l)
+
+from_one : {A : Type 0} (d : A) (l : List A) → listed (λ k. get_or l (k - 1) d) 1 (length l) ≡ l
 from_one d l =
     listed-shift (λ k. get_or l (k - 1) d) 0 (length l) ∙
     listed_same (λ x. get_or l (suc x - 1) d) (λ x. get_or l x d) 0 (length l) (λ x p q. ap (λ k. get_or l k d) (let e : suc x - 1 ≡ x = omega arith in e)) ∙ listed-members d l

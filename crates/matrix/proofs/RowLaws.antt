@@ -10,15 +10,41 @@ use lib.Dec.{eqb}
 use lib.ListN.{length, length-append}
 use borrow.Author.Tests.{eqb-true, eqb-false}
 use Rattle.ring.specs.Limits.{desk}
-use Rattle.ring.specs.Lists.{Each, none, more}
+use Rattle.ring.specs.Lists.{listed, Each, none, more}
 use Rattle.ring.specs.Row.{row, OnRing, PairBefore}
 use Rattle.ring.specs.declared.types.Row.{Row}
-use Rattle.ring.specs.Columns.{listed}
 use Rattle.ring.proofs.Listed.{each-listed, listed-length}
 use Rattle.matrix.specs.Demands.{pairs_from, above_zero, rows_by, sum_of}
-use Rattle.matrix.proofs.RowSteps.{pair_count, count_small}
-use Rattle.matrix.proofs.SumSteps.{part_of, part_small, sum-append}
-use Rattle.matrix.proofs.SumLaws.{part-own, part-other, Rising, no_row, next_row, rising-from}
+use Rattle.matrix.proofs.SumLaws.{part_of, part_small, sum-append, part-own, part-other, Rising, no_row, next_row, rising-from}
+
+-- ---- how many
+
+-- how many pairs k nodes have
+unfoldable pub pair_count : ℕ → ℕ
+pair_count zero = 0
+pair_count (suc k) = k + pair_count k
+
+pub count-grows : (k m : ℕ) → pair_count k ≤ pair_count (k + m)
+unfolding pair_count
+count-grows k zero = let e : k + 0 ≡ k = omega arith in rw e (omega arith)
+count-grows k (suc m) = let e : k + suc m ≡ suc (k + m) = omega arith in rw e (omega (arith, count-grows k m))
+
+-- the desk's arrays have room for every pair
+pub count_small : (n : ℕ) → n ≤ desk.nodes → pair_count n ≤ desk.rows
+unfolding pair_count
+count_small n l =
+    let e : n + (desk.nodes - n) ≡ desk.nodes = omega arith in
+    rw e at (count-grows n (desk.nodes - n))
+
+pub above-append : (rs ss : List Row) → above_zero (rs ++ ss) ≡ above_zero rs ++ above_zero ss
+unfolding above_zero
+above-append [] ss = refl
+above-append (r ∷ rs) ss = go (eqb r.amount 0) (above-append rs ss)
+  where
+    go : (z : Bool) → above_zero (rs ++ ss) ≡ above_zero rs ++ above_zero ss
+        → cond z (above_zero (rs ++ ss)) (r ∷ above_zero (rs ++ ss)) ≡ cond z (above_zero rs) (r ∷ above_zero rs) ++ above_zero ss
+    go true ih = ih
+    go false ih = ap (λ l. r ∷ l) ih
 
 -- ---- the rows above 0
 

@@ -1,19 +1,27 @@
 -- The sums of rows by pair: the same in either order of a pair, 0 on the diagonal, and over rows that rise each pair's own amount; rows that rise are told by their sums.
-use Prim.Native.Nat.{ℕ, ◌≤◌, ◌<◌}
+use Prim.Native.Nat.{ℕ, ◌+◌, ◌*◌, ◌≤◌, ◌<◌}
 use mathlib.Core.Bool.{Bool, true, false, cond, ◌||◌}
-use mathlib.Core.List.{List, [], ◌∷◌}
+use mathlib.Core.List.{List, [], ◌∷◌, ◌++◌}
 use mathlib.Core.Logic.{inl, inr}
 use mathlib.Core.Path.{◌≡◌, refl, ap, ◌∙◌, sym, subst}
 use native.Mathlib.Omega.{arith}
+use lib.ListN.{length}
 use native.Mathlib.Decide.{dec_lt, ℕ_discrete}
 use borrow.Author.Tests.{eq-eqb, ne_eqb}
 use Rattle.ring.specs.Lists.{Each, none, more}
 use Rattle.ring.specs.Row.{row, OnRing, PairBefore}
 use Rattle.ring.specs.declared.types.Row.{Row}
-use Rattle.matrix.specs.Demands.{same_pair, sum_of}
-use Rattle.matrix.proofs.SumSteps.{part_of}
+use Rattle.ring.proofs.Side.{cond-elim}
+use Rattle.matrix.specs.Demands.{same_pair, joins, sum_of}
 
 -- ---- one row
+
+-- what a row adds
+abbrev pub part_of : Row → ℕ → ℕ → ℕ
+part_of r i j = cond (joins r i j) r.amount 0
+
+pub part_small : (r : Row) (i j : ℕ) → part_of r i j ≤ r.amount
+part_small r i j = cond-elim (λ x. x ≤ r.amount) (joins r i j) r.amount 0 (λ e. omega arith) (λ e. omega arith)
 
 same-pair : (a b i j : ℕ) → a ≡ i → b ≡ j → same_pair a b i j ≡ true
 unfolding same_pair
@@ -44,6 +52,21 @@ module _ (r : Row) (i j : ℕ) where
   part-either = ap (λ b. cond b r.amount 0) (or-either (same_pair r.first r.second i j) (same_pair r.first r.second j i))
 
 -- ---- all rows
+
+pub sum-append : (rs ss : List Row) (i j : ℕ) → sum_of (rs ++ ss) i j ≡ sum_of rs i j + sum_of ss i j
+unfolding sum_of
+sum-append [] ss i j = omega arith
+sum-append (r ∷ rs) ss i j = omega (arith, sum-append rs ss i j)
+
+pub sum_more : (rs : List Row) (r : Row) (i j : ℕ) → sum_of (rs ++ r ∷ []) i j ≡ sum_of rs i j + part_of r i j
+unfolding sum_of
+sum_more rs r i j = omega (arith, sum-append rs (r ∷ []) i j)
+
+-- amounts within a limit have no large sum
+pub sum-small : (most : ℕ) (rs : List Row) (i j : ℕ) → Each (λ r. r.amount ≤ most) rs → sum_of rs i j ≤ most * length rs
+unfolding sum_of
+sum-small most [] i j none = omega arith
+sum-small most (r ∷ rs) i j (more h hs) = omega (arith, part_small r i j, sum-small most rs i j hs)
 
 pub sum-either : (rs : List Row) (i j : ℕ) → sum_of rs i j ≡ sum_of rs j i
 unfolding sum_of

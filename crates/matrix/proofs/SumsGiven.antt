@@ -1,8 +1,7 @@
 -- The first row at which a pair's sum passes is found exactly; where there is none, the matrix of the rows is one that is accepted: row by row, with the rows before in hand.
 use Prim.Native.Nat.{ℕ, zero, suc, ◌+◌, ◌-◌, ◌≤◌, ◌<◌}
 use mathlib.Core.List.{List, [], ◌∷◌, ◌++◌, append_assoc, append-nil}
-use mathlib.Core.Logic.{◌↔◌}
-use mathlib.Core.Path.{◌≡◌, refl, ap, ◌∙◌, sym, subst}
+use mathlib.Core.Path.{◌≡◌, ap, subst}
 use native.Mathlib.Omega.{arith}
 use native.Mathlib.Decide.{dec_lt, ℕ_discrete}
 use lib.ListN.{length, get_or, take}
@@ -10,13 +9,11 @@ use borrow.Author.Tests.{lt-ltb, le-ltb}
 use Rattle.ring.specs.Limits.{Limits}
 use Rattle.ring.specs.Row.{row}
 use Rattle.ring.specs.declared.types.Row.{Row}
-use Rattle.text.proofs.Apart.{clash}
 use Rattle.matrix.specs.Demands.{sum_of, Passes, PassesAt}
-use Rattle.matrix.specs.Judged.{sums_from, judge_sums}
-use Rattle.matrix.specs.declared.sums.Sums.{Sums}
-use Rattle.matrix.specs.declared.sums.Sums.TheVariants.{Fit, Pass}
-use Rattle.matrix.proofs.SumSteps.{sum_more}
-use Rattle.matrix.proofs.SumLaws.{part-other, sum-either}
+use Rattle.std.specs.Prelude.{Ok}
+use Rattle.matrix.specs.Read.{Verdict}
+use Rattle.matrix.specs.Judged.{passes_at, sums_from, judge_sums}
+use Rattle.matrix.proofs.SumLaws.{sum_more, part-other, sum-either}
 
 -- ---- the first row that passes
 
@@ -26,10 +23,10 @@ record PassesIn (limits : Limits) (before rs : List Row) (k : ℕ) : Type 0 wher
   pub high : k ≤ length rs
   pub wrong : limits.amount < sum_of (before ++ take k rs) (get_or rs (k - 1) (row 0 0 0)).first (get_or rs (k - 1) (row 0 0 0)).second
 
-data SumsRead (limits : Limits) (line : ℕ) (before rs : List Row) : Sums → Type 0 where
+data SumsRead (limits : Limits) (line : ℕ) (before rs : List Row) : Verdict → Type 0 where
   passes : {found : ℕ} (k : ℕ) → found + 1 ≡ line + k → PassesIn limits before rs k → ((other : ℕ) → other < k → PassesIn limits before rs other → ⊥)
-      → SumsRead limits line before rs (Pass found)
-  all_fit : ((k : ℕ) → PassesIn limits before rs k → ⊥) → SumsRead limits line before rs Fit
+      → SumsRead limits line before rs (passes_at found)
+  all_fit : ((k : ℕ) → PassesIn limits before rs k → ⊥) → SumsRead limits line before rs (Ok tt)
 
 module _ (limits : Limits) (before : List Row) (r : Row) (rs : List Row) where
   sum-next : (k : ℕ) (i j : ℕ) → sum_of ((before ++ r ∷ []) ++ take k rs) i j ≡ sum_of (before ++ take (suc k) (r ∷ rs)) i j
@@ -72,44 +69,35 @@ sums-read limits (r ∷ rs) before line =
       | no l ↦ let f : sum_of (before ++ r ∷ []) r.first r.second ≤ limits.amount = omega arith in rw (le-ltb _ _ f) (go f (sums-read limits rs (before ++ r ∷ []) (line + 1)))
     ]
   where
-    go : {x : Sums} → sum_of (before ++ r ∷ []) r.first r.second ≤ limits.amount → SumsRead limits (line + 1) (before ++ r ∷ []) rs x → SumsRead limits line before (r ∷ rs) x
+    go : {x : Verdict} → sum_of (before ++ r ∷ []) r.first r.second ≤ limits.amount → SumsRead limits (line + 1) (before ++ r ∷ []) rs x → SumsRead limits line before (r ∷ rs) x
     go f (passes {found} k e p first) = passes {found = found} (suc k) (omega arith) (passes-next limits before r rs k p) (none_before limits before r rs f k first)
     go f (all_fit none) = all_fit (λ k p. not_first limits before r rs f k p none)
 
-module _ (limits : Limits) (rs : List Row) where
-  -- 19 is given exactly at the first row at which a pair's sum passes
-  pub sums-given : (line : ℕ) → (judge_sums limits rs ≡ Pass line) ↔ PassesAt limits rs line
-  unfolding judge_sums
-  sums-given line = (λ e. there (subst (SumsRead limits 2 [] rs) e (sums-read limits rs [] 2)), λ p. back p (judge_sums limits rs) (sums-read limits rs [] 2))
-    where
-      there : SumsRead limits 2 [] rs (Pass line) → PassesAt limits rs line
-      there (passes k e p first) =
-          record {
-            k = k;
-            at = omega arith;
-            holds = record { low = p.low; high = p.high; wrong = p.wrong };
-            first = λ other l q. first other l (record { low = q.low; high = q.high; wrong = q.wrong });
-          }
+-- whether each sum is an amount, or where one passes it
+pub data SumsJudged (limits : Limits) (rs : List Row) : Verdict → Type 0 where
+  sums_pass : {line : ℕ} → PassesAt limits rs line → SumsJudged limits rs (passes_at line)
+  sums_fit : ((k : ℕ) → Passes limits rs k → ⊥) → SumsJudged limits rs (Ok tt)
 
-      back : PassesAt limits rs line → (x : Sums) → SumsRead limits 2 [] rs x → x ≡ Pass line
-      back p Fit (all_fit none) = absurd (none p.k (record { low = p.holds.low; high = p.holds.high; wrong = p.holds.wrong }))
-      back p (Pass found) (passes k e q first) =
-          let a : k < p.k → ⊥ = λ l. p.first k l (record { low = q.low; high = q.high; wrong = q.wrong }) in
-          let b : p.k < k → ⊥ = λ l. first p.k l (record { low = p.holds.low; high = p.holds.high; wrong = p.holds.wrong }) in
-          let f : found ≡ line = omega (arith, p.at) in
-          ap Pass f
+pub sums-judged : (limits : Limits) (rs : List Row) → SumsJudged limits rs (judge_sums limits rs)
+unfolding judge_sums
+sums-judged limits rs = go (sums-read limits rs [] 2)
+  where
+    go : {x : Verdict} → SumsRead limits 2 [] rs x → SumsJudged limits rs x
+    go (passes k e p first) =
+        sums_pass (record {
+          k = k;
+          at = omega arith;
+          holds = record { low = p.low; high = p.high; wrong = p.wrong };
+          first = λ other l q. first other l (record { low = q.low; high = q.high; wrong = q.wrong });
+        })
+    go (all_fit none) = sums_fit (λ k p. none k (record { low = p.low; high = p.high; wrong = p.wrong }))
 
-  -- and no row passes exactly where the sums fit
-  pub sums-fit : (judge_sums limits rs ≡ Fit) ↔ ((k : ℕ) → Passes limits rs k → ⊥)
-  unfolding judge_sums
-  sums-fit = (λ e. there (subst (SumsRead limits 2 [] rs) e (sums-read limits rs [] 2)), λ none. back none (judge_sums limits rs) (sums-read limits rs [] 2))
-    where
-      there : SumsRead limits 2 [] rs Fit → (k : ℕ) → Passes limits rs k → ⊥
-      there (all_fit none) k p = none k (record { low = p.low; high = p.high; wrong = p.wrong })
-
-      back : ((k : ℕ) → Passes limits rs k → ⊥) → (x : Sums) → SumsRead limits 2 [] rs x → x ≡ Fit
-      back none Fit (all_fit h) = refl
-      back none (Pass found) (passes k e q first) = absurd (none k (record { low = q.low; high = q.high; wrong = q.wrong }))
+-- one row is the first that passes
+pub one-passing : {limits : Limits} {rs : List Row} {line other : ℕ} → PassesAt limits rs line → PassesAt limits rs other → line ≡ other
+one-passing p q =
+    let a : p.k < q.k → ⊥ = λ l. q.first p.k l p.holds in
+    let b : q.k < p.k → ⊥ = λ l. p.first q.k l q.holds in
+    omega (arith, p.at, q.at)
 
 -- ---- then every sum is an amount
 
@@ -130,20 +118,17 @@ own-sum rs r i j most own h =
           | no a ↦ omega (arith, sum_more rs r i j, part-other r i j n (λ e. a e.0))
         ]
 
-sums-small : (limits : Limits) (rs before : List Row) (line : ℕ) → ((i j : ℕ) → sum_of before i j ≤ limits.amount) → sums_from limits line before rs ≡ Fit
+sums-small : (limits : Limits) (rs before : List Row) → ((i j : ℕ) → sum_of before i j ≤ limits.amount) → ((k : ℕ) → PassesIn limits before rs k → ⊥)
     → (i j : ℕ) → sum_of (before ++ rs) i j ≤ limits.amount
-unfolding sums_from
-sums-small limits [] before line small e i j = rw (append-nil before) (small i j)
-sums-small limits (r ∷ rs) before line small e i j =
+sums-small limits [] before small none i j = rw (append-nil before) (small i j)
+sums-small limits (r ∷ rs) before small none i j =
     elim (dec_lt limits.amount (sum_of (before ++ r ∷ []) r.first r.second)) [
-      | yes l ↦ clash (let q : Pass line ≡ Fit = sym (rw (lt-ltb _ _ l)) ∙ e in cc)
+      | yes l ↦ absurd (none 1 (record { low = omega arith; high = omega arith; wrong = l }))
       | no l ↦
-          let f : sum_of (before ++ r ∷ []) r.first r.second ≤ limits.amount = omega arith in
-          let q = rw (le-ltb _ _ f) at e in
           subst (λ l. sum_of l i j ≤ limits.amount) (append_assoc before (r ∷ []) rs)
-          (sums-small limits rs (before ++ r ∷ []) (line + 1) (λ x y. own-sum before r x y limits.amount f (small x y)) q i j)
+          (sums-small limits rs (before ++ r ∷ []) (λ x y. own-sum before r x y limits.amount (omega arith) (small x y)) (λ k p. none (suc k) (passes-next limits before r rs k p)) i j)
     ]
 
-pub fit_small : (limits : Limits) (rs : List Row) → judge_sums limits rs ≡ Fit → (i j : ℕ) → sum_of rs i j ≤ limits.amount
-unfolding judge_sums sum_of
-fit_small limits rs e = sums-small limits rs [] 2 (λ i j. omega arith) e
+pub fit_small : (limits : Limits) (rs : List Row) → ((k : ℕ) → Passes limits rs k → ⊥) → (i j : ℕ) → sum_of rs i j ≤ limits.amount
+unfolding sum_of
+fit_small limits rs fit i j = sums-small limits rs [] (λ x y. omega arith) (λ k p. fit k (record { low = p.low; high = p.high; wrong = p.wrong })) i j

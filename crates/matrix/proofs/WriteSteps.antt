@@ -1,83 +1,47 @@
--- A matrix's text line by line: a line's sums stand in the column one behind the other, and its text is one of the pieces that measuring and writing go through.
-use Prim.Native.Nat.{ℕ, suc, zero, ◌+◌, ◌≤◌, ◌<◌}
+-- A matrix's text line by line: a line's sums stand one behind the other, and its text is one of the pieces that measuring and writing go through.
+use Prim.Native.Nat.{ℕ, ◌+◌, ◌-◌, ◌≤◌, ◌<◌}
 use mathlib.Core.List.{List, [], ◌∷◌, ◌++◌, append_assoc, append-nil}
 use mathlib.Core.Path.{◌≡◌, refl, ap, ◌∙◌, sym}
 use native.Mathlib.Omega.{arith}
-use lib.ListN.{length, set, take, replicate, length-replicate, length-take}
-use lib.Seq.{length-take-le}
+use lib.ListN.{length, take, length-append, length-replicate}
+use lib.Seq.{take_all}
 use Rattle.ring.specs.Limits.{desk}
 use Rattle.ring.specs.declared.types.Row.{Row}
-use Rattle.ring.specs.Columns.{listed, column}
+use Rattle.ring.specs.Lists.{listed}
+use Rattle.ring.specs.Sheet.{sents, demands}
+use Rattle.ring.specs.declared.types.Routed.{Routed}
 use Rattle.ring.proofs.Listed.{listed-snoc, listed-length}
-use Rattle.text.specs.declared.field.Field.{Field}
 use Rattle.text.specs.declared.field.Field.TheVariants.{Number}
 use Rattle.text.specs.Shapes.{numbers, numbers_line}
-use Rattle.text.specs.WriteLine.{write_line}
-use Rattle.text.specs.Written.{Passed}
 use Rattle.text.proofs.Lengths.{line-short}
 use Rattle.text.proofs.Pieces.{Pieces, text-short}
-use Rattle.table.proofs.Columns.{column-more}
 use Rattle.matrix.specs.Matrix.{write_matrix}
 use Rattle.matrix.specs.Demands.{sum_of}
-use Rattle.matrix.specs.Arrays.{values_in}
-use Rattle.matrix.proofs.LineSteps.{take-values}
+use Rattle.matrix.specs.Judged.{Amounts}
+use Rattle.ring.proofs.Figures.{demands-length}
+use Rattle.matrix.proofs.SumLaws.{sum-small}
 
--- ---- a line's shape and its values
+-- ---- a line's sums: those of the nodes before j
 
-pub take-numbers : (n m : ℕ) → n ≤ m → take n (numbers m) ≡ numbers n
-take-numbers zero m l = refl
-take-numbers (suc n) zero l = absurd (omega arith)
-take-numbers (suc n) (suc m) l = ap (λ (s : List Field). Number ∷ s) (take-numbers n m (omega arith))
+-- the sum over all rows, as many as there are
+pub whole-sum : (rows : List Routed) (count : ℕ) → count ≡ length rows → (i j : ℕ) → sum_of (take count (demands (sents rows))) i j ≡ sum_of (demands (sents rows)) i j
+whole-sum rows count e i j =
+    let n = demands-length rows in
+    ap (λ rs. sum_of rs i j) (take_all count (demands (sents rows)) (omega arith))
 
-module _ (n : ℕ) (values : List ℕ) (l : n ≤ desk.nodes) (room : length values ≡ desk.nodes) where
-  line-is : write_line (take n (numbers desk.nodes)) (take n values) ≡ numbers_line (take n values)
-  line-is =
-      let e : length (take n values) ≡ n = length-take-le n values (omega arith) in
-      rw (take-numbers n desk.nodes l, e)
+pub sums_more : (rows : List Routed) (i n j count : ℕ) (old new : List ℕ) → old ≡ listed (sum_of (demands (sents rows)) i) 1 (j - 1) → 1 ≤ j → j ≤ n → n ≤ desk.nodes
+    → count ≡ length rows → (v : ℕ) → v ≡ sum_of (take count (demands (sents rows))) i j → new ≡ take desk.nodes (old ++ v ∷ [])
+    → new ≡ listed (sum_of (demands (sents rows)) i) 1 (j + 1 - 1)
+sums_more rows i n j count old new e l h few all v ev en =
+    let f : ℕ → ℕ = sum_of (demands (sents rows)) i in
+    let k : 1 + (j - 1) ≡ j = omega arith in
+    let m : j + 1 - 1 ≡ j - 1 + 1 = omega arith in
+    let z : length (old ++ v ∷ []) ≤ desk.nodes = omega (arith, length-append old (v ∷ []), ap length e, listed-length f 1 (j - 1)) in
+    en ∙ take_all desk.nodes (old ++ v ∷ []) z ∙ rw (e, ev ∙ whole-sum rows count all i j, m) (sym (rw k at (listed-snoc f 1 (j - 1))))
 
-  pub numbers-room : (at size : ℕ) → at + length (numbers_line (take n values)) ≤ size → at + length (write_line (take n (numbers desk.nodes)) (take n values)) ≤ size
-  numbers-room at size h = omega (arith, ap length line-is)
-
-  pub numbers-passed : (after : List ℕ → ℕ → List ℕ → List ℕ) (old new : List ℕ) (at r : ℕ) → Passed after old at (write_line (take n (numbers desk.nodes)) (take n values)) new r
-      → Passed after old at (numbers_line (take n values)) new r
-  numbers-passed after old new at r w = rw line-is at w
-
-  -- so few can be measured
-  pub numbers-placed : 0 + length (numbers_line (take n values)) ≤ 18446744073709551615
-  numbers-placed = omega (arith, line-short (numbers (length (take n values))) (take n values), length-replicate (length (take n values)) Number, length-take n values)
-
--- ---- a line's sums: those before node t + 1 stand in the column
-
-pub record Lining (f : ℕ → ℕ) (n : ℕ) (values : List ℕ) (t : ℕ) : Type 0 where
-  pub held : values ≡ values_in (listed f 1 t)
-  pub within : t ≤ n
-
-pub lining-starts : (f : ℕ → ℕ) (n : ℕ) → Lining f n (replicate {A = ℕ} desk.nodes 0) 0
-unfolding listed column
-lining-starts f n = record { held = refl; within = omega arith }
-
-module _ (f : ℕ → ℕ) (n : ℕ) (values : List ℕ) (t : ℕ) (lining : Lining f n values t) where
-  pub lines-sum : t < n → (v : ℕ) → v ≡ f (t + 1) → Lining f n (set values t v) (t + 1)
-  lines-sum l v e =
-      let k : 1 + t ≡ t + 1 = omega arith in
-      record {
-        held =
-            rw (lining.held, e)
-            (column-more (λ (w : ℕ). w) desk.nodes (listed f 1 t) (f (t + 1)) t (sym (listed-length f 1 t)) ∙ ap values_in (sym (rw k at (listed-snoc f 1 t))));
-        within = omega arith;
-      }
-
--- a line's values are the first of its column
-module _ (f : ℕ → ℕ) (n nodes : ℕ) (few : n ≤ desk.nodes) (e : nodes ≡ n) (values : List ℕ) (held : values ≡ values_in (listed f 1 nodes)) where
-  taken : take nodes values ≡ listed f 1 n
-  taken = rw (held, e) (take-values (listed f 1 n) n (sym (listed-length f 1 n)) few)
-
-  pub sums-room : (at size : ℕ) → at + length (numbers_line (listed f 1 n)) ≤ size → at + length (numbers_line (take nodes values)) ≤ size
-  sums-room at size h = omega (arith, ap (λ vs. length (numbers_line vs)) taken)
-
-  pub sums-passed : (after : List ℕ → ℕ → List ℕ → List ℕ) (old new : List ℕ) (at r : ℕ) → Passed after old at (numbers_line (take nodes values)) new r
-      → Passed after old at (numbers_line (listed f 1 n)) new r
-  sums-passed after old new at r w = rw taken at w
+-- the sums of such rows have room in 32 bits
+pub sum-fits : (rs : List Row) → Amounts rs → (i j : ℕ) → sum_of rs i j < 4294967296
+sum-fits rs amounts i j = omega (arith, sum-small desk.amount rs i j amounts.small, amounts.room)
 
 -- ---- the lines
 

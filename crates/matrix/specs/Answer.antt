@@ -1,10 +1,31 @@
--- Internal: what is answered to the lines of a matrix: nothing was found, or a refusal.
-use Rattle.std.specs.Prelude.{ℕ, Result, Err}
-use Rattle.table.specs.declared.reason.Reason.{Reason}
+-- Internal: what reading a matrix answers, of what the contracts of reading are made.
+use Rattle.std.specs.Prelude.{ℕ, List, ◌≡◌, length, Result, Ok, Err}
+use Rattle.ring.specs.Limits.{desk}
+use Rattle.ring.specs.declared.types.Row.{Row}
 use Rattle.table.specs.declared.reason.Refusal.{Refusal}
+use Rattle.table.specs.OnLine.{and_then}
+use Rattle.matrix.specs.Matrix.{write_matrix, InRange}
+use Rattle.matrix.specs.Demands.{rows_of_matrix}
+use Rattle.matrix.specs.Read.{Matrix, Verdict}
+use Rattle.matrix.specs.Says.{Given}
 
-abbrev pub Lines : Type 0
-Lines = Result Unit Refusal
+-- numbers of a line that were read, or what is said in their place
+unfoldable pub read_as : {E : Type 0} → Result Unit E → List ℕ → Result (List ℕ) E
+read_as (Ok u) vs = Ok vs
+read_as (Err e) vs = Err e
 
-abbrev pub refusing : Reason → ℕ → ℕ → Lines
-refusing reason line byte = Err (record { reason = reason; line = line; byte = byte })
+-- lines that were read, or the refusal
+unfoldable pub read_to : Verdict → List (List ℕ) → Matrix
+unfolding and_then
+read_to x m = and_then x λ u. Ok (length m, m)
+
+-- the text is a matrix of n nodes in the desk's range, and these are its rows
+pub record IsMatrix (t : List ℕ) (n : ℕ) (rs : List Row) : Type 0 where
+  pub m : List (List ℕ)
+  pub text : t ≡ write_matrix m
+  pub range : InRange desk n m
+  pub rows : rs ≡ rows_of_matrix n m
+
+-- the refusal is the one that is given to the text
+abbrev pub IsGiven : List ℕ → Refusal → Type 0
+IsGiven t r = Given desk t r.reason r.line r.byte

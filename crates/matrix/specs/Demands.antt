@@ -1,10 +1,9 @@
 -- To believe: a matrix's demands as a table's rows, one for each pair whose entry is above 0; and a table's rows as a matrix, where rows of one pair add up.
 use Rattle.std.specs.Prelude.{ℕ, zero, suc, ◌+◌, ◌-◌, ◌≤◌, ◌<◌, Bool, cond, ◌&&◌, ◌||◌, List, [], ◌∷◌, ◌++◌, ◌≡◌, eqb, length, get_or, take}
 use Rattle.ring.specs.Limits.{Limits}
-use Rattle.ring.specs.Lists.{Each, Pairs}
+use Rattle.ring.specs.Lists.{listed, Each, Pairs}
 use Rattle.ring.specs.Row.{row}
 use Rattle.ring.specs.declared.types.Row.{Row}
-use Rattle.ring.specs.Lists.{listed}
 use Rattle.matrix.specs.Matrix.{entry}
 
 -- ---- from a matrix

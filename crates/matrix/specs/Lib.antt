@@ -1,10 +1,9 @@
 -- What a matrix is, what it says of a table's rows, what each reason says of its text, and how much room suffices.
 pub mod Matrix
 pub mod Demands
-pub mod Answer
 pub mod Read
 pub mod Judged
-pub mod Arrays
+pub mod Square
 pub mod Room
 pub mod Says
-pub mod Back
+pub mod Answer

@@ -1,125 +1,117 @@
 -- Internal: reading a matrix line by line, then entry by entry, each step as the code takes it; `Matrix` and `Says` and the theorems of `proofs/` pin it down.
-use Rattle.std.specs.Prelude.{ℕ, zero, suc, ◌+◌, ◌-◌, cond, List, [], ◌∷◌, ◌++◌, ltb, eqb, length, Ok, Err}
-use Rattle.ring.specs.Limits.{Limits}
-use Rattle.ring.specs.Ring.{ring_of}
-use Rattle.ring.specs.Columns.{listed}
+use Rattle.std.specs.Prelude.{ℕ, zero, suc, Bool, position, ◌+◌, ◌-◌, cond, List, [], ◌∷◌, ◌++◌, ltb, eqb, length, get_or, take, Option, Some, None, Result, Ok, Err}
+use Rattle.ring.specs.Limits.{Limits, desk}
 use Rattle.text.specs.Bytes.{tab}
 use Rattle.text.specs.ReadLine.{Reading, read_line}
 use Rattle.text.specs.Shapes.{numbers}
 use Rattle.table.specs.Lines.{lines}
 use Rattle.table.specs.Judge.{judge_size}
-use Rattle.table.specs.ReadTable.{Result, accepted, refused}
+use Rattle.table.specs.OnLine.{refusal, and_then, values_on}
+use Rattle.table.specs.Verdict as of_table
 use Rattle.table.specs.declared.reason.Reason.{Reason}
+use Rattle.table.specs.declared.reason.Refusal.{Refusal}
 use Rattle.table.specs.declared.reason.Reason.TheVariants.{TooLong, Misshapen, TooMuch, NotZero, NotSymmetric}
-use Rattle.table.specs.Verdict.{Verdict}
-use Rattle.std.specs.Prelude.{Ok, Err}
 use Rattle.matrix.specs.Matrix.{entry, entry_byte}
-use Rattle.matrix.specs.Demands.{rows_of_matrix}
-use Rattle.matrix.specs.declared.byte.Found.{Found}
-use Rattle.matrix.specs.declared.byte.Found.TheVariants.{Nothing, At}
-use Rattle.matrix.specs.Answer.{Lines, refusing}
-use Rattle.std.specs.Prelude.{Ok, Err}
 
--- a ring of n nodes and the lines; or a reason, a line and a byte of it
-pub data Matrix : Type 0 where
-  matrix : ℕ → List (List ℕ) → Matrix
-  no_matrix : Reason → ℕ → ℕ → Matrix
+-- how many nodes there are, and the lines; or the refusal of the text
+abbrev pub Matrix : Type 0
+Matrix = Result (ℕ × List (List ℕ)) Refusal
+
+-- what is found against what was read: nothing, or a refusal
+abbrev pub Verdict : Type 0
+Verdict = Result Unit Refusal
+
+abbrev pub refusing : Reason → ℕ → ℕ → Verdict
+refusing reason line byte = Err (refusal reason line byte)
 
 -- ---- one line
+
+abbrev pub is_tab : ℕ → Bool
+is_tab b = eqb b tab
 
 -- fields are what tabs part
 unfoldable pub fields_in : List ℕ → ℕ
 fields_in [] = 1
 fields_in (b ∷ t) = cond (eqb b tab) 1 0 + fields_in t
 
-unfoldable pub numbers_or : Reading → ℕ → (List ℕ → Matrix) → Matrix
-numbers_or (Ok vs) line next = next vs
-numbers_or (Err p) line next = no_matrix Misshapen line (p + 1)
+-- what is kept of a line that was read: as many numbers as the largest ring has nodes
+unfoldable pub kept : Reading → Reading
+kept (Ok vs) = Ok (take desk.nodes vs)
+kept (Err p) = Err p
 
--- what is found against a line as a whole
-unfoldable pub unless : Verdict → ℕ → Matrix → Matrix
-unless (Ok tt) line next = next
-unless (Err reason) line next = no_matrix reason line 1
+-- how many entries stand before the first over 9,999, where one is
+abbrev pub first_over : Limits → List ℕ → Option ℕ
+first_over limits vs = position (λ v. ltb limits.amount v) vs
 
--- what is found against one of its entries, each of which starts at its byte
-unfoldable pub unless_at : Found → ℕ → (ℕ → ℕ) → Matrix → Matrix
-unless_at Nothing line byte next = next
-unless_at (At reason k) line byte next = no_matrix reason line (byte k)
+-- the numbers of a line, or 2 at its first faulty byte, 7 at its first entry over 9,999
+abbrev pub Numbers : Type 0
+Numbers = Result (List ℕ) Refusal
 
--- 7: the first entry over 9,999 of the entries vs, behind k others
-unfoldable pub judge_amounts : Limits → ℕ → List ℕ → Found
-judge_amounts limits k [] = Nothing
-judge_amounts limits k (v ∷ vs) = cond (ltb limits.amount v) (At TooMuch k) (judge_amounts limits (k + 1) vs)
+unfoldable pub unless_over : Option ℕ → ℕ → List ℕ → Numbers
+unless_over None line vs = Ok vs
+unless_over (Some k) line vs = Err (refusal TooMuch line (entry_byte vs k))
+
+unfoldable pub amounts_in : Limits → ℕ → Reading → Numbers
+unfolding and_then values_on unless_over
+amounts_in limits line reading = and_then (values_on line reading) λ vs. unless_over (first_over limits vs) line vs
 
 -- ---- the lines in order
 
 -- `left` lines of n numbers are due in ls, of which the first has the number `line`, behind the lines m
 unfoldable pub lines_of : Limits → ℕ → ℕ → ℕ → List (List ℕ) → List (List ℕ) → Matrix
-unfolding numbers_or unless_at judge_amounts
-lines_of limits n line zero m [] = matrix n m
-lines_of limits n line zero m (l ∷ ls) = no_matrix Misshapen line 1
-lines_of limits n line (suc left) m [] = no_matrix Misshapen line 1
+unfolding and_then amounts_in
+lines_of limits n line zero m [] = Ok (n, m)
+lines_of limits n line zero m (l ∷ ls) = Err (refusal Misshapen line 1)
+lines_of limits n line (suc left) m [] = Err (refusal Misshapen line 1)
 lines_of limits n line (suc left) m (l ∷ ls) =
-    numbers_or (read_line (numbers n) l) line λ vs.
-    unless_at (judge_amounts limits 0 vs) line (entry_byte vs)
-    (lines_of limits n (line + 1) left (m ++ vs ∷ []) ls)
+    and_then (amounts_in limits line (read_line (numbers n) l)) λ vs. lines_of limits n (line + 1) left (m ++ vs ∷ []) ls
 
 -- ---- the entries in order
 
 -- 17 and 18, of the entry x at i, j whose mirror entry is y
-unfoldable pub judge_entry : ℕ → ℕ → ℕ → ℕ → Verdict
-judge_entry i j x y = cond (eqb i j) (cond (eqb x 0) (Ok tt) (Err NotZero)) (cond (eqb x y) (Ok tt) (Err NotSymmetric))
+unfoldable pub entry_fault : ℕ → ℕ → ℕ → ℕ → Option Reason
+entry_fault i j x y = cond (eqb i j) (cond (eqb x 0) None (Some NotZero)) (cond (eqb x y) None (Some NotSymmetric))
 
--- of the entry behind k others
-unfoldable pub or_else : Verdict → ℕ → Found → Found
-or_else (Ok tt) k next = next
-or_else (Err reason) k next = At reason k
+unfoldable pub unless_fault : Option Reason → ℕ → ℕ → Verdict → Verdict
+unless_fault None line byte next = next
+unless_fault (Some reason) line byte next = refusing reason line byte
 
-unfoldable pub on_line : Found → ℕ → (ℕ → ℕ) → Lines → Lines
-on_line Nothing line byte next = next
-on_line (At reason k) line byte next = refusing reason line (byte k)
+-- where the entry i, j starts in its line
+abbrev pub byte_of : List (List ℕ) → ℕ → ℕ → ℕ
+byte_of m i j = entry_byte (get_or m (i - 1) []) (j - 1)
 
--- the entries i, j and on, k of them
-unfoldable pub judge_across : (ℕ → ℕ → ℕ) → ℕ → ℕ → ℕ → Found
-unfolding judge_entry or_else
-judge_across a i j zero = Nothing
-judge_across a i j (suc k) = or_else (judge_entry i j (a i j) (a j i)) (j - 1) (judge_across a i (j + 1) k)
+-- the entries i, j and on, k of them, then what is next
+unfoldable pub judge_across : List (List ℕ) → ℕ → ℕ → ℕ → Verdict → Verdict
+unfolding entry_fault unless_fault
+judge_across m i j zero next = next
+judge_across m i j (suc k) next = unless_fault (entry_fault i j (entry m i j) (entry m j i)) i (byte_of m i j) (judge_across m i (j + 1) k next)
 
--- the n entries of line i
-abbrev pub line_of : (ℕ → ℕ → ℕ) → ℕ → ℕ → List ℕ
-line_of a n i = listed (a i) 1 n
-
--- the lines i and on, k of them
-unfoldable pub judge_down : (ℕ → ℕ → ℕ) → ℕ → ℕ → ℕ → Lines
-unfolding judge_across on_line
-judge_down a n i zero = Ok tt
-judge_down a n i (suc k) = on_line (judge_across a i 1 n) i (entry_byte (line_of a n i)) (judge_down a n (i + 1) k)
-
-unfoldable pub after_square : Lines → Matrix → Matrix
-after_square (Ok tt) x = x
-after_square (Err r) x = no_matrix r.reason r.line r.byte
+-- the lines i and on, k of them, each of n entries
+unfoldable pub judge_down : List (List ℕ) → ℕ → ℕ → ℕ → Verdict
+unfolding judge_across
+judge_down m n i zero = Ok tt
+judge_down m n i (suc k) = judge_across m i 1 n (judge_down m n (i + 1) k)
 
 unfoldable pub square_judged : Matrix → Matrix
-unfolding judge_down after_square
-square_judged (matrix n m) = after_square (judge_down (entry m) n 1 n) (matrix n m)
-square_judged (no_matrix reason line byte) = no_matrix reason line byte
+unfolding judge_down and_then
+square_judged x = and_then x λ s. and_then (judge_down s.1 s.0 1 s.0) λ u. Ok s
 
 -- ---- the whole
 
+-- what is found against the number of fields of the first line
+unfoldable pub on_first : of_table.Verdict → Verdict
+on_first (Ok tt) = Ok tt
+on_first (Err reason) = refusing reason 1 1
+
 -- n is the number of fields of the first line
 unfoldable pub matrix_lines : Limits → List (List ℕ) → Matrix
-unfolding numbers_or unless lines_of square_judged fields_in
-matrix_lines limits [] = no_matrix Misshapen 1 1
+unfolding and_then values_on on_first lines_of square_judged fields_in
+matrix_lines limits [] = Err (refusal Misshapen 1 1)
 matrix_lines limits (l ∷ ls) =
-    numbers_or (read_line (numbers (fields_in l)) l) 1 λ vs.
-    unless (judge_size limits (fields_in l)) 1
-    (square_judged (lines_of limits (fields_in l) 1 (fields_in l) [] (l ∷ ls)))
+    and_then (values_on 1 (read_line (numbers (fields_in l)) l)) λ vs.
+    and_then (on_first (judge_size limits (fields_in l))) λ u.
+    square_judged (lines_of limits (fields_in l) 1 (fields_in l) [] (l ∷ ls))
 
 unfoldable pub matrix_of : Limits → List ℕ → Matrix
 unfolding matrix_lines
-matrix_of limits t = cond (ltb limits.bytes (length t)) (no_matrix TooLong 0 0) (matrix_lines limits (lines t))
-
--- as a table, on so many fibres
-unfoldable pub table_from : ℕ → Matrix → Result
-table_from fibres (matrix n m) = accepted (ring_of n fibres) (rows_of_matrix n m)
-table_from fibres (no_matrix reason line byte) = refused reason line byte
+matrix_of limits t = cond (ltb limits.bytes (length t)) (Err (refusal TooLong 0 0)) (matrix_lines limits (lines t))

@@ -10,7 +10,7 @@ use Rattle.table.specs.Lines.{lines}
 use Rattle.table.specs.Reasons.{rank_of}
 use Rattle.table.specs.Says.{LineIs, DueByte}
 use Rattle.table.specs.declared.reason.Reason.{Reason}
-use Rattle.table.specs.declared.reason.Reason.TheVariants.{TooLong, Misshapen, RingSize, Fibres, NoRow, NoSuchNode, NotBelow, OutOfOrder, TooMany, TooMuch, Full, WrongSum, WrongWay, WrongCut, WrongLink, WrongLast, NotTight, OverBound, NotZero, NotSymmetric, SumTooMuch, NoRoom}
+use Rattle.table.specs.declared.reason.Reason.TheVariants.{TooLong, Misshapen, RingSize, TooMuch, NotZero, NotSymmetric}
 use Rattle.matrix.specs.Matrix.{entry_byte}
 
 -- ---- lines and entries
@@ -88,22 +88,7 @@ Says limits t TooMuch line = WrongAmount limits t line
 Says limits t NotZero line = FirstFaulty t NotZero line
 Says limits t NotSymmetric line = FirstFaulty t NotSymmetric line
 -- the others judge no matrix
-Says limits t Fibres line = ⊥
-Says limits t NoSuchNode line = ⊥
-Says limits t NotBelow line = ⊥
-Says limits t OutOfOrder line = ⊥
-Says limits t TooMany line = ⊥
-Says limits t WrongSum line = ⊥
-Says limits t WrongWay line = ⊥
-Says limits t WrongCut line = ⊥
-Says limits t WrongLink line = ⊥
-Says limits t WrongLast line = ⊥
-Says limits t NotTight line = ⊥
-Says limits t OverBound line = ⊥
-Says limits t SumTooMuch line = ⊥
-Says limits t NoRow line = ⊥
-Says limits t Full line = ⊥
-Says limits t NoRoom line = ⊥
+Says limits t _ line = ⊥
 
 -- ---- the byte of the line that is given with a reason, counted from 1
 
@@ -153,22 +138,7 @@ ByteIs limits t TooMuch line byte = AmountByte limits t line byte
 ByteIs limits t NotZero line byte = FaultyByte t NotZero line byte
 ByteIs limits t NotSymmetric line byte = FaultyByte t NotSymmetric line byte
 -- the others judge no matrix
-ByteIs limits t Fibres line byte = ⊥
-ByteIs limits t NoSuchNode line byte = ⊥
-ByteIs limits t NotBelow line byte = ⊥
-ByteIs limits t OutOfOrder line byte = ⊥
-ByteIs limits t TooMany line byte = ⊥
-ByteIs limits t WrongSum line byte = ⊥
-ByteIs limits t WrongWay line byte = ⊥
-ByteIs limits t WrongCut line byte = ⊥
-ByteIs limits t WrongLink line byte = ⊥
-ByteIs limits t WrongLast line byte = ⊥
-ByteIs limits t NotTight line byte = ⊥
-ByteIs limits t OverBound line byte = ⊥
-ByteIs limits t SumTooMuch line byte = ⊥
-ByteIs limits t NoRow line byte = ⊥
-ByteIs limits t Full line byte = ⊥
-ByteIs limits t NoRoom line byte = ⊥
+ByteIs limits t _ line byte = ⊥
 
 -- ---- which is given
 
@@ -176,26 +146,7 @@ ByteIs limits t NoRoom line byte = ⊥
 abbrev pub stage : Reason → ℕ
 stage NotZero = 1
 stage NotSymmetric = 1
-stage TooLong = 0
-stage Misshapen = 0
-stage RingSize = 0
-stage Fibres = 0
-stage NoSuchNode = 0
-stage NotBelow = 0
-stage OutOfOrder = 0
-stage TooMany = 0
-stage TooMuch = 0
-stage WrongSum = 0
-stage WrongWay = 0
-stage WrongCut = 0
-stage WrongLink = 0
-stage WrongLast = 0
-stage NotTight = 0
-stage OverBound = 0
-stage SumTooMuch = 0
-stage NoRow = 0
-stage Full = 0
-stage NoRoom = 0
+stage _ = 0
 
 -- what is tried earlier: 1, before all lines; then the line before, and on the same line the reason before; 17 and 18 behind all lines
 abbrev pub Earlier : Reason → ℕ → Reason → ℕ → Type 0

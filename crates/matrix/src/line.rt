@@ -1,67 +1,84 @@
-// A line of numbers: how many fields it has, its values, and what is found against them.
-ghost use Rattle.std.specs.Prelude.{◌≡◌, ◌≤◌, length, set, take};
+//! A line of text to its numbers.
+ghost use Rattle.std.specs.Prelude.{◌≡◌, ◌≤◌, ◌+◌, length};
 ghost use Rattle.ring.specs.Limits.{desk};
 ghost use Rattle.text.specs.ReadLine.{read_line};
 ghost use Rattle.text.specs.Shapes.{numbers};
-ghost use Rattle.matrix.specs.Read.{fields_in, judge_amounts};
-ghost use Rattle.matrix.specs.Arrays.{numbers_in};
+ghost use Rattle.table.specs.OnLine.{refusal, values_on};
+ghost use Rattle.matrix.specs.Read.{fields_in, kept, amounts_in};
+ghost use Rattle.matrix.specs.Answer.{read_as};
 
-use crate::byte::Found;
-use ring::{AMOUNT, LINKS};
-use table::Reason;
+use crate::numbers::Numbers;
+use table::{Reason, Refusal};
 use text::{Field, end_of, read_field};
 
-// How many fields a line has: its tabs, and one.
-pub(crate) fn fields(line: &[u8]) -> usize
-    requires { length line.now ≤ desk.bytes }
-    ensures { result ≡ fields_in line.now }
+/// How many tabs a line has: one less than its fields.
+pub(crate) fn tabs(line: &[u8]) -> usize
+    ensures { result + 1 ≡ fields_in line.now }
 {
-    let mut count: usize = 1;
-    for p in (0..line.len()).rev() {
-        if line[p] == b'\t' {
-            count += 1;
-        }
-    }
-    count
+    line.iter().filter(|byte| **byte == b'\t').count()
 }
 
-// Keeps the value of field t where there is room for it.
-fn put(values: &mut [u32; LINKS], t: usize, v: u32)
-    ensures { values.new ≡ set values.old t v }
+/// A line that is misshapen at this place.
+pub(crate) fn misshapen(line: u32, place: usize) -> Refusal
+    requires { place ≤ desk.bytes }
+    ensures { result ≡ refusal Reason.Misshapen line (place + 1) }
 {
-    if t < LINKS {
-        values[t] = v;
+    Refusal {
+        reason: Reason::Misshapen,
+        line,
+        byte: place as u32 + 1,
     }
 }
 
-// Reads a line of n numbers: its values from place 0 on, or the place of its first faulty byte. Values that have no room are left out: a line with more is read
-// for its spelling alone.
-pub(crate) fn read_numbers(line: &[u8], n: usize) -> Result<[u32; LINKS], usize>
-    ensures { result ≡ numbers_in (read_line (numbers n) line.now) }
+/// Reads a line of so many numbers, of which a longer line keeps the first; or answers the place of its first faulty byte. The numbers take the place of those
+/// that were there, and hold whatever where they are refused.
+fn numbers_in(text: &[u8], count: usize, read: &mut Numbers) -> Result<(), usize>
+    ensures { read_as result read.new ≡ kept (read_line (numbers count) text.now) }
 {
-    let mut values = [0u32; LINKS];
-    let mut p: usize = 0;
-    for t in 0..n {
-        match read_field(line, p, Field::Number, end_of(n - t - 1)) {
-            Err(q) => return Err(q),
-            Ok((v, q)) => {
-                put(&mut values, t, v);
-                p = q;
-            }
-        }
+    read.clear();
+    let mut at: usize = 0;
+    for t in 0..count {
+        let (value, next) = read_field(text, at, Field::Number, end_of(count - t - 1))?;
+        read.push(value);
+        at = next;
     }
-    if p == line.len() { Ok(values) } else { Err(p) }
+    if at == text.len() { Ok(()) } else { Err(at) }
 }
 
-// The first n values: the first that is over the limit.
-pub(crate) fn judge_amounts(n: usize, values: &[u32; LINKS]) -> Found
-    requires { n ≤ desk.nodes }
-    ensures { result ≡ judge_amounts desk 0 (take n values.now) }
+/// The same; or the refusal of the line.
+pub(crate) fn numbers_on(
+    line: u32,
+    text: &[u8],
+    count: usize,
+    read: &mut Numbers,
+) -> Result<(), Refusal>
+    requires { length text.now ≤ desk.bytes }
+    ensures { read_as result read.new ≡ values_on line (kept (read_line (numbers count) text.now)) }
 {
-    for t in 0..n {
-        if AMOUNT < values[t] {
-            return Found::At(Reason::TooMuch, t);
-        }
+    match numbers_in(text, count, read) {
+        Err(place) => Err(misshapen(line, place)),
+        Ok(()) => Ok(()),
     }
-    Found::Nothing
+}
+
+/// The numbers of a line of a matrix of so many nodes, none over the limit; or the refusal of the line.
+pub(crate) fn amounts_on(
+    line: u32,
+    text: &[u8],
+    count: usize,
+    read: &mut Numbers,
+) -> Result<(), Refusal>
+    requires few { count ≤ desk.nodes }
+    requires short { length text.now ≤ desk.bytes }
+    ensures { read_as result read.new ≡ amounts_in desk line (read_line (numbers count) text.now) }
+{
+    numbers_on(line, text, count, read)?;
+    match read.first_over() {
+        Some(k) => Err(Refusal {
+            reason: Reason::TooMuch,
+            line,
+            byte: read.byte_of(k),
+        }),
+        None => Ok(()),
+    }
 }

@@ -1,87 +1,84 @@
-// The entries of a matrix: all lines are read before any entry is compared with its mirror entry, so they are kept in a square.
-ghost use Rattle.std.specs.Prelude.{◌≡◌, [], ◌+◌, ◌≤◌, length, take};
-ghost use Rattle.std.proofs.lemmas.List.Edits.{sets};
+//! The lines of a matrix: all are read before any entry is compared with its mirror entry, so they are kept in a square.
+ghost use Rattle.std.specs.Prelude.{◌≡◌, [], ◌-◌, ◌≤◌, length, get_or, set};
 ghost use Rattle.ring.specs.Limits.{desk};
-ghost use Rattle.table.specs.Lines.{lines as lines_in};
-ghost use Rattle.matrix.specs.Read.{no_matrix, lines_of};
-ghost use Rattle.matrix.specs.Arrays.{at as entry_at, empty, beside_entries, square_in};
+ghost use Rattle.ring.specs.Lists.{Each};
+ghost use Rattle.matrix.specs.Matrix.{entry, IsSquare, Node};
+ghost use Rattle.matrix.specs.Read.{byte_of};
 
-use crate::byte::{Found, entry_byte};
-use crate::line::{judge_amounts, read_numbers};
+use crate::numbers::Numbers;
 use ring::{LINKS, wide};
-use table::{Reason, Refusal, byte_at, line_end};
+use std::marker::Model;
 
-// Each line of the square has room for the largest ring.
-pub(crate) const SQUARE: usize = LINKS * LINKS;
-
-// The entry i, j.
-pub(crate) fn get(square: &[u32; SQUARE], i: u32, j: u32) -> u32
-    requires line_from_1 { 1 ≤ i }
-    requires line_in_square { i ≤ desk.nodes }
-    requires place_from_1 { 1 ≤ j }
-    requires place_in_line { j ≤ desk.nodes }
-    ensures { result ≡ entry_at square.now i j }
-{
-    square[LINKS * (wide(i) - 1) + (wide(j) - 1)]
+/// The entries of a matrix, each of which is an amount. Some 2 KB: make it where it stays, and lend it.
+#[derive(Drop)]
+pub(crate) struct Square {
+    nodes: u32,
+    entries: [[u16; LINKS]; LINKS],
 }
 
-// Puts the first n values of a line into the square, from `start` on.
-fn keep(square: &mut [u32; SQUARE], start: usize, n: usize, values: &[u32; LINKS])
-    requires in_line { n ≤ desk.nodes }
-    requires in_square { start + n ≤ 1024 }
-    ensures { square.new ≡ sets square.old start (take n values.now) }
-{
-    for t in 0..n {
-        square[start + t] = values[t];
-    }
+// A caller sees its lines, as many as there are nodes.
+impl Model for Square {
+    ghost use Rattle.std.specs.Prelude.{ℕ, List};
+
+    ghost Value = { List (List ℕ) };
+
+    ghost use Rattle.matrix.specs.Square.{lines_in, Sized};
+
+    ghost view = { lines_in };
+
+    ghost invariant = { Sized };
 }
 
-// A refusal leaves an empty square.
-#[tactic(auto, unfolding(crate::specs::Arrays::square_in))]
-fn refused(entries: &mut [u32; SQUARE], reason: Reason, line: u32, byte: u32) -> Result<(), Refusal>
-    ensures { beside_entries result entries.new ≡ square_in (no_matrix reason line byte) }
-{
-    *entries = [0u32; SQUARE];
-    Err(Refusal { reason, line, byte })
-}
-
-// The lines of a matrix of n nodes. A line behind the n-th is left over, and a missing one is the one after the last.
-pub(crate) fn read_lines(s: &[u8], n: usize, entries: &mut [u32; SQUARE]) -> Result<(), Refusal>
-    requires few_nodes { n ≤ desk.nodes }
-    requires short_text { length s.now ≤ desk.bytes }
-    requires no_entries { entries.old ≡ empty }
-    ensures { beside_entries result entries.new
-        ≡ square_in (lines_of desk n 1 n [] (lines_in s.now)) }
-{
-    let mut start: usize = 0;
-    let mut count: usize = 0;
-    let mut line: u32 = 1;
-    let mut at: usize = 0;
-    while at < s.len() {
-        if n <= count {
-            return refused(entries, Reason::Misshapen, line, 1);
-        }
-        let end = line_end(s, at);
-        match read_numbers(&s[at..end], n) {
-            Err(p) => {
-                return refused(entries, Reason::Misshapen, line, byte_at(p));
-            }
-            Ok(values) => match judge_amounts(n, &values) {
-                Found::At(reason, k) => {
-                    return refused(entries, reason, line, entry_byte(k, &values));
-                }
-                Found::Nothing => {
-                    keep(entries, start, n, &values);
-                    start += LINKS;
-                    count += 1;
-                    line += 1;
-                    at = end;
-                }
-            },
+impl Square {
+    /// A square of so many nodes.
+    pub(crate) fn new(nodes: u32) -> Self
+        requires { nodes ≤ desk.nodes }
+        ensures { length result ≡ nodes }
+    {
+        Square {
+            nodes,
+            entries: [[0; LINKS]; LINKS],
         }
     }
-    if count < n {
-        return refused(entries, Reason::Misshapen, line, 1);
+
+    /// How many nodes there are.
+    pub(crate) fn nodes(&self) -> u32
+        ensures is { result ≡ length self.now }
+        ensures few { result ≤ desk.nodes }
+    {
+        self.nodes
     }
-    Ok(())
+
+    /// The entry i, j, both counted from 1.
+    pub(crate) fn get(&self, i: u32, j: u32) -> u32
+        requires line { Node (length self.now) i }
+        requires place { Node (length self.now) j }
+        ensures { result ≡ entry self.now i j }
+    {
+        let _ = &self.nodes;
+        u32::from(self.entries[wide(i) - 1][wide(j) - 1])
+    }
+
+    /// The byte of line i where entry j starts, both counted from 1. It is asked only of a matrix that is refused.
+    #[cold]
+    pub(crate) fn byte_of(&self, i: u32, j: u32) -> u32
+        requires line { Node (length self.now) i }
+        requires place { Node (length self.now) j }
+        ensures { result ≡ byte_of self.now i j }
+    {
+        let _ = &self.nodes;
+        let before = wide(j) - 1;
+        Numbers::of(&self.entries[wide(i) - 1], before).byte_of(before)
+    }
+
+    /// Other numbers for line i, as many as there are nodes.
+    pub(crate) fn put(&mut self, i: u32, numbers: &Numbers)
+        requires line { Node (length self.old) i }
+        requires width { length numbers.now ≡ length self.old }
+        requires amounts { Each (λ v. v ≤ desk.amount) numbers.now }
+        ensures { self.new ≡ set self.old (i - 1) numbers.now }
+    {
+        let _ = &self.nodes;
+        self.entries[wide(i) - 1] = numbers.entries();
+    }
 }

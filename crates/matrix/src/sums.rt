@@ -1,22 +1,15 @@
-// The sums of the rows of a pair.
-ghost use Rattle.std.specs.Prelude.{◌≡◌, cond};
+//! The sums of the rows of a pair.
+ghost use Rattle.std.specs.Prelude.{◌≡◌, ◌≤◌, ◌<◌, cond, length, take};
 ghost use Rattle.ring.specs.Limits.{desk};
-ghost use Rattle.ring.specs.Row.{row};
-ghost use Rattle.ring.specs.Columns.{rows_in};
+ghost use Rattle.ring.specs.Sheet.{sents, demands};
 ghost use Rattle.matrix.specs.Demands.{same_pair, joins, sum_of};
 ghost use Rattle.matrix.specs.Judged.{judge_sums};
-ghost use Rattle.matrix.specs.Arrays.{Amounts};
 
-use ring::{AMOUNT, ROWS};
+use ring::{AMOUNT, Row};
+use rows::Rows;
+use table::{Reason, Refusal};
 
-// Whether each pair's sum is an amount; where not, the line of the first row at which one passes it.
-#[derive(Drop)]
-pub enum Sums {
-    Fit,
-    Pass(u32),
-}
-
-// Whether the nodes a, b are i, j.
+/// Whether the nodes a, b are i, j.
 #[tactic(auto, unfolding(crate::specs::Demands::same_pair))]
 fn same(a: u32, b: u32, i: u32, j: u32) -> bool
     ensures { result ≡ same_pair a b i j }
@@ -24,51 +17,45 @@ fn same(a: u32, b: u32, i: u32, j: u32) -> bool
     a == i && b == j
 }
 
-// What the row a, b of d adds to the pair i, j, which it may name in either order.
+/// What a row adds to the pair i, j, which it may name in either order.
 #[tactic(auto, unfolding(crate::specs::Demands::joins))]
-fn part(a: u32, b: u32, d: u32, i: u32, j: u32) -> u32
-    ensures { result ≡ cond (joins (row a b d) i j) d 0 }
+fn part(row: Row, i: u32, j: u32) -> u32
+    ensures { result ≡ cond (joins row i j) row.amount 0 }
 {
-    if same(a, b, i, j) || same(a, b, j, i) {
-        d
+    if same(row.first, row.second, i, j) || same(row.first, row.second, j, i) {
+        row.amount
     } else {
         0
     }
 }
 
-// The sum of the pair i, j over the first `count` rows.
-pub(crate) fn sum_of(
-    i: u32,
-    j: u32,
-    count: usize,
-    first: &[u32; ROWS],
-    second: &[u32; ROWS],
-    amount: &[u32; ROWS],
-) -> u32
-    requires { Amounts count amount.now }
-    ensures { result ≡ sum_of (rows_in count first.now second.now amount.now) i j }
+/// The sum of the pair i, j over the first `count` rows. As many amounts of 32 bits as a table has rows fit in 64.
+pub(crate) fn sum_of<R: Rows>(rows: &R, count: usize, i: u32, j: u32) -> u64
+    requires there { count ≤ length (R.rows rows.now) }
+    requires few { count ≤ desk.rows }
+    ensures { result ≡ sum_of (take count (demands (sents (R.rows rows.now)))) i j }
 {
-    let mut sum: u32 = 0;
+    let mut sum: u64 = 0;
     for k in 0..count {
-        sum += part(first[k], second[k], amount[k], i, j);
+        sum += u64::from(part(rows.row(k).sent.row, i, j));
     }
     sum
 }
 
-// Row by row; the first row stands on line 2.
-pub fn judge_sums<'a>(
-    count: usize,
-    first: &'a [u32; ROWS],
-    second: &'a [u32; ROWS],
-    amount: &'a [u32; ROWS],
-) -> Sums
-    requires { Amounts count amount.now }
-    ensures { result ≡ judge_sums desk (rows_in count first.now second.now amount.now) }
+/// Whether each pair's sum is an amount; or the refusal on the line of the first row at which one passes it. The first row stands on line 2.
+pub fn judge_sums<R: Rows>(rows: &R) -> Result<(), Refusal>
+    requires { length (R.rows rows.now) ≤ desk.rows }
+    ensures { result ≡ judge_sums desk (demands (sents (R.rows rows.now))) }
 {
-    for k in 0..count {
-        if AMOUNT < sum_of(first[k], second[k], k + 1, first, second, amount) {
-            return Sums::Pass(k as u32 + 2);
+    for k in 0..rows.count() {
+        let row = rows.row(k).sent.row;
+        if u64::from(AMOUNT) < sum_of(rows, k + 1, row.first, row.second) {
+            return Err(Refusal {
+                reason: Reason::SumTooMuch,
+                line: k as u32 + 2,
+                byte: 1,
+            });
         }
     }
-    Sums::Fit
+    Ok(())
 }

@@ -1,4 +1,8 @@
 // The records of the subject, one for each thing: the definitions speak of these very types.
+ghost use Rattle.std.specs.Prelude.{◌≡◌};
+ghost use Rattle.ring.specs.Routing.{way_of, way_number};
+
+use crate::{BACK, FRONT};
 
 // A ring: its nodes, 1 to `nodes`, and its fibres. Link k joins nodes k and k + 1, the last link the last node and node 1.
 #[derive(Clone, Copy)]
@@ -30,6 +34,29 @@ pub enum Way {
     Back,
 }
 
+impl Way {
+    /// A way by its number: 0 is F, any other is B.
+    pub fn of(number: u32) -> Self
+        ensures { result ≡ way_of number }
+    {
+        if number == FRONT {
+            Way::Front
+        } else {
+            Way::Back
+        }
+    }
+
+    /// Its number, 0 or 1.
+    pub fn number(self) -> u32
+        ensures { result ≡ way_number self }
+    {
+        match self {
+            Way::Front => FRONT,
+            Way::Back => BACK,
+        }
+    }
+}
+
 // A demand as a split routing sends it, and its way where it goes whole.
 #[derive(Clone, Copy)]
 pub struct Routed {
@@ -45,8 +72,9 @@ pub struct Cut {
     pub number: u32,
 }
 
-// A link with its split load in halves and its unsplit load in units.
-#[derive(Clone, Copy)]
+// A link with its split load in halves and its unsplit load in units; C lends them as they stand here.
+#[repr(C)]
+#[derive(Clone, Copy, Default, PartialEq, Eq)]
 pub struct Link {
     pub link: u32,
     pub split: u32,

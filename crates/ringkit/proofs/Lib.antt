@@ -9,3 +9,4 @@ pub mod SheetCalls
 pub mod MatrixCalls
 pub mod WorkSteps
 pub mod WorkCalls
+pub mod JudgeCalls

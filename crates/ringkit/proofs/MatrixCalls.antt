@@ -6,6 +6,7 @@ use mathlib.Core.Logic.{◌↔◌}
 use mathlib.Core.Path.{◌≡◌, refl, ap, ◌∙◌, sym, subst}
 use native.Mathlib.Omega.{arith}
 use lib.ListN.{length, take}
+use Rattle.std.specs.Prelude.{Ok, Err}
 use Rattle.ring.specs.Limits.{desk}
 use Rattle.ring.specs.LineSize.{IsFibres}
 use Rattle.ring.specs.Ring.{ring_of}
@@ -23,21 +24,17 @@ use Rattle.table.proofs.ReasonsGiven as table-given
 use Rattle.table.proofs.Said.{not-15 as table-not-15}
 use Rattle.matrix.specs.Matrix.{write_matrix}
 use Rattle.matrix.specs.Demands.{rows_of_matrix, matrix_of_rows, Passes, OneEach}
-use Rattle.matrix.specs.Read.{Matrix, matrix, no_matrix, matrix_of, table_from}
-use Rattle.matrix.specs.Judged.{judge_sums}
+use Rattle.matrix.specs.Read.{Matrix, Verdict, matrix_of}
 use Rattle.matrix.specs.Room.{matrix_room}
 use Rattle.matrix.specs.Says.{Says, Accepted}
-use Rattle.matrix.specs.declared.sums.Sums.{Sums}
-use Rattle.matrix.specs.declared.sums.Sums.TheVariants.{Fit, Pass}
 use Rattle.matrix.proofs.MatrixText.{desk-possible, matrix-text}
 use Rattle.matrix.proofs.ReasonsGiven.{one-given, given, accepted-is}
 use Rattle.matrix.proofs.RoundTrip.{matrix-back, table-back, table-room, rows-in-range, rows-one-each}
 use Rattle.matrix.proofs.Rooms.{room-for-matrix, matrix-in-range}
-use Rattle.matrix.proofs.SumsGiven.{sums-given, sums-fit}
+use Rattle.matrix.proofs.SumsGiven.{SumsJudged, sums_pass, sums_fit, sums-judged, one-passing}
 use Rattle.matrix.proofs.OneEach.{one-each-fit}
 use Rattle.ringkit.specs.Outcome.{write, Fills}
-use Rattle.ringkit.specs.TableCalls.{of_table}
-use Rattle.ringkit.specs.MatrixCalls.{matrix_read, unless_pass, of_rows, matrix_written}
+use Rattle.ringkit.specs.MatrixCalls.{table_of_matrix, matrix_read, unless_pass, of_rows, matrix_written}
 use Rattle.ringkit.specs.Says.{CallPromise, Only}
 use Rattle.ringkit.specs.Back.{MatrixToTableToMatrix, TableToMatrixToTable}
 use Rattle.ringkit.specs.Texts.{TableOf, MatrixOf, SomeMatrix, MatrixDue, MatrixGiven, of_fibres, of_matrix, SumsDue, SumsFit, SumsGiven, of_the_table, of_sums}
@@ -50,7 +47,7 @@ use Rattle.ringkit.proofs.TableCalls.{read_is, due-accepted, same-values}
 
 module _ (t : List ℕ) where
   -- a matrix is read to the lines that it is the matrix of
-  matrix_is : (n : ℕ) (m : List (List ℕ)) → (matrix_of desk t ≡ matrix n m) ↔ MatrixOf t n m
+  matrix_is : (n : ℕ) (m : List (List ℕ)) → (matrix_of desk t ≡ Ok (n, m)) ↔ MatrixOf t n m
   matrix_is n m = (
     λ e. let w = (matrix-text desk desk-possible t n m).0 e in record { text = w.0; range = w.1 },
     λ h. (matrix-text desk desk-possible t n m).1 (h.text, h.range),
@@ -65,10 +62,10 @@ module _ (t : List ℕ) where
 
 -- the rows of a matrix on 2 or 4 fibres
 module _ (fibres : ℕ) (t : List ℕ) where
-  decided : IsFibres fibres → (x : Matrix) → matrix_of desk t ≡ x → Decided (MatrixDue fibres t) (MatrixGiven fibres t) (of_table write_table (table_from fibres x))
-  unfolding of_table table_from
-  decided f (matrix n m) e = is_due (record { two_or_four = f; n = n; m = m; of = (matrix_is t n m).0 e; is = refl })
-  decided f (no_matrix reason line byte) e = is_given (of_matrix f ((given desk t reason line byte).0 e))
+  decided : IsFibres fibres → (x : Matrix) → matrix_of desk t ≡ x → Decided (MatrixDue fibres t) (MatrixGiven fibres t) (table_of_matrix fibres x)
+  unfolding table_of_matrix
+  decided f (Ok s) e = is_due (record { two_or_four = f; n = s.0; m = s.1; of = (matrix_is t s.0 s.1).0 e; is = refl })
+  decided f (Err r) e = is_given (of_matrix f ((given desk t r).0 e))
 
   all-decided : Decided (MatrixDue fibres t) (MatrixGiven fibres t) (matrix_read fibres t)
   unfolding matrix_read
@@ -103,11 +100,9 @@ module _ (fibres : ℕ) (t : List ℕ) where
   one-due =
       record {
         text = λ a b.
-            let e : matrix a.n a.m ≡ matrix b.n b.m = sym ((matrix_is t a.n a.m).1 a.of) ∙ (matrix_is t b.n b.m).1 b.of in
-            let en : a.n ≡ b.n = cc in
-            let em : a.m ≡ b.m = cc in
-            let d : write_table (ring_of a.n fibres) (rows_of_matrix a.n a.m) ≡ write_table (ring_of b.n fibres) (rows_of_matrix b.n b.m) = rw (en, em) in
-            a.is ∙ d ∙ sym b.is;
+            let e : ◌≡◌ {A = Matrix} (Ok (a.n, a.m)) (Ok (b.n, b.m)) = sym ((matrix_is t a.n a.m).1 a.of) ∙ (matrix_is t b.n b.m).1 b.of in
+            let same : (a.n, a.m) ≡ (b.n, b.m) = cc in
+            a.is ∙ ap (λ (s : ℕ × List (List ℕ)). write_table (ring_of s.0 fibres) (rows_of_matrix s.0 s.1)) same ∙ sym b.is;
         refusal = λ f g. one-given-matrix f g;
         apart = λ d g. due-not-given d g;
         other = λ g. given-not-15 g;
@@ -156,11 +151,11 @@ no-reason {t} {ring} {rs} of {reason} {line} {byte} g = (due-accepted t write_ta
 module _ (t : List ℕ) where
   sums-decided : (x : Result) → table_of desk t ≡ x → Decided (SumsDue t) (SumsGiven t) (of_rows x)
   unfolding of_rows unless_pass
-  sums-decided (accepted ring rs) e = go (judge_sums desk rs) refl
+  sums-decided (accepted ring rs) e = go (sums-judged desk rs)
     where
-      go : (x : Sums) → judge_sums desk rs ≡ x → Decided (SumsDue t) (SumsGiven t) (unless_pass x (write (write_matrix (matrix_of_rows ring.nodes rs))))
-      go Fit f = is_due (record { ring = ring; rs = rs; of = (read_is t ring rs).0 e; fit = (sums-fit desk rs).0 f; is = refl })
-      go (Pass line) f = is_given (of_sums ((read_is t ring rs).0 e) ((sums-given desk rs line).0 f))
+      go : {x : Verdict} → SumsJudged desk rs x → Decided (SumsDue t) (SumsGiven t) (unless_pass x (write (write_matrix (matrix_of_rows ring.nodes rs))))
+      go (sums_fit fit) = is_due (record { ring = ring; rs = rs; of = (read_is t ring rs).0 e; fit = fit; is = refl })
+      go (sums_pass passes) = is_given (of_sums ((read_is t ring rs).0 e) passes)
   sums-decided (refused reason line byte) e = is_given (of_the_table ((table-given.given desk t reason line byte).0 e))
 
   one-refusal : {r s : Reason} {line other byte on : ℕ} → SumsGiven t r line byte → SumsGiven t s other on → (r ≡ s) × (line ≡ other) × (byte ≡ on)
@@ -169,8 +164,7 @@ module _ (t : List ℕ) where
   one-refusal (of_sums of p) (of_the_table b) = absurd (no-reason of b)
   one-refusal (of_sums {rs} {line} of p) (of_sums {rs = qs} {line = other} of' q) =
       let e = (same-values of of').1 in
-      let f : Pass line ≡ Pass other = sym ((sums-given desk rs line).1 p) ∙ (sums-given desk rs other).1 (rw e q) in
-      (refl, cc, refl)
+      (refl, one-passing p (rw e q), refl)
 
   due-or-given : {text : List ℕ} {r : Reason} {line byte : ℕ} → SumsDue t text → SumsGiven t r line byte → ⊥
   due-or-given d (of_the_table a) = no-reason d.of a
@@ -203,12 +197,9 @@ pub write-matrix-only : (t old new : List ℕ) (r : Reply) → Fills (matrix_wri
 write-matrix-only t old new r f = call-only (write-matrix-promise t old new r f) (one-sums t)
 
 module _ (t text : List ℕ) (d : SumsDue t text) where
-  fits : judge_sums desk d.rs ≡ Fit
-  fits = (sums-fit desk d.rs).1 d.fit
-
   -- the matrix that is due is a matrix in range, so that it is accepted
   due-matrix : MatrixOf text d.ring.nodes (matrix_of_rows d.ring.nodes d.rs)
-  due-matrix = record { text = d.is; range = matrix-in-range d.ring d.rs d.of.range fits }
+  due-matrix = record { text = d.is; range = matrix-in-range d.ring d.rs d.of.range d.fit }
 
   pub written-matrix-accepted : Accepted desk text
   written-matrix-accepted =
@@ -216,7 +207,7 @@ module _ (t text : List ℕ) (d : SumsDue t text) where
 
   -- and no longer than `matrix_room`
   pub written-matrix-short : length text ≤ matrix_room desk
-  written-matrix-short = omega (arith, ap length d.is, room-for-matrix d.ring d.rs d.of.range fits)
+  written-matrix-short = omega (arith, ap length d.is, room-for-matrix d.ring d.rs d.of.range d.fit)
 
 -- what is written is an accepted matrix, and fits
 pub written-accepted : (t old new : List ℕ) (r : Reply) → Fills (matrix_written t) old new r → r.reason ≡ 0 → Accepted desk (take r.length new)
@@ -234,7 +225,7 @@ always-written t old new r call s room =
 
 -- and none passes where there is at most one row for a pair
 pub one-each-written : (t : List ℕ) (ring : Ring) (rs : List Row) → TableOf t ring rs → OneEach rs → (k : ℕ) → Passes desk rs k → ⊥
-one-each-written t ring rs of each = (sums-fit desk rs).0 (one-each-fit ring rs of.range each)
+one-each-written t ring rs of each = one-each-fit ring rs of.range each
 
 -- ---- there and back
 
@@ -243,13 +234,12 @@ pub matrix-there-and-back : MatrixToTableToMatrix
 matrix-there-and-back fibres t text old new r read done other after q written room =
     let d = ((read.succeeds text).0 done).0 in
     let table = due-table fibres t text d in
-    let one = one-each-fit (ring_of d.n fibres) (rows_of_matrix d.n d.m) table.range (rows-one-each d.n d.m) in
     let due : SumsDue text t =
     record {
       ring = ring_of d.n fibres;
       rs = rows_of_matrix d.n d.m;
       of = table;
-      fit = (sums-fit desk (rows_of_matrix d.n d.m)).0 one;
+      fit = one-each-fit (ring_of d.n fibres) (rows_of_matrix d.n d.m) table.range (rows-one-each d.n d.m);
       is = d.of.text ∙ sym (ap write_matrix (matrix-back desk d.n d.m d.of.range));
     } in
     (written.succeeds t).1 (due, room)

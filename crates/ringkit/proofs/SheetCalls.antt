@@ -13,13 +13,13 @@ use Rattle.ring.proofs.NoLower.{no_lower}
 use Rattle.table.specs.Reasons.{number_of}
 use Rattle.table.specs.Says as table
 use Rattle.table.specs.declared.reason.Reason.{Reason}
-use Rattle.table.specs.declared.reason.Reason.TheVariants.{NoRoom}
 use Rattle.table.proofs.ReasonNumbers.{same-reason, no-reason-0}
-use Rattle.table.proofs.TableText.{desk-spelled}
-use Rattle.sheet.specs.Check.{Result, accepted, refused, check, form}
-use Rattle.sheet.specs.Says.{Says, Given, Accepted, WellFormed}
-use Rattle.sheet.proofs.Promised.{form-text, check-text, accepted-true, accepted-formed}
-use Rattle.sheet.proofs.SheetReasons.{one-given, given, accepted-is, well-formed-is}
+use Rattle.sheet.specs.Read.{Result, accepted, refused, read_sheet}
+use Rattle.sheet.specs.Says.{WellFormed}
+use Rattle.sheet.proofs.SheetReasons.{well-formed-is}
+use Rattle.checker.specs.Check.{check}
+use Rattle.checker.specs.Says.{ReadTo, Given, Accepted}
+use Rattle.checker.proofs.Reasons.{read-as, given, accepted-is, check-text, accepted-if-true, one-given, not-both, not-15}
 use Rattle.sheet.proofs.Short.{plan-in-range}
 use Rattle.checker.specs.FindPair.{first_pair}
 use Rattle.checker.specs.declared.pair.Pair.{Pair}
@@ -41,36 +41,31 @@ use Rattle.ringkit.proofs.TableCalls.{due-accepted, route-promise}
 
 -- ---- what a sheet is read to
 
--- 15 judges no sheet
-not-15 : (line : ℕ) (t : List ℕ) (r : Reason) → Says desk t r line → number_of r ≡ number_of NoRoom → ⊥
-unfolding Says
-not-15 line t r h e = subst (λ s. Says desk t s line) (same-reason r NoRoom e) h
-
 module _ (t : List ℕ) where
   -- a sheet is accepted as the values that it is the sheet of
   checked-is : (x : Sheet) → (check desk t ≡ accepted x) ↔ SheetOf t x
   checked-is x = (
-    λ e. let w = (check-text desk desk-spelled t x).0 e in record { text = w.0; range = w.1.0; true_sheet = w.1.1 },
-    λ h. (check-text desk desk-spelled t x).1 (h.text, (h.range, h.true_sheet)),
+    λ e. let w = (check-text t x).0 e in record { text = w.0; range = w.1.0; true_sheet = w.1.1 },
+    λ h. (check-text t x).1 (h.text, (h.range, h.true_sheet)),
   )
 
   accepted-as : (x : Sheet) → check desk t ≡ accepted x → Accepted desk t
-  accepted-as x e = (accepted-is desk t).0 (record { x = x; is = e })
+  accepted-as x e = (accepted-is t).0 (record { x = x; is = e })
 
 -- ---- rewriting
 
 afresh : (t : List ℕ) (x : Result) → check desk t ≡ x → Decided (Itself (Accepted desk t) t) (Given desk t) (of_sheet x)
 unfolding of_sheet
 afresh t (accepted x) e = is_due (record { accepted = accepted-as t x e; same = sym ((checked-is t x).0 e).text })
-afresh t (refused reason line byte) e = is_given ((given desk t reason line byte).0 e)
+afresh t (refused reason line byte) e = is_given ((given t reason line byte).0 e)
 
 one-itself : (t : List ℕ) → One (Itself (Accepted desk t) t) (Given desk t)
 one-itself t =
     record {
       text = λ a b. a.same ∙ sym b.same;
-      refusal = λ f g. one-given f g;
-      apart = λ {a} {r} {line} d g. d.accepted r line tt g.holds;
-      other = λ {r} {line} g. not-15 line t r g.holds;
+      refusal = λ f g. one-given t f g;
+      apart = λ d g. not-both t d.accepted g;
+      other = λ {r} g. not-15 t r g;
     }
 
 -- an accepted sheet is written as the same bytes, with room for them; else 15 or the sheet's first reason
@@ -89,7 +84,7 @@ checked t = go (check desk t) refl
   where
     go : (x : Result) → check desk t ≡ x → CheckSays t (verdict_reply x)
     go (accepted x) e = says_yes (accepted-as t x e)
-    go (refused reason line byte) e = says_no ((given desk t reason line byte).0 e)
+    go (refused reason line byte) e = says_no ((given t reason line byte).0 e)
 
 -- two refusals that reply alike are one, and none replies as yes does
 yes-not-no : (reason : Reason) (line byte : ℕ) → yes ≡ no reason line byte → ⊥
@@ -104,7 +99,7 @@ module _ {t : List ℕ} where
       rw (← ew, ← ea, ← eb) g
 
   some-sheet : Accepted desk t ↔ SomeSheet t
-  some-sheet = (λ a. let r = (accepted-is desk t).1 a in record { x = r.x; of = (checked-is t r.x).0 r.is }, λ h. accepted-as t h.x ((checked-is t h.x).1 h.of))
+  some-sheet = (λ a. let r = (accepted-is t).1 a in record { x = r.x; of = (checked-is t r.x).0 r.is }, λ h. accepted-as t h.x ((checked-is t h.x).1 h.of))
 
   check-laws : {r : Reply} → CheckSays t r → CheckPromise t r
   check-laws (says_yes a) =
@@ -112,14 +107,14 @@ module _ {t : List ℕ} where
         cases = says_yes a;
         accepts = (λ e. a, λ b. refl);
         sheet = (λ e. some-sheet.0 a, λ h. refl);
-        refuses = λ reason line byte. (λ e. absurd (yes-not-no reason line byte e), λ g. absurd (a reason line tt g.holds));
+        refuses = λ reason line byte. (λ e. absurd (yes-not-no reason line byte e), λ g. absurd (not-both t a g));
       }
   check-laws (says_no {reason = why} {line = at} {byte = on} g) =
       record {
         cases = says_no g;
-        accepts = (λ e. absurd (yes-not-no why at on (sym e)), λ a. absurd (a why at tt g.holds));
-        sheet = (λ e. absurd (yes-not-no why at on (sym e)), λ h. absurd (some-sheet.1 h why at tt g.holds));
-        refuses = λ reason line byte. (λ e. same-no reason line byte e g, λ h. let o = one-given g h in rw (o.0, o.1, o.2));
+        accepts = (λ e. absurd (yes-not-no why at on (sym e)), λ a. absurd (not-both t a g));
+        sheet = (λ e. absurd (yes-not-no why at on (sym e)), λ h. absurd (not-both t (some-sheet.1 h) g));
+        refuses = λ reason line byte. (λ e. same-no reason line byte e g, λ h. let o = one-given t g h in rw (o.0, o.1, o.2));
       }
 
 -- yes exactly where no reason holds of the sheet, and a refusal exactly where it is the first that holds
@@ -139,23 +134,24 @@ check-only t r e other p = go (check-promise t r e).cases p
 -- a text is well-formed exactly when it is a sheet of some values in range, written
 pub well-formed-sheet : (t : List ℕ) → WellFormed desk t ↔ SomeForm t
 well-formed-sheet t = (
-  λ w. let f = (well-formed-is desk t).1 w in let s = (form-text desk desk-spelled t f.x).0 f.is in record { x = f.x; text = s.0; range = s.1 },
-  λ h. (well-formed-is desk t).0 (record { x = h.x; is = (form-text desk desk-spelled t h.x).1 (h.text, h.range) }),
+  λ w. let f = (well-formed-is desk t).1 w in let s = (read-as t f.x).0 f.is in record { x = f.x; text = s.text; range = s.range },
+  λ h. (well-formed-is desk t).0 (record { x = h.x; is = (read-as t h.x).1 (record { text = h.text; range = h.range }) }),
 )
 
 pub formed-checked : (t : List ℕ) (r : Reply) → r ≡ sheet_checked t → WellFormed desk t → FormedSheet t r
 unfolding sheet_checked verdict_reply
 formed-checked t r e w =
     let f = (well-formed-is desk t).1 w in
-    let s = (form-text desk desk-spelled t f.x).0 f.is in
-    let law = accepted-true desk desk-spelled t f.x f.is in
-    record { x = f.x; text = s.0; range = s.1; says_yes = (λ y. law.0 (same-x f.x f.is y), λ true_sheet. e ∙ ap verdict_reply (law.1 true_sheet)) }
+    let s = (read-as t f.x).0 f.is in
+    let law = accepted-if-true t f.x s in
+    record { x = f.x; text = s.text; range = s.range; says_yes = (λ y. law.0 (same-x f.x s y), λ true_sheet. e ∙ ap verdict_reply (law.1 true_sheet)) }
   where
-    same-x : (x : Sheet) → form desk t ≡ accepted x → r ≡ yes → check desk t ≡ accepted x
-    same-x x f y =
-        let a = (accepted-is desk t).1 ((check-promise t r e).accepts.0 y) in
-        let g = accepted-formed desk desk-spelled t a.x a.is in
-        let h : accepted a.x ≡ accepted x = sym g ∙ f in
+    same-x : (x : Sheet) → ReadTo desk t x → r ≡ yes → check desk t ≡ accepted x
+    same-x x s y =
+        let a = (accepted-is t).1 ((check-promise t r e).accepts.0 y) in
+        let w = (check-text t a.x).0 a.is in
+        let g : read_sheet desk t ≡ accepted a.x = (read-as t a.x).1 (record { text = w.0; range = w.1.0 }) in
+        let h : accepted a.x ≡ accepted x = sym g ∙ (read-as t x).1 s in
         a.is ∙ h
 
 -- the sheet of some values is the best there is
@@ -163,7 +159,7 @@ best_of : (t : List ℕ) (x : Sheet) → SheetOf t x → BestSheet t
 best_of t x of = record { x = x; of = of; figures = paper-figures x of.true_sheet; no_lower = no_lower x of.true_sheet }
 
 pub yes-best : (t : List ℕ) (r : Reply) → r ≡ sheet_checked t → r ≡ yes → BestSheet t
-yes-best t r e y = let a = (accepted-is desk t).1 ((check-promise t r e).accepts.0 y) in best_of t a.x ((checked-is t a.x).0 a.is)
+yes-best t r e y = let a = (accepted-is t).1 ((check-promise t r e).accepts.0 y) in best_of t a.x ((checked-is t a.x).0 a.is)
 
 -- ---- the question
 
@@ -177,7 +173,7 @@ asked t = go (check desk t) refl
 
     go : (y : Result) → check desk t ≡ y → PairSays t (question_reply y)
     go (accepted x) q = pair_of x ((checked-is t x).0 q) (first_pair (sents x.rows)) refl
-    go (refused reason line byte) q = pair-refused ((given desk t reason line byte).0 q)
+    go (refused reason line byte) q = pair-refused ((given t reason line byte).0 q)
 
 module _ (t : List ℕ) where
   said-pair : (p q : ℕ) → PairOf t p q → sheet_parallel t ≡ paired p q
@@ -190,7 +186,7 @@ module _ (t : List ℕ) where
 
   said-refusal : (reason : Reason) (line byte : ℕ) → Given desk t reason line byte → sheet_parallel t ≡ not_asked reason line byte
   unfolding sheet_parallel question_reply
-  said-refusal reason line byte g = ap question_reply ((given desk t reason line byte).1 g)
+  said-refusal reason line byte g = ap question_reply ((given t reason line byte).1 g)
 
   -- two places from 1 on
   is-pair : (p q : ℕ) {r : PairReply} → PairSays t r → r ≡ paired p q → 1 ≤ p → PairOf t p q

@@ -4,8 +4,8 @@ use Rattle.ring.specs.Limits.{desk}
 use Rattle.ring.specs.Sheet.{Sheet, sents}
 use Rattle.table.specs.Reasons.{number_of}
 use Rattle.table.specs.declared.reason.Reason.{Reason}
-use Rattle.sheet.specs.Says.{Given, Accepted}
 use Rattle.checker.specs.Pair.{FirstPair, NoPair}
+use Rattle.checker.specs.Says.{Given, Accepted}
 use Rattle.ringkit.specs.Texts.{SheetOf, SomeSheet}
 use Rattle.ringkit.specs.declared.Reply.{Reply}
 use Rattle.ringkit.specs.declared.PairReply.{PairReply}

@@ -1,28 +1,31 @@
 -- Internal: the outcome of the calls that read or write a matrix: the text's refusals, and of a table 19 (then 15); or the text that is due.
-use Rattle.std.specs.Prelude.{ℕ, cond, List}
+use Rattle.std.specs.Prelude.{ℕ, cond, List, Ok, Err}
 use Rattle.ring.specs.Limits.{desk}
+use Rattle.ring.specs.Ring.{ring_of}
 use Rattle.table.specs.Judge.{other_fibres}
 use Rattle.table.specs.Table.{write_table}
 use Rattle.table.specs.ReadTable.{Result, accepted, refused, table_of}
-use Rattle.table.specs.declared.reason.Reason.TheVariants.{Fibres, SumTooMuch}
+use Rattle.table.specs.declared.reason.Reason.TheVariants.{Fibres}
 use Rattle.matrix.specs.Matrix.{write_matrix}
-use Rattle.matrix.specs.Demands.{matrix_of_rows}
-use Rattle.matrix.specs.Read.{matrix_of, table_from}
+use Rattle.matrix.specs.Demands.{rows_of_matrix, matrix_of_rows}
+use Rattle.matrix.specs.Read.{Matrix, Verdict, matrix_of}
 use Rattle.matrix.specs.Judged.{judge_sums}
-use Rattle.matrix.specs.declared.sums.Sums.{Sums}
-use Rattle.matrix.specs.declared.sums.Sums.TheVariants.{Fit, Pass}
 use Rattle.ringkit.specs.Outcome.{Outcome, write, refuse}
-use Rattle.ringkit.specs.TableCalls.{of_table}
 
--- reading a matrix and writing its table, on a ring of so many fibres: 20 is tried first of all
+-- the table of a matrix on a ring of so many fibres
+unfoldable pub table_of_matrix : ℕ → Matrix → Outcome
+table_of_matrix fibres (Ok s) = write (write_table (ring_of s.0 fibres) (rows_of_matrix s.0 s.1))
+table_of_matrix fibres (Err r) = refuse r.reason r.line r.byte
+
+-- reading a matrix and writing its table: 20 is tried first of all
 unfoldable pub matrix_read : ℕ → List ℕ → Outcome
-unfolding of_table
-matrix_read fibres t = cond (other_fibres fibres) (refuse Fibres 0 0) (of_table write_table (table_from fibres (matrix_of desk t)))
+unfolding table_of_matrix
+matrix_read fibres t = cond (other_fibres fibres) (refuse Fibres 0 0) (table_of_matrix fibres (matrix_of desk t))
 
 -- 19, where a pair's sum passes the limit
-unfoldable pub unless_pass : Sums → Outcome → Outcome
-unless_pass Fit next = next
-unless_pass (Pass line) next = refuse SumTooMuch line 1
+unfoldable pub unless_pass : Verdict → Outcome → Outcome
+unless_pass (Ok tt) next = next
+unless_pass (Err r) next = refuse r.reason r.line r.byte
 
 unfoldable pub of_rows : Result → Outcome
 unfolding unless_pass

@@ -1,7 +1,7 @@
 -- To believe: what each call promises that reads a text and fills a buffer, by what is due to the text and which refusal is given to it.
 use Rattle.std.specs.Prelude.{ℕ, List}
 use Rattle.ring.specs.Limits.{desk}
-use Rattle.sheet.specs.Says as sheet
+use Rattle.checker.specs.Says as sheet
 use Rattle.table.specs.Says as table
 use Rattle.ringkit.specs.Says.{CallPromise}
 use Rattle.ringkit.specs.Texts.{Itself, TableDue, sheet_due, MatrixDue, MatrixGiven, SumsDue, SumsGiven}

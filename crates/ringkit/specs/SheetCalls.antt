@@ -3,7 +3,8 @@ use Rattle.std.specs.Prelude.{ℕ, List}
 use Rattle.ring.specs.Limits.{desk}
 use Rattle.ring.specs.Sheet.{sents}
 use Rattle.table.specs.Reasons.{number_of}
-use Rattle.sheet.specs.Check.{Result, accepted, refused, check}
+use Rattle.sheet.specs.Read.{Result, accepted, refused}
+use Rattle.checker.specs.Check.{check}
 use Rattle.checker.specs.FindPair.{first_pair}
 use Rattle.sheet.specs.WriteSheet.{write_sheet}
 use Rattle.checker.specs.declared.pair.Pair.{Pair}

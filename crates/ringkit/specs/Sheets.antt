@@ -8,8 +8,8 @@ use Rattle.ring.specs.declared.types.Sent.{Sent}
 use Rattle.ring.specs.Sheet.{Sheet, sents, demands}
 use Rattle.ring.specs.True.{TrueSheet}
 use Rattle.sheet.specs.Range as sheet_range
-use Rattle.sheet.specs.Says.{Accepted}
 use Rattle.sheet.specs.WriteSheet.{write_sheet}
+use Rattle.checker.specs.Says.{Accepted}
 use Rattle.ringkit.specs.Answers.{yes, NoPairOf}
 use Rattle.ringkit.specs.Says.{Success}
 use Rattle.ringkit.specs.Texts.{SheetOf, TableDue, sheet_due}

@@ -1,24 +1,21 @@
 #![tactic(auto)]
 // The public calls: byte slices and numbers in, a reply by value out. No call has a `requires`. `ringkit_c` gives them to C.
+mod judging; // the call that judges values
 mod line; // what the programs print of a refusal
-mod reading; // a table to rows
 mod working; // the calls of the working table
 
 ghost use Rattle.std.specs.Prelude.{◌≡◌, ◌≤◌, length, take};
 ghost use Rattle.ring.specs.Limits.{desk};
 ghost use Rattle.ring.specs.LineSize.{IsFibres};
-ghost use Rattle.ring.specs.Ring.{ring_of};
-ghost use Rattle.ring.specs.Columns.{rows_in};
 ghost use Rattle.ring.specs.Sheet.{plan, sents, demands};
 ghost use Rattle.table.specs.Table.{InRange, write_table, table_room};
 ghost use Rattle.table.specs.Says.{Accepted as AcceptedTable};
 ghost use Rattle.matrix.specs.Matrix.{write_matrix};
 ghost use Rattle.matrix.specs.Demands.{matrix_of_rows};
-ghost use Rattle.matrix.specs.Arrays.{Amounts};
 ghost use Rattle.matrix.specs.Room.{matrix_room};
 ghost use Rattle.matrix.specs.Says.{Accepted as AcceptedMatrix};
 ghost use Rattle.sheet.specs.WriteSheet.{write_sheet};
-ghost use Rattle.sheet.specs.Arrays.{sheet_in};
+ghost use Rattle.sheet.specs.Values.{sheet_in};
 ghost use Rattle.sheet.specs.Range.{longest};
 ghost use Rattle.sheet.specs.Says.{WellFormed};
 ghost use Rattle.ringkit.specs.Says.{Only};
@@ -31,11 +28,10 @@ ghost use Rattle.ringkit.specs.TableCalls.{table_afresh, table_routed};
 ghost use Rattle.ringkit.specs.MatrixCalls.{matrix_read, matrix_written};
 ghost use Rattle.ringkit.specs.SheetCalls.{sheet_checked, sheet_parallel, sheet_afresh};
 
-use checker::{Held, Pair};
+use checker::Pair;
+pub use judging::{JudgeReply, ringkit_judge};
 pub use line::RefusalLine;
-use matrix::Sums;
-use reading::read_rows;
-use ring::{LINKS, ROWS, Ring};
+use ring::{LINKS, Link, ROWS, Ring, wide};
 use rows::{Columns, Rows};
 use sheet::Figures;
 use table::Reason;
@@ -93,25 +89,17 @@ fn refusal(reason: Reason, line: u32, byte: u32) -> Reply
     }
 }
 
-// Writes a table, or refuses where the buffer is too short.
-fn put_table<'a>(
-    buf: &mut [u8],
-    n: u32,
-    fibres: u32,
-    count: usize,
-    first: &'a [u32; ROWS],
-    second: &'a [u32; ROWS],
-    amount: &'a [u32; ROWS],
-) -> Reply
-    requires { count ≤ desk.rows }
-    ensures { let rows = rows_in count first.now second.now amount.now in
-        Fills (write (write_table (ring_of n fibres) rows)) buf.old buf.new result }
+// Writes the table of a ring and of the demands of rows, or refuses where the buffer is too short.
+fn put_table<R: Rows>(buf: &mut [u8], ring: Ring, rows: &R) -> Reply
+    requires { length (R.rows rows.now) ≤ desk.rows }
+    ensures { let demands = demands (sents (R.rows rows.now)) in
+        Fills (write (write_table ring demands)) buf.old buf.new result }
 {
-    let size = table::table_length(n, fibres, count, first, second, amount);
+    let size = table::table_length(ring, rows);
     if buf.len() < size {
         return refusal(Reason::NoRoom, 0, 0);
     }
-    let length = table::write_table(buf, n, fibres, count, first, second, amount);
+    let length = table::write_table(buf, ring, rows);
     Reply {
         reason: 0,
         line: 0,
@@ -123,21 +111,10 @@ fn put_table<'a>(
 fn rewrite_table(table: &[u8], buffer: &mut [u8]) -> Reply
     ensures { Fills (table_afresh table.now) buffer.old buffer.new result }
 {
-    let mut first = [0u32; ROWS];
-    let mut second = [0u32; ROWS];
-    let mut amount = [0u32; ROWS];
-    let answer = table::read_table(table, &mut first, &mut second, &mut amount);
-    match answer {
+    let mut rows = Columns::new();
+    match table::read_table(table, &mut rows) {
         Err(refused) => refusal(refused.reason, refused.line, refused.byte),
-        Ok(read) => put_table(
-            buffer,
-            read.ring.nodes,
-            read.ring.fibres,
-            read.count,
-            &first,
-            &second,
-            &amount,
-        ),
+        Ok(ring) => put_table(buffer, ring, &rows),
     }
 }
 
@@ -153,20 +130,13 @@ pub fn ringkit_rewrite_table(table: &[u8], buffer: &mut [u8]) -> Reply
 fn read_matrix(matrix: &[u8], fibres: u32, buffer: &mut [u8]) -> Reply
     ensures { Fills (matrix_read fibres matrix.now) buffer.old buffer.new result }
 {
-    let other = table::other_fibres(fibres);
-    if other {
+    if table::other_fibres(fibres) {
         return refusal(Reason::Fibres, 0, 0);
     }
-    let mut first = [0u32; ROWS];
-    let mut second = [0u32; ROWS];
-    let mut amount = [0u32; ROWS];
-    let answer = matrix::read_matrix(matrix, fibres, &mut first, &mut second, &mut amount);
-    match answer {
+    let mut rows = Columns::new();
+    match matrix::read_matrix(matrix, &mut rows) {
         Err(refused) => refusal(refused.reason, refused.line, refused.byte),
-        Ok(read) => {
-            let n = read.ring.nodes;
-            put_table(buffer, n, fibres, read.count, &first, &second, &amount)
-        }
+        Ok(nodes) => put_table(buffer, Ring { nodes, fibres }, &rows),
     }
 }
 
@@ -185,24 +155,16 @@ pub fn ringkit_read_matrix(matrix: &[u8], fibres: u32, buffer: &mut [u8]) -> Rep
 }
 
 // Writes the matrix of a table's rows, or refuses where the buffer is too short.
-fn put_matrix<'a>(
-    buf: &mut [u8],
-    n: u32,
-    count: usize,
-    first: &'a [u32; ROWS],
-    second: &'a [u32; ROWS],
-    amount: &'a [u32; ROWS],
-) -> Reply
-    requires nodes { n ≤ desk.nodes }
-    requires amounts { Amounts count amount.now }
-    ensures { let rows = rows_in count first.now second.now amount.now in
-        Fills (write (write_matrix (matrix_of_rows n rows))) buf.old buf.new result }
+fn put_matrix<R: Rows>(buf: &mut [u8], ring: Ring, rows: &R) -> Reply
+    requires { InRange desk ring (demands (sents (R.rows rows.now))) }
+    ensures { let demands = demands (sents (R.rows rows.now)) in
+        Fills (write (write_matrix (matrix_of_rows ring.nodes demands))) buf.old buf.new result }
 {
-    let bytes = matrix::matrix_length(n, count, first, second, amount);
+    let bytes = matrix::matrix_length(ring, rows);
     if buf.len() < bytes {
         return refusal(Reason::NoRoom, 0, 0);
     }
-    let length = matrix::write_matrix(buf, n, count, first, second, amount);
+    let length = matrix::write_matrix(buf, ring, rows);
     Reply {
         reason: 0,
         line: 0,
@@ -214,21 +176,13 @@ fn put_matrix<'a>(
 fn write_matrix(table: &[u8], buffer: &mut [u8]) -> Reply
     ensures { Fills (matrix_written table.now) buffer.old buffer.new result }
 {
-    let mut first = [0u32; ROWS];
-    let mut second = [0u32; ROWS];
-    let mut amount = [0u32; ROWS];
-    let answer = table::read_table(table, &mut first, &mut second, &mut amount);
-    match answer {
+    let mut rows = Columns::new();
+    match table::read_table(table, &mut rows) {
         Err(refused) => refusal(refused.reason, refused.line, refused.byte),
-        Ok(read) => {
-            let n = read.ring.nodes;
-            let count = read.count;
-            let sums = matrix::judge_sums(count, &first, &second, &amount);
-            match sums {
-                Sums::Pass(line) => refusal(Reason::SumTooMuch, line, 1),
-                Sums::Fit => put_matrix(buffer, n, count, &first, &second, &amount),
-            }
-        }
+        Ok(ring) => match matrix::judge_sums(&rows) {
+            Err(sum) => refusal(sum.reason, sum.line, sum.byte),
+            Ok(()) => put_matrix(buffer, ring, &rows),
+        },
     }
 }
 
@@ -245,23 +199,17 @@ pub fn ringkit_write_matrix(table: &[u8], buffer: &mut [u8]) -> Reply
 }
 
 // Writes a sheet, or refuses where the buffer is too short.
-fn put_sheet<R: Rows>(
-    buf: &mut [u8],
-    x: Figures,
-    rows: &R,
-    split: &[u32; LINKS],
-    unsplit: &[u32; LINKS],
-) -> Reply
-    requires rows { length (R.rows rows.now) ≤ desk.rows }
-    requires nodes { x.ring.nodes ≤ desk.nodes }
-    ensures { let sheet = sheet_in x (R.rows rows.now) split.now unsplit.now in
-        Fills (write (write_sheet sheet)) buf.old buf.new result }
+fn put_sheet<R: Rows>(buffer: &mut [u8], x: Figures, rows: &R, links: &[Link]) -> Reply
+    requires few_rows { length (R.rows rows.now) ≤ desk.rows }
+    requires few_links { length links.now ≤ desk.nodes }
+    ensures { let sheet = sheet_in x (R.rows rows.now) links.now in
+        Fills (write (write_sheet sheet)) buffer.old buffer.new result }
 {
-    let need = sheet::sheet_length(x, rows, split, unsplit);
-    if buf.len() < need {
+    let need = sheet::sheet_length(x, rows, links);
+    if buffer.len() < need {
         return refusal(Reason::NoRoom, 0, 0);
     }
-    let length = sheet::write_sheet(buf, x, rows, split, unsplit);
+    let length = sheet::write_sheet(buffer, x, rows, links);
     Reply {
         reason: 0,
         line: 0,
@@ -271,28 +219,29 @@ fn put_sheet<R: Rows>(
 }
 
 // Routes a table's rows and writes their sheet.
-fn put_route(buf: &mut [u8], ring: Ring, rows: &mut Columns) -> Reply
+fn put_route(buffer: &mut [u8], ring: Ring, rows: &mut Columns) -> Reply
     requires { InRange desk ring (demands (sents rows.old)) }
     ensures { let sheet = plan ring (demands (sents rows.old)) in
-        Fills (write (write_sheet sheet)) buf.old buf.new result }
+        Fills (write (write_sheet sheet)) buffer.old buffer.new result }
 {
-    let p = router::route(ring, rows);
+    let plan = router::route(ring, rows);
+    let links = weight::links(&plan.weight);
     let x = Figures {
         ring,
-        cut: p.cut,
-        peak: p.weight.peak,
-        size: p.size,
+        cut: plan.cut,
+        peak: plan.weight.peak,
+        size: plan.size,
     };
-    put_sheet(buf, x, rows, &p.weight.split, &p.weight.unsplit)
+    put_sheet(buffer, x, rows, &links[..wide(ring.nodes)])
 }
 
 fn route(table: &[u8], buffer: &mut [u8]) -> Reply
     ensures { Fills (table_routed table.now) buffer.old buffer.new result }
 {
     let mut rows = Columns::new();
-    match read_rows(table, &mut rows) {
+    match table::read_table(table, &mut rows) {
         Err(refused) => refusal(refused.reason, refused.line, refused.byte),
-        Ok(read) => put_route(buffer, read.ring, &mut rows),
+        Ok(ring) => put_route(buffer, ring, &mut rows),
     }
 }
 
@@ -313,9 +262,9 @@ pub fn ringkit_route(table: &[u8], buffer: &mut [u8]) -> Reply
 fn check(sheet: &[u8]) -> Reply
     ensures { result ≡ sheet_checked sheet.now }
 {
-    let mut values = checker::no_values();
-    let answer = checker::check_sheet(sheet, &mut values);
-    match answer {
+    let mut rows = Columns::new();
+    let mut links = [Link::default(); LINKS];
+    match checker::check_sheet(sheet, &mut rows, &mut links) {
         Err(why) => refusal(why.reason, why.line, why.byte),
         Ok(_) => Reply {
             reason: 0,
@@ -351,9 +300,9 @@ pub struct PairReply {
 fn first_parallel(sheet: &[u8]) -> PairReply
     ensures { result ≡ sheet_parallel sheet.now }
 {
-    let mut values = checker::no_values();
-    let answer = checker::check_sheet(sheet, &mut values);
-    match answer {
+    let mut rows = Columns::new();
+    let mut links = [Link::default(); LINKS];
+    match checker::check_sheet(sheet, &mut rows, &mut links) {
         Err(refused) => PairReply {
             reason: refused.reason.number(),
             line: refused.line,
@@ -361,14 +310,8 @@ fn first_parallel(sheet: &[u8]) -> PairReply
             first: 0,
             second: 0,
         },
-        Ok(count) => {
-            let pair = checker::first_pair(
-                count,
-                &values.first,
-                &values.second,
-                &values.front,
-                &values.back,
-            );
+        Ok(_) => {
+            let pair = checker::first_pair(&rows);
             let Pair::Are(first, second) = pair else {
                 return PairReply {
                     reason: 0,
@@ -401,18 +344,11 @@ pub fn ringkit_parallel(sheet: &[u8]) -> PairReply
 fn rewrite_sheet(sheet: &[u8], buffer: &mut [u8]) -> Reply
     ensures { Fills (sheet_afresh sheet.now) buffer.old buffer.new result }
 {
-    let mut values = checker::no_values();
-    let answer = checker::check_sheet(sheet, &mut values);
-    match answer {
+    let mut rows = Columns::new();
+    let mut links = [Link::default(); LINKS];
+    match checker::check_sheet(sheet, &mut rows, &mut links) {
         Err(refused) => refusal(refused.reason, refused.line, refused.byte),
-        Ok(count) => {
-            let x = values.figures;
-            let held = Held {
-                count,
-                values: &values,
-            };
-            put_sheet(buffer, x, &held, &values.split, &values.unsplit)
-        }
+        Ok(x) => put_sheet(buffer, x, &rows, &links[..wide(x.ring.nodes)]),
     }
 }
 

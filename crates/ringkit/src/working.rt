@@ -15,7 +15,8 @@ ghost use Rattle.ringkit.specs.TableCalls.{work_written};
 ghost use Rattle.ringkit.specs.WorkCalls.{WorkDue, NoRefusal};
 
 use crate::{Reply, put_table};
-use ring::ROWS;
+use ring::Ring;
+use rows::Columns;
 use work::{RowReply, Work, WorkReply};
 
 pub fn ringkit_work_start(work: &mut Work, n: u32, fibres: u32) -> WorkReply
@@ -132,17 +133,17 @@ pub fn ringkit_work_row(work: &Work, place: u32) -> RowReply
 }
 
 // Writes the rows held, by nodes, then by place, at the start of a buffer that has room for them.
-fn written(work: Work, buffer: &mut [u8]) -> Reply
-    ensures promise { CallPromise (WorkDue work) NoRefusal buffer.old buffer.new result }
-    ensures value { Fills (work_written work) buffer.old buffer.new result }
+fn written(work: &Work, buffer: &mut [u8]) -> Reply
+    ensures promise { CallPromise (WorkDue work.now) NoRefusal buffer.old buffer.new result }
+    ensures value { Fills (work_written work.now) buffer.old buffer.new result }
 {
-    let n = work.n;
-    let fibres = work.fibres;
-    let mut first = [0u32; ROWS];
-    let mut second = [0u32; ROWS];
-    let mut amount = [0u32; ROWS];
-    let count = work::sorted(work, &mut first, &mut second, &mut amount);
-    put_table(buffer, n, fibres, count, &first, &second, &amount)
+    let ring = Ring {
+        nodes: work.n,
+        fibres: work.fibres,
+    };
+    let mut rows = Columns::new();
+    work::sorted(work, &mut rows);
+    put_table(buffer, ring, &rows)
 }
 
 pub fn ringkit_work_write(work: &Work, buffer: &mut [u8]) -> Reply
@@ -157,5 +158,5 @@ pub fn ringkit_work_write(work: &Work, buffer: &mut [u8]) -> Reply
     ensures room { (calls : List Call) → Made calls work.now →
         table_room desk ≤ length buffer.old → result.reason ≡ 0 }
 {
-    written(*work, buffer)
+    written(work, buffer)
 }

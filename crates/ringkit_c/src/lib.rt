@@ -21,13 +21,16 @@ ghost use Rattle.ringkit.specs.WorkCalls.{WorkDue, NoRefusal};
 ghost use Rattle.ringkit.specs.Texts.{SumsFit};
 ghost use Rattle.ringkit.specs.Promises.{RoutePromise, RewriteTablePromise, RewriteSheetPromise, ReadMatrixPromise, WriteMatrixPromise};
 ghost use Rattle.ringkit.specs.Answers.{yes, CheckPromise, PairPromise};
+ghost use Rattle.ringkit.specs.Judging.{sheet_given, JudgePromise};
 ghost use Rattle.ringkit.specs.Sheets.{FormedSheet, BestSheet, RoutedWell};
 ghost use Rattle.ringkit.specs.Outcome.{Fills};
 ghost use Rattle.ringkit.specs.TableCalls.{table_afresh, table_routed, work_written};
 ghost use Rattle.ringkit.specs.MatrixCalls.{matrix_read, matrix_written};
 ghost use Rattle.ringkit.specs.SheetCalls.{sheet_checked, sheet_parallel, sheet_afresh};
 
-use ringkit::{PairReply, Reply};
+use ring::Link;
+use ringkit::{JudgeReply, PairReply, Reply};
+use rows::SheetRow;
 use work::{RowReply, Work, WorkReply};
 
 #[unsafe(no_mangle)]
@@ -106,6 +109,26 @@ pub extern "C" fn ringkit_rewrite_sheet(sheet: &[u8], buffer: &mut [u8]) -> Repl
     ensures value { Fills (sheet_afresh sheet.now) buffer.old buffer.new result }
 {
     ringkit::ringkit_rewrite_sheet(sheet, buffer)
+}
+
+#[unsafe(no_mangle)]
+pub extern "C" fn ringkit_judge(
+    rows: &[SheetRow],
+    n: u32,
+    fibres: u32,
+    g: u32,
+    h: u32,
+    across: u32,
+    links: &[Link],
+    peak: u32,
+    size: u32,
+) -> JudgeReply
+    ensures promise { let x = sheet_given rows.now n fibres g h across links.now peak size in
+        JudgePromise x result }
+    ensures only { let x = sheet_given rows.now n fibres g h across links.now peak size in
+        (other : JudgeReply) → JudgePromise x other → other ≡ result }
+{
+    ringkit::ringkit_judge(rows, n, fibres, g, h, across, links, peak, size)
 }
 
 #[unsafe(no_mangle)]

@@ -1,7 +1,6 @@
 -- The triangle under its loops: rows put on from the last to the first make the triangle of them all, and a row taken off leaves that of the others;
 -- no number comes near the type's end, so that the sums that wrap around are sums.
 use Prim.Native.Nat.{ℕ, ◌+◌, ◌*◌, ◌≤◌, ◌<◌}
-use mathlib.Core.Bool.{true, false}
 use mathlib.Core.Path.{◌≡◌, sym}
 use mathlib.Core.List.{List, [], ◌∷◌}
 use native.Mathlib.Omega.{arith}
@@ -16,13 +15,12 @@ use Rattle.ring.specs.declared.types.Sent.{Sent}
 use Rattle.ring.specs.Sheet.{sents, demands}
 use Rattle.ring.proofs.Lists.{each, each-of-map}
 use Rattle.weight.proofs.Weighing.{each-at, total-snoc, total-few}
-use Rattle.ring.specs.Row.{row}
 use Rattle.ring.specs.declared.types.Row.{Row}
 use Rattle.ring.specs.Cut.{part, across}
 use Rattle.ring.proofs.Across.{one_link}
 use Rattle.ring.proofs.Totals.{part_small}
 use Rattle.across.specs.Triangle.{most_links, at}
-use Rattle.across.specs.Step.{step_row}
+use Rattle.across.specs.Step.{raised, lowered, step_row}
 use Rattle.across.specs.Lines.{Pairwise}
 use Rattle.across.proofs.Kept.{row-at, row-size}
 use Rattle.weight.specs.Limits.{most_amount, most_rows, most_load}
@@ -39,12 +37,12 @@ pair_is n rs triangle s g h a b c =
 -- ---- one row
 
 module _ (n : ℕ) (r : Row) (rs : List Row) (old : List ℕ) (few : n ≤ most_links) where
-  pub taken-off : Triangle n (r ∷ rs) old → Pairwise n (λ g h. at old g h ≤ most_load) → Triangle n rs (step_row false n r old)
+  pub taken-off : Triangle n (r ∷ rs) old → Pairwise n (λ g h. at old g h ≤ most_load) → Triangle n rs (step_row lowered n r old)
   unfolding across
   taken-off s small =
       record {
-        size = row-size false n r old;
-        is = λ g h a b c. omega (arith, row-at false n r old few g h a b c, s.is g h a b c, small g h a b c);
+        size = row-size lowered n r old;
+        is = λ g h a b c. omega (arith, row-at lowered n r old few g h a b c, s.is g h a b c, small g h a b c);
       }
 
 -- ---- all rows
@@ -82,18 +80,18 @@ module _ (n : ℕ) (rs : List Routed) (fit : DemandsFit n (demands (sents rs))) 
     pub fill-row : DemandFits n r.sent.row
     fill-row = rw (get_or_from_slice_get rs t r r g) at (each-at fits-all t r in-list)
 
-    pub fill-turn : (new : List ℕ) (i j : ℕ) → i ≡ r.sent.row.first → j ≡ r.sent.row.second → new ≡ step_row true n (row i j r.sent.row.amount) triangle → Filled n rs new (t + 1)
+    pub fill-turn : (new : List ℕ) → new ≡ step_row raised n r.sent.row triangle → Filled n rs new (t + 1)
     unfolding across
-    fill-turn new i j ei ej e =
+    fill-turn new e =
         record {
           high = omega (arith, in-list);
           so_far =
-              rw (take_more rs t r in-list, get_or_from_slice_get rs t r r g, e, ei, ej)
+              rw (take_more rs t r in-list, get_or_from_slice_get rs t r r g, e)
               (record {
-                size = row-size true n r.sent.row triangle;
+                size = row-size raised n r.sent.row triangle;
                 is = λ a b p q s.
                     omega
-                    (arith, row-at true n r.sent.row triangle fit.links a b p q s, f.so_far.is a b p q s, more-across n (take t rs) r a b, part_small r.sent.row a b, fill-row.small, across-most rs t a b n fits-all, in-list, few);
+                    (arith, row-at raised n r.sent.row triangle fit.links a b p q s, f.so_far.is a b p q s, more-across n (take t rs) r a b, part_small r.sent.row a b, fill-row.small, across-most rs t a b n fits-all, in-list, few);
               });
         }
 

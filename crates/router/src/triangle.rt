@@ -4,8 +4,7 @@ ghost use Rattle.std.specs.Prelude.{[]};
 ghost use Rattle.ring.specs.Sheet.{sents, demands};
 ghost use Rattle.router.specs.Arrays.{DemandsFit, Triangle};
 
-use across::{PAIRS, step_row};
-use ring::wide;
+use across::{PAIRS, put_row};
 use rows::Rows;
 
 // The triangle of rows, from an empty one.
@@ -16,13 +15,6 @@ pub(crate) fn fill<R: Rows>(triangle: &mut [u32; PAIRS], n: usize, rows: &R)
 {
     for k in 0..rows.count() {
         let demand = rows.row(k).sent.row;
-        step_row(
-            triangle,
-            true,
-            n,
-            wide(demand.first),
-            wide(demand.second),
-            demand.amount,
-        );
+        put_row(triangle, n, demand);
     }
 }

@@ -2,6 +2,7 @@
 use Rattle.std.specs.Prelude.{ℕ, ◌≡◌, ◌≤◌, List, length, get_or}
 use Rattle.ring.specs.Limits.{desk}
 use Rattle.ring.specs.declared.types.Way.TheVariants.{Front}
+use Rattle.ring.specs.declared.types.Row.{Row}
 use Rattle.ring.specs.declared.types.Routed.{Routed}
 use Rattle.ring.specs.Routing.{routed, sent}
 use Rattle.ring.specs.Lists.{listed}
@@ -22,3 +23,7 @@ pub record Sized (c : Inside) : Type 0 where
   pub fronts : length c.front ≡ desk.rows
   pub backs : length c.back ≡ desk.rows
   pub ways : length c.way ≡ desk.rows
+
+-- a demand as it is before any rule: no halves, and the way to the front
+abbrev pub unsent : Row → Routed
+unsent r = record { sent = record { row = r; front = 0; back = 0 }; way = Front }

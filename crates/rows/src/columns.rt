@@ -1,4 +1,4 @@
-// Rows in columns, from place 0 on: an array for each figure, in which nothing moves.
+//! Rows in columns, from place 0 on: an array for each figure, in which nothing moves.
 ghost use Rattle.std.specs.Prelude.{
   ◌≡◌,
   ◌<◌,
@@ -13,12 +13,13 @@ ghost use Rattle.std.specs.Prelude.{
   slice_set,
 };
 ghost use Rattle.ring.specs.Limits.{desk};
+ghost use Rattle.rows.specs.Columns.{unsent};
 
 use crate::{Rows, RowsMut};
 use ring::{ROWS, Routed, Row, Sent, Way};
 use std::marker::Model;
 
-// At most 496 rows. Some 10 KB: make it where it stays, and lend it.
+/// At most 496 rows. Some 10 KB: make it where it stays, and lend it.
 #[derive(Drop)]
 pub struct Columns {
     count: usize,
@@ -45,7 +46,7 @@ impl Model for Columns {
 }
 
 impl Columns {
-    // No row.
+    /// No row.
     pub fn new() -> Self
         ensures { result ≡ [] }
     {
@@ -60,7 +61,14 @@ impl Columns {
         }
     }
 
-    // How many rows there are.
+    /// No row again. The arrays stay as they are: what stands behind the count is never read.
+    pub fn clear(&mut self)
+        ensures { self.new ≡ [] }
+    {
+        self.count = 0;
+    }
+
+    /// How many rows there are: at most 496.
     pub fn len(&self) -> usize
         ensures is { result ≡ length self.now }
         ensures few { length self.now ≤ desk.rows }
@@ -68,7 +76,7 @@ impl Columns {
         self.count
     }
 
-    // The row at a place.
+    /// The row at a place from 0 on.
     pub fn get(&self, k: usize) -> Routed
         requires { k < length self.now }
         ensures { slice_get self.now k ≡ Some result }
@@ -89,7 +97,7 @@ impl Columns {
         }
     }
 
-    // One row more, behind the last.
+    /// One row more, behind the last.
     pub fn push(&mut self, row: Routed)
         requires { length self.old < desk.rows }
         ensures { self.new ≡ self.old ++ row ∷ [] }
@@ -104,7 +112,22 @@ impl Columns {
         self.count = k + 1;
     }
 
-    // Another row at a place.
+    /// One demand more, behind the last row: nothing is sent yet, and its way is the front.
+    pub fn push_unsent(&mut self, row: Row)
+        requires { length self.old < desk.rows }
+        ensures { self.new ≡ self.old ++ unsent row ∷ [] }
+    {
+        self.push(Routed {
+            sent: Sent {
+                row,
+                front: 0,
+                back: 0,
+            },
+            way: Way::Front,
+        });
+    }
+
+    /// Another row at a place from 0 on, where one stands.
     pub fn set(&mut self, k: usize, row: Routed)
         requires { k < length self.old }
         ensures { self.new ≡ slice_set self.old k row }

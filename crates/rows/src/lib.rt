@@ -1,12 +1,14 @@
 #![tactic(auto, using(crate::proofs::Places::length_rows))]
 // Rows as they are routed, by their places: the calls above speak of the list, whatever holds it.
 mod columns;
+mod sheet_row;
 
 ghost use Rattle.std.specs.Prelude.{◌≡◌, ◌<◌, List, Some, length, slice_get, slice_set};
 ghost use Rattle.ring.specs.declared.types.Routed.{Routed};
 
 pub use columns::Columns;
 use ring::Routed;
+pub use sheet_row::SheetRow;
 
 // What can be read row by row.
 pub trait Rows {

@@ -1,10 +1,22 @@
--- The last of some rows and one row more is that row: by recursion over the rows.
+-- The last of some rows and one row more is that row; and the verdict on a row behind others.
+use Prim.Native.Nat.{ℕ}
 use mathlib.Core.List.{List, [], ◌∷◌, ◌++◌}
-use mathlib.Core.Path.{◌≡◌, refl}
+use mathlib.Core.Path.{◌≡◌, ap, ◌∙◌}
+use lib.ListN.{length}
+use Rattle.ring.specs.Limits.{Limits}
+use Rattle.ring.specs.Sheet.{sents, demands}
 use Rattle.ring.specs.declared.types.Routed.{Routed}
-use Rattle.sheet.specs.Check.{last_of}
+use Rattle.ring.specs.declared.types.Row.{Row}
+use Rattle.rows.proofs.Demands.{demands-more}
+use Rattle.table.specs.Faults.{last_of as last_demand}
+use Rattle.table.specs.Judge.{judge_row}
+use Rattle.table.specs.Verdict.{Verdict}
+use Rattle.table.proofs.Faults.{last-more}
+use Rattle.sheet.specs.Read.{last_of}
 
 pub last_more : (rs : List Routed) (r : Routed) → last_of (rs ++ r ∷ []) ≡ r.sent.row
-last_more [] r = refl
-last_more (q ∷ []) r = refl
-last_more (q ∷ p ∷ rs) r = last_more (p ∷ rs) r
+last_more rs r = ap last_demand (demands-more rs r) ∙ last-more (demands (sents rs)) r.sent.row
+
+-- 4 to 7 and 16 of a D line, behind the rows rs
+abbrev pub judge_next : Limits → ℕ → List Routed → Row → Verdict
+judge_next limits n rs r = judge_row limits n (length rs) (last_of rs).first (last_of rs).second r.first r.second r.amount

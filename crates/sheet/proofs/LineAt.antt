@@ -1,33 +1,70 @@
--- The lines of a sheet, one behind the other; and the L lines of loads in arrays: the pieces that measuring and writing go through.
-use Prim.Native.Nat.{ℕ, ◌+◌}
+-- The lines of a list's members, one behind the other: those of the members before place k are behind a pass, and the next goes behind them. And a way in a line.
+use Prim.Native.Nat.{ℕ, ◌+◌, ◌*◌, ◌≤◌}
 use mathlib.Core.Bool.{Bool, true, false, cond}
 use mathlib.Core.List.{List, [], ◌∷◌, ◌++◌, append_assoc, append-nil}
 use mathlib.Core.Path.{◌≡◌, refl, ap, ◌∙◌, sym}
 use native.Mathlib.Omega.{arith}
 use lib.Dec.{eqb}
-use lib.ListN.{get_or}
+use lib.ListN.{length, take, drop, length-append, take-append-drop}
+use Rattle.std.proofs.Common.{Some, slice_get}
+use Rattle.std.proofs.lemmas.List.{take_more, take_all}
+use Rattle.std.proofs.lemmas.Option.{get_or_from_slice_get, slice_get_within}
 use Rattle.ring.specs.Routing.{way_number, way_of}
 use Rattle.ring.specs.declared.types.Way.TheVariants.{Front, Back}
-use Rattle.ring.specs.Columns.{listed}
-use Rattle.ring.proofs.Listed.{listed-snoc}
 use Rattle.text.specs.Field.{spell}
+use Rattle.text.specs.Pass.{Passes}
 use Rattle.text.specs.WriteLine.{write_line}
-use Rattle.text.specs.Shapes.{link_shape, sent_line, link_line}
-use Rattle.text.proofs.Lengths.{line-short}
-use Rattle.text.proofs.Pieces.{Pieces}
-use Rattle.sheet.specs.WriteSheet.{load_line, lines_of}
-use Rattle.sheet.specs.Arrays.{link_at, links_in}
+use Rattle.text.specs.Written.{Passed}
+use Rattle.text.specs.Shapes.{sent_line}
+use Rattle.text.proofs.Writing.{written_behind, room-kept}
+use Rattle.sheet.specs.WriteSheet.{lines_of}
 
-pub lines_more : {A : Type 0} (line : A → List ℕ) (l : List A) (x : A) → lines_of line (l ++ x ∷ []) ≡ lines_of line l ++ line x
-unfolding lines_of
-lines_more line [] x = append-nil (line x)
-lines_more line (y ∷ l) x = ap (λ m. line y ++ m) (lines_more line l x) ∙ sym (append_assoc (line y) (lines_of line l) (line x))
+module _ {A : Type 0} (line : A → List ℕ) where
+  parts : (l more : List A) → lines_of line (l ++ more) ≡ lines_of line l ++ lines_of line more
+  unfolding lines_of
+  parts [] more = refl
+  parts (x ∷ l) more = ap (λ (t : List ℕ). line x ++ t) (parts l more) ∙ sym (append_assoc (line x) (lines_of line l) (lines_of line more))
 
--- the lines of members by place
-lines-listed : {A : Type 0} (line : A → List ℕ) (f : ℕ → A) (k : ℕ) → lines_of line (listed f 0 (k + 1)) ≡ lines_of line (listed f 0 k) ++ line (f k)
-lines-listed line f k =
-    let e : 0 + k ≡ k = omega arith in
-    ap (lines_of line) (listed-snoc f 0 k) ∙ lines_more line (listed f 0 k) (f (0 + k)) ∙ ap (λ m. lines_of line (listed f 0 k) ++ line (f m)) e
+  one-more : (l : List A) (x : A) → lines_of line (l ++ x ∷ []) ≡ lines_of line l ++ line x
+  unfolding lines_of
+  one-more l x = parts l (x ∷ []) ∙ ap (λ (t : List ℕ). lines_of line l ++ t) (append-nil (line x))
+
+  pub lines-short : ((x : A) → length (line x) ≤ 1000) → (l : List A) → length (lines_of line l) ≤ 1000 * length l
+  unfolding lines_of
+  lines-short short [] = omega arith
+  lines-short short (x ∷ l) = omega (arith, length-append (line x) (lines_of line l), short x, lines-short short l)
+
+  -- ---- measured or written in a loop over the list
+
+  module _ {room : List ℕ → ℕ} {after : List ℕ → ℕ → List ℕ → List ℕ} (pass : Passes room after) (old : List ℕ) (at : ℕ) (l : List A) where
+    pub lines-start : Passed after old at (lines_of line (take 0 l)) old at
+    unfolding lines_of
+    lines-start = record { place = omega arith; buffer = sym (pass.nothing old at) }
+
+    module _ (buffer : List ℕ) (next k : ℕ) (passed : Passed after old at (lines_of line (take k l)) buffer next) where
+      module _ (x : A) (here : slice_get l k ≡ Some x) where
+        next-line : lines_of line (take (k + 1) l) ≡ lines_of line (take k l) ++ line x
+        next-line =
+            ap (lines_of line) (take_more l k x (slice_get_within l k x here) ∙ ap (λ (y : A). take k l ++ y ∷ []) (get_or_from_slice_get l k x x here)) ∙ one-more (take k l) x
+
+        pub line-placed : at + length (lines_of line l) ≤ room old → next + length (line x) ≤ room buffer
+        line-placed fits =
+            omega (
+              arith,
+              fits,
+              passed.place,
+              room-kept pass old buffer (lines_of line (take k l)) at next passed,
+              ap length next-line,
+              length-append (lines_of line (take k l)) (line x),
+              ap length (ap (lines_of line) (sym (take-append-drop (k + 1) l)) ∙ parts (take (k + 1) l) (drop (k + 1) l)),
+              length-append (lines_of line (take (k + 1) l)) (lines_of line (drop (k + 1) l)),
+            )
+
+        pub line-passed : (new : List ℕ) (q : ℕ) → Passed after buffer next (line x) new q → Passed after old at (lines_of line (take (k + 1) l)) new q
+        line-passed new q w = rw next-line (written_behind pass old buffer new (lines_of line (take k l)) (line x) at next q passed w)
+
+      pub lines-passed : length l ≤ k → Passed after old at (lines_of line l) buffer next
+      lines-passed h = rw (take_all k l h) at passed
 
 -- a way is spelled by whether it is 0
 pub way-spelled : (i j d f b w : ℕ) → sent_line i j d f b (way_number (way_of w)) ≡ sent_line i j d f b w
@@ -37,19 +74,3 @@ way-spelled i j d f b w = go (eqb w 0) refl
     go : (t : Bool) → eqb w 0 ≡ t → sent_line i j d f b (way_number (cond t Front Back)) ≡ sent_line i j d f b w
     go true e = rw e
     go false e = rw e
-
-module _ (split unsplit : List ℕ) where
-  abbrev pub load_line_at : ℕ → List ℕ
-  load_line_at k = link_line (k + 1) (get_or split k 0) (get_or unsplit k 0)
-
-  abbrev pub load_text : ℕ → List ℕ
-  load_text k = lines_of load_line (links_in k split unsplit)
-
-  pub load-pieces : Pieces load_line_at load_text
-  unfolding listed lines_of
-  load-pieces =
-      record {
-        none = refl;
-        more = λ k. lines-listed load_line (link_at split unsplit) k;
-        short = λ k. omega (arith, line-short link_shape (0 ∷ (k + 1) ∷ get_or split k 0 ∷ get_or unsplit k 0 ∷ []));
-      }

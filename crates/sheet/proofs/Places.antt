@@ -7,85 +7,47 @@ use native.Mathlib.Omega.{arith}
 use lib.ListN.{length, get_or}
 use Rattle.ring.specs.Routing.{way_number, routed}
 use Rattle.ring.specs.declared.types.Routed.{Routed}
-use Rattle.ring.specs.declared.types.Way.{Way}
-use Rattle.ring.specs.declared.types.Way.TheVariants.{Front, Back}
 use Rattle.ring.specs.declared.types.Cut.{Cut}
 use Rattle.ring.specs.declared.types.Ring.{Ring}
-use Rattle.ring.specs.Sheet.{Sheet}
 use Rattle.ring.specs.declared.types.Link.{Link}
 use Rattle.text.specs.Field.{spell}
 use Rattle.text.specs.WriteLine.{write_line}
-use Rattle.text.specs.ReadLine.{read_line}
-use Rattle.text.specs.Answers.{two_in, three_in, sent_in}
 use Rattle.text.specs.Shapes.{sent_shape, cut_shape, link_shape, last_shape}
-use Rattle.text.specs.declared.TwoNumbers.TheVariants.{Are as AreTwo}
-use Rattle.text.specs.declared.ThreeNumbers.{ThreeNumbers}
-use Rattle.text.specs.declared.ThreeNumbers.TheVariants.{Are as AreThree, Bad as NotThree}
-use Rattle.text.specs.declared.SentRow.{SentRow}
-use Rattle.text.specs.declared.SentRow.TheVariants.{Is as IsSent, Bad as NotSent}
+use Rattle.text.proofs.LineLaws.{one-line}
 use Rattle.table.specs.Lines.{lines}
 use Rattle.table.specs.Says.{LineIs, RingIs}
 use Rattle.table.proofs.LineNumbers.{line-one, ring-one}
-use Rattle.sheet.specs.Check.{cut_of, routed_of, link_of}
-use Rattle.sheet.specs.Says.{State, start, rows, links, end, SentIs, CutIs, LinkIs, LastIs, At, at_start, behind_ring, behind_row, behind_cut, behind_link, behind_last, WholeIs}
-use Rattle.sheet.proofs.Back.{way_back}
-use Rattle.sheet.proofs.SheetLines.{SentSpelled, sent-line-read, cut-line-read, link-line-read, last-line-read}
+use Rattle.sheet.specs.Read.{row_in, cut_in, link_in}
+use Rattle.sheet.specs.Says.{State, start, rows, links, end, SentIs, CutIs, LinkIs, LastIs, At, at_start, behind_ring, behind_row, behind_cut, behind_link, behind_last}
+use Rattle.sheet.proofs.SheetLines.{way_small, way_back, SentSpelled, sent-in-range, cut-in-range, link-in-range, last-in-range}
 
 -- ---- one reading
-
-way_small : (w : Way) → way_number w < 2
-way_small Front = omega arith
-way_small Back = omega arith
 
 pub sent-spelled : {t : List ℕ} {line : ℕ} {r : Routed} → SentIs t line r
     → SentSpelled r.sent.row.first r.sent.row.second r.sent.row.amount r.sent.front r.sent.back (way_number r.way)
 sent-spelled {r} s =
     record { first = s.nodes.0; second = s.nodes.1; amount = s.amount; front = s.halves.0; back = s.halves.1; way = way_small r.way }
 
--- the values of an answer
-abbrev routed_from : SentRow → Routed
-routed_from (IsSent i j d f k w) = routed_of i j d f k w
-routed_from (NotSent p) = routed_of 0 0 0 0 0 0
-
-abbrev cut_from : ThreeNumbers → Cut
-cut_from (AreThree g h m) = cut_of g h m
-cut_from (NotThree p) = cut_of 0 0 0
-
-abbrev link_from : ThreeNumbers → Link
-link_from (AreThree k s u) = link_of k s u
-link_from (NotThree p) = link_of 0 0 0
-
--- whatever reads a line answers once
-one_answer : {A : Type 0} {ls : List (List ℕ)} {line : ℕ} {l m : List ℕ} {x y : A} (read : List ℕ → A) → LineIs ls line l → LineIs ls line m → read l ≡ x
-    → read m ≡ y → x ≡ y
-one_answer read p q e f = sym e ∙ ap read (line-one p q refl) ∙ f
-
 module _ {t : List ℕ} {line : ℕ} where
   pub sent-one : {r q : Routed} → SentIs t line r → SentIs t line q → r ≡ q
   sent-one {r} {q} a b =
-      sym (ap (routed r.sent) (way_back r.way))
-      ∙ ap routed_from (one_answer (λ l. sent_in (read_line sent_shape l)) a.text b.text (sent-line-read _ _ _ _ _ _ (sent-spelled a)) (sent-line-read _ _ _ _ _ _ (sent-spelled b)))
-      ∙ ap (routed q.sent) (way_back q.way)
+      let e = one-line sent_shape _ _ (sent-in-range _ _ _ _ _ _ (sent-spelled a)) (sent-in-range _ _ _ _ _ _ (sent-spelled b)) (line-one a.text b.text refl) in
+      sym (ap (routed r.sent) (way_back r.way)) ∙ ap row_in e ∙ ap (routed q.sent) (way_back q.way)
 
   pub cut-one : {c b : Cut} → CutIs t line c → CutIs t line b → c ≡ b
   cut-one p q =
-      ap cut_from
-      (one_answer (λ l. three_in (read_line cut_shape l)) p.text q.text
-      (cut-line-read _ _ _ p.pair.0 p.pair.1 p.number)
-      (cut-line-read _ _ _ q.pair.0 q.pair.1 q.number))
+      ap cut_in
+      (one-line cut_shape _ _ (cut-in-range _ _ _ p.pair.0 p.pair.1 p.number) (cut-in-range _ _ _ q.pair.0 q.pair.1 q.number) (line-one p.text q.text refl))
 
   pub link-one : {l m : Link} → LinkIs t line l → LinkIs t line m → l ≡ m
   link-one p q =
-      ap link_from
-      (one_answer (λ l. three_in (read_line link_shape l)) p.text q.text
-      (link-line-read _ _ _ p.link p.loads.0 p.loads.1)
-      (link-line-read _ _ _ q.link q.loads.0 q.loads.1))
+      ap link_in
+      (one-line link_shape _ _ (link-in-range _ _ _ p.link p.loads.0 p.loads.1) (link-in-range _ _ _ q.link q.loads.0 q.loads.1) (line-one p.text q.text refl))
 
   pub last_one : {p z q y : ℕ} → LastIs t line p z → LastIs t line q y → (p ≡ q) × (z ≡ y)
-  last_one {p} {z} {q} {y} a b =
-      let e : AreTwo p z ≡ AreTwo q y =
-      one_answer (λ l. two_in (read_line last_shape l)) a.text b.text (last-line-read _ _ a.spelled.0 a.spelled.1) (last-line-read _ _ b.spelled.0 b.spelled.1) in
-      (cc, cc)
+  last_one a b =
+      let e = one-line last_shape _ _ (last-in-range _ _ a.spelled.0 a.spelled.1) (last-in-range _ _ b.spelled.0 b.spelled.1) (line-one a.text b.text refl) in
+      (ap (λ vs. get_or vs 1 0) e, ap (λ vs. get_or vs 2 0) e)
 
   -- a D and a C line differ in their letter
   pub sent-or-cut : {r : Routed} {c : Cut} → SentIs t line r → CutIs t line c → ⊥
@@ -160,9 +122,3 @@ module _ {t : List ℕ} where
   -- no place lies behind a line that is missing
   pub place-within : {line k : ℕ} {q s : State} → At t line q → ((l : List ℕ) → LineIs (lines t) line l → ⊥) → At t k s → k ≤ line
   place-within a none b = walked-within (place-low a) none (walked b)
-
-  -- and a text is one whole sheet
-  pub whole-one : {x y : Sheet} → WholeIs t x → WholeIs t y → x ≡ y
-  whole-one {x} {y} v w =
-      let e : end x ≡ end y = place-one v.due w.due (omega (arith, place-within v.due v.none w.due, place-within w.due w.none v.due)) in
-      cc

@@ -1,7 +1,6 @@
--- The byte that the checker gives with a reason is that of the reason's own sentence, and a reason on a line has one byte: by the cases of the judging, since a
+-- The byte that the reader gives with a reason is that of the reason's own sentence, and a reason on a line has one byte: by the cases of the judging, since a
 -- line has one place, one reading and one first faulty byte.
 use Prim.Native.Nat.{ℕ, ◌+◌, ◌≤◌, ◌<◌, max}
-use mathlib.Core.Bool.{Bool, true, false}
 use mathlib.Core.List.{List}
 use mathlib.Core.Logic.{◌⊎◌, inl, inr}
 use mathlib.Core.Path.{◌≡◌, refl, ap, sym, ◌∙◌}
@@ -10,17 +9,15 @@ use native.Mathlib.Decide.{dec_le}
 use lib.ListN.{length}
 use Rattle.ring.specs.Limits.{Limits}
 use Rattle.ring.specs.declared.types.Ring.{Ring}
-use Rattle.ring.specs.Routing.{way_number}
 use Rattle.ring.specs.declared.types.Routed.{Routed}
 use Rattle.ring.specs.declared.types.Cut.{Cut}
 use Rattle.ring.specs.declared.types.Link.{Link}
-use Rattle.text.specs.FieldByte.{field_byte, row_byte}
+use Rattle.text.specs.FieldByte.{field_byte, ring_byte, sent_byte}
 use Rattle.text.specs.FirstFault.{Agrees, FirstFault}
 use Rattle.text.specs.Shapes.{sent_shape, cut_shape}
 use Rattle.text.specs.WriteLine.{write_line}
 use Rattle.text.proofs.LineLaws.{fewer}
-use Rattle.text.proofs.Starts.{sent-row-byte}
-use Rattle.table.specs.Fields.{node_field, ring_fault, row_fault}
+use Rattle.table.specs.Fields.{field_of, node_field}
 use Rattle.table.specs.Says.{RingIs, NoNode}
 use Rattle.table.specs.declared.reason.Reason.{Reason}
 use Rattle.table.specs.declared.reason.Reason.TheVariants.{TooLong, Misshapen, RingSize, Fibres, NoRow, NoSuchNode, NotBelow, OutOfOrder, TooMany, TooMuch, Full, WrongSum, WrongWay, WrongCut, WrongLink, WrongLast, NotTight, OverBound, NotZero, NotSymmetric, SumTooMuch, NoRoom}
@@ -29,11 +26,9 @@ use Rattle.std.specs.Prelude.{Ok, Err}
 use Rattle.table.proofs.Against.{no-node-there}
 use Rattle.table.proofs.BytesGiven.{one-due as one-due-byte, one-shape-byte, one-ring-field}
 use Rattle.table.proofs.Judged.{RingJudged, size_wrong, wrong_fibres, right_ring, Node, no_node, has_node, node, RowJudged, no_such_node, not_below, out_of_order, too_many, too_much, row_fine, row-judged}
-use Rattle.sheet.specs.Verdicts.{fault_if, or_else}
-use Rattle.sheet.specs.Judge.{wrong_sum, wrong_way, judge_halves}
-use Rattle.sheet.specs.Check.{when, whole_line, last_of, judge_next}
+use Rattle.sheet.specs.Read.{last_of}
+use Rattle.sheet.proofs.Last.{judge_next}
 use Rattle.sheet.specs.Says.{State, start, rows, links, end, SentIs, At, RowAt, NeitherGoesOn, LineByte, ring_due, row_or_cut_due, link_due, last_due, none_due, routed_byte, NodeByte, first_node, second_node, AmountByte, ByteIs}
-use Rattle.sheet.proofs.FirstReason.{First, Only, only_then, Counts}
 use Rattle.sheet.proofs.Places.{sent-one, place-one}
 use Rattle.sheet.proofs.RowFirst.{row_at}
 
@@ -42,16 +37,10 @@ abbrev pub ByteOn : List ℕ → ℕ → (Reason → ℕ) → Verdict → Type 0
 ByteOn t line byte (Ok tt) = Unit {0}
 ByteOn t line byte (Err r) = ByteIs t r line (byte r)
 
--- one reason at most, which judges the line as a whole
-pub only-byte : (t : List ℕ) (line : ℕ) (judging : Bool) (r : Reason) (A : Type 0) (v : Verdict) → First (λ s. Counts judging s × Only r A s) v → ByteIs t r line 1
-    → ByteOn t line whole_line v
-only-byte t line judging r A (Ok tt) f b = tt
-only-byte t line judging r A (Err s) f b = only_then (λ s. ByteIs t s line 1) (λ a. b) s f.holds.1
-
 -- ---- R n fibres
 
-pub ring-byte : {limits : Limits} {t : List ℕ} {ring : Ring} {v : Verdict} → RingIs t ring → RingJudged limits ring v → ByteOn t 1 (ring_fault ring) v
-unfolding ByteIs ring_fault
+pub ring-byte : {limits : Limits} {t : List ℕ} {ring : Ring} {v : Verdict} → RingIs t ring → RingJudged limits ring v → ByteOn t 1 (λ reason. ring_byte ring.nodes ring.fibres (field_of reason 0)) v
+unfolding ByteIs
 ring-byte {ring} here (size_wrong w) = record { ring = ring; said = here; is = refl }
 ring-byte {ring} here (wrong_fibres l m w) = record { ring = ring; said = here; is = refl }
 ring-byte here (right_ring l m f) = tt
@@ -59,55 +48,28 @@ ring-byte here (right_ring l m f) = tt
 -- ---- D i j amount front back F-or-B
 
 module _ {t : List ℕ} {line : ℕ} {ring : Ring} {rs : List Routed} {r : Routed} (at : At t line (rows ring rs)) (is : SentIs t line r) where
-  -- a table's row and a sheet's have their first fields at the same bytes
-  field-byte : (k : ℕ) → k ≤ 3 → row_byte r.sent.row.first r.sent.row.second r.sent.row.amount k ≡ routed_byte r k
-  field-byte k h = sent-row-byte r.sent.row.first r.sent.row.second r.sent.row.amount r.sent.front r.sent.back (way_number r.way) k h
+  -- the way of a line stands behind every field that a reason is about, so its number does not count
+  module _ (w : ℕ) where
+    abbrev byte : Reason → ℕ
+    byte reason = sent_byte r.sent.row.first r.sent.row.second r.sent.row.amount r.sent.front r.sent.back w (field_of reason (node_field ring.nodes r.sent.row.first))
 
-  abbrev byte : Reason → ℕ
-  byte = row_fault ring.nodes r.sent.row.first r.sent.row.second r.sent.row.amount
+    node-byte : Node ring.nodes r.sent.row.first → NoNode ring.nodes r.sent.row.first ⊎ NoNode ring.nodes r.sent.row.second → NodeByte t line (byte NoSuchNode)
+    unfolding node_field field_byte write_line
+    node-byte (no_node x e) out = first_node (row_at at is) x (rw e refl)
+    node-byte (has_node h e) (inl x) = absurd (no-node-there h x)
+    node-byte (has_node h e) (inr x) = second_node (row_at at is) (no-node-there h) x (rw e refl)
 
-  node-byte : Node ring.nodes r.sent.row.first → NoNode ring.nodes r.sent.row.first ⊎ NoNode ring.nodes r.sent.row.second → NodeByte t line (byte NoSuchNode)
-  unfolding row_fault node_field
-  node-byte (no_node w e) out = first_node (row_at at is) w (rw e (field-byte 1 (omega arith)))
-  node-byte (has_node h e) (inl w) = absurd (no-node-there h w)
-  node-byte (has_node h e) (inr w) = second_node (row_at at is) (no-node-there h) w (rw e (field-byte 2 (omega arith)))
+    demand-byte : {limits : Limits} {k a b : ℕ} {v : Verdict} → RowJudged limits ring.nodes k a b r.sent.row.first r.sent.row.second r.sent.row.amount v → ByteOn t line byte v
+    unfolding ByteIs field_byte write_line
+    demand-byte (no_such_node x) = node-byte (node ring.nodes r.sent.row.first) x
+    demand-byte (not_below h p l) = refl
+    demand-byte (out_of_order h p l o) = refl
+    demand-byte (too_many h p l o c) = refl
+    demand-byte (too_much h p l o c m) = record { r = r; row = row_at at is; is = refl }
+    demand-byte (row_fine o up c m) = tt
 
-  demand-byte : {limits : Limits} {k a b : ℕ} {v : Verdict} → RowJudged limits ring.nodes k a b r.sent.row.first r.sent.row.second r.sent.row.amount v → ByteOn t line byte v
-  unfolding ByteIs row_fault field_byte write_line
-  demand-byte (no_such_node w) = node-byte (node ring.nodes r.sent.row.first) w
-  demand-byte (not_below h p l) = refl
-  demand-byte (out_of_order h p l o) = refl
-  demand-byte (too_many h p l o c) = refl
-  demand-byte (too_much h p l o c m) = record { r = r; row = row_at at is; is = field-byte 3 (omega arith) }
-  demand-byte (row_fine o up c m) = tt
-
-  or-else-byte : (v w : Verdict) → ByteOn t line byte v → ByteOn t line byte w → ByteOn t line byte (or_else v w)
-  unfolding or_else
-  or-else-byte (Ok tt) w a b = b
-  or-else-byte (Err s) w a b = a
-
-  fault-byte : (b : Bool) (s : Reason) → ByteIs t s line (byte s) → ByteOn t line byte (fault_if b s)
-  unfolding fault_if
-  fault-byte true s h = h
-  fault-byte false s h = tt
-
-  halves-byte : ByteOn t line byte (judge_halves r)
-  unfolding judge_halves ByteIs row_fault field_byte write_line
-  halves-byte =
-      or-else-byte (fault_if (wrong_sum r.sent) WrongSum) (fault_if (wrong_way r) WrongWay)
-      (fault-byte (wrong_sum r.sent) WrongSum refl) (fault-byte (wrong_way r) WrongWay refl)
-
-  when-byte : (judging : Bool) (v : Verdict) → ByteOn t line byte v → ByteOn t line byte (when judging v)
-  unfolding when
-  when-byte true v b = b
-  when-byte false v b = tt
-
-  pub sent-row-bytes : (limits : Limits) (judging : Bool)
-      → ByteOn t line byte (or_else (judge_next limits ring.nodes rs r.sent.row.first r.sent.row.second r.sent.row.amount) (when judging (judge_halves r)))
-  sent-row-bytes limits judging =
-      or-else-byte (judge_next limits ring.nodes rs r.sent.row.first r.sent.row.second r.sent.row.amount) (when judging (judge_halves r))
-      (demand-byte (row-judged limits ring.nodes (length rs) (last_of rs).first (last_of rs).second r.sent.row.first r.sent.row.second r.sent.row.amount))
-      (when-byte judging (judge_halves r) halves-byte)
+    pub sent-row-bytes : (limits : Limits) → ByteOn t line byte (judge_next limits ring.nodes rs r.sent.row)
+    sent-row-bytes limits = demand-byte (row-judged limits ring.nodes (length rs) (last_of rs).first (last_of rs).second r.sent.row.first r.sent.row.second r.sent.row.amount)
 
 -- ---- a line that is neither D nor C
 
@@ -219,13 +181,13 @@ one_byte t line b c NotBelow x y = x ∙ sym y
 one_byte t line b c OutOfOrder x y = x ∙ sym y
 one_byte t line b c TooMany x y = x ∙ sym y
 one_byte t line b c TooMuch x y = one-amount-byte x y
-one_byte t line b c WrongSum x y = x ∙ sym y
-one_byte t line b c WrongWay x y = x ∙ sym y
-one_byte t line b c WrongCut x y = x ∙ sym y
-one_byte t line b c WrongLink x y = x ∙ sym y
-one_byte t line b c WrongLast x y = x ∙ sym y
-one_byte t line b c NotTight x y = x ∙ sym y
-one_byte t line b c OverBound x y = x ∙ sym y
+one_byte t line b c WrongSum x y = absurd x
+one_byte t line b c WrongWay x y = absurd x
+one_byte t line b c WrongCut x y = absurd x
+one_byte t line b c WrongLink x y = absurd x
+one_byte t line b c WrongLast x y = absurd x
+one_byte t line b c NotTight x y = absurd x
+one_byte t line b c OverBound x y = absurd x
 one_byte t line b c NotZero x y = absurd x
 one_byte t line b c NotSymmetric x y = absurd x
 one_byte t line b c SumTooMuch x y = absurd x

@@ -1,7 +1,6 @@
--- What is said of a sheet's text, as one view: of its length, of a line by the place that the line has, or of the whole sheet; and a line's place
--- is one, so all that is said of a line is said of the place that the checker has come to.
-use Prim.Native.Nat.{ℕ, ◌+◌, ◌≤◌, ◌<◌}
-use mathlib.Core.Bool.{Bool}
+-- What is said of a sheet's text, as one view: of its length, or of a line by the place that the line has; and a line's place is one, so all that is said of a
+-- line is said of the place that reading has come to.
+use Prim.Native.Nat.{ℕ, ◌≤◌, ◌<◌}
 use mathlib.Core.List.{List, [], ◌∷◌, ◌++◌}
 use mathlib.Core.Logic.{◌⊎◌, inl, inr}
 use mathlib.Core.Path.{◌≡◌, refl, subst}
@@ -13,7 +12,6 @@ use Rattle.ring.specs.Limits.{Limits}
 use Rattle.ring.specs.declared.types.Ring.{Ring}
 use Rattle.ring.specs.declared.types.Row.{Row}
 use Rattle.ring.specs.declared.types.Routed.{Routed}
-use Rattle.ring.specs.Sheet.{Sheet}
 use Rattle.ring.specs.declared.types.Link.{Link}
 use Rattle.table.specs.Lines.{lines}
 use Rattle.table.specs.Reasons.{rank_of}
@@ -23,12 +21,10 @@ use Rattle.table.specs.declared.reason.Reason.TheVariants.{TooLong, Misshapen, R
 use Rattle.table.proofs.Against.{AgainstRow, by_nodes, by_pair, by_order, by_count, by_amount, AgainstRing, by_size, by_fibres}
 use Rattle.table.proofs.LineNumbers.{ring-one}
 use Rattle.table.proofs.ReasonNumbers.{same_rank, no-rank-0}
-use Rattle.sheet.specs.Says.{State, start, rows, links, end, SentIs, CutIs, LinkIs, LastIs, At, at_start, behind_row, WrongLine, no_ring, no_row_no_cut, no_link, no_last, left_over, WholeIs, Says, stage}
-use Rattle.sheet.specs.Check.{last_of}
+use Rattle.sheet.specs.Says.{State, start, rows, links, end, SentIs, CutIs, LinkIs, LastIs, At, at_start, behind_row, WrongLine, no_ring, no_row_no_cut, no_link, no_last, left_over, Says}
+use Rattle.sheet.specs.Read.{last_of}
 use Rattle.sheet.proofs.Last.{last_more}
-use Rattle.sheet.proofs.Places.{sent-one, cut-one, link-one, last_one, sent-or-cut, place-low, place-one}
-use Rattle.sheet.proofs.FirstReason.{Only, only, Counts}
-use Rattle.sheet.proofs.SheetJudged.{AgainstHalves, CutWrong, LinkWrong, LastWrong, AgainstWhole}
+use Rattle.sheet.proofs.Places.{sent-one, sent-or-cut, place-low, place-one}
 
 -- ---- against a line, by its place
 
@@ -51,19 +47,10 @@ unfit-wrong {state = end x} at left = left_over at left.1
 abbrev pub AgainstDemand : Limits → ℕ → List Routed → Row → Reason → Type 0
 AgainstDemand limits n rs q = AgainstRow limits n (length rs) (last_of rs).first (last_of rs).second q.first q.second q.amount
 
--- and 8 and 9, of what is sent
-abbrev pub AgainstSent : Limits → ℕ → List Routed → Routed → Reason → Type 0
-AgainstSent limits n rs r s = AgainstDemand limits n rs r.sent.row s ⊎ AgainstHalves r s
-
 pub data SaidAt (limits : Limits) (t : List ℕ) (line : ℕ) : State → Reason → Type 0 where
   of_shape : {state : State} → Unfit t line state → SaidAt limits t line state Misshapen
   of_ring : {ring : Ring} {s : Reason} → RingIs t ring → AgainstRing limits ring s → SaidAt limits t line start s
-  of_row : {ring : Ring} {rs : List Routed} {r : Routed} {s : Reason} → SentIs t line r → AgainstSent limits ring.nodes rs r s → SaidAt limits t line (rows ring rs) s
-  of_cut : {ring : Ring} {rs : List Routed} {c : Cut} {s : Reason} → CutIs t line c → Only WrongCut (CutWrong ring.nodes rs c) s → SaidAt limits t line (rows ring rs) s
-  of_link : {ring : Ring} {rs : List Routed} {c : Cut} {ks : List Link} {l : Link} {s : Reason} → length ks < ring.nodes → LinkIs t line l
-      → Only WrongLink (LinkWrong rs (length ks + 1) l) s → SaidAt limits t line (links ring rs c ks) s
-  of_last : {ring : Ring} {rs : List Routed} {c : Cut} {ks : List Link} {p z : ℕ} {s : Reason} → ring.nodes ≤ length ks → LastIs t line p z
-      → Only WrongLast (LastWrong ring rs p z) s → SaidAt limits t line (links ring rs c ks) s
+  of_row : {ring : Ring} {rs : List Routed} {r : Routed} {s : Reason} → SentIs t line r → AgainstDemand limits ring.nodes rs r.sent.row s → SaidAt limits t line (rows ring rs) s
 
 -- ---- all that is said
 
@@ -72,37 +59,36 @@ at-line e at = rw e at
 
 pub data Said (limits : Limits) (t : List ℕ) (line : ℕ) : Reason → Type 0 where
   of_text : line ≡ 0 → limits.bytes < length t → Said limits t line TooLong
-  of_line : {state : State} {s : Reason} → At t line state → SaidAt limits t line state s → stage s ≡ 0 → Said limits t line s
-  of_whole : {x : Sheet} {s : Reason} → line ≡ 0 → WholeIs t x → AgainstWhole x s → stage s ≡ 1 → Said limits t line s
+  of_line : {state : State} {s : Reason} → At t line state → SaidAt limits t line state s → Said limits t line s
 
 module _ {limits : Limits} {t : List ℕ} {line : ℕ} where
   said-shape : WrongLine t line → Said limits t line Misshapen
-  said-shape (no_ring at none) = of_line at (of_shape none) refl
-  said-shape (no_row_no_cut {ring} {rs} at none none') = of_line at (of_shape {state = rows ring rs} (none, none')) refl
-  said-shape (no_link {ring} {rs} {c} {ks} at few none) = of_line at (of_shape {state = links ring rs c ks} (inl (few, none))) refl
-  said-shape (no_last {ring} {rs} {c} {ks} at all none) = of_line at (of_shape {state = links ring rs c ks} (inr (all, none))) refl
-  said-shape (left_over {x} {l} at is) = of_line at (of_shape {state = end x} (l, is)) refl
+  said-shape (no_ring at none) = of_line at (of_shape none)
+  said-shape (no_row_no_cut {ring} {rs} at none none') = of_line at (of_shape {state = rows ring rs} (none, none'))
+  said-shape (no_link {ring} {rs} {c} {ks} at few none) = of_line at (of_shape {state = links ring rs c ks} (inl (few, none)))
+  said-shape (no_last {ring} {rs} {c} {ks} at all none) = of_line at (of_shape {state = links ring rs c ks} (inr (all, none)))
+  said-shape (left_over {x} {l} at is) = of_line at (of_shape {state = end x} (l, is))
 
   pub said : (s : Reason) → Says limits t s line → Said limits t line s
   unfolding Says
   said TooLong h = of_text h.0 h.1
   said Misshapen h = said-shape h
-  said RingSize h = of_line (at-line h.at at_start) (of_ring h.said (by_size h.wrong)) refl
-  said Fibres h = of_line (at-line h.at at_start) (of_ring h.said (by_fibres h.wrong)) refl
-  said NoSuchNode h = of_line h.row.due (of_row h.row.is (inl (by_nodes h.wrong))) refl
-  said NotBelow h = of_line h.row.due (of_row h.row.is (inl (by_pair h.wrong))) refl
+  said RingSize h = of_line (at-line h.at at_start) (of_ring h.said (by_size h.wrong))
+  said Fibres h = of_line (at-line h.at at_start) (of_ring h.said (by_fibres h.wrong))
+  said NoSuchNode h = of_line h.row.due (of_row h.row.is (by_nodes h.wrong))
+  said NotBelow h = of_line h.row.due (of_row h.row.is (by_pair h.wrong))
   said OutOfOrder h =
       of_line (at-line h.next (behind_row h.above.due h.above.is))
-      (of_row {rs = h.above.rs ++ h.q ∷ []} h.row.is (inl (by_order (rw (last_more h.above.rs h.q) h.wrong)))) refl
-  said TooMany h = of_line h.row.due (of_row {rs = h.row.rs} h.row.is (inl (by_count (omega (arith, h.wrong))))) refl
-  said TooMuch h = of_line h.row.due (of_row h.row.is (inl (by_amount h.wrong))) refl
-  said WrongSum h = of_line h.row.due (of_row h.row.is (inr (inl (only h.wrong)))) refl
-  said WrongWay h = of_line h.row.due (of_row h.row.is (inr (inr (only h.wrong)))) refl
-  said WrongCut h = of_line h.due (of_cut h.is (only h.wrong)) refl
-  said WrongLink h = of_line h.due (of_link h.few h.is (only h.wrong)) refl
-  said WrongLast h = of_line h.due (of_last h.all h.is (only h.wrong)) refl
-  said NotTight h = of_whole h.0 h.1.whole (inl (only h.1.wrong)) refl
-  said OverBound h = of_whole h.0 h.1.whole (inr (only h.1.wrong)) refl
+      (of_row {rs = h.above.rs ++ h.q ∷ []} h.row.is (by_order (rw (last_more h.above.rs h.q) h.wrong)))
+  said TooMany h = of_line h.row.due (of_row {rs = h.row.rs} h.row.is (by_count (omega (arith, h.wrong))))
+  said TooMuch h = of_line h.row.due (of_row h.row.is (by_amount h.wrong))
+  said WrongSum h = absurd h
+  said WrongWay h = absurd h
+  said WrongCut h = absurd h
+  said WrongLink h = absurd h
+  said WrongLast h = absurd h
+  said NotTight h = absurd h
+  said OverBound h = absurd h
   said NotZero h = absurd h
   said NotSymmetric h = absurd h
   said SumTooMuch h = absurd h
@@ -113,8 +99,7 @@ module _ {limits : Limits} {t : List ℕ} {line : ℕ} where
   -- of a line with a place
   pub said_here : {state : State} → At t line state → {s : Reason} → Said limits t line s → SaidAt limits t line state s
   said_here at (of_text z long) = absurd (omega (arith, place-low at))
-  said_here at {s} (of_line at' h e) = subst (λ q. SaidAt limits t line q s) (place-one at' at refl) h
-  said_here at (of_whole z whole h e) = absurd (omega (arith, place-low at))
+  said_here at {s} (of_line at' h) = subst (λ q. SaidAt limits t line q s) (place-one at' at refl) h
 
 -- only reason 1 comes before reason 2, and that stands on no line
 pub from-2 : (limits : Limits) {t : List ℕ} {line : ℕ} {state : State} → At t line state → (s : Reason) → Says limits t s line → 2 ≤ rank_of s
@@ -128,15 +113,6 @@ from-2 limits {t} {line} at s h =
           absurd (omega (arith, place-low at, z.0))
     ]
 
--- 13 and 14 stand on no line
-pub line-stage : (limits : Limits) {t : List ℕ} {line : ℕ} {state : State} → At t line state → (s : Reason) → Says limits t s line → stage s ≡ 0
-line-stage limits {t} {line} at s h = go (said s h)
-  where
-    go : {s : Reason} → Said limits t line s → stage s ≡ 0
-    go (of_text z long) = refl
-    go (of_line at' h e) = e
-    go (of_whole z whole h e) = absurd (omega (arith, place-low at))
-
 -- ---- what is said of a line that has been read
 
 module _ {limits : Limits} {t : List ℕ} {line : ℕ} where
@@ -145,31 +121,20 @@ module _ {limits : Limits} {t : List ℕ} {line : ℕ} where
   said-of-ring {s} is (of_ring r o) = subst (λ m. AgainstRing limits m s) (ring-one r is) o
 
   module _ {ring : Ring} {rs : List Routed} where
-    pub said-of-row : {r : Routed} {s : Reason} → SentIs t line r → SaidAt limits t line (rows ring rs) s → AgainstSent limits ring.nodes rs r s
+    pub said-of-row : {r : Routed} {s : Reason} → SentIs t line r → SaidAt limits t line (rows ring rs) s → AgainstDemand limits ring.nodes rs r.sent.row s
     said-of-row {r} is (of_shape none) = absurd (none.0 r is)
-    said-of-row {s} is (of_row q o) = subst (λ r. AgainstSent limits ring.nodes rs r s) (sent-one q is) o
-    said-of-row is (of_cut c o) = absurd (sent-or-cut is c)
+    said-of-row {s} is (of_row q o) = subst (λ (r : Routed). AgainstDemand limits ring.nodes rs r.sent.row s) (sent-one q is) o
 
-    pub said-of-cut : {c : Cut} {s : Reason} → CutIs t line c → SaidAt limits t line (rows ring rs) s → Only WrongCut (CutWrong ring.nodes rs c) s
-    said-of-cut {c} is (of_shape none) = absurd (none.1 c is)
-    said-of-cut is (of_row r o) = absurd (sent-or-cut r is)
-    said-of-cut {s} is (of_cut b o) = subst (λ c. Only WrongCut (CutWrong ring.nodes rs c) s) (cut-one b is) o
+    -- the other lines are right by their shape
+    pub none-of-cut : {c : Cut} {s : Reason} → CutIs t line c → SaidAt limits t line (rows ring rs) s → ⊥
+    none-of-cut {c} is (of_shape none) = none.1 c is
+    none-of-cut is (of_row r o) = sent-or-cut r is
 
   module _ {ring : Ring} {rs : List Routed} {c : Cut} {ks : List Link} where
-    pub said-of-link : {l : Link} {s : Reason} → length ks < ring.nodes → LinkIs t line l → SaidAt limits t line (links ring rs c ks) s → Only WrongLink (LinkWrong rs (length ks + 1) l) s
-    said-of-link {l} few is (of_shape (inl none)) = absurd (none.1 l is)
-    said-of-link few is (of_shape (inr none)) = absurd (omega (arith, none.0))
-    said-of-link {s} few is (of_link few' m o) = subst (λ l. Only WrongLink (LinkWrong rs (length ks + 1) l) s) (link-one m is) o
-    said-of-link few is (of_last all l o) = absurd (omega arith)
+    pub none-of-link : {l : Link} {s : Reason} → length ks < ring.nodes → LinkIs t line l → SaidAt limits t line (links ring rs c ks) s → ⊥
+    none-of-link {l} few is (of_shape (inl none)) = none.1 l is
+    none-of-link few is (of_shape (inr none)) = omega (arith, none.0)
 
-    pub said-of-last : {p z : ℕ} {s : Reason} → ring.nodes ≤ length ks → LastIs t line p z → SaidAt limits t line (links ring rs c ks) s → Only WrongLast (LastWrong ring rs p z) s
-    said-of-last all is (of_shape (inl none)) = absurd (omega (arith, none.0))
-    said-of-last {p} {z} all is (of_shape (inr none)) = absurd (none.1 p z is)
-    said-of-last all is (of_link few l o) = absurd (omega arith)
-    said-of-last all is (of_last all' l o) = let e = last_one l is in rw (e.0, e.1) at o
-
--- ---- of the reasons that count
-
--- the reason counts, and holds on the line
-abbrev pub Counted : Limits → Bool → List ℕ → ℕ → Reason → Type 0
-Counted limits judging t line s = Counts judging s × Says limits t s line
+    pub none-of-last : {p z : ℕ} {s : Reason} → ring.nodes ≤ length ks → LastIs t line p z → SaidAt limits t line (links ring rs c ks) s → ⊥
+    none-of-last all is (of_shape (inl none)) = omega (arith, none.0)
+    none-of-last {p} {z} all is (of_shape (inr none)) = none.1 p z is

@@ -1,7 +1,6 @@
--- A text is read to a sheet exactly when it is that sheet written, the sheet is in range and, where it is judged, nothing is found against it: the rest
--- of a text (`Rest`) is taken apart one way (`Read`) and built from the sheet's rows and links the other.
+-- A text is read to a sheet exactly when it is that sheet written and the sheet is in range: the rest of a text (`Rest`) is taken apart one way (`RestRead`)
+-- and built from the sheet's rows and links the other.
 use Prim.Native.Nat.{ℕ, ◌+◌, ◌≤◌, ◌<◌}
-use mathlib.Core.Bool.{Bool}
 use mathlib.Core.List.{List, [], ◌∷◌, ◌++◌, append_assoc, append-nil}
 use mathlib.Core.Logic.{◌↔◌}
 use mathlib.Core.Path.{◌≡◌, refl, ap, ◌∙◌, sym, subst}
@@ -21,7 +20,6 @@ use Rattle.ring.specs.declared.types.Link.{Link}
 use Rattle.text.specs.Shapes.{last_line}
 use Rattle.text.proofs.Apart.{clash}
 use Rattle.table.specs.Lines.{lines}
-use Rattle.std.specs.Prelude.{Ok}
 use Rattle.table.proofs.Against.{fine-ring-judged, fine-row-judged}
 use Rattle.table.proofs.FineRows.{FineRows, no_row, fine_row, fine-rows, table-rows, amounts-fine, count-fine}
 use Rattle.table.proofs.LinesOf.{join-lines}
@@ -29,45 +27,39 @@ use Rattle.table.proofs.TableText.{ring-spelled}
 use Rattle.table.specs.Table.{LimitsSpelled}
 use Rattle.sheet.specs.WriteSheet.{routed_line, load_line, lines_of, figures_of, end_text, write_sheet}
 use Rattle.sheet.specs.Range.{RowSpelled, LinkSpelled, Spelled, InRange}
-use Rattle.sheet.specs.Judge.{judge_halves}
-use Rattle.sheet.specs.Check.{Result, accepted, when, last_of, check_by}
+use Rattle.sheet.specs.Read.{Result, accepted, last_of, read_sheet}
 use Rattle.sheet.specs.Says.{start, rows, links}
-use Rattle.sheet.proofs.Back.{way_back}
-use Rattle.sheet.proofs.Short.{way_small}
-use Rattle.sheet.proofs.SheetLines.{SentSpelled}
+use Rattle.sheet.proofs.SheetLines.{way_back, way_small, SentSpelled}
 use Rattle.sheet.proofs.Last.{last_more}
 use Rattle.sheet.proofs.Rest.{Rest, rest_end, rest_last, rest_link, rest_cut, rest_row, rest_ring, read-rest, rest_read}
-use Rattle.sheet.proofs.Read.{LinksJudged, no_links, and_link, Judged, IsSheet, from_start}
+use Rattle.sheet.proofs.RestRead.{IsSheet, from_start}
 
 -- ---- a sheet's text is a rest
 
-module _ (limits : Limits) (judging : Bool) (x : Sheet) (judged : Judged judging x) (spelled : Spelled x) (count : length x.links ≡ x.ring.nodes) where
+module _ (limits : Limits) (x : Sheet) (spelled : Spelled x) (count : length x.links ≡ x.ring.nodes) where
   -- the links ks are written, and those of `later` follow
-  to-links : (later ks : List Link) → x.links ≡ ks ++ later → Each LinkSpelled later → LinksJudged judging x.rows (length ks) later
-      → Rest limits judging x (links x.ring x.rows x.cut ks) (lines_of load_line later ++ last_line x.peak x.size)
+  to-links : (later ks : List Link) → x.links ≡ ks ++ later → Each LinkSpelled later → Rest limits x (links x.ring x.rows x.cut ks) (lines_of load_line later ++ last_line x.peak x.size)
   unfolding lines_of
-  to-links [] ks e none no_links =
+  to-links [] ks e none =
       let k : x.links ≡ ks = e ∙ append-nil ks in
       let nothing_behind = append-nil (last_line x.peak x.size) in
-      subst (λ l. Rest limits judging x (links x.ring x.rows x.cut l) (last_line x.peak x.size)) k
-      (subst (λ t. Rest limits judging x (links x.ring x.rows x.cut x.links) t) nothing_behind
-      (rest_last (omega arith) spelled.last.0 spelled.last.1 judged.last (rest_end judged.whole)))
-  to-links (l ∷ later) ks e (more s ss) (and_link v vs) =
-      let long : length (ks ++ l ∷ []) ≡ length ks + 1 = length-append ks (l ∷ []) in
+      subst (λ l. Rest limits x (links x.ring x.rows x.cut l) (last_line x.peak x.size)) k
+      (subst (λ t. Rest limits x (links x.ring x.rows x.cut x.links) t) nothing_behind (rest_last (omega arith) spelled.last.0 spelled.last.1 rest_end))
+  to-links (l ∷ later) ks e (more s ss) =
       let f : x.links ≡ (ks ++ l ∷ []) ++ later = e ∙ sym (append_assoc ks (l ∷ []) later) in
       let few : length ks < x.ring.nodes = omega (arith, ap length e, length-append ks (l ∷ later)) in
-      subst (λ t. Rest limits judging x (links x.ring x.rows x.cut ks) t) (sym (append_assoc (load_line l) (lines_of load_line later) (last_line x.peak x.size)))
-      (rest_link few s.link s.split s.unsplit v (to-links later (ks ++ l ∷ []) f ss (subst (λ m. LinksJudged judging x.rows m later) (sym long) vs)))
+      subst (λ t. Rest limits x (links x.ring x.rows x.cut ks) t) (sym (append_assoc (load_line l) (lines_of load_line later) (last_line x.peak x.size)))
+      (rest_link few s.link s.split s.unsplit (to-links later (ks ++ l ∷ []) f ss))
 
   module _ (limited : LimitsSpelled limits) (many : x.ring.nodes ≤ limits.nodes) where
     to-rows : (later rs : List Routed) → x.rows ≡ rs ++ later → FineRows limits x.ring.nodes (length rs) (last_of rs).first (last_of rs).second (demands (sents later)) → Each RowSpelled later
-        → Each (λ r. when judging (judge_halves r) ≡ Ok tt) later → Rest limits judging x (rows x.ring rs) (lines_of routed_line later ++ end_text (figures_of x) x.links)
+        → Rest limits x (rows x.ring rs) (lines_of routed_line later ++ end_text (figures_of x) x.links)
     unfolding lines_of end_text
-    to-rows [] rs e no_row none none =
+    to-rows [] rs e no_row none =
         let k : x.rows ≡ rs = e ∙ append-nil rs in
-        subst (λ l. Rest limits judging x (rows x.ring l) (end_text (figures_of x) x.links)) k
-        (rest_cut spelled.cut.0 spelled.cut.1.0 spelled.cut.1.1 judged.cut (to-links x.links [] refl spelled.loads judged.links))
-    to-rows (r ∷ later) rs e (fine_row on up room most fine) (more h hs) (more v vs) =
+        subst (λ l. Rest limits x (rows x.ring l) (end_text (figures_of x) x.links)) k
+        (rest_cut spelled.cut.0 spelled.cut.1.0 spelled.cut.1.1 (to-links x.links [] refl spelled.loads))
+    to-rows (r ∷ later) rs e (fine_row on up room most fine) (more h hs) =
         let f : x.rows ≡ (rs ++ r ∷ []) ++ later = e ∙ sym (append_assoc rs (r ∷ []) later) in
         let one : length (rs ++ r ∷ []) ≡ length rs + 1 = length-append rs (r ∷ []) in
         let behind = subst (λ (q : Row). FineRows limits x.ring.nodes (length (rs ++ r ∷ [])) q.first q.second (demands (sents later))) (sym (last_more rs r)) (rw one fine) in
@@ -81,52 +73,51 @@ module _ (limits : Limits) (judging : Bool) (x : Sheet) (judged : Judged judging
           back = h.back;
           way = way_small r.way;
         } in
-        subst (λ t. Rest limits judging x (rows x.ring rs) t) (sym (append_assoc (routed_line r) (lines_of routed_line later) (end_text (figures_of x) x.links)))
-        (rest_row s (fine-row-judged limits x.ring.nodes (length rs) (last_of rs).first (last_of rs).second r.sent.row.first r.sent.row.second r.sent.row.amount on up room most) (rw same v) (rw same (to-rows later (rs ++ r ∷ []) f behind hs vs)))
+        subst (λ t. Rest limits x (rows x.ring rs) t) (sym (append_assoc (routed_line r) (lines_of routed_line later) (end_text (figures_of x) x.links)))
+        (rest_row s (fine-row-judged limits x.ring.nodes (length rs) (last_of rs).first (last_of rs).second r.sent.row.first r.sent.row.second r.sent.row.amount on up room most) (rw same (to-rows later (rs ++ r ∷ []) f behind hs)))
 
-    to_start : limits.fewest ≤ x.ring.nodes → IsFibres x.ring.fibres → FineRows limits x.ring.nodes 0 0 0 (demands (sents x.rows)) → Rest limits judging x start (write_sheet x)
+    to_start : limits.fewest ≤ x.ring.nodes → IsFibres x.ring.fibres → FineRows limits x.ring.nodes 0 0 0 (demands (sents x.rows)) → Rest limits x start (write_sheet x)
     unfolding write_sheet
     to_start few fibres fine =
-        rest_ring {ring = x.ring} (ring-spelled limits limited x.ring many fibres) (fine-ring-judged limits x.ring few many fibres) (to-rows x.rows [] refl fine spelled.halves judged.halves)
+        let s = ring-spelled limits limited x.ring many fibres in
+        rest_ring {ring = x.ring} s.0 s.1 (fine-ring-judged limits x.ring few many fibres) (to-rows x.rows [] refl fine spelled.halves)
 
 -- ---- both
 
-module _ (limits : Limits) (limited : LimitsSpelled limits) (judging : Bool) (t : List ℕ) (x : Sheet) where
-  read-written : check_by limits judging t ≡ accepted x → (t ≡ write_sheet x) × (InRange limits x × Judged judging x)
-  unfolding check_by
+module _ (limits : Limits) (limited : LimitsSpelled limits) (t : List ℕ) (x : Sheet) where
+  read-written : read_sheet limits t ≡ accepted x → (t ≡ write_sheet x) × InRange limits x
+  unfolding read_sheet
   read-written =
-      cond-elim (λ (r : Result). r ≡ accepted x → (t ≡ write_sheet x) × (InRange limits x × Judged judging x)) _ _ _
+      cond-elim (λ (r : Result). r ≡ accepted x → (t ≡ write_sheet x) × InRange limits x) _ _ _
       (λ long e. clash (cc))
-      (λ short e. whole (ltb-false limits.bytes (length t) short) (from_start limits judging t x (subst (Rest limits judging x start) (join-lines t) (read-rest limits judging x (lines t) start 1 e))))
+      (λ short e. whole (ltb-false limits.bytes (length t) short) (from_start limits t x (subst (Rest limits x start) (join-lines t) (read-rest limits x (lines t) start 1 e))))
     where
-      whole : length t ≤ limits.bytes → IsSheet limits judging t x → (t ≡ write_sheet x) × (InRange limits x × Judged judging x)
+      whole : length t ≤ limits.bytes → IsSheet limits t x → (t ≡ write_sheet x) × InRange limits x
       whole short s = (
         s.text,
-        (
-          record {
-            few = s.few;
-            many = s.many;
-            fibres = s.fibres;
-            rows = table-rows s.fine;
-            count = omega (arith, count-fine s.fine (omega arith), demands-length x.rows);
-            amounts = amounts-fine s.fine;
-            spelled = s.spelled;
-            links = s.links;
-            short = omega (arith, ap length s.text);
-          },
-          s.judged,
-        ),
+        record {
+          few = s.few;
+          many = s.many;
+          fibres = s.fibres;
+          rows = table-rows s.fine;
+          count = omega (arith, count-fine s.fine (omega arith), demands-length x.rows);
+          amounts = amounts-fine s.fine;
+          spelled = s.spelled;
+          links = s.links;
+          short = omega (arith, ap length s.text);
+        },
       )
 
-  written_read : (t ≡ write_sheet x) × (InRange limits x × Judged judging x) → check_by limits judging t ≡ accepted x
-  unfolding check_by
+  written_read : (t ≡ write_sheet x) × InRange limits x → read_sheet limits t ≡ accepted x
+  unfolding read_sheet
   written_read h =
       let e = h.0 in
-      let r = h.1.0 in
+      let r = h.1 in
       let short : length t ≤ limits.bytes = omega (arith, ap length e, r.short) in
       rw (le-ltb limits.bytes (length t) short)
-      (rest_read limits judging x (subst (Rest limits judging x start) (sym e)
-      (to_start limits judging x h.1.1 r.spelled r.links limited r.many r.few r.fibres (fine-rows {limits = limits} r.rows (omega (arith, r.count, demands-length x.rows)) r.amounts))) 1)
+      (rest_read limits x (subst (Rest limits x start) (sym e)
+      (to_start limits x r.spelled r.links limited r.many r.few r.fibres (fine-rows {limits = limits} r.rows (omega (arith, r.count, demands-length x.rows)) r.amounts))) 1)
 
-  pub sheet-text : (check_by limits judging t ≡ accepted x) ↔ ((t ≡ write_sheet x) × (InRange limits x × Judged judging x))
+  -- a text is read to this sheet exactly when it is the sheet written and the sheet is in range
+  pub sheet-text : (read_sheet limits t ≡ accepted x) ↔ ((t ≡ write_sheet x) × InRange limits x)
   sheet-text = (read-written, written_read)

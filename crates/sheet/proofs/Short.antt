@@ -17,8 +17,6 @@ use Rattle.ring.specs.declared.types.Row.{Row}
 use Rattle.ring.specs.Routing.{way_number}
 use Rattle.ring.specs.declared.types.Sent.{Sent}
 use Rattle.ring.specs.declared.types.Routed.{Routed}
-use Rattle.ring.specs.declared.types.Way.{Way}
-use Rattle.ring.specs.declared.types.Way.TheVariants.{Front, Back}
 use Rattle.ring.specs.Sheet.{Sheet, sents, demands, numbers_from, plan}
 use Rattle.ring.specs.declared.types.Link.{Link}
 use Rattle.ring.specs.True.{TrueSheet}
@@ -29,12 +27,10 @@ use Rattle.text.specs.Number.{limit}
 use Rattle.text.specs.Shapes.{ring_shape, sent_shape, cut_shape, link_shape, last_shape, ring_line, cut_line, last_line}
 use Rattle.text.proofs.Lengths.{line-in-range-short}
 use Rattle.table.specs.Table as table
-use Rattle.table.proofs.LineRead.{ring-in-range}
 use Rattle.table.proofs.TableText.{desk-spelled, ring-spelled}
 use Rattle.sheet.specs.WriteSheet.{routed_line, load_line, lines_of, figures_of, end_text, write_sheet}
 use Rattle.sheet.specs.Range.{RowSpelled, LinkSpelled, Spelled, InRange, longest}
-use Rattle.sheet.proofs.Back.{numbers-length}
-use Rattle.sheet.proofs.SheetLines.{SentSpelled, sent-in-range, cut-in-range, link-in-range, last-in-range}
+use Rattle.sheet.proofs.SheetLines.{way_small, SentSpelled, ring-in-range, sent-in-range, cut-in-range, link-in-range, last-in-range}
 
 -- ---- the length of a sheet whose lines are in range
 
@@ -42,10 +38,6 @@ lines-most : {A : Type 0} (line : A → List ℕ) (most : ℕ) {l : List A} → 
 unfolding lines_of
 lines-most line most none = omega arith
 lines-most line most (more {a = a} {l = l} p e) = omega (arith, length-append (line a) (lines_of line l), mul-suc most (length l), lines-most line most e)
-
-pub way_small : (w : Way) → way_number w < 2
-way_small Front = omega arith
-way_small Back = omega arith
 
 -- its demand is one of the desk's, and its halves can be spelled
 pub record RowFine (n : ℕ) (r : Routed) : Type 0 where
@@ -96,7 +88,7 @@ module _ (x : Sheet) (many : x.ring.nodes ≤ desk.nodes) (fibres : IsFibres x.r
         length-append (lines_of routed_line x.rows) (end_text (figures_of x) x.links),
         length-append (cut_line c.g c.h c.number) (lines_of load_line x.links ++ last_line x.peak x.size),
         length-append (lines_of load_line x.links) (last_line x.peak x.size),
-        line-in-range-short ring_shape (0 ∷ n ∷ x.ring.fibres ∷ []) (ring-in-range n x.ring.fibres (ring-spelled desk desk-spelled x.ring many fibres)),
+        line-in-range-short ring_shape (0 ∷ n ∷ x.ring.fibres ∷ []) (ring-in-range n x.ring.fibres (ring-spelled desk desk-spelled x.ring many fibres).0 (ring-spelled desk desk-spelled x.ring many fibres).1),
         line-in-range-short cut_shape (0 ∷ c.g ∷ c.h ∷ c.number ∷ []) (cut-in-range c.g c.h c.number spelled.cut.0 spelled.cut.1.0 spelled.cut.1.1),
         line-in-range-short last_shape (0 ∷ x.peak ∷ x.size ∷ []) (last-in-range x.peak x.size spelled.last.0 spelled.last.1),
         lines-most routed_line 56 (each (row-short n many) (rows-fine spelled.halves)),
@@ -108,6 +100,11 @@ module _ (x : Sheet) (many : x.ring.nodes ≤ desk.nodes) (fibres : IsFibres x.r
 sizes-spelled : largest_of sonet_sizes < limit
 unfolding largest_of
 sizes-spelled = omega arith
+
+numbers-length : (k m : ℕ) → length (numbers_from k m) ≡ m
+unfolding numbers_from
+numbers-length k zero = refl
+numbers-length k (suc m) = ap suc (numbers-length (suc k) m)
 
 numbers-within : (top k m : ℕ) → k + m ≤ top → Each (λ j. j < top) (numbers_from k m)
 unfolding numbers_from

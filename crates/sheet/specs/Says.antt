@@ -1,24 +1,19 @@
--- To believe: what each reason says of a sheet's text (Rules, reasons), by its lines and the writer alone, and which byte of the line goes with it; which reason is given; and what accepted and well-formed sheets are.
-use Rattle.std.specs.Prelude.{ℕ, ◌+◌, ◌*◌, ◌≤◌, ◌<◌, List, [], ◌∷◌, ◌++◌, ◌⊎◌, ◌≡◌, length}
-use Rattle.sonet.specs.Size.{sonet_sizes}
-use Rattle.ring.specs.Cut.{IsCut, across}
+-- To believe: what each reason for which no sheet is read says of a text (Rules, reasons), by its lines and the writer alone, and which byte of the line goes with it; which reason is given; and what a well-formed sheet is.
+use Rattle.std.specs.Prelude.{ℕ, ◌+◌, ◌≤◌, ◌<◌, List, [], ◌∷◌, ◌++◌, ◌⊎◌, ◌≡◌, length}
 use Rattle.ring.specs.declared.types.Cut.{Cut}
 use Rattle.ring.specs.Limits.{Limits}
 use Rattle.ring.specs.declared.types.Ring.{Ring}
-use Rattle.ring.specs.LineSize.{line_size}
 use Rattle.ring.specs.Row.{PairBefore}
-use Rattle.ring.specs.Routing.{way_number, split_load, unsplit_load, peak}
+use Rattle.ring.specs.Routing.{way_number}
 use Rattle.ring.specs.declared.types.Routed.{Routed}
-use Rattle.ring.specs.Sheet.{Sheet, sents, demands, split_peak, unsplit_peak, largest_split_of}
+use Rattle.ring.specs.Sheet.{Sheet}
 use Rattle.ring.specs.declared.types.Link.{Link}
-use Rattle.ring.specs.True.{SumsTo2d, Kept}
 use Rattle.text.specs.Number.{limit}
 use Rattle.text.specs.FieldByte.{sent_byte}
 use Rattle.text.specs.FirstFault.{Agrees}
 use Rattle.text.specs.Shapes.{ring_shape, sent_shape, cut_shape, link_shape, last_shape, cut_line, last_line}
 use Rattle.table.specs.Lines.{lines}
-use Rattle.table.specs.Reasons.{rank_of}
-use Rattle.table.specs.Says.{LineIs, RingIs, WrongRing, WrongFibres, NoNode, DueByte, ShapeByte, RingField}
+use Rattle.table.specs.Says.{LineIs, RingIs, WrongRing, WrongFibres, NoNode, DueByte, ShapeByte, RingField, Earlier}
 use Rattle.table.specs.declared.reason.Reason.{Reason}
 use Rattle.table.specs.declared.reason.Reason.TheVariants.{TooLong, Misshapen, RingSize, Fibres, NoRow, NoSuchNode, NotBelow, OutOfOrder, TooMany, TooMuch, Full, WrongSum, WrongWay, WrongCut, WrongLink, WrongLast, NotTight, OverBound, NotZero, NotSymmetric, SumTooMuch, NoRoom}
 use Rattle.sheet.specs.WriteSheet.{routed_line, load_line}
@@ -124,70 +119,6 @@ pub record WrongAmount (limits : Limits) (t : List ℕ) (line : ℕ) : Type 0 wh
   pub row : RowAt t line r
   pub wrong : limits.amount < r.sent.row.amount
 
--- 8: front + back is not 2 x amount
-pub record WrongHalves (t : List ℕ) (line : ℕ) : Type 0 where
-  pub r : Routed
-  pub row : RowAt t line r
-  pub wrong : SumsTo2d r.sent → ⊥
-
--- 9: the row is not split and goes another way than rule D says; a split row may go either way (`Kept`)
-pub record WrongDirection (t : List ℕ) (line : ℕ) : Type 0 where
-  pub r : Routed
-  pub row : RowAt t line r
-  pub wrong : Kept r → ⊥
-
--- 10: the links are no cut, or the across number is not that of the sheet's own rows
-pub record WrongCutLine (t : List ℕ) (line : ℕ) : Type 0 where
-  pub ring : Ring
-  pub rs : List Routed
-  pub due : At t line (rows ring rs)
-  pub c : Cut
-  pub is : CutIs t line c
-  pub wrong : (IsCut ring.nodes c → ⊥) ⊎ (c.number ≡ across (demands (sents rs)) c.g c.h → ⊥)
-
--- 11: the link is not the next one, or a load is not that of the sheet's own rows
-pub record WrongLinkLine (t : List ℕ) (line : ℕ) : Type 0 where
-  pub ring : Ring
-  pub rs : List Routed
-  pub c : Cut
-  pub ks : List Link
-  pub due : At t line (links ring rs c ks)
-  pub few : length ks < ring.nodes
-  pub l : Link
-  pub is : LinkIs t line l
-  pub wrong : (l.link ≡ length ks + 1 → ⊥) ⊎ ((l.split ≡ split_load (sents rs) (length ks + 1) → ⊥) ⊎ (l.unsplit ≡ unsplit_load rs (length ks + 1) → ⊥))
-
--- 12: the unsplit peak is not that of the sheet's own rows, or the size is not that of their peak and the fibres
-pub record WrongLastLine (t : List ℕ) (line : ℕ) : Type 0 where
-  pub ring : Ring
-  pub rs : List Routed
-  pub c : Cut
-  pub ks : List Link
-  pub due : At t line (links ring rs c ks)
-  pub all : ring.nodes ≤ length ks
-  pub p : ℕ
-  pub z : ℕ
-  pub is : LastIs t line p z
-  pub wrong : (p ≡ peak (unsplit_load rs) ring.nodes → ⊥) ⊎ (z ≡ line_size sonet_sizes ring.fibres (peak (unsplit_load rs) ring.nodes) → ⊥)
-
--- the text is a whole sheet: its lines end behind the Z line
-pub record WholeIs (t : List ℕ) (x : Sheet) : Type 0 where
-  pub line : ℕ
-  pub due : At t line (end x)
-  pub none : (l : List ℕ) → LineIs (lines t) line l → ⊥
-
--- 13: the split peak, in halves, is not the across number of the cut that the sheet names; no other cut is looked for
-pub record WrongPeak (t : List ℕ) : Type 0 where
-  pub x : Sheet
-  pub whole : WholeIs t x
-  pub wrong : split_peak x ≡ x.cut.number → ⊥
-
--- 14: in halves, the unsplit peak is above the split peak by more than 3D (Rules, the bound of the directions)
-pub record WrongBound (t : List ℕ) : Type 0 where
-  pub x : Sheet
-  pub whole : WholeIs t x
-  pub wrong : split_peak x + 3 * largest_split_of x < 2 * unsplit_peak x
-
 -- what a reason says, with its line
 unfoldable pub Says : Limits → List ℕ → Reason → ℕ → Type 0
 Says limits t TooLong line = (line ≡ 0) × (limits.bytes < length t)
@@ -199,13 +130,14 @@ Says limits t NotBelow line = WrongPair t line
 Says limits t OutOfOrder line = WrongOrder t line
 Says limits t TooMany line = WrongCount limits t line
 Says limits t TooMuch line = WrongAmount limits t line
-Says limits t WrongSum line = WrongHalves t line
-Says limits t WrongWay line = WrongDirection t line
-Says limits t WrongCut line = WrongCutLine t line
-Says limits t WrongLink line = WrongLinkLine t line
-Says limits t WrongLast line = WrongLastLine t line
-Says limits t NotTight line = (line ≡ 0) × WrongPeak t
-Says limits t OverBound line = (line ≡ 0) × WrongBound t
+-- a sheet that is read is judged by its values
+Says limits t WrongSum line = ⊥
+Says limits t WrongWay line = ⊥
+Says limits t WrongCut line = ⊥
+Says limits t WrongLink line = ⊥
+Says limits t WrongLast line = ⊥
+Says limits t NotTight line = ⊥
+Says limits t OverBound line = ⊥
 -- the others judge no sheet
 Says limits t NotZero line = ⊥
 Says limits t NotSymmetric line = ⊥
@@ -249,8 +181,6 @@ pub record AmountByte (t : List ℕ) (line byte : ℕ) : Type 0 where
 unfoldable pub ByteIs : List ℕ → Reason → ℕ → ℕ → Type 0
 -- a reason with line 0
 ByteIs t TooLong line byte = byte ≡ 0
-ByteIs t NotTight line byte = byte ≡ 0
-ByteIs t OverBound line byte = byte ≡ 0
 ByteIs t Misshapen line byte = LineByte t line byte
 -- a reason about one field
 ByteIs t RingSize line byte = RingField t 1 byte
@@ -261,11 +191,14 @@ ByteIs t TooMuch line byte = AmountByte t line byte
 ByteIs t NotBelow line byte = byte ≡ 1
 ByteIs t OutOfOrder line byte = byte ≡ 1
 ByteIs t TooMany line byte = byte ≡ 1
-ByteIs t WrongSum line byte = byte ≡ 1
-ByteIs t WrongWay line byte = byte ≡ 1
-ByteIs t WrongCut line byte = byte ≡ 1
-ByteIs t WrongLink line byte = byte ≡ 1
-ByteIs t WrongLast line byte = byte ≡ 1
+-- a sheet that is read is judged by its values
+ByteIs t WrongSum line byte = ⊥
+ByteIs t WrongWay line byte = ⊥
+ByteIs t WrongCut line byte = ⊥
+ByteIs t WrongLink line byte = ⊥
+ByteIs t WrongLast line byte = ⊥
+ByteIs t NotTight line byte = ⊥
+ByteIs t OverBound line byte = ⊥
 -- the others judge no sheet
 ByteIs t NotZero line byte = ⊥
 ByteIs t NotSymmetric line byte = ⊥
@@ -276,61 +209,12 @@ ByteIs t NoRoom line byte = ⊥
 
 -- ---- which is given
 
--- 13 and 14 come behind all lines
-abbrev pub stage : Reason → ℕ
-stage NotTight = 1
-stage OverBound = 1
-stage TooLong = 0
-stage Misshapen = 0
-stage RingSize = 0
-stage Fibres = 0
-stage NoSuchNode = 0
-stage NotBelow = 0
-stage OutOfOrder = 0
-stage TooMany = 0
-stage TooMuch = 0
-stage WrongSum = 0
-stage WrongWay = 0
-stage WrongCut = 0
-stage WrongLink = 0
-stage WrongLast = 0
-stage NotZero = 0
-stage NotSymmetric = 0
-stage SumTooMuch = 0
-stage NoRow = 0
-stage Full = 0
-stage NoRoom = 0
-
--- what is tried earlier: 1, before all lines; then the line before, and on the same line the reason before; 13 and 14 behind all lines
-abbrev pub Earlier : Reason → ℕ → Reason → ℕ → Type 0
-Earlier r line s other =
-    (stage r < stage s) ⊎ ((stage r ≡ stage s) × ((line < other) ⊎ ((line ≡ other) × (rank_of r < rank_of s))))
-
--- of the reasons that count, this one is given exactly when it holds and nothing before it in the order does, and with it its byte
-pub record GivenAmong (Counts : Reason → Type 0) (limits : Limits) (t : List ℕ) (r : Reason) (line byte : ℕ) : Type 0 where
-  pub counts : Counts r
+-- each reason is given exactly when it holds and nothing before it in the order does, the line before being tried earlier, and with it its byte
+pub record Given (limits : Limits) (t : List ℕ) (r : Reason) (line byte : ℕ) : Type 0 where
   pub holds : Says limits t r line
-  pub first : (s : Reason) (other : ℕ) → Counts s → Earlier s other r line → Says limits t s other → ⊥
+  pub first : (s : Reason) (other : ℕ) → Earlier s other r line → Says limits t s other → ⊥
   pub byte_is : ByteIs t r line byte
 
--- none of the reasons that count holds
-abbrev pub NoneAmong : (Reason → Type 0) → Limits → List ℕ → Type 0
-NoneAmong Counts limits t = (r : Reason) (line : ℕ) → Counts r → Says limits t r line → ⊥
-
--- each reason
-abbrev pub Any : Reason → Type 0
-Any r = Unit {0}
-
--- 8 to 14 are never given: what is left comes before 8 in the order
-abbrev pub OfForm : Reason → Type 0
-OfForm r = rank_of r < rank_of WrongSum
-
-abbrev pub Given : Limits → List ℕ → Reason → ℕ → ℕ → Type 0
-Given = GivenAmong Any
-
--- a sheet is accepted when no reason holds of it; it is well-formed when none but 8 to 14 may hold, which judge what its figures say
-abbrev pub Accepted : Limits → List ℕ → Type 0
-Accepted = NoneAmong Any
-
+-- a sheet is well-formed when no reason holds that judges its own length or lines; what its figures say is not asked
 abbrev pub WellFormed : Limits → List ℕ → Type 0
-WellFormed = NoneAmong OfForm
+WellFormed limits t = (r : Reason) (line : ℕ) → Says limits t r line → ⊥

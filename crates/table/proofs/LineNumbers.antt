@@ -5,15 +5,13 @@ use mathlib.Core.List.{List, [], ◌∷◌}
 use mathlib.Core.Path.{◌≡◌, refl, ap, ap₂, ◌∙◌, sym, subst}
 use native.Mathlib.Omega.{arith}
 use lib.ListN.{length}
-use Rattle.text.specs.ReadLine.{read_line}
+use Rattle.std.specs.Prelude.{Ok}
+use Rattle.text.specs.ReadLine.{Reading, read_line}
 use Rattle.text.specs.Shapes.{ring_shape, row_shape}
-use Rattle.text.specs.Answers.{two_in, three_in}
-use Rattle.text.specs.declared.TwoNumbers.TheVariants.{Are as AreTwo}
-use Rattle.text.specs.declared.ThreeNumbers.TheVariants.{Are as AreThree}
 use Rattle.ring.specs.Ring.{ring_of}
 use Rattle.ring.specs.declared.types.Ring.{Ring}
 use Rattle.table.specs.Says.{LineIs, at_first, behind, RingIs, RowIs}
-use Rattle.table.proofs.LineRead.{ring-line-read, row-line-read}
+use Rattle.table.proofs.LineRead.{ring-values, row-values}
 
 -- ---- one line, one reading
 
@@ -29,9 +27,8 @@ line-one (behind p) (behind q) e = line-one p q (omega arith)
 
 pub ring-one : {t : List ℕ} {r s : Ring} → RingIs t r → RingIs t s → r ≡ s
 ring-one {t} {r} {s} p q =
-    let e : AreTwo r.nodes r.fibres ≡ AreTwo s.nodes s.fibres =
-    sym (ring-line-read r.nodes r.fibres p.spelled) ∙ ap (λ l. two_in (read_line ring_shape l)) (line-one p.text q.text refl)
-    ∙ ring-line-read s.nodes s.fibres q.spelled in
+    let e : ◌≡◌ {A = Reading} (Ok (0 ∷ r.nodes ∷ r.fibres ∷ [])) (Ok (0 ∷ s.nodes ∷ s.fibres ∷ [])) =
+    sym (ring-values r.nodes r.fibres p.spelled) ∙ ap (read_line ring_shape) (line-one p.text q.text refl) ∙ ring-values s.nodes s.fibres q.spelled in
     ap₂ ring_of (cc) (cc)
 
 -- the same three numbers
@@ -42,8 +39,8 @@ pub record SameRow (i j d i' j' d' : ℕ) : Type 0 where
 
 pub row_one : {t : List ℕ} {line other i j d i' j' d' : ℕ} → RowIs t line i j d → RowIs t other i' j' d' → line ≡ other → SameRow i j d i' j' d'
 row_one {i} {j} {d} {i'} {j'} {d'} p q e =
-    let f : AreThree i j d ≡ AreThree i' j' d' =
-    sym (row-line-read i j d p.spelled) ∙ ap (λ l. three_in (read_line row_shape l)) (line-one p.text q.text e) ∙ row-line-read i' j' d' q.spelled in
+    let f : ◌≡◌ {A = Reading} (Ok (0 ∷ i ∷ j ∷ d ∷ [])) (Ok (0 ∷ i' ∷ j' ∷ d' ∷ [])) =
+    sym (row-values i j d p.spelled) ∙ ap (read_line row_shape) (line-one p.text q.text e) ∙ row-values i' j' d' q.spelled in
     record { same_i = cc; same_j = cc; same_d = cc }
 
 -- ---- in order

@@ -11,23 +11,27 @@ use borrow.Author.Tests.{ltb-true, ltb-false}
 use Rattle.ring.specs.Row.{row}
 use Rattle.ring.specs.declared.types.Row.{Row}
 use Rattle.ring.proofs.Side.{cond-elim}
-use Rattle.text.specs.declared.TwoNumbers.{TwoNumbers}
-use Rattle.text.specs.declared.ThreeNumbers.{ThreeNumbers}
 use Rattle.ring.specs.Limits.{Limits}
 use Rattle.ring.specs.Ring.{ring_of}
 use Rattle.ring.specs.declared.types.Ring.{Ring}
 use Rattle.table.specs.Lines.{lines}
-use Rattle.table.specs.Judge.{judge_ring, judge_row}
 use Rattle.table.specs.Reasons.{rank_of}
-use Rattle.table.specs.Fields.{ring_fault, row_fault}
-use Rattle.table.specs.ReadTable.{Result, accepted, refused, ring_or, row_or, unless, rows_of, table_lines, table_of}
+use Rattle.table.specs.Fields.{field_of, node_field, ring_fault, row_fault}
+use Rattle.table.specs.Faults.{found, ring_found, row_found, last_of}
+use Rattle.table.specs.OnLine.{and_then, values_on, passed, judged}
+use Rattle.text.specs.FieldByte.{field_byte}
+use Rattle.text.specs.ReadLine.{Reading}
+use Rattle.text.specs.Shapes.{ring_shape, row_shape}
+use Rattle.text.specs.declared.field.Field.{Field}
+use Rattle.table.proofs.Faults.{last-more}
+use Rattle.table.specs.ReadTable.{Result, accepted, refused, ring_in, row_in, ring_on, row_on, unless_refused, rows_of, table_lines, table_of}
 use Rattle.table.specs.Says.{RingIs, RowIs, Says, line_missing, line_faulty, ring_due, row_due, ByteIs, Earlier, Given, Accepted}
 use Rattle.table.specs.declared.reason.Reason.{Reason}
 use Rattle.table.specs.declared.reason.Reason.TheVariants.{TooLong}
 use Rattle.table.specs.Verdict.{Verdict}
 use Rattle.std.specs.Prelude.{Ok, Err}
 use Rattle.table.proofs.Judged.{ring-judged, row-judged}
-use Rattle.table.proofs.LineRead.{RingRead, is_a_ring, no_ring, ring-read, RowRead, is_a_row, no_row, row_read}
+use Rattle.table.proofs.LineRead.{RingLine, ring_line_is, no_ring_line, as-ring, RowLine, row_line_is, no_row_line, as-row}
 use Rattle.table.proofs.LineNumbers.{line-one, LinesFrom, from_first, from_next, line-here, no-line-left}
 use Rattle.table.proofs.ReasonNumbers.{same_rank}
 use Rattle.table.proofs.Said.{said, Stands, on_none, on_first, on_later, stands}
@@ -63,11 +67,11 @@ module _ {limits : Limits} {t : List ℕ} where
             | no m ↦ let e : other ≡ line = omega arith in f.least s (subst (Says limits t s) e h)
           ]
 
-  unless-right : {line : ℕ} {x : Result} (byte : Reason → ℕ) (v : Verdict) → Clean limits t line → FirstOnLine limits t line v → ByteOn t line byte v
-      → (Clean limits t (line + 1) → Right limits t x) → Right limits t (unless v line byte x)
-  unfolding unless
-  unless-right byte (Ok tt) clean f b next = next (clean-next clean f)
-  unless-right byte (Err r) clean f b next = first_holds (given-here clean f b)
+  judged-right : {A : Type 0} {line : ℕ} (shape : List Field) (vs : List ℕ) (field : Reason → ℕ) (y : A) (next : A → Result) (v : Verdict) → Clean limits t line → FirstOnLine limits t line v
+      → ByteOn t line (λ r. field_byte shape vs (field r)) v → (Clean limits t (line + 1) → Right limits t (next y)) → Right limits t (unless_refused (passed line shape vs (found v field) y) next)
+  unfolding unless_refused passed found
+  judged-right shape vs field y next (Ok tt) clean f b rest = rest (clean-next clean f)
+  judged-right shape vs field y next (Err r) clean f b rest = first_holds (given-here clean f b)
 
   -- reason 1 is tried first
   clean-start : length t ≤ limits.bytes → Clean limits t 1
@@ -86,38 +90,52 @@ module _ {limits : Limits} {t : List ℕ} where
       go (on_first e two) = clean.none s other (omega arith) h
       go (on_later m is two) = clean.none s other (no-line-left from is) h
 
-  rows_right : {ring : Ring} → RingIs t ring → (ls : List (List ℕ)) (line a b : ℕ) (rs : List Row) → LinesFrom (lines t) line ls → line ≡ length rs + 2 → Clean limits t line
-      → RowBefore t line a b → Right limits t (rows_of limits ring line a b rs ls)
-  unfolding rows_of row_or ByteIs
-  rows_right here [] line a b rs from place clean before = none_holds (clean_end (omega arith) from clean)
-  rows_right {ring} here (l ∷ ls) line a b rs from place clean before =
-      go (row_read l) (λ i j d. rows_right here ls (line + 1) i j (rs ++ row i j d ∷ []) (from_next from) (omega (arith, length-append rs (row i j d ∷ []))))
+  rows_right : {ring : Ring} → RingIs t ring → (ls : List (List ℕ)) (rs : List Row) → LinesFrom (lines t) (length rs + 2) ls → Clean limits t (length rs + 2)
+      → RowBefore t (length rs + 2) (last_of rs).first (last_of rs).second → Right limits t (rows_of limits ring rs ls)
+  unfolding rows_of row_on judged and_then values_on unless_refused row_found row_fault ByteIs
+  rows_right here [] rs from clean before = none_holds (clean_end (omega arith) from clean)
+  rows_right {ring} here (l ∷ ls) rs from clean before = go (as-row l) (λ r. rows_right here ls (rs ++ r ∷ []))
     where
-      next : ℕ → ℕ → ℕ → Result
-      next i j d = rows_of limits ring (line + 1) i j (rs ++ row i j d ∷ []) ls
+      line : ℕ
+      line = length rs + 2
 
-      go : {x : ThreeNumbers} → RowRead l x → ((i j d : ℕ) → Clean limits t (line + 1) → RowBefore t (line + 1) i j → Right limits t (next i j d))
-          → Right limits t (row_or x line λ i j d. unless (judge_row limits ring.nodes (length rs) a b i j d) line (row_fault ring.nodes i j d) (next i j d))
-      go (is_a_row {i} {j} {d} e w) rest =
+      next : Row → Result
+      next r = rows_of limits ring (rs ++ r ∷ []) ls
+
+      on-next : (r : Row) → length (rs ++ r ∷ []) + 2 ≡ line + 1
+      on-next r = omega (arith, length-append rs (r ∷ []))
+
+      go : {x : Reading} → RowLine l x
+          → ((r : Row) → LinesFrom (lines t) (length (rs ++ r ∷ []) + 2) ls → Clean limits t (length (rs ++ r ∷ []) + 2)
+          → RowBefore t (length (rs ++ r ∷ []) + 2) (last_of (rs ++ r ∷ [])).first (last_of (rs ++ r ∷ [])).second → Right limits t (next r))
+          → Right limits t (unless_refused (and_then (values_on line x) λ vs. passed line row_shape vs (row_found limits ring.nodes (length rs) (last_of rs) (row_in vs)) (row_in vs)) next)
+      go (row_line_is {i} {j} {d} e w) rest =
+          let r = row i j d in
           let now : RowIs t line i j d = record { later = omega arith; text = rw e at (line-here from); spelled = w } in
-          let judged = row-judged limits ring.nodes (length rs) a b i j d in
-          unless-right _ _ clean (row-judged-first here now place before judged) (row-byte here now judged) (λ c. rest i j d c (row_before now))
-      go (no_row none fault) rest =
+          let judged = row-judged limits ring.nodes (length rs) (last_of rs).first (last_of rs).second i j d in
+          let at = on-next r in
+          let last = last-more rs r in
+          judged-right row_shape (0 ∷ i ∷ j ∷ d ∷ []) (λ reason. field_of reason (node_field ring.nodes i)) r next _ clean (row-judged-first here now refl before judged) (row-byte here now judged)
+          (λ c. rest r (rw at (from_next from)) (rw at c) (rw (at, last) (row_before now)))
+      go (no_row_line none fault) rest =
           first_holds (given-here clean (no-row-first (omega arith) (line-here from) (λ i j d r. none i j d (line-one (line-here from) r.text refl) r.spelled))
           (row_due (omega arith) (line_faulty (line-here from) fault)))
 
   lines-right : length t ≤ limits.bytes → (ls : List (List ℕ)) → LinesFrom (lines t) 1 ls → Right limits t (table_lines limits ls)
-  unfolding table_lines ring_or ByteIs
+  unfolding table_lines ring_on judged and_then values_on unless_refused ring_found ring_fault ByteIs
   lines-right short [] from = first_holds (given-here (clean-start short) (no-ring-first (λ n r. omega (arith, no-line-left from r.text))) (ring_due refl (line_missing (λ l is. omega (arith, no-line-left from is)))))
-  lines-right short (l ∷ ls) from = go (ring-read l)
+  lines-right short (l ∷ ls) from = go (as-ring l)
     where
-      go : {x : TwoNumbers} → RingRead l x → Right limits t (ring_or x 1 λ ring. unless (judge_ring limits ring) 1 (ring_fault ring) (rows_of limits ring 2 0 0 [] ls))
-      go (is_a_ring {n} {fibres} e w) =
+      next : Ring → Result
+      next ring = rows_of limits ring [] ls
+
+      go : {x : Reading} → RingLine l x → Right limits t (unless_refused (and_then (values_on 1 x) λ vs. passed 1 ring_shape vs (ring_found limits (ring_in vs)) (ring_in vs)) next)
+      go (ring_line_is {n} {fibres} e w) =
           let here : RingIs t (ring_of n fibres) = record { text = rw e at (line-here from); spelled = w } in
           let judged = ring-judged limits (ring_of n fibres) in
-          unless-right _ _ (clean-start short) (ring-judged-first here judged) (ring-byte here judged)
-          (λ c. rows_right here ls 2 0 0 [] (from_next from) refl c no_row_before)
-      go (no_ring none fault) =
+          judged-right ring_shape (0 ∷ n ∷ fibres ∷ []) (λ reason. field_of reason 0) (ring_of n fibres) next _ (clean-start short) (ring-judged-first here judged) (ring-byte here judged)
+          (λ c. rows_right here ls [] (from_next from) c no_row_before)
+      go (no_ring_line none fault) =
           first_holds (given-here (clean-start short) (no-ring-first (λ ring r. none ring.nodes ring.fibres (line-one (line-here from) r.text refl) r.spelled))
           (ring_due refl (line_faulty (line-here from) fault)))
 

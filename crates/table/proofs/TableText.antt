@@ -7,29 +7,30 @@ use mathlib.Core.Path.{◌≡◌, refl, ap, ◌∙◌, sym, subst}
 use native.Mathlib.Omega.{arith}
 use lib.ListN.{length, length-append}
 use borrow.Author.Tests.{le-ltb, ltb-false}
-use Rattle.ring.specs.Row.{row}
+use Rattle.ring.specs.Row.{row, OnRing, PairUpTo}
 use Rattle.ring.specs.declared.types.Row.{Row}
 use Rattle.ring.proofs.Side.{cond-elim}
 use Rattle.text.specs.Number.{limit}
-use Rattle.text.specs.Shapes.{ring_line, row_line}
-use Rattle.text.specs.declared.TwoNumbers.{TwoNumbers}
-use Rattle.text.specs.declared.ThreeNumbers.{ThreeNumbers}
+use Rattle.text.specs.Shapes.{ring_shape, row_shape, ring_line, row_line}
 use Rattle.ring.specs.Limits.{Limits, desk}
 use Rattle.ring.specs.Ring.{ring_of}
 use Rattle.ring.specs.declared.types.Ring.{Ring}
 use Rattle.ring.specs.LineSize.{IsFibres}
 use Rattle.table.specs.Lines.{lines}
-use Rattle.table.specs.Judge.{judge_ring, judge_row}
 use Rattle.table.specs.Table.{write_rows, write_table, LimitsSpelled, InRange}
-use Rattle.table.specs.Fields.{ring_fault, row_fault}
-use Rattle.table.specs.ReadTable.{Result, accepted, refused, ring_or, row_or, unless, rows_of, table_lines, table_of}
+use Rattle.table.specs.Faults.{found, ring_found, row_found, last_of}
+use Rattle.table.specs.OnLine.{and_then, values_on, passed, judged}
+use Rattle.table.specs.ReadTable.{Result, accepted, refused, ring_in, row_in, ring_on, row_on, unless_refused, rows_of, table_lines, table_of}
+use Rattle.table.specs.declared.fault.Fault.{Fault}
+use Rattle.table.proofs.Faults.{last-more}
 use Rattle.table.specs.declared.reason.Reason.{Reason}
 use Rattle.table.specs.Verdict.{Verdict}
-use Rattle.std.specs.Prelude.{Ok, Err}
+use Rattle.std.specs.Prelude.{Option, Ok, Err}
+use Rattle.text.specs.ReadLine.{Reading}
 use Rattle.table.proofs.Judged.{RingJudged, right_ring, ring-judged, RowJudged, row_fine, row-judged}
 use Rattle.table.proofs.Against.{fine-ring-judged, fine-row-judged}
 use Rattle.table.proofs.FineRows.{FineRows, no_row, fine_row, fine-rows, table-rows, amounts-fine, count-fine}
-use Rattle.table.proofs.LineRead.{RingSpelled, ring-line-read, RingRead, is_a_ring, no_ring, ring-read, RowSpelled, row-line-read, RowRead, is_a_row, no_row as no_row_line, row_read}
+use Rattle.table.proofs.LineRead.{RingSpelled, ring-values, RingLine, ring_line_is, no_ring_line, as-ring, RowSpelled, row-values, RowLine, row_line_is, no_row_line, as-row}
 use Rattle.table.proofs.LinesOf.{join-lines, ring-first, row_first}
 
 pub desk-spelled : LimitsSpelled desk
@@ -37,34 +38,42 @@ desk-spelled = record { nodes = omega arith; amount = omega arith }
 
 -- ---- read, so written
 
--- rows behind the rows rs, of which the last is a, b, as the lines ls are read to them
-data RowsRead (limits : Limits) (ring : Ring) (a b : ℕ) (rs : List Row) (ls : List (List ℕ)) : Result → Type 0 where
-  rows_are : {all : List Row} (more : List Row) → all ≡ rs ++ more → flatten ls ≡ write_rows more → FineRows limits ring.nodes (length rs) a b more
-      → RowsRead limits ring a b rs ls (accepted ring all)
-  rows_refused : {r : Reason} {line byte : ℕ} → RowsRead limits ring a b rs ls (refused r line byte)
+-- rows behind the rows rs, as the lines ls are read to them
+data RowsRead (limits : Limits) (ring : Ring) (rs : List Row) (ls : List (List ℕ)) : Result → Type 0 where
+  rows_are : {all : List Row} (more : List Row) → all ≡ rs ++ more → flatten ls ≡ write_rows more → FineRows limits ring.nodes (length rs) (last_of rs).first (last_of rs).second more
+      → RowsRead limits ring rs ls (accepted ring all)
+  rows_refused : {r : Reason} {line byte : ℕ} → RowsRead limits ring rs ls (refused r line byte)
 
 module _ {limits : Limits} {ring : Ring} where
   -- one row more in front
-  row_more : (line : ℕ) (byte : Reason → ℕ) {a b i j d : ℕ} {rs : List Row} {l : List ℕ} {ls : List (List ℕ)} {v : Verdict} {x : Result} → l ≡ row_line i j d
-      → RowJudged limits ring.nodes (length rs) a b i j d v → RowsRead limits ring i j (rs ++ row i j d ∷ []) ls x → RowsRead limits ring a b rs (l ∷ ls) (unless v line byte x)
-  unfolding unless write_rows flatten
-  row_more line byte {v = Err r} e w rest = rows_refused
-  row_more line byte {i} {j} {d} {rs} {v = Ok tt} e (row_fine o up c m) (rows_are more whole text fine) =
+  row_more : {i j d : ℕ} {rs : List Row} {l : List ℕ} {ls : List (List ℕ)} {x : Result} → l ≡ row_line i j d
+      → RowJudged limits ring.nodes (length rs) (last_of rs).first (last_of rs).second i j d (Ok tt) → RowsRead limits ring (rs ++ row i j d ∷ []) ls x → RowsRead limits ring rs (l ∷ ls) x
+  unfolding write_rows flatten
+  row_more {i} {j} {d} {rs} e (row_fine o up c m) (rows_are more whole text fine) =
       let one = length-append rs (row i j d ∷ []) in
-      rows_are (row i j d ∷ more) (whole ∙ append_assoc rs (row i j d ∷ []) more) (rw (e, text)) (fine_row o up c m (subst (λ k. FineRows limits ring.nodes k i j more) one fine))
-  row_more line byte {v = Ok tt} e w rows_refused = rows_refused
+      rows_are (row i j d ∷ more) (whole ∙ append_assoc rs (row i j d ∷ []) more) (rw (e, text))
+      (fine_row o up c m (subst (λ k. FineRows limits ring.nodes k i j more) one (rw (last-more rs (row i j d)) at fine)))
+  row_more e w rows_refused = rows_refused
 
-  rows-read : (ls : List (List ℕ)) (line a b : ℕ) (rs : List Row) → RowsRead limits ring a b rs ls (rows_of limits ring line a b rs ls)
-  unfolding rows_of row_or write_rows flatten
-  rows-read [] line a b rs = rows_are [] (sym (append-nil rs)) refl no_row
-  rows-read (l ∷ ls) line a b rs = go (row_read l) (λ i j d. rows-read ls (line + 1) i j (rs ++ row i j d ∷ []))
+  rows-read : (ls : List (List ℕ)) (rs : List Row) → RowsRead limits ring rs ls (rows_of limits ring rs ls)
+  unfolding rows_of row_on judged values_on row_found write_rows flatten
+  rows-read [] rs = rows_are [] (sym (append-nil rs)) refl no_row
+  rows-read (l ∷ ls) rs = go (as-row l) (λ r. rows-read ls (rs ++ r ∷ []))
     where
-      next : ℕ → ℕ → ℕ → Result
-      next i j d = rows_of limits ring (line + 1) i j (rs ++ row i j d ∷ []) ls
+      next : Row → Result
+      next r = rows_of limits ring (rs ++ r ∷ []) ls
 
-      go : {x : ThreeNumbers} → RowRead l x → ((i j d : ℕ) → RowsRead limits ring i j (rs ++ row i j d ∷ []) ls (next i j d))
-          → RowsRead limits ring a b rs (l ∷ ls) (row_or x line λ i j d. unless (judge_row limits ring.nodes (length rs) a b i j d) line (row_fault ring.nodes i j d) (next i j d))
-      go (is_a_row {i} {j} {d} e w) rest = row_more line (row_fault ring.nodes i j d) e (row-judged limits ring.nodes (length rs) a b i j d) (rest i j d)
+      against : List ℕ → Option Fault
+      against vs = row_found limits ring.nodes (length rs) (last_of rs) (row_in vs)
+
+      judging : {i j d : ℕ} {v : Verdict} (vs : List ℕ) (field : Reason → ℕ) → l ≡ row_line i j d → RowJudged limits ring.nodes (length rs) (last_of rs).first (last_of rs).second i j d v
+          → RowsRead limits ring (rs ++ row i j d ∷ []) ls (next (row i j d)) → RowsRead limits ring rs (l ∷ ls) (unless_refused (passed (length rs + 2) row_shape vs (found v field) (row i j d)) next)
+      judging {v = Err r} vs field e w rest = rows_refused
+      judging {v = Ok tt} vs field e w rest = row_more e w rest
+
+      go : {x : Reading} → RowLine l x → ((r : Row) → RowsRead limits ring (rs ++ r ∷ []) ls (next r))
+          → RowsRead limits ring rs (l ∷ ls) (unless_refused (and_then (values_on (length rs + 2) x) λ vs. passed (length rs + 2) row_shape vs (against vs) (row_in vs)) next)
+      go (row_line_is {i} {j} {d} e w) rest = judging _ _ e (row-judged limits ring.nodes (length rs) (last_of rs).first (last_of rs).second i j d) (rest (row i j d))
       go (no_row_line none fault) rest = rows_refused
 
 -- what a text is read to
@@ -73,11 +82,10 @@ data TableRead (limits : Limits) (t : List ℕ) : Result → Type 0 where
   table_refused : {r : Reason} {line byte : ℕ} → TableRead limits t (refused r line byte)
 
 module _ {limits : Limits} {t : List ℕ} (short : length t ≤ limits.bytes) where
-  ring-more : (byte : Reason → ℕ) {ring : Ring} {l : List ℕ} {ls : List (List ℕ)} {v : Verdict} {x : Result} → t ≡ l ++ flatten ls → l ≡ ring_line ring.nodes ring.fibres
-      → RingJudged limits ring v → RowsRead limits ring 0 0 [] ls x → TableRead limits t (unless v 1 byte x)
-  unfolding unless write_table
-  ring-more byte {v = Err r} whole e w rows = table_refused
-  ring-more byte {ring} {v = Ok tt} whole e (right_ring few many fibres) (rows_are {all} rs is text fine) =
+  ring-more : {ring : Ring} {l : List ℕ} {ls : List (List ℕ)} {x : Result} → t ≡ l ++ flatten ls → l ≡ ring_line ring.nodes ring.fibres
+      → RingJudged limits ring (Ok tt) → RowsRead limits ring [] ls x → TableRead limits t x
+  unfolding write_table
+  ring-more {ring} whole e (right_ring few many fibres) (rows_are {all} rs is text fine) =
       let written : t ≡ write_table ring all = whole ∙ rw (e, text, is) in
       table_is {rs = all} written (record {
         few = few;
@@ -88,16 +96,24 @@ module _ {limits : Limits} {t : List ℕ} (short : length t ≤ limits.bytes) wh
         amounts = rw is (amounts-fine fine);
         short = omega (arith, ap length written);
       })
-  ring-more byte {v = Ok tt} whole e w rows_refused = table_refused
+  ring-more whole e w rows_refused = table_refused
 
   lines-read : (ls : List (List ℕ)) → t ≡ flatten ls → TableRead limits t (table_lines limits ls)
-  unfolding table_lines ring_or flatten
+  unfolding table_lines ring_on judged values_on ring_found flatten
   lines-read [] whole = table_refused
-  lines-read (l ∷ ls) whole = go (ring-read l)
+  lines-read (l ∷ ls) whole = go (as-ring l)
     where
-      go : {x : TwoNumbers} → RingRead l x → TableRead limits t (ring_or x 1 λ ring. unless (judge_ring limits ring) 1 (ring_fault ring) (rows_of limits ring 2 0 0 [] ls))
-      go (is_a_ring {n} {fibres} e w) = ring-more (ring_fault (ring_of n fibres)) whole e (ring-judged limits (ring_of n fibres)) (rows-read ls 2 0 0 [])
-      go (no_ring none fault) = table_refused
+      next : Ring → Result
+      next ring = rows_of limits ring [] ls
+
+      judging : {ring : Ring} {v : Verdict} (vs : List ℕ) (field : Reason → ℕ) → l ≡ ring_line ring.nodes ring.fibres → RingJudged limits ring v
+          → TableRead limits t (unless_refused (passed 1 ring_shape vs (found v field) ring) next)
+      judging {v = Err r} vs field e w = table_refused
+      judging {v = Ok tt} vs field e w = ring-more whole e w (rows-read ls [])
+
+      go : {x : Reading} → RingLine l x → TableRead limits t (unless_refused (and_then (values_on 1 x) λ vs. passed 1 ring_shape vs (ring_found limits (ring_in vs)) (ring_in vs)) next)
+      go (ring_line_is {n} {fibres} e w) = judging _ _ e (ring-judged limits (ring_of n fibres))
+      go (no_ring_line none fault) = table_refused
 
 table-read : (limits : Limits) (t : List ℕ) → TableRead limits t (table_of limits t)
 unfolding table_of
@@ -107,14 +123,22 @@ table-read limits t =
 -- ---- written, so read
 
 module _ (limits : Limits) (spelled : LimitsSpelled limits) (ring : Ring) (many : ring.nodes ≤ limits.nodes) where
-  written-rows-read : (line : ℕ) (rs : List Row) {k a b : ℕ} {more : List Row} → length rs ≡ k → FineRows limits ring.nodes k a b more
-      → rows_of limits ring line a b rs (lines (write_rows more)) ≡ accepted ring (rs ++ more)
-  unfolding rows_of row_or unless write_rows lines
-  written-rows-read line rs e no_row = ap (accepted ring) (sym (append-nil rs))
-  written-rows-read line rs {k} {a} {b} e (fine_row {r = r} {rs = more} o up c m fine) =
+  -- against a fine row nothing is found
+  row-again : (rs : List Row) (r : Row) → RowSpelled r.first r.second r.amount → OnRing ring.nodes r → PairUpTo (last_of rs).first (last_of rs).second r.first r.second → length rs < limits.rows → r.amount ≤ limits.amount
+      → row_on limits ring rs (row_line r.first r.second r.amount) ≡ Ok r
+  unfolding row_on judged and_then values_on passed row_found found
+  row-again rs r w o up c m =
+      rw (row-values r.first r.second r.amount w, fine-row-judged limits ring.nodes (length rs) (last_of rs).first (last_of rs).second r.first r.second r.amount o up c m)
+
+  written-rows-read : (rs : List Row) {k a b : ℕ} {more : List Row} → length rs ≡ k → (last_of rs).first ≡ a → (last_of rs).second ≡ b → FineRows limits ring.nodes k a b more
+      → rows_of limits ring rs (lines (write_rows more)) ≡ accepted ring (rs ++ more)
+  unfolding rows_of unless_refused write_rows lines
+  written-rows-read rs e f g no_row = ap (accepted ring) (sym (append-nil rs))
+  written-rows-read rs {k} {a} {b} e f g (fine_row {r = r} {rs = more} o up c m fine) =
       let w : RowSpelled r.first r.second r.amount = (omega (arith, o.order, o.high), (omega (arith, o.high), omega arith)) in
-      rw (row_first r.first r.second r.amount w (write_rows more), row-line-read r.first r.second r.amount w, e, fine-row-judged limits ring.nodes k a b r.first r.second r.amount o up c m)
-      (written-rows-read (line + 1) (rs ++ r ∷ []) (omega (arith, length-append rs (r ∷ []))) fine ∙ ap (accepted ring) (append_assoc rs (r ∷ []) more))
+      let last = last-more rs r in
+      rw (row_first r.first r.second r.amount w (write_rows more), row-again rs r w o (rw (f, g) up) (omega arith) m)
+      (written-rows-read (rs ++ r ∷ []) (omega (arith, length-append rs (r ∷ []))) (ap (λ (r : Row). r.first) last) (ap (λ (r : Row). r.second) last) fine ∙ ap (accepted ring) (append_assoc rs (r ∷ []) more))
 
 -- fibres have one digit
 fibres-spelled : (fibres : ℕ) → IsFibres fibres → fibres < limit
@@ -124,16 +148,20 @@ fibres-spelled fibres (inr e) = omega arith
 pub ring-spelled : (limits : Limits) → LimitsSpelled limits → (ring : Ring) → ring.nodes ≤ limits.nodes → IsFibres ring.fibres → RingSpelled ring.nodes ring.fibres
 ring-spelled limits spelled ring many fibres = (omega (arith, many, spelled.nodes), fibres-spelled ring.fibres fibres)
 
+ring-again : (limits : Limits) (ring : Ring) → RingSpelled ring.nodes ring.fibres → limits.fewest ≤ ring.nodes → ring.nodes ≤ limits.nodes → IsFibres ring.fibres
+    → ring_on limits (ring_line ring.nodes ring.fibres) ≡ Ok ring
+unfolding ring_on judged and_then values_on passed ring_found found
+ring-again limits ring w few many fibres = rw (ring-values ring.nodes ring.fibres w, fine-ring-judged limits ring few many fibres)
+
 written_read : (limits : Limits) → LimitsSpelled limits → (ring : Ring) (rs : List Row) → InRange limits ring rs → table_of limits (write_table ring rs) ≡ accepted ring rs
-unfolding table_of table_lines ring_or unless write_table
+unfolding table_of table_lines unless_refused write_table
 written_read limits spelled ring rs range =
     let w : RingSpelled ring.nodes ring.fibres = ring-spelled limits spelled ring range.many range.fibres in
     rw (
       le-ltb limits.bytes (length (write_table ring rs)) range.short,
       ring-first ring.nodes ring.fibres w (write_rows rs),
-      ring-line-read ring.nodes ring.fibres w,
-      fine-ring-judged limits ring range.few range.many range.fibres,
-    ) (written-rows-read limits spelled ring range.many 2 [] refl (fine-rows range.rows range.count range.amounts))
+      ring-again limits ring w range.few range.many range.fibres,
+    ) (written-rows-read limits spelled ring range.many [] refl refl refl (fine-rows range.rows range.count range.amounts))
 
 -- ---- both
 

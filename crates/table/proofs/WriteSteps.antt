@@ -1,67 +1,91 @@
--- A table's text is its R line and then its rows' lines, one behind the other: the pieces that measuring and writing go through.
-use Prim.Native.Nat.{ℕ, ◌+◌, ◌≤◌}
+-- Writing a table: the lines of the rows before place k are behind the pass; and its R line, with its rows behind that.
+use Prim.Native.Nat.{ℕ, ◌+◌, ◌*◌, ◌≤◌}
 use mathlib.Core.List.{List, [], ◌∷◌, ◌++◌, append_assoc, append-nil}
 use mathlib.Core.Path.{◌≡◌, refl, ap, ◌∙◌, sym}
 use native.Mathlib.Omega.{arith}
-use lib.ListN.{length, get_or, length-append}
+use lib.ListN.{length, take, drop, length-append, take-append-drop}
+use lib.Seq.{take_all}
+use Rattle.std.specs.Prelude.{Some, slice_get}
+use Rattle.std.proofs.lemmas.List.{take_more}
+use Rattle.std.proofs.lemmas.Option.{get_or_from_slice_get, slice_get_within}
 use Rattle.ring.specs.Limits.{desk}
-use Rattle.ring.specs.Ring.{ring_of}
+use Rattle.ring.specs.declared.types.Ring.{Ring}
 use Rattle.ring.specs.declared.types.Row.{Row}
-use Rattle.ring.specs.Columns.{listed, rows_in, row_at}
-use Rattle.ring.proofs.Listed.{listed-snoc}
 use Rattle.text.specs.Shapes.{ring_shape, row_shape, ring_line, row_line}
-use Rattle.text.specs.Written.{Written}
+use Rattle.text.specs.Pass.{Passes}
+use Rattle.text.specs.Written.{Passed}
 use Rattle.text.proofs.Lengths.{line-short}
-use Rattle.text.proofs.Stored.{written_behind, written-length}
-use Rattle.text.proofs.Pieces.{Pieces, text-short}
+use Rattle.text.proofs.Writing.{written_behind, room-kept}
 use Rattle.table.specs.Table.{write_rows, write_table}
 
-rows_more : (rs : List Row) (r : Row) → write_rows (rs ++ r ∷ []) ≡ write_rows rs ++ row_line r.first r.second r.amount
+abbrev pub line_of : Row → List ℕ
+line_of r = row_line r.first r.second r.amount
+
+parts : (rows more : List Row) → write_rows (rows ++ more) ≡ write_rows rows ++ write_rows more
 unfolding write_rows
-rows_more [] r = append-nil _
-rows_more (x ∷ rs) r = ap (λ l. row_line x.first x.second x.amount ++ l) (rows_more rs r) ∙ sym (append_assoc (row_line x.first x.second x.amount) (write_rows rs) _)
+parts [] more = refl
+parts (r ∷ rows) more = ap (λ (l : List ℕ). line_of r ++ l) (parts rows more) ∙ sym (append_assoc (line_of r) (write_rows rows) (write_rows more))
 
-module _ (first second amount : List ℕ) where
-  -- the line of the row at place k, and the lines of the first k rows
-  abbrev pub row_line_at : ℕ → List ℕ
-  row_line_at k = row_line (get_or first k 0) (get_or second k 0) (get_or amount k 0)
+rows-one : (rows : List Row) (r : Row) → write_rows (rows ++ r ∷ []) ≡ write_rows rows ++ line_of r
+unfolding write_rows
+rows-one rows r = parts rows (r ∷ []) ∙ ap (λ (l : List ℕ). write_rows rows ++ l) (append-nil (line_of r))
 
-  abbrev pub rows_text : ℕ → List ℕ
-  rows_text k = write_rows (rows_in k first second amount)
-
-  pub row-pieces : Pieces row_line_at rows_text
-  unfolding listed write_rows
-  row-pieces = record { none = refl; more = more; short = λ k. omega (arith, line-short row_shape (0 ∷ get_or first k 0 ∷ get_or second k 0 ∷ get_or amount k 0 ∷ [])) }
-    where
-      more : (k : ℕ) → rows_text (k + 1) ≡ rows_text k ++ row_line_at k
-      more k =
-          let e : 0 + k ≡ k = omega arith in
-          ap write_rows (listed-snoc (row_at first second amount) 0 k ∙ ap (λ m. rows_in k first second amount ++ row_at first second amount m ∷ []) e) ∙ rows_more (rows_in k first second amount) (row_at first second amount k)
-
--- ---- R n fibres, and the rows behind it
+-- each line has at most 1,000 bytes
+rows-short : (rows : List Row) → length (write_rows rows) ≤ 1000 * length rows
+unfolding write_rows
+rows-short [] = omega arith
+rows-short (r ∷ rows) = omega (arith, length-append (line_of r) (write_rows rows), line-short row_shape (0 ∷ r.first ∷ r.second ∷ r.amount ∷ []), rows-short rows)
 
 -- so few rows can be measured
-pub rows-placed : (n fibres count at : ℕ) (first second amount : List ℕ) → at ≡ length (ring_line n fibres) → count ≤ desk.rows
-    → at + length (write_rows (rows_in count first second amount)) ≤ 18446744073709551615
-rows-placed n fibres count at first second amount e few =
-    omega (arith, line-short ring_shape (0 ∷ n ∷ fibres ∷ []), text-short (row_line_at first second amount) (rows_text first second amount) (row-pieces first second amount) count)
+pub table-measurable : (ring : Ring) (rows : List Row) → length rows ≤ desk.rows → length (write_table ring rows) ≤ 18446744073709551615
+unfolding write_table
+table-measurable ring rows few =
+    omega (arith, length-append (ring_line ring.nodes ring.fibres) (write_rows rows), line-short ring_shape (0 ∷ ring.nodes ∷ ring.fibres ∷ []), rows-short rows)
 
-module _ (n fibres : ℕ) (rs : List Row) where
-  whole_long : length (write_table (ring_of n fibres) rs) ≡ length (ring_line n fibres) + length (write_rows rs)
-  unfolding write_table
-  whole_long = length-append (ring_line n fibres) (write_rows rs)
+module _ {room : List ℕ → ℕ} {after : List ℕ → ℕ → List ℕ → List ℕ} (pass : Passes room after) (old : List ℕ) where
+  module _ (at : ℕ) (rows : List Row) where
+    pub rows-start : Passed after old at (write_rows (take 0 rows)) old at
+    unfolding write_rows
+    rows-start = record { place = omega arith; buffer = sym (pass.nothing old at) }
 
-  pub table-measured : (start size : ℕ) → start ≡ length (ring_line n fibres) → size ≡ start + length (write_rows rs) → size ≡ length (write_table (ring_of n fibres) rs)
-  table-measured start size e f = omega (arith, whole_long)
+    module _ (buffer : List ℕ) (next k : ℕ) (passed : Passed after old at (write_rows (take k rows)) buffer next) where
+      module _ (r : Row) (here : slice_get rows k ≡ Some r) where
+        next-row : write_rows (take (k + 1) rows) ≡ write_rows (take k rows) ++ line_of r
+        next-row =
+            ap write_rows (take_more rows k r (slice_get_within rows k r here) ∙ ap (λ (x : Row). take k rows ++ x ∷ []) (get_or_from_slice_get rows k r r here))
+            ∙ rows-one (take k rows) r
 
-  module _ (old : List ℕ) (room : length (write_table (ring_of n fibres) rs) ≤ length old) where
-    pub ring-has-room : 0 + length (ring_line n fibres) ≤ length old
-    ring-has-room = omega (arith, room, whole_long)
+        pub row-placed : at + length (write_rows rows) ≤ room old → next + length (line_of r) ≤ room buffer
+        row-placed fits =
+            omega (
+              arith,
+              fits,
+              passed.place,
+              room-kept pass old buffer (write_rows (take k rows)) at next passed,
+              ap length next-row,
+              length-append (write_rows (take k rows)) (line_of r),
+              ap length (ap write_rows (sym (take-append-drop (k + 1) rows)) ∙ parts (take (k + 1) rows) (drop (k + 1) rows)),
+              length-append (write_rows (take (k + 1) rows)) (write_rows (drop (k + 1) rows)),
+            )
 
-    module _ (mid : List ℕ) (at : ℕ) (w : Written old 0 (ring_line n fibres) mid at) where
-      pub rows-have-room : at + length (write_rows rs) ≤ length mid
-      rows-have-room = omega (arith, room, whole_long, w.place, written-length old mid (ring_line n fibres) 0 at w)
+        pub row-passed : (new : List ℕ) (q : ℕ) → Passed after buffer next (line_of r) new q → Passed after old at (write_rows (take (k + 1) rows)) new q
+        row-passed new q w = rw next-row (written_behind pass _ _ _ _ _ _ _ _ passed w)
 
-      pub table-written : (new : List ℕ) (r : ℕ) → Written mid at (write_rows rs) new r → Written old 0 (write_table (ring_of n fibres) rs) new r
+      pub rows-passed : length rows ≤ k → Passed after old at (write_rows rows) buffer next
+      rows-passed h = rw (take_all k rows h) at passed
+
+  module _ (ring : Ring) (rows : List Row) (fits : length (write_table ring rows) ≤ room old) where
+    whole : length (write_table ring rows) ≡ length (ring_line ring.nodes ring.fibres) + length (write_rows rows)
+    unfolding write_table
+    whole = length-append (ring_line ring.nodes ring.fibres) (write_rows rows)
+
+    pub ring-placed : 0 + length (ring_line ring.nodes ring.fibres) ≤ room old
+    ring-placed = omega (arith, fits, whole)
+
+    module _ (buffer : List ℕ) (next : ℕ) (passed : Passed after old 0 (ring_line ring.nodes ring.fibres) buffer next) where
+      pub rows-placed : next + length (write_rows rows) ≤ room buffer
+      rows-placed = omega (arith, fits, whole, passed.place, room-kept pass old buffer (ring_line ring.nodes ring.fibres) 0 next passed)
+
+      pub table-passed : (new : List ℕ) (q : ℕ) → Passed after buffer next (write_rows rows) new q → Passed after old 0 (write_table ring rows) new q
       unfolding write_table
-      table-written new r v = written_behind old mid new (ring_line n fibres) (write_rows rs) 0 at r w v
+      table-passed new q w = written_behind pass _ _ _ _ _ _ _ _ passed w

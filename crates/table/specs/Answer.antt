@@ -1,15 +1,11 @@
--- Internal: what is answered to a table's text beside its rows: the ring and how many rows there are, or a refusal.
-use Rattle.std.specs.Prelude.{ℕ, Result, Ok, Err}
-use Rattle.ring.specs.Ring.{ring_of}
-use Rattle.table.specs.declared.read.Counted.{Counted}
-use Rattle.table.specs.declared.reason.Reason.{Reason}
+-- Internal: what is answered to a table's text: the ring, with the rows that stand behind it; or a refusal.
+use Rattle.std.specs.Prelude.{List, Result, Ok, Err}
+use Rattle.ring.specs.declared.types.Ring.{Ring}
+use Rattle.ring.specs.declared.types.Row.{Row}
+use Rattle.table.specs.ReadTable.{Result as TableResult, accepted, refused}
 use Rattle.table.specs.declared.reason.Refusal.{Refusal}
 
-abbrev pub Answer : Type 0
-Answer = Result Counted Refusal
-
-abbrev pub counted : ℕ → ℕ → ℕ → Answer
-counted n fibres count = Ok (record { ring = ring_of n fibres; count = count })
-
-abbrev pub refusing : Reason → ℕ → ℕ → Answer
-refusing reason line byte = Err (record { reason = reason; line = line; byte = byte })
+-- the table of a ring that was read and of the rows behind it; or the refusal
+abbrev pub with_rows : List Row → Result Ring Refusal → TableResult
+with_rows rs (Ok ring) = accepted ring rs
+with_rows rs (Err r) = refused r.reason r.line r.byte

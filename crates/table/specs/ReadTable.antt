@@ -1,60 +1,59 @@
 -- Internal: reading a table: reason 1 first, then lines in order, and in a line the reasons in their order.
-use Rattle.std.specs.Prelude.{ℕ, ◌+◌, cond, List, [], ◌∷◌, ◌++◌, length, ltb}
+use Rattle.std.specs.Prelude.{ℕ, ◌+◌, cond, List, [], ◌∷◌, ◌++◌, length, ltb, get_or, Result as Outcome, Ok, Err}
 use Rattle.ring.specs.Row.{row}
 use Rattle.ring.specs.declared.types.Row.{Row}
-use Rattle.text.specs.ReadLine.{read_line}
-use Rattle.text.specs.Answers.{two_in, three_in}
 use Rattle.text.specs.Shapes.{ring_shape, row_shape}
-use Rattle.text.specs.declared.TwoNumbers.{TwoNumbers}
-use Rattle.text.specs.declared.TwoNumbers.TheVariants.{Are as AreTwo, Bad as NotTwo}
-use Rattle.text.specs.declared.ThreeNumbers.{ThreeNumbers}
-use Rattle.text.specs.declared.ThreeNumbers.TheVariants.{Are as AreThree, Bad as NotThree}
 use Rattle.ring.specs.Limits.{Limits}
 use Rattle.ring.specs.Ring.{ring_of}
 use Rattle.ring.specs.declared.types.Ring.{Ring}
 use Rattle.table.specs.Lines.{lines}
-use Rattle.table.specs.Judge.{judge_ring, judge_row}
-use Rattle.table.specs.Fields.{ring_fault, row_fault}
+use Rattle.table.specs.Faults.{ring_found, row_found, last_of}
+use Rattle.table.specs.OnLine.{judged}
 use Rattle.table.specs.declared.reason.Reason.{Reason}
 use Rattle.table.specs.declared.reason.Reason.TheVariants.{TooLong, Misshapen}
-use Rattle.table.specs.Verdict.{Verdict}
-use Rattle.std.specs.Prelude.{Ok, Err}
+use Rattle.table.specs.declared.reason.Refusal.{Refusal}
 
 -- a ring and its rows; or a reason, a line and a byte of it
 pub data Result : Type 0 where
   accepted : Ring → List Row → Result
   refused : Reason → ℕ → ℕ → Result
 
--- ---- one line: its shape, then what is found against its numbers
+-- ---- one line, by its values; that of the letter is the first
 
-unfoldable pub ring_or : TwoNumbers → ℕ → (Ring → Result) → Result
-ring_or (AreTwo n fibres) line next = next (ring_of n fibres)
-ring_or (NotTwo p) line next = refused Misshapen line (p + 1)
+abbrev pub ring_in : List ℕ → Ring
+ring_in vs = ring_of (get_or vs 1 0) (get_or vs 2 0)
 
-unfoldable pub row_or : ThreeNumbers → ℕ → (ℕ → ℕ → ℕ → Result) → Result
-row_or (AreThree i j d) line next = next i j d
-row_or (NotThree p) line next = refused Misshapen line (p + 1)
+abbrev pub row_in : List ℕ → Row
+row_in vs = row (get_or vs 1 0) (get_or vs 2 0) (get_or vs 3 0)
 
-unfoldable pub unless : Verdict → ℕ → (Reason → ℕ) → Result → Result
-unless (Ok tt) line byte next = next
-unless (Err reason) line byte next = refused reason line (byte reason)
+-- R n fibres
+unfoldable pub ring_on : Limits → List ℕ → Outcome Ring Refusal
+unfolding judged ring_found
+ring_on limits l = judged 1 ring_shape ring_in (ring_found limits) l
+
+-- D i j amount, behind the rows rs, of which the first stands on line 2
+unfoldable pub row_on : Limits → Ring → List Row → List ℕ → Outcome Row Refusal
+unfolding judged row_found
+row_on limits ring rs l = judged (length rs + 2) row_shape row_in (row_found limits ring.nodes (length rs) (last_of rs)) l
 
 -- ---- the lines in order
 
--- the rows of the lines ls, of which the first has the number `line`, behind the rows rs, of which the last is a, b
-unfoldable pub rows_of : Limits → Ring → ℕ → ℕ → ℕ → List Row → List (List ℕ) → Result
-unfolding row_or unless row_fault
-rows_of limits ring line a b rs [] = accepted ring rs
-rows_of limits ring line a b rs (l ∷ ls) =
-    row_or (three_in (read_line row_shape l)) line λ i j d.
-    unless (judge_row limits ring.nodes (length rs) a b i j d) line (row_fault ring.nodes i j d)
-    (rows_of limits ring (line + 1) i j (rs ++ row i j d ∷ []) ls)
+-- what a line is read to, then what `next` makes of it
+unfoldable pub unless_refused : {A : Type 0} → Outcome A Refusal → (A → Result) → Result
+unless_refused (Ok x) next = next x
+unless_refused (Err r) next = refused r.reason r.line r.byte
+
+-- the rows of the lines ls, behind the rows rs
+unfoldable pub rows_of : Limits → Ring → List Row → List (List ℕ) → Result
+unfolding row_on unless_refused
+rows_of limits ring rs [] = accepted ring rs
+rows_of limits ring rs (l ∷ ls) = unless_refused (row_on limits ring rs l) λ r. rows_of limits ring (rs ++ r ∷ []) ls
 
 -- R n fibres, then rows; a missing first line is line 1
 unfoldable pub table_lines : Limits → List (List ℕ) → Result
-unfolding ring_or unless ring_fault rows_of
+unfolding ring_on rows_of unless_refused
 table_lines limits [] = refused Misshapen 1 1
-table_lines limits (l ∷ ls) = ring_or (two_in (read_line ring_shape l)) 1 λ ring. unless (judge_ring limits ring) 1 (ring_fault ring) (rows_of limits ring 2 0 0 [] ls)
+table_lines limits (l ∷ ls) = unless_refused (ring_on limits l) λ ring. rows_of limits ring [] ls
 
 unfoldable pub table_of : Limits → List ℕ → Result
 unfolding table_lines

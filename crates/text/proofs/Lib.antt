@@ -2,7 +2,6 @@
 
 -- the laws
 pub mod LineLaws
-pub mod AnswerLaws
 pub mod Spellings
 pub mod Starts
 -- how they are shown

@@ -5,12 +5,9 @@ use mathlib.Core.Path.{◌≡◌, ap, ◌∙◌, sym}
 use native.Mathlib.Nat.{le_refl}
 use native.Mathlib.Omega.{arith}
 use lib.ListN.{length, length-append}
-use mir.Syntax.{w64}
-use mir.Val.{Fits}
-use Rattle.text.specs.Pass.{Passes, stored}
-use Rattle.text.specs.Written.{Passed, Written}
-use Rattle.text.specs.Passes.{writes}
-use Rattle.text.proofs.Writing.{written_behind as passed_behind, room-kept}
+use Rattle.text.specs.Pass.{Passes}
+use Rattle.text.specs.Written.{Passed}
+use Rattle.text.proofs.Writing.{room-kept}
 
 -- `text k` is the lines at the places before k, each of at most 1,000 bytes
 pub record Pieces (line text : ℕ → List ℕ) : Type 0 where
@@ -31,25 +28,6 @@ module _ (line text : ℕ → List ℕ) (pieces : Pieces line text) where
   line-fits k count l =
       let e : k + 1 + (count - (k + 1)) ≡ count = omega arith in
       omega (arith, text-grows (k + 1) (count - (k + 1)), ap (λ m. length (text m)) e, more-long k)
-
--- ---- measuring: what was there before, and the lines before place k, have `size` bytes
-
-pub record Measuring (line text : ℕ → List ℕ) (start count k size : ℕ) : Type 0 where
-  pub pieces : Pieces line text
-  pub is : size ≡ start + length (text k)
-  pub within : k ≤ count
-  pub small : size ≤ start + 1000 * k
-
-pub measuring-starts : (line text : ℕ → List ℕ) → Pieces line text → (start count : ℕ) → Measuring line text start count 0 start
-measuring-starts line text pieces start count = record { pieces = pieces; is = omega (arith, ap length pieces.none); within = omega arith; small = omega arith }
-
-module _ (line text : ℕ → List ℕ) (start count k size : ℕ) (measuring : Measuring line text start count k size) where
-  -- no sum is too large for a usize
-  pub measure-fits : (r : ℕ) → k < count → r ≤ 1000 → start ≤ 100 → count ≤ 100000 → Fits w64 (size + r)
-  measure-fits r l h m n = omega (arith, measuring.small)
-
-  pub measured : count ≤ k → size ≡ start + length (text count)
-  measured h = let e : count ≡ k = omega (arith, measuring.within) in rw e measuring.is
 
 -- so many lines have at most so many bytes
 pub text-short : (line text : ℕ → List ℕ) → Pieces line text → (count : ℕ) → length (text count) ≤ 1000 * count
@@ -77,26 +55,5 @@ module _ {room : List ℕ → ℕ} {after : List ℕ → ℕ → List ℕ → Li
       pub line-room : p + length (line k) ≤ room buf
       line-room = omega (arith, passing.passed.place, passing.fits, line-fits line text passing.pieces k count l, room-kept pass old buf (text k) at p passing.passed)
 
-      pub passes-line : (new : List ℕ) (q : ℕ) → Passed after buf p (line k) new q → PassingLines room after line text count at old new (k + 1) q
-      passes-line new q w =
-          let e = passing.pieces.more k in
-          record { pieces = passing.pieces; passed = rw e (passed_behind pass old buf new (text k) (line k) at p q passing.passed w); within = omega arith; fits = passing.fits }
-
     pub lines-passed : count ≤ k → Passed after old at (text count) buf p
     lines-passed h = let e : count ≡ k = omega (arith, passing.within) in rw e passing.passed
-
--- ---- written: the same at the pass that stores
-
-abbrev pub WritingLines : (ℕ → List ℕ) → (ℕ → List ℕ) → ℕ → ℕ → List ℕ → List ℕ → ℕ → ℕ → Type 0
-WritingLines = PassingLines length stored
-
-pub writing-lines-start : (line text : ℕ → List ℕ) → Pieces line text → (count at : ℕ) (old : List ℕ) → at + length (text count) ≤ length old → WritingLines line text count at old old 0 at
-writing-lines-start = passing-starts writes
-
-module _ (line text : ℕ → List ℕ) (count at : ℕ) (old buf : List ℕ) (k p : ℕ) (writing : WritingLines line text count at old buf k p) where
-  module _ (l : k < count) where
-    pub line-has-room : p + length (line k) ≤ length buf
-    line-has-room = line-room writes line text count at old buf k p writing l
-
-    pub writes_line : (new : List ℕ) (q : ℕ) → Written buf p (line k) new q → WritingLines line text count at old new (k + 1) q
-    writes_line = passes-line writes line text count at old buf k p writing l

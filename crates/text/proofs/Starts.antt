@@ -1,5 +1,4 @@
--- Where a field starts: what stands from its byte on is the line of that field and those behind it, and the first fields of a sheet's D line start where a
--- table's do; by going through the fields before it.
+-- Where a field starts: what stands from its byte on is the line of that field and those behind it, by going through the fields before it.
 use Prim.Native.Nat.{ℕ, zero, suc, ◌+◌, ◌-◌, ◌≤◌}
 use mathlib.Core.Path.{◌≡◌, refl, ap, ◌∙◌}
 use mathlib.Core.List.{List, [], ◌∷◌, ◌++◌}
@@ -12,7 +11,7 @@ use Rattle.text.specs.WriteLine.{end_of, write_line}
 use Rattle.text.specs.Field.{spell}
 use Rattle.text.specs.Pass.{kept}
 use Rattle.text.specs.Written.{Passed}
-use Rattle.text.specs.FieldByte.{field_byte, row_byte, sent_byte}
+use Rattle.text.specs.FieldByte.{field_byte}
 use Rattle.text.proofs.Lengths.{line-short}
 
 -- the code's steps: a line is measured ..
@@ -30,15 +29,6 @@ module _ (shape : List Field) (values : List ℕ) (k r : ℕ) (is : r ≡ length
 
   pub byte_fits : (behind : ℕ) → behind ≤ 2 → length shape ≤ 1000 → Fits w32 (r + behind)
   byte_fits behind l h = omega (arith, line-short (take k shape) values, length-take k shape)
-
--- the first three fields of a sheet's D line
-pub sent-row-byte : (i j d f b w k : ℕ) → k ≤ 3 → row_byte i j d k ≡ sent_byte i j d f b w k
-unfolding field_byte write_line
-sent-row-byte i j d f b w zero h = refl
-sent-row-byte i j d f b w (suc zero) h = refl
-sent-row-byte i j d f b w (suc (suc zero)) h = refl
-sent-row-byte i j d f b w (suc (suc (suc zero))) h = refl
-sent-row-byte i j d f b w (suc (suc (suc (suc k)))) h = absurd (omega arith)
 
 -- what stands from the byte on
 

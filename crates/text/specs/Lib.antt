@@ -12,4 +12,3 @@ pub mod Written
 pub mod ReadNumber
 pub mod ReadMark
 pub mod ReadLine
-pub mod Answers

@@ -1,7 +1,6 @@
 -- A loop that changes a run of places has changed those that it passed and no other; and three runs, over the links before a row's front, of it
 -- and behind it, change every link by what the row sends over it.
 use Prim.Native.Nat.{ℕ, ◌+◌, ◌-◌, ◌≤◌, ◌<◌}
-use mathlib.Core.Bool.{Bool}
 use mathlib.Core.Path.{◌≡◌, ◌∙◌, ap}
 use mathlib.Core.List.{List}
 use native.Mathlib.Omega.{arith}
@@ -12,7 +11,8 @@ use Rattle.ring.specs.declared.types.Sent.{Sent}
 use Rattle.ring.proofs.Side.{Side, before, within, after, side}
 use Rattle.ring.proofs.Sending.{over-front, over-back}
 use Rattle.weight.specs.Limits.{most_load}
-use Rattle.weight.specs.Arrays.{step, Span, SpanFits, link_at, OverStep, OverFits}
+use Rattle.weight.specs.declared.spans.Step.{Step}
+use Rattle.weight.specs.Arrays.{stepped, Span, SpanFits, link_at, OverStep, OverFits}
 
 -- ---- one run
 
@@ -24,7 +24,7 @@ pub record Spanning (op : ℕ → ℕ) (from to : ℕ) (old now : List ℕ) (k :
 
 -- ---- a row's three runs
 
-module _ (add : Bool) (n : ℕ) (s : Sent) (i j : ℕ) (ei : i ≡ s.row.first) (ej : j ≡ s.row.second) (old : List ℕ) (fits : OverFits n s old) where
+module _ (step : Step) (n : ℕ) (s : Sent) (i j : ℕ) (ei : i ≡ s.row.first) (ej : j ≡ s.row.second) (old : List ℕ) (fits : OverFits n s old) where
   place-fits : (x : ℕ) → x < n → get_or old x 0 + (s.front + s.back) ≤ most_load
   place-fits x l = let e : (x + 1) - 1 ≡ x = omega arith in rw e at (fits.sums (x + 1) (omega arith) (omega arith))
 
@@ -39,7 +39,7 @@ module _ (add : Bool) (n : ℕ) (s : Sent) (i j : ℕ) (ei : i ≡ s.row.first) 
         sums = λ x a b. omega (arith, place-fits x (omega arith));
       }
 
-  module _ (one : List ℕ) (a : Span (λ y. step add y s.back) 0 (i - 1) old one) where
+  module _ (one : List ℕ) (a : Span (λ y. stepped step y s.back) 0 (i - 1) old one) where
     pub second_run : SpanFits (i - 1) (j - 1) s.front one
     second_run =
         record {
@@ -48,7 +48,7 @@ module _ (add : Bool) (n : ℕ) (s : Sent) (i j : ℕ) (ei : i ≡ s.row.first) 
           sums = λ x p q. omega (arith, a.outside x (λ z. omega arith), place-fits x (omega arith));
         }
 
-    module _ (two : List ℕ) (b : Span (λ y. step add y s.front) (i - 1) (j - 1) one two) where
+    module _ (two : List ℕ) (b : Span (λ y. stepped step y s.front) (i - 1) (j - 1) one two) where
       pub third-run : SpanFits (j - 1) n s.back two
       third-run =
           record {
@@ -57,24 +57,24 @@ module _ (add : Bool) (n : ℕ) (s : Sent) (i j : ℕ) (ei : i ≡ s.row.first) 
             sums = λ x p q. omega (arith, b.outside x (λ z. omega arith), a.outside x (λ z. omega arith), place-fits x q);
           }
 
-      module _ (new : List ℕ) (c : Span (λ y. step add y s.back) (j - 1) n two new) where
-        each-link : (k : ℕ) → 1 ≤ k → k ≤ n → link_at new k ≡ step add (link_at old k) (sent_over s k)
+      module _ (new : List ℕ) (c : Span (λ y. stepped step y s.back) (j - 1) n two new) where
+        each-link : (k : ℕ) → 1 ≤ k → k ≤ n → link_at new k ≡ stepped step (link_at old k) (sent_over s k)
         each-link k low high = go (side s.row k)
           where
-            go : Side s.row k → link_at new k ≡ step add (link_at old k) (sent_over s k)
+            go : Side s.row k → link_at new k ≡ stepped step (link_at old k) (sent_over s k)
             go (before l e) =
                 rw (over-back s k e)
                 (c.outside (k - 1) (λ p. omega arith) ∙ b.outside (k - 1) (λ p. omega arith) ∙ a.within (k - 1) (omega arith) (omega arith))
             go (within l m e) =
                 rw (over-front s k e)
                 (c.outside (k - 1) (λ p. omega arith) ∙ b.within (k - 1) (omega arith) (omega arith) ∙
-                ap (λ y. step add y s.front) (a.outside (k - 1) (λ p. omega arith)))
+                ap (λ y. stepped step y s.front) (a.outside (k - 1) (λ p. omega arith)))
             go (after l e) =
                 rw (over-back s k e)
                 (c.within (k - 1) (omega arith) (omega arith) ∙
-                ap (λ y. step add y s.back) (b.outside (k - 1) (λ p. omega arith) ∙ a.outside (k - 1) (λ p. omega arith)))
+                ap (λ y. stepped step y s.back) (b.outside (k - 1) (λ p. omega arith) ∙ a.outside (k - 1) (λ p. omega arith)))
 
-        pub over-step : OverStep add n s old new
+        pub over-step : OverStep step n s old new
         over-step =
             record {
               size = c.size ∙ b.size ∙ a.size ∙ fits.size;

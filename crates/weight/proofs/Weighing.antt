@@ -28,6 +28,7 @@ use Rattle.weight.specs.Limits.{most_links, most_amount, most_halves}
 use Rattle.weight.specs.Rows.{RowFits, Fit, whole, larger_split}
 use Rattle.weight.specs.Weighed.{weight_in}
 use Rattle.weight.specs.declared.Weight.{Weight}
+use Rattle.weight.specs.declared.spans.Step.TheVariants.{Raise}
 use Rattle.weight.specs.Arrays.{link_at, OverStep, OverFits, Loads}
 
 -- ---- sums over the first t members
@@ -62,7 +63,7 @@ module _ (share : Routed → ℕ → ℕ) (load : List Routed → ℕ → ℕ) (
     load_fits on small each =
         record { size = h.size; few = fit.links; on = on; sums = λ k p q. omega (arith, h.is k p q, fit.few, total-few (total k) (each k) t) }
 
-    load-turn : (new : List ℕ) → ((k : ℕ) → sent_over s k ≡ share (get_or rs t d) k) → OverStep true n s old new → Loads n (load (take (t + 1) rs)) new
+    load-turn : (new : List ℕ) → ((k : ℕ) → sent_over s k ≡ share (get_or rs t d) k) → OverStep Raise n s old new → Loads n (load (take (t + 1) rs)) new
     load-turn new same step =
         record {
           size = step.size;
@@ -131,7 +132,7 @@ numbers-listed k zero = refl
 numbers-listed k (suc m) = ap (λ (l : List ℕ). k ∷ l) (numbers-listed (suc k) m)
 
 -- links 1 to n, from place 0
-links-listed : (n : ℕ) → numbers_from 1 n ≡ listed suc 0 n
+pub links-listed : (n : ℕ) → numbers_from 1 n ≡ listed suc 0 n
 links-listed n = numbers-listed 1 n ∙ listed-shift (λ x. x) 0 n
 
 loads-laid : (n : ℕ) (load : ℕ → ℕ) (links : List ℕ) → n ≤ most_links → Loads n load links → links ≡ column load most_links (numbers_from 1 n)
@@ -185,7 +186,7 @@ module _ (n : ℕ) (rs : List Routed) (fit : Fit n rs) (links : ℕ) (is : links
         (load_fits whole_over unsplit_load unsplit-total n rs fit t r within unsplit (rw is at w.unsplits) (whole r) here.on
         (omega (arith, whole-all r.way r.sent.row.amount, here.amount)) (λ k. each (λ r f. omega (arith, whole-small r k, f.amount)) fit.each))
 
-    pub weigh-turn : (split' unsplit' : List ℕ) (s : Sent) (largest' : ℕ) → s ≡ whole r → OverStep true links r.sent split split' → OverStep true links s unsplit unsplit' →
+    pub weigh-turn : (split' unsplit' : List ℕ) (s : Sent) (largest' : ℕ) → s ≡ whole r → OverStep Raise links r.sent split split' → OverStep Raise links s unsplit unsplit' →
         largest' ≡ larger_split largest r.sent → Weighing links rs split' unsplit' largest' (t + 1)
     unfolding sent_over whole_over
     weigh-turn split' unsplit' s largest' e a b m =

@@ -7,13 +7,13 @@ ghost use Rattle.ring.specs.Routing.{peak};
 ghost use Rattle.weight.specs.Limits.{most_links};
 ghost use Rattle.weight.specs.Arrays.{link_at};
 ghost use Rattle.weight.specs.Rows.{Fit, whole, larger_split};
-ghost use Rattle.weight.specs.Weighed.{weight_in};
+ghost use Rattle.weight.specs.Weighed.{weight_in, links_in};
 
-use ring::{LINKS, Routed, Sent, Way, is_split, wide};
+use ring::{LINKS, Link, Routed, Sent, Way, is_split, wide};
 use rows::Rows;
-pub use spans::step_over;
+pub use spans::{Step, step_over};
 
-// The loads of all links by rows as they are routed, link k's at place k-1, with zeros behind them; their peaks; and D. Split loads are in halves.
+/// The loads of all links by rows as they are routed, link k's at place k-1, with zeros behind them; their peaks; and D. Split loads are in halves.
 #[derive(Drop)]
 pub struct Weight {
     pub split: [u32; LINKS],
@@ -42,12 +42,12 @@ fn whole(row: Routed) -> Sent
     }
 }
 
-// The largest amount of a split row, with one row more.
+/// The largest amount of a split row, with one row more.
 #[tactic(auto, unfolding(crate::specs::Rows::larger_split, ring::specs::Routing::is_split))]
 pub fn larger_split(most: u32, sent: Sent) -> u32
     ensures { result ≡ larger_split most sent }
 {
-    if is_split(sent.front, sent.back) {
+    if is_split(sent) {
         sent.row.amount.max(most)
     } else {
         most
@@ -66,28 +66,46 @@ fn highest(loads: &[u32; LINKS], n: usize) -> u32
     best
 }
 
-// The weight of rows on a ring of n nodes, however they are held.
+/// The weight of rows on a ring of n nodes, at most 32, however they are held.
 pub fn weigh<R: Rows>(n: u32, rows: &R) -> Weight
     requires { Fit n (R.rows rows.now) }
     ensures { result ≡ weight_in n (R.rows rows.now) }
 {
     let links = wide(n);
-    let mut split = [0u32; LINKS];
-    let mut unsplit = [0u32; LINKS];
-    let mut largest: u32 = 0;
+    let mut weight = Weight {
+        split: [0; LINKS],
+        unsplit: [0; LINKS],
+        split_peak: 0,
+        peak: 0,
+        largest: 0,
+    };
     for k in 0..rows.count() {
         let row = rows.row(k);
-        step_over(&mut split, true, links, row.sent);
-        step_over(&mut unsplit, true, links, whole(row));
-        largest = larger_split(largest, row.sent);
+        step_over(&mut weight.split, Step::Raise, links, row.sent);
+        step_over(&mut weight.unsplit, Step::Raise, links, whole(row));
+        weight.largest = larger_split(weight.largest, row.sent);
     }
-    let split_peak = highest(&split, links);
-    let peak = highest(&unsplit, links);
-    Weight {
-        split,
-        unsplit,
-        split_peak,
-        peak,
-        largest,
+    weight.split_peak = highest(&weight.split, links);
+    weight.peak = highest(&weight.unsplit, links);
+    weight
+}
+
+/// The links of a weight: link k stands at place k-1 with its loads, the split one in halves. A ring has the first of them, as many as it has nodes.
+pub fn links(weight: &Weight) -> [Link; LINKS]
+    ensures { result ≡ links_in most_links weight.now }
+{
+    let none = Link {
+        link: 0,
+        split: 0,
+        unsplit: 0,
+    };
+    let mut links = [none; LINKS];
+    for k in 0..LINKS {
+        links[k] = Link {
+            link: k as u32 + 1,
+            split: weight.split[k],
+            unsplit: weight.unsplit[k],
+        };
     }
+    links
 }

@@ -8,6 +8,7 @@ use lib.Dec.{ltb}
 use Rattle.ring.specs.Limits.{desk}
 use Rattle.ring.specs.Lists.{Some, here, there}
 use Rattle.ring.specs.Ring.{ring_of}
+use Rattle.ring.specs.Row.{row}
 use Rattle.table.specs.Reasons.{number_of}
 use Rattle.table.specs.declared.reason.Reason.{Reason}
 use Rattle.table.specs.declared.reason.Reason.TheVariants.{RingSize, Fibres, NoRow, NoSuchNode, NotBelow, TooMuch, Full}
@@ -50,7 +51,7 @@ module _ (w : Work) (c : Call) {done : Changed} (is : done ≡ called_in w c) wh
     judged_row (too_much a b l o m q) e = refusal TooMuch much e
     judged_row (row_fine on o m q) e = f e
 
-    unless : Out (unless_fault (judged w i j d) w next)
+    unless : Out (unless_fault (judged w (row i j d)) w next)
     unless = judged_row (row-judged desk (ring_size w.n) 0 0 0 i j d)
 
 start-out : (w : Work) (n fibres : ℕ) {done : Changed} → (is : done ≡ started_in w n fibres) → {v : Verdict} → RingJudged desk (ring_of n fibres) v
@@ -66,13 +67,13 @@ answered w (start n fibres) is = start-out w n fibres is (ring-judged desk (ring
 answered w (add i j d) is =
     let c = add i j d in
     let k = free_in w.first in
-    let put = put_in w k i j d in
+    let put = put_in w k (row i j d) in
     unless w c is (here refl) (there (here refl)) (there (there (here refl))) i j d (cond (ltb k desk.rows) (kept_in put (k + 1)) (refused_in w (number_of Full)))
     (either w c is (ltb k desk.rows) (kept_in put (k + 1)) (refused_in w (number_of Full)) (kept w c is put (k + 1)) (refusal w c is Full (there (there (there (here refl)))))) refl
 answered w (change p i j d) is =
     let c = change p i j d in
-    let put = put_in (cleared_in w (p - 1)) (p - 1) i j d in
-    either w c is (holds_in w.first p) (unless_fault (judged w i j d) w (kept_in put p)) (refused_in w (number_of NoRow))
+    let put = put_in (cleared_in w (p - 1)) (p - 1) (row i j d) in
+    either w c is (holds_in w.first p) (unless_fault (judged w (row i j d)) w (kept_in put p)) (refused_in w (number_of NoRow))
     (unless w c is (there (here refl)) (there (there (here refl))) (there (there (there (here refl)))) i j d (kept_in put p) (kept w c is put p))
     (refusal w c is NoRow (here refl)) refl
 answered w (remove p) is =

@@ -18,10 +18,8 @@ use Rattle.ring.specs.Row.{row}
 use Rattle.ring.specs.RuleA.{rule_a}
 use Rattle.table.specs.Judge.{judge_ring, judge_row}
 use Rattle.table.specs.Reasons.{number_of}
-use Rattle.table.specs.declared.reason.Reason.{Reason}
 use Rattle.table.specs.Verdict.{Verdict}
 use Rattle.std.specs.Prelude.{Ok}
-use Rattle.table.proofs.ReasonNumbers.{no-reason-0}
 use Rattle.table.proofs.Judged.{RingJudged, size_wrong, wrong_fibres, right_ring, ring-judged}
 use Rattle.work.specs.Places.{empty, holds, Plain, place_in, plain_of}
 use Rattle.work.specs.Calls.{Call, start, add, change, remove, refuses, makes, judge_start, judge_place, judge_room, with_place, outcome, row_said, row_answer}
@@ -35,7 +33,7 @@ use Rattle.work.specs.declared.Work.{Work}
 use Rattle.work.specs.declared.held.WorkReply.{WorkReply}
 use Rattle.work.proofs.PlaceSteps.{holding}
 use Rattle.work.proofs.Right.{Good, Right, Sized, HasBytes, sized, right-bytes, size_is, count, place_is, put-places, put_right, clear-places, clear-right, fresh-places, fresh-right, cut-is}
-use Rattle.work.proofs.Reasons.{above_0}
+use Rattle.work.proofs.Reasons.{number-above}
 use Rattle.work.proofs.Fits.{Fits, begun-fits, made-fits}
 use Rattle.work.proofs.SortedRows.{rows-sorted, rows-range, rows_cut, rows-room}
 use Rattle.work.proofs.Views.{Demand, bad, good, demand, within, same_place, same-free, free-is-free}
@@ -95,15 +93,12 @@ module _ (w : Work) (n fibres : ℕ) where
 
 -- ---- a row added, changed, removed
 
-number-above : (reason : Reason) → number_of reason ≡ 0 → ⊥
-number-above reason e = omega (arith, no-reason-0 reason)
-
 module _ (w : Work) (s : Right w) where
   abbrev t : Plain
   t = plain_of w
 
   module _ (i j d : ℕ) where
-    verdict : judged w i j d ≡ judge_row desk w.n 0 0 0 i j d
+    verdict : judged w (row i j d) ≡ judge_row desk w.n 0 0 0 i j d
     verdict = rw (size_is w s)
 
     add_step : Step w (add i j d)
@@ -116,7 +111,7 @@ module _ (w : Work) (s : Right w) where
             elim (dec_lt (free_in w.first) desk.rows) [
               | yes l ↦
                   let free = free-is-free w.first 0 desk.rows (omega arith) in
-                  both_make (free_in w.first + 1) (put_in w (free_in w.first) i j d) (put_right w s (free_in w.first) l i j d free g)
+                  both_make (free_in w.first + 1) (put_in w (free_in w.first) (row i j d)) (put_right w s (free_in w.first) l i j d free g)
                   (rw (verdict ∙ e, lt-ltb (free_in w.first) desk.rows l))
                   (f _ ∙
                   (rw (same-free w (sized s), count w (sized s), lt-ltb (free_in w.first) desk.rows l)
@@ -141,7 +136,7 @@ module _ (w : Work) (s : Right w) where
       unfolding cleared_in
       removed-plain p = ap (λ ps. makes p (record { n = w.n; fibres = w.fibres; places = ps })) (sym (clear-places w s k l taken))
 
-      changed-places : (i j d : ℕ) → Good w.n (row i j d) → (plain_of (put_in (cleared_in w k) k i j d)).places ≡ set t.places k (holds (row i j d))
+      changed-places : (i j d : ℕ) → Good w.n (row i j d) → (plain_of (put_in (cleared_in w k) k (row i j d))).places ≡ set t.places k (holds (row i j d))
       changed-places i j d g =
           put-places (cleared_in w k) (clear-right w s k l taken) k l i j d (cleared-free) (still g) ∙
           ap (λ ps. set ps k (holds (row i j d))) (clear-places w s k l taken) ∙ set-set t.places k empty (holds (row i j d))
@@ -158,7 +153,7 @@ module _ (w : Work) (s : Right w) where
         go true h (good e g f) =
             let row_there = holding w.first p h in
             let off = clear-right w s (p - 1) row_there.high row_there.row in
-            both_make p (put_in (cleared_in w (p - 1)) (p - 1) i j d) (put_right (cleared_in w (p - 1)) off (p - 1) row_there.high i j d (cleared-free (p - 1) row_there.high) (still (p - 1) row_there.high g))
+            both_make p (put_in (cleared_in w (p - 1)) (p - 1) (row i j d)) (put_right (cleared_in w (p - 1)) off (p - 1) row_there.high i j d (cleared-free (p - 1) row_there.high) (still (p - 1) row_there.high g))
             (rw (h, verdict i j d ∙ e))
             (rw (same_place w (sized s) p ∙ h) (f _ ∙ ap (λ ps. makes p (record { n = w.n; fibres = w.fibres; places = ps })) (sym (changed-places (p - 1) row_there.high row_there.row i j d g))))
 
@@ -199,11 +194,11 @@ made-keeps (called m p k) = k
 
 module _ {w x : Work} {r : WorkReply} where
   begun-is-fit : {n fibres : ℕ} → WorkSays w (start n fibres) r x → r.reason ≡ 0 → Fits (plain_of x)
-  begun-is-fit {n} {fibres} (refused g er ex) a = absurd (above_0 _ (plain_of w) (start n fibres) g (ap (λ (y : WorkReply). y.reason) (sym er) ∙ a))
+  begun-is-fit {n} {fibres} (refused k g er ex) a = absurd (number-above k (ap (λ (y : WorkReply). y.reason) (sym er) ∙ a))
   begun-is-fit (accepted n m er ex) a = rw ex (begun-fits n m)
 
   called-is-fit : {c : Call} → Fits (plain_of w) → WorkSays w c r x → Fits (plain_of x)
-  called-is-fit f (refused g er ex) = rw ex f
+  called-is-fit f (refused k g er ex) = rw ex f
   called-is-fit f (accepted n m er ex) = rw ex (made-fits f n m)
 
 made-is-fit : {cs : List Call} {w : Work} → Made cs w → Fits (plain_of w)

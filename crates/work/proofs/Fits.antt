@@ -10,9 +10,12 @@ use Rattle.ring.specs.Limits.{desk}
 use Rattle.ring.specs.Lists.{Each, none}
 use Rattle.ring.specs.Row.{row}
 use Rattle.ring.specs.declared.types.Row.{Row}
+use Rattle.table.specs.Findings.{Findings, nothing, finding, NoneHolds}
+use Rattle.table.specs.declared.reason.Reason.TheVariants.{Full}
+use Rattle.table.proofs.Findings.{none-of}
 use Rattle.work.specs.Places.{empty, holds, Plain, rows_held}
 use Rattle.work.specs.Calls.{Call, start, fresh_plain}
-use Rattle.work.specs.Promises.{AllTaken, Faults, no_more, fault, NoneHolds, row_faults, faults, Makes, starts, adds, changes, removes}
+use Rattle.work.specs.Promises.{AllTaken, row_findings, findings, Makes, starts, adds, changes, removes}
 use Rattle.work.proofs.RowsHeld.{each_set, held-fresh}
 use Rattle.work.proofs.Right.{Good}
 
@@ -39,22 +42,24 @@ two_or_four fibres h =
     neither f g (inl e) = f e
     neither f g (inr e) = g e
 
-start-fits : (t : Plain) (n fibres : ℕ) → NoneHolds (faults t (start n fibres)) → Fits (fresh_plain n fibres)
-unfolding faults NoneHolds
+start-fits : (t : Plain) (n fibres : ℕ) → NoneHolds (findings t (start n fibres)) → Fits (fresh_plain n fibres)
+unfolding findings
 start-fits t n fibres h =
+    let size = none-of h in
     record {
-      two = not_less (λ l. h.0 (inl l));
-      few = not_less (λ l. h.0 (inr l));
-      fibres = two_or_four fibres h.1.0;
+      two = not_less (λ l. size.0 (inl l));
+      few = not_less (λ l. size.0 (inr l));
+      fibres = two_or_four fibres (none-of size.1).0;
       rows = rw (held-fresh desk.rows) none;
     }
 
-row_good : (n i j d : ℕ) (fs : Faults) → NoneHolds (row_faults n i j d fs) → Good n (row i j d)
-unfolding NoneHolds
+row_good : (n i j d : ℕ) (fs : Findings) → NoneHolds (row_findings n i j d fs) → Good n (row i j d)
 row_good n i j d fs h =
+    let node = none-of h in
+    let order = none-of node.1 in
     record {
-      on = record { low = not_less (λ l. h.0 (inl (inl l))); order = not_most h.1.0; high = not_less (λ l. h.0 (inr (inr l))) };
-      small = not_less h.1.1.0;
+      on = record { low = not_less (λ l. node.0 (inl (inl l))); order = not_most order.0; high = not_less (λ l. node.0 (inr (inr l))) };
+      small = not_less (none-of order.1).0;
     }
 
 module _ {t : Plain} where
@@ -62,12 +67,12 @@ module _ {t : Plain} where
   put_fits k r f g = record { two = f.two; few = f.few; fibres = f.fibres; rows = each_set t.places k (holds r) f.rows g }
 
   -- a start makes a table that fits, and each other call of one that fits
-  pub begun-fits : {n fibres p : ℕ} {u : Plain} → NoneHolds (faults t (start n fibres)) → Makes t (start n fibres) p u → Fits u
+  pub begun-fits : {n fibres p : ℕ} {u : Plain} → NoneHolds (findings t (start n fibres)) → Makes t (start n fibres) p u → Fits u
   begun-fits h (starts {n = n} {fibres = fibres}) = start-fits t n fibres h
 
-  pub made-fits : {c : Call} {p : ℕ} {u : Plain} → Fits t → NoneHolds (faults t c) → Makes t c p u → Fits u
-  unfolding faults NoneHolds
+  pub made-fits : {c : Call} {p : ℕ} {u : Plain} → Fits t → NoneHolds (findings t c) → Makes t c p u → Fits u
+  unfolding findings
   made-fits f h (starts {n = n} {fibres = fibres}) = start-fits t n fibres h
-  made-fits f h (adds {i = i} {j = j} {d = d} {p = p} low) = put_fits (p - 1) (row i j d) f (row_good t.n i j d (fault 21 (AllTaken t.places) no_more) h)
-  made-fits f h (changes {p = p} {i = i} {j = j} {d = d}) = put_fits (p - 1) (row i j d) f (row_good t.n i j d no_more h.1)
+  made-fits f h (adds {i = i} {j = j} {d = d} {p = p} low) = put_fits (p - 1) (row i j d) f (row_good t.n i j d (finding (AllTaken t.places) Full 0 nothing) h)
+  made-fits f h (changes {p = p} {i = i} {j = j} {d = d}) = put_fits (p - 1) (row i j d) f (row_good t.n i j d nothing (none-of h).1)
   made-fits f h (removes {p = p}) = record { two = f.two; few = f.few; fibres = f.fibres; rows = each_set t.places (p - 1) empty f.rows tt }

@@ -1,14 +1,16 @@
 -- The lowest free place by its loop, and what it says that a place holds a row.
 use Prim.Native.Nat.{ℕ, suc, ◌+◌, ◌-◌, ◌≤◌, ◌<◌}
-use mathlib.Core.Bool.{Bool, true, false, and-eq-true_iff}
+use mathlib.Core.Bool.{true, false, and-eq-true_iff}
 use mathlib.Core.List.{List}
-use mathlib.Core.Path.{◌≡◌, refl, sym, ◌∙◌}
+use mathlib.Core.Path.{◌≡◌, refl, ◌∙◌}
 use native.Mathlib.Omega.{arith}
+use native.Mathlib.Decide.{dec_lt}
 use lib.Dec.{ltb}
 use lib.ListN.{get_or}
 use borrow.Author.Tests.{ltb-true, lt-ltb, le-ltb, eq-eqb, ne_eqb}
 use Rattle.ring.specs.Limits.{desk}
-use Rattle.work.specs.Changes.{free_from, free_in, holds_in}
+use Rattle.work.specs.Changes.{free_from, free_in, holds_in, Placed}
+use Rattle.work.specs.declared.Work.{Work}
 
 -- ---- the loop: what is left of the scan is the scan of all
 
@@ -45,35 +47,32 @@ pub record Holding (first : List ℕ) (p : ℕ) : Type 0 where
   pub high : p - 1 < desk.rows
   pub row : 1 ≤ get_or first (p - 1) 0
 
-module _ (first : List ℕ) (p : ℕ) where
-  pub no_place : p < 1 → false ≡ holds_in first p
+module _ (w : Work) (p : ℕ) where
+  pub no_place : p < 1 → holds_in w.first p ≡ false
   unfolding holds_in
   no_place l = rw (le-ltb 0 p (omega arith))
 
   module _ (k : ℕ) (l : 1 ≤ p) (e : k ≡ p - 1) where
-    pub past_the_end : desk.rows ≤ k → false ≡ holds_in first p
+    pub past_the_end : desk.rows ≤ k → holds_in w.first p ≡ false
     unfolding holds_in
     past_the_end m = rw (lt-ltb 0 p (omega arith), le-ltb (p - 1) desk.rows (omega arith))
 
-    pub at_place : k < desk.rows → ltb 0 (get_or first k 0) ≡ holds_in first p
-    unfolding holds_in
-    at_place m = rw (lt-ltb 0 p (omega arith), lt-ltb (p - 1) desk.rows (omega arith), e)
+    module _ (m : k < desk.rows) where
+      at_place : holds_in w.first p ≡ ltb 0 (get_or w.first k 0)
+      unfolding holds_in
+      at_place = rw (lt-ltb 0 p (omega arith), lt-ltb (p - 1) desk.rows (omega arith), e)
 
-  pub holding : holds_in first p ≡ true → Holding first p
-  unfolding holds_in
-  holding e =
-      let one = (and-eq-true_iff (ltb 0 p) _).0 e in
-      let two = (and-eq-true_iff (ltb (p - 1) desk.rows) (ltb 0 (get_or first (p - 1) 0))).0 one.1 in
-      record { low = ltb-true 0 p one.0; high = ltb-true (p - 1) desk.rows two.0; row = ltb-true 0 (get_or first (p - 1) 0) two.1 }
+      pub empty_there : get_or w.first k 0 ≡ 0 → holds_in w.first p ≡ false
+      empty_there f = at_place ∙ le-ltb 0 (get_or w.first k 0) (omega arith)
 
-  -- the same, of what a test said
-  module _ (b : Bool) (e : b ≡ holds_in first p) (t : b ≡ true) where
-    pub place-low : 1 ≤ p
-    place-low = (holding (sym e ∙ t)).low
+      pub placed : (get_or w.first k 0 ≡ 0 → ⊥) → Placed w p k
+      placed f =
+          let l : 0 < get_or w.first k 0 = elim (dec_lt 0 (get_or w.first k 0)) [ yes h ↦ h | no h ↦ absurd (f (omega arith)) ] in
+          record { is = e; held = at_place ∙ lt-ltb 0 (get_or w.first k 0) l; row = record { place = m; row = l } }
 
-    module _ (k : ℕ) (ek : k ≡ p - 1) where
-      pub place-high : k < desk.rows
-      place-high = omega (arith, (holding (sym e ∙ t)).high)
-
-      pub place-row : 1 ≤ get_or first k 0
-      place-row = rw ek (holding (sym e ∙ t)).row
+pub holding : (first : List ℕ) (p : ℕ) → holds_in first p ≡ true → Holding first p
+unfolding holds_in
+holding first p e =
+    let one = (and-eq-true_iff (ltb 0 p) _).0 e in
+    let two = (and-eq-true_iff (ltb (p - 1) desk.rows) (ltb 0 (get_or first (p - 1) 0))).0 one.1 in
+    record { low = ltb-true 0 p one.0; high = ltb-true (p - 1) desk.rows two.0; row = ltb-true 0 (get_or first (p - 1) 0) two.1 }

@@ -7,6 +7,7 @@ use native.Mathlib.Omega.{arith}
 use native.Mathlib.Decide.{dec_lt}
 use lib.ListN.{get_or}
 use borrow.Author.Tests.{lt-ltb, le-ltb, ne_eqb}
+use Rattle.text.proofs.Apart.{clash}
 use Rattle.ring.specs.Cut.{across}
 use Rattle.ring.specs.declared.types.Cut.{Cut}
 use Rattle.ring.specs.Row.{row}
@@ -14,11 +15,15 @@ use Rattle.ring.specs.declared.types.Row.{Row}
 use Rattle.ring.specs.RuleA.{rule_a}
 use Rattle.ring.proofs.LargestCut.{rule-A}
 use Rattle.across.specs.Triangle.{at}
+use Rattle.table.specs.Reasons.{number_of}
+use Rattle.table.specs.declared.reason.Reason.{Reason}
+use Rattle.table.proofs.ReasonNumbers.{same-reason}
 use Rattle.work.specs.Places.{Place, empty, holds, Plain, rows_held, plain_of}
 use Rattle.work.specs.Calls.{Call, start, Outcome, refuses, makes, fresh_plain, outcome, after, answer, refusal, acceptance, no_row, the_row, row_said, row_answer}
 use Rattle.work.specs.Changes.{kept_in, row_in, started_in, called_in}
 use Rattle.work.specs.Kept.{held, kept_cut, Keeps}
-use Rattle.work.specs.Promises.{RowAt, NoRow, Given, NoneHolds, faults, Makes, WorkSays, refused, accepted, WorkPromise, SameKept, OnlyThis, RowSays, none_there, row_there, RowPromise, OnlyRow}
+use Rattle.table.specs.Findings.{Given, NoneHolds}
+use Rattle.work.specs.Promises.{RowAt, NoRow, findings, Makes, WorkSays, refused, accepted, WorkPromise, SameKept, OnlyThis, RowSays, none_there, row_there, RowPromise, OnlyRow}
 use Rattle.work.specs.Made.{Made, begun, called}
 use Rattle.work.specs.Played.{played, answer_after, named_by, last_named, AsPlayed}
 use Rattle.work.specs.declared.Work.{Work}
@@ -26,7 +31,7 @@ use Rattle.work.specs.declared.held.WorkReply.{WorkReply}
 use Rattle.work.specs.declared.held.Changed.{Changed}
 use Rattle.work.specs.declared.place.RowReply.{RowReply}
 use Rattle.work.proofs.Right.{Right, Sized, cut-is}
-use Rattle.work.proofs.Reasons.{Ends, stops, goes, call_ends, one-given, none-given, one-made, above_0}
+use Rattle.work.proofs.Reasons.{Ends, stops, goes, call_ends, one-given, none-given, one-made, number-above}
 use Rattle.work.proofs.ByCalls.{Step, both_refuse, both_make, start-step, call_step, stays-sound, accepted-sound, keeps-of, made-sound, row_is}
 
 -- ---- one call
@@ -36,48 +41,48 @@ names-a-link : (x : Work) → Right x → 1 ≤ (rule_a x.n (rows_held (plain_of
 names-a-link x s = (rule-A x.n (rows_held (plain_of x).places) s.two).among.low
 
 module _ (w : Work) (c : Call) (r : WorkReply) (x : Work) where
-  -- a refusal with a reason above 0, or a table that is right
+  -- a refusal, or a table that is right
   data Case : Type 0 where
-    is_refused : {reason : ℕ} → Given (faults (plain_of w) c) reason → (reason ≡ 0 → ⊥) → r ≡ refusal reason → x ≡ w → Case
-    is_accepted : {p : ℕ} {u : Plain} → NoneHolds (faults (plain_of w) c) → Makes (plain_of w) c p u → r ≡ acceptance p u → plain_of x ≡ u → 1 ≤ (rule_a u.n (rows_held u.places)).g → Case
+    is_refused : (reason : Reason) → Given (findings (plain_of w) c) reason 0 → r ≡ refusal (number_of reason) → x ≡ w → Case
+    is_accepted : {p : ℕ} {u : Plain} → NoneHolds (findings (plain_of w) c) → Makes (plain_of w) c p u → r ≡ acceptance p u → plain_of x ≡ u → 1 ≤ (rule_a u.n (rows_held u.places)).g → Case
 
   module _ (er : r ≡ (called_in w c).reply) (ex : x ≡ (called_in w c).work) where
-    case-of : {o : Outcome} → Step w c → outcome (plain_of w) c ≡ o → Ends (faults (plain_of w) c) (Makes (plain_of w) c) o → Case
+    case-of : {o : Outcome} → Step w c → outcome (plain_of w) c ≡ o → Ends (findings (plain_of w) c) (Makes (plain_of w) c) o → Case
     unfolding kept_in
-    case-of (both_refuse reason z e f) is (stops {reason = k} g) = let q : k ≡ reason = cc in is_refused g (λ y. z (sym q ∙ y)) (er ∙ (rw (e, q))) (ex ∙ (rw e))
-    case-of (both_refuse reason z e f) is (goes n m) = absurd (let z : ◌≡◌ {A = ℕ} 0 1 = cc in omega arith)
-    case-of (both_make p y s e f) is (stops g) = absurd (let z : ◌≡◌ {A = ℕ} 0 1 = cc in omega arith)
+    case-of (both_refuse reason z e f) is (stops j {number = k} ek g) = let q : k ≡ reason = cc in is_refused j g (er ∙ (rw (e, ← ek, q))) (ex ∙ (rw e))
+    case-of (both_refuse reason z e f) is (goes n m) = clash (cc)
+    case-of (both_make p y s e f) is (stops j ek g) = clash (cc)
     case-of (both_make p y s e f) is (goes {p = k} {u = u} n m) =
         let q : k ≡ p = cc in
         let v : u ≡ plain_of y = cc in
         is_accepted n m (er ∙ (rw (e, q, v, cut-is y s))) (ap plain_of ex ∙ (rw (e, v))) (rw v (names-a-link y s))
 
   says : Case → WorkSays w c r x
-  says (is_refused g z er ex) = refused g er ex
+  says (is_refused k g er ex) = refused k g er ex
   says (is_accepted n m er ex l) = accepted n m er ex
 
-  gives : (reason : ℕ) → Case → r ≡ refusal reason → Given (faults (plain_of w) c) reason
-  gives reason (is_refused {reason = k} g z er ex) e = let q : k ≡ reason = ap (λ (y : WorkReply). y.reason) (sym er ∙ e) in rw (← q) g
+  gives : (reason : Reason) → Case → r ≡ refusal (number_of reason) → Given (findings (plain_of w) c) reason 0
+  gives reason (is_refused k g er ex) e = let q : k ≡ reason = same-reason k reason (ap (λ (y : WorkReply). y.reason) (sym er ∙ e)) in rw (← q) g
   gives reason (is_accepted n m er ex l) e = absurd (omega (arith, l, ap (λ (y : WorkReply). y.g) (sym er ∙ e)))
 
-  given : (reason : ℕ) → Case → Given (faults (plain_of w) c) reason → r ≡ refusal reason
-  given reason (is_refused g z er ex) h = let q = one-given (faults (plain_of w) c) h g in rw q er
-  given reason (is_accepted n m er ex l) h = absurd (none-given (faults (plain_of w) c) reason h n)
+  given : (reason : Reason) → Case → Given (findings (plain_of w) c) reason 0 → r ≡ refusal (number_of reason)
+  given reason (is_refused k g er ex) h = let q = one-given (findings (plain_of w) c) h g in rw q er
+  given reason (is_accepted n m er ex l) h = absurd (none-given (findings (plain_of w) c) reason h n)
 
   stays : (reason : ℕ) → Case → r ≡ refusal reason → x ≡ w
-  stays reason (is_refused g z er ex) e = ex
+  stays reason (is_refused k g er ex) e = ex
   stays reason (is_accepted n m er ex l) e = absurd (omega (arith, l, ap (λ (y : WorkReply). y.g) (sym er ∙ e)))
 
   module _ (p : ℕ) (u : Plain) where
-    takes : Case → (r ≡ acceptance p u) × (plain_of x ≡ u) → NoneHolds (faults (plain_of w) c) × Makes (plain_of w) c p u
-    takes (is_refused g z er ex) h = absurd (z (ap (λ (y : WorkReply). y.reason) (sym er ∙ h.0)))
+    takes : Case → (r ≡ acceptance p u) × (plain_of x ≡ u) → NoneHolds (findings (plain_of w) c) × Makes (plain_of w) c p u
+    takes (is_refused k g er ex) h = absurd (number-above k (ap (λ (y : WorkReply). y.reason) (sym er ∙ h.0)))
     takes (is_accepted {p = k} {u = v} n m er ex l) h =
         let a : k ≡ p = ap (λ (y : WorkReply). y.place) (sym er ∙ h.0) in
         let b : v ≡ u = sym ex ∙ h.1 in
         rw (← a, ← b) (n, m)
 
-    taken : Case → NoneHolds (faults (plain_of w) c) × Makes (plain_of w) c p u → (r ≡ acceptance p u) × (plain_of x ≡ u)
-    taken (is_refused {reason = k} g z er ex) h = absurd (none-given (faults (plain_of w) c) k g h.0)
+    taken : Case → NoneHolds (findings (plain_of w) c) × Makes (plain_of w) c p u → (r ≡ acceptance p u) × (plain_of x ≡ u)
+    taken (is_refused k g er ex) h = absurd (none-given (findings (plain_of w) c) k g h.0)
     taken (is_accepted n m er ex l) h = let q = one-made h.1 m in rw (q.0, q.1) (er, ex)
 
   promise : Step w c → (r ≡ (called_in w c).reply) × (x ≡ (called_in w c).work) → WorkPromise w c r x
@@ -94,17 +99,17 @@ module _ (w : Work) (c : Call) (r : WorkReply) (x : Work) where
 
 module _ {w : Work} {c : Call} {r s : WorkReply} {x y : Work} where
   same-says : WorkSays w c r x → WorkSays w c s y → (s ≡ r) × (plain_of y ≡ plain_of x)
-  same-says (refused g er ex) (refused h es ey) = let e = one-given (faults (plain_of w) c) h g in (es ∙ ap refusal e ∙ sym er, ap plain_of (ey ∙ sym ex))
-  same-says (refused {reason = k} g er ex) (accepted n m es ey) = absurd (none-given (faults (plain_of w) c) k g n)
-  same-says (accepted n m er ex) (refused {reason = k} h es ey) = absurd (none-given (faults (plain_of w) c) k h n)
+  same-says (refused j g er ex) (refused k h es ey) = let e = one-given (findings (plain_of w) c) h g in (es ∙ ap (λ a. refusal (number_of a)) e ∙ sym er, ap plain_of (ey ∙ sym ex))
+  same-says (refused k g er ex) (accepted n m es ey) = absurd (none-given (findings (plain_of w) c) k g n)
+  same-says (accepted n m er ex) (refused k h es ey) = absurd (none-given (findings (plain_of w) c) k h n)
   same-says (accepted {p = p} {u = u} n m er ex) (accepted {p = q} {u = v} o l es ey) =
       let e = one-made l m in
       let f : acceptance q v ≡ acceptance p u = rw (e.0, e.1) in
       (es ∙ f ∙ sym er, ey ∙ e.1 ∙ sym ex)
 
   same-kept : WorkSays w c r x → (r.reason ≡ 0 → Keeps x) → WorkSays w c s y → Keeps y → SameKept y x
-  same-kept (refused g er ex) k (refused h es ey) l = rw (ex, ey) (record { cut = refl; numbers = λ g h a b c. refl })
-  same-kept (refused {reason = j} g er ex) k (accepted n m es ey) l = absurd (none-given (faults (plain_of w) c) j g n)
+  same-kept (refused i g er ex) k (refused j h es ey) l = rw (ex, ey) (record { cut = refl; numbers = λ g h a b c. refl })
+  same-kept (refused j g er ex) k (accepted n m es ey) l = absurd (none-given (findings (plain_of w) c) j g n)
   same-kept (accepted n m er ex) k other l =
       let kx = k (ap (λ (z : WorkReply). z.reason) er) in
       let e = (same-says (accepted n m er ex) other).1 in
@@ -135,7 +140,7 @@ module _ (t : Plain) (p : ℕ) (r : RowReply) where
       ]
     where
       go : 1 ≤ p → (x : Place) → get_or t.places (p - 1) empty ≡ x → r ≡ row_said x → RowSays t.places p r
-      go l empty e q = none_there (λ y. let f = y.there.is in let z : ◌≡◌ {A = ℕ} 0 1 = cc in omega arith) q
+      go l empty e q = none_there (λ y. let f = y.there.is in clash (cc)) q
       go l (holds x) e q = row_there x (record { from_1 = l; is = e }) q
 
 module _ (ps : List Place) (p : ℕ) (r : RowReply) where
@@ -182,10 +187,12 @@ data As (w : Work) (r : WorkReply) (x : Work) : Outcome → Type 0 where
   as_made : {p : ℕ} {u : Plain} → r ≡ acceptance p u → plain_of x ≡ u → As w r x (makes p u)
 
 module _ {w : Work} {r : WorkReply} {x : Work} where
-  ends-as : {c : Call} {o : Outcome} → Ends (faults (plain_of w) c) (Makes (plain_of w) c) o → WorkSays w c r x → As w r x o
-  ends-as {c} (stops g) (refused h er ex) = let e = one-given (faults (plain_of w) c) h g in as_refused (above_0 _ (plain_of w) c g) (er ∙ ap refusal e) ex
-  ends-as {c} (stops {reason = k} g) (accepted n m er ex) = absurd (none-given (faults (plain_of w) c) k g n)
-  ends-as {c} (goes n m) (refused {reason = k} h er ex) = absurd (none-given (faults (plain_of w) c) k h n)
+  ends-as : {c : Call} {o : Outcome} → Ends (findings (plain_of w) c) (Makes (plain_of w) c) o → WorkSays w c r x → As w r x o
+  ends-as {c} (stops k ek g) (refused j h er ex) =
+      let e = one-given (findings (plain_of w) c) h g in
+      as_refused (λ z. number-above k (sym ek ∙ z)) (er ∙ ap refusal (ap number_of e ∙ sym ek)) ex
+  ends-as {c} (stops k ek g) (accepted n m er ex) = absurd (none-given (findings (plain_of w) c) k g n)
+  ends-as {c} (goes n m) (refused k h er ex) = absurd (none-given (findings (plain_of w) c) k h n)
   ends-as {c} (goes {p = p} {u = u} n m) (accepted {p = q} {u = v} o l er ex) =
       let e = one-made l m in
       let f : acceptance q v ≡ acceptance p u = rw (e.0, e.1) in

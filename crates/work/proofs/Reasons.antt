@@ -3,7 +3,7 @@ use Prim.Native.Nat.{ℕ, zero, suc, ◌+◌, ◌-◌, ◌≤◌, ◌<◌}
 use mathlib.Core.Bool.{Bool, cond}
 use mathlib.Core.List.{List, [], ◌∷◌}
 use mathlib.Core.Logic.{◌⊎◌, inl, inr}
-use mathlib.Core.Path.{◌≡◌, refl, sym, ◌∙◌}
+use mathlib.Core.Path.{◌≡◌, refl, ap}
 use native.Mathlib.Omega.{arith}
 use native.Mathlib.Decide.{dec_lt}
 use lib.ListN.{length, get_or}
@@ -11,45 +11,51 @@ use borrow.Author.Tests.{lt-ltb, le-ltb}
 use Rattle.ring.specs.LineSize.{IsFibres}
 use Rattle.ring.specs.Limits.{desk}
 use Rattle.ring.specs.Row.{row}
-use Rattle.ring.specs.declared.types.Row.{Row}
+use Rattle.std.specs.Prelude.{Err}
+use Rattle.text.proofs.Apart.{clash}
+use Rattle.table.specs.Reasons.{number_of}
+use Rattle.table.specs.Findings.{Findings, nothing, finding, found, Given, NoneHolds}
+use Rattle.table.specs.declared.finding.Finding.{Finding}
+use Rattle.table.specs.declared.reason.Reason.{Reason}
+use Rattle.table.specs.declared.reason.Reason.TheVariants.{RingSize, Fibres, NoRow as NoPlaceRow, Full}
+use Rattle.table.proofs.Findings.{fine, one-answer}
+use Rattle.table.proofs.ReasonNumbers.{no-reason-0}
 use Rattle.table.proofs.Tested.{Tested, is_so, not_so, test-or, test-less, test-most, test-same}
 use Rattle.work.specs.Places.{Place, empty, holds, Plain, is_row, lowest_free, holds_row}
 use Rattle.work.specs.Calls.{Call, start, add, change, remove, Outcome, refuses, makes, judge_start, judge_demand, judge_place, judge_room, with_place, outcome}
-use Rattle.work.specs.Sorted.{HoldsAt}
-use Rattle.work.specs.Promises.{Taken, NoRow, AllTaken, LowestFree, Faults, no_more, fault, Given, NoneHolds, row_faults, faults, Makes, starts, adds, changes, removes}
+use Rattle.work.proofs.OneOrder.{Holding}
+use Rattle.work.specs.Promises.{Taken, NoRow, AllTaken, LowestFree, row_findings, findings, Makes, starts, adds, changes, removes}
 
 -- ---- an outcome by reasons: the first that holds, or what is made where none does
 
-pub data Ends (fs : Faults) (M : ℕ → Plain → Type 0) : Outcome → Type 0 where
-  stops : {reason : ℕ} → Given fs reason → Ends fs M (refuses reason)
+pub data Ends (fs : Findings) (M : ℕ → Plain → Type 0) : Outcome → Type 0 where
+  stops : (reason : Reason) {number : ℕ} → number ≡ number_of reason → Given fs reason 0 → Ends fs M (refuses number)
   goes : {p : ℕ} {u : Plain} → NoneHolds fs → M p u → Ends fs M (makes p u)
 
-module _ {k : ℕ} {A : Type 0} {fs : Faults} {M : ℕ → Plain → Type 0} where
-  now : A → Ends (fault k A fs) M (refuses k)
-  unfolding Given
-  now a = stops (inl (refl, a))
+module _ {k : Reason} {A : Type 0} {fs : Findings} {M : ℕ → Plain → Type 0} where
+  now : A → Ends (finding A k 0 fs) M (refuses (number_of k))
+  now a = stops k refl (inl (a, refl))
 
-  later : {o : Outcome} → (A → ⊥) → Ends fs M o → Ends (fault k A fs) M o
-  unfolding Given NoneHolds
-  later f (stops g) = stops (inr (f, g))
-  later f (goes n m) = goes (f, n) m
+  later : {o : Outcome} → (A → ⊥) → Ends fs M o → Ends (finding A k 0 fs) M o
+  later f (stops reason e g) = stops reason e (inr (f, g))
+  later f (goes n m) = goes (inr (f, n)) m
 
-  if : {b : Bool} {o : Outcome} → Tested A b → Ends fs M o → Ends (fault k A fs) M (cond b (refuses k) o)
+  if : {b : Bool} {o : Outcome} → Tested A b → Ends fs M o → Ends (finding A k 0 fs) M (cond b (refuses (number_of k)) o)
   if (is_so a) e = now a
   if (not_so f) e = later f e
 
-unless : {k : ℕ} {A : Type 0} {fs : Faults} {M : ℕ → Plain → Type 0} {b : Bool} {o : Outcome} → Tested A b → Ends fs M o → Ends (fault k (A → ⊥) fs) M (cond b o (refuses k))
+unless : {k : Reason} {A : Type 0} {fs : Findings} {M : ℕ → Plain → Type 0} {b : Bool} {o : Outcome} → Tested A b → Ends fs M o
+    → Ends (finding (A → ⊥) k 0 fs) M (cond b o (refuses (number_of k)))
 unless (is_so a) e = later (λ f. f a) e
 unless (not_so f) e = now f
 
-none_left : {M : ℕ → Plain → Type 0} {p : ℕ} {u : Plain} → M p u → Ends no_more M (makes p u)
-unfolding NoneHolds
-none_left m = goes tt m
+none_left : {M : ℕ → Plain → Type 0} {p : ℕ} {u : Plain} → M p u → Ends nothing M (makes p u)
+none_left m = goes refl m
 
 -- ---- places
 
 test-row : (ps : List Place) (p : ℕ) → 1 ≤ p → (x : Place) → get_or ps (p - 1) empty ≡ x → Tested (Taken ps p) (is_row x)
-test-row ps p l empty e = not_so (λ t. let f = t.there.is in let z : ◌≡◌ {A = ℕ} 0 1 = cc in omega arith)
+test-row ps p l empty e = not_so (λ t. let f = t.there.is in clash (cc))
 test-row ps p l (holds r) e = is_so (record { r = r; there = record { from_1 = l; is = e } })
 
 test-place : (ps : List Place) (p : ℕ) → Tested (Taken ps p) (holds_row ps p)
@@ -67,10 +73,6 @@ no-row-at [] l = absurd (omega arith)
 no-row-at (empty ∷ ps) l = refl
 no-row-at (holds r ∷ ps) l = no-row-at ps (omega arith)
 
-record Holding (ps : List Place) (k : ℕ) : Type 0 where
-  r : Row
-  is : HoldsAt ps k r
-
 row_below : (ps : List Place) (k : ℕ) → k < lowest_free ps → Holding ps k
 unfolding lowest_free
 row_below [] k l = absurd (omega arith)
@@ -86,27 +88,27 @@ lowest ps l =
     record {
       from_1 = omega arith;
       to_last = omega arith;
-      free = λ t. let e : lowest_free ps + 1 - 1 ≡ lowest_free ps = omega arith in let f = rw e at t.there.is in let g = no-row-at ps l in let z : ◌≡◌ {A = ℕ} 0 1 = cc in omega arith;
+      free = λ t. let e : lowest_free ps + 1 - 1 ≡ lowest_free ps = omega arith in let f = rw e at t.there.is in let g = no-row-at ps l in clash (cc);
       below = λ q a b. below-is-taken ps q a (omega arith);
     }
 
 -- ---- the judges
 
-module _ {fs : Faults} {M : ℕ → Plain → Type 0} {o : Outcome} where
-  start-ends : (n fibres : ℕ) → Ends fs M o → Ends (fault 3 ((n < desk.fewest) ⊎ (desk.nodes < n)) (fault 20 (IsFibres fibres → ⊥) fs)) M (judge_start n fibres o)
+module _ {fs : Findings} {M : ℕ → Plain → Type 0} {o : Outcome} where
+  start-ends : (n fibres : ℕ) → Ends fs M o → Ends (finding ((n < desk.fewest) ⊎ (desk.nodes < n)) RingSize 0 (finding (IsFibres fibres → ⊥) Fibres 0 fs)) M (judge_start n fibres o)
   unfolding judge_start
   start-ends n fibres e = if (test-or (test-less n desk.fewest) (test-less desk.nodes n)) (unless (test-or (test-same fibres 2) (test-same fibres 4)) e)
 
-  demand-ends : (n i j d : ℕ) → Ends fs M o → Ends (row_faults n i j d fs) M (judge_demand n i j d o)
+  demand-ends : (n i j d : ℕ) → Ends fs M o → Ends (row_findings n i j d fs) M (judge_demand n i j d o)
   unfolding judge_demand
   demand-ends n i j d e =
       if (test-or (test-or (test-less i 1) (test-less n i)) (test-or (test-less j 1) (test-less n j))) (if (test-most j i) (if (test-less desk.amount d) e))
 
-  place-ends : (t : Plain) (p : ℕ) → Ends fs M o → Ends (fault 22 (NoRow t.places p) fs) M (judge_place t p o)
+  place-ends : (t : Plain) (p : ℕ) → Ends fs M o → Ends (finding (NoRow t.places p) NoPlaceRow 0 fs) M (judge_place t p o)
   unfolding judge_place
   place-ends t p e = unless (test-place t.places p) e
 
-  room-ends : (t : Plain) → (LowestFree t.places (lowest_free t.places + 1) → Ends fs M o) → Ends (fault 21 (AllTaken t.places) fs) M (judge_room t o)
+  room-ends : (t : Plain) → (LowestFree t.places (lowest_free t.places + 1) → Ends fs M o) → Ends (finding (AllTaken t.places) Full 0 fs) M (judge_room t o)
   unfolding judge_room
   room-ends t e =
       let ps = t.places in
@@ -123,8 +125,8 @@ made_at t i j d k f =
     let e : k + 1 - 1 ≡ k = omega arith in
     rw e at made
 
-pub call_ends : (t : Plain) (c : Call) → Ends (faults t c) (Makes t c) (outcome t c)
-unfolding faults outcome
+pub call_ends : (t : Plain) (c : Call) → Ends (findings t c) (Makes t c) (outcome t c)
+unfolding findings outcome
 call_ends t (start n fibres) = start-ends n fibres (none_left starts)
 call_ends t (add i j d) = demand-ends t.n i j d (room-ends t (λ f. none_left (made_at t i j d (lowest_free t.places) f)))
 call_ends t (change p i j d) = place-ends t p (demand-ends t.n i j d (none_left changes))
@@ -132,19 +134,13 @@ call_ends t (remove p) = place-ends t p (none_left removes)
 
 -- ---- one reason is given, and none where none holds
 
-pub one-given : (fs : Faults) {a b : ℕ} → Given fs a → Given fs b → a ≡ b
-unfolding Given
-one-given no_more x _ = elim x [ ]
-one-given (fault k A fs) (inl p) (inl q) = p.0 ∙ sym q.0
-one-given (fault k A fs) (inl p) (inr q) = absurd (q.0 p.1)
-one-given (fault k A fs) (inr p) (inl q) = absurd (p.0 q.1)
-one-given (fault k A fs) (inr p) (inr q) = one-given fs p.1 q.1
+pub one-given : (fs : Findings) {a b : Reason} → Given fs a 0 → Given fs b 0 → a ≡ b
+one-given fs {a} {b} g h =
+    let same : found a 0 ≡ found b 0 = cc (one-answer fs (Err (found a 0)) (Err (found b 0)) g h) in
+    ap (λ (f : Finding). f.reason) same
 
-pub none-given : (fs : Faults) (a : ℕ) → Given fs a → NoneHolds fs → ⊥
-unfolding Given NoneHolds
-none-given no_more a x n = elim x [ ]
-none-given (fault k A fs) a (inl p) n = n.0 p.1
-none-given (fault k A fs) a (inr p) n = none-given fs a p.1 n.1
+pub none-given : (fs : Findings) (a : Reason) → Given fs a 0 → NoneHolds fs → ⊥
+none-given fs a g n = clash (cc (one-answer fs (Err (found a 0)) fine g n))
 
 -- and an accepted call makes one table only
 one-lowest : (ps : List Place) (p q : ℕ) → LowestFree ps p → LowestFree ps q → p ≡ q
@@ -162,25 +158,5 @@ one-made removes removes = (refl, refl)
 
 -- ---- no reason is 0
 
-module _ (reason : ℕ) where
-  abbrev Above : Faults → Type 0
-  Above fs = Given fs reason → reason ≡ 0 → ⊥
-
-  later_above : (k : ℕ) (A : Type 0) (fs : Faults) → (k ≡ 0 → ⊥) → Above fs → Above (fault k A fs)
-  unfolding Given
-  later_above k A fs z f (inl g) e = z (sym g.0 ∙ e)
-  later_above k A fs z f (inr g) e = f g.1 e
-
-  none_above : Above no_more
-  unfolding Given
-  none_above g e = g
-
-  row_above : (n i j d : ℕ) (fs : Faults) → Above fs → Above (row_faults n i j d fs)
-  row_above n i j d fs f = later_above _ _ _ (λ z. omega arith) (later_above _ _ _ (λ z. omega arith) (later_above _ _ _ (λ z. omega arith) f))
-
-  pub above_0 : (t : Plain) (c : Call) → Above (faults t c)
-  unfolding faults
-  above_0 t (start n fibres) = later_above _ _ _ (λ z. omega arith) (later_above _ _ _ (λ z. omega arith) none_above)
-  above_0 t (add i j d) = row_above t.n i j d _ (later_above _ _ _ (λ z. omega arith) none_above)
-  above_0 t (change p i j d) = later_above _ _ _ (λ z. omega arith) (row_above t.n i j d no_more none_above)
-  above_0 t (remove p) = later_above _ _ _ (λ z. omega arith) none_above
+pub number-above : (reason : Reason) → number_of reason ≡ 0 → ⊥
+number-above reason e = omega (arith, no-reason-0 reason)

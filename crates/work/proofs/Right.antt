@@ -1,10 +1,10 @@
 -- A table whose rows and kept numbers are right stays so when a row is put at a free place or taken off, and the largest cut is then rule A's.
 use Prim.Native.Nat.{ℕ, zero, suc, ◌+◌, ◌*◌, ◌≤◌, ◌<◌}
-use mathlib.Core.Bool.{true, false}
 use mathlib.Core.List.{[]}
 use mathlib.Core.Path.{◌≡◌, refl, sym, ◌∙◌, ap}
 use native.Mathlib.Omega.{arith}
 use lib.ListN.{length, get_or, set, replicate, length-set, length-replicate}
+use Rattle.text.proofs.Apart.{clash}
 use Rattle.ring.specs.Limits.{desk}
 use Rattle.ring.specs.LineSize.{IsFibres}
 use Rattle.ring.specs.Lists.{Each, none}
@@ -18,6 +18,7 @@ use Rattle.ring.proofs.Totals.{across-total, total-most, part_small}
 use Rattle.ring.proofs.Laid.{zeros-at}
 use Rattle.across.specs.Triangle.{most_pairs, place_of, at}
 use Rattle.across.specs.Lines.{Pairwise}
+use Rattle.across.specs.Step.{raised, lowered}
 use Rattle.across.proofs.Kept.{row-at}
 use Rattle.across.proofs.CutSteps.{same-cut}
 use Rattle.work.specs.Places.{empty, holds, place_in, plain_of}
@@ -69,7 +70,7 @@ module _ (w : Work) (s : Sized w) where
   place_is k = places-at w.first w.second w.amount k same-firsts same-seconds
 
   second_of : (i j d : ℕ) (r : Row) → place_in i j d ≡ holds r → r.second ≡ j
-  second_of zero j d r e = absurd (let z : ◌≡◌ {A = ℕ} 0 1 = cc in omega arith)
+  second_of zero j d r e = clash (cc)
   second_of (suc i) j d r e = let f : row (suc i) j d ≡ r = cc in ap (λ (x : Row). x.second) (sym f)
 
   pub bytes-of : ((k : ℕ) → get_or w.second k 0 < 256) → HasBytes w
@@ -96,17 +97,17 @@ place-holds (suc i) j d l = refl
 
 module _ (w : Work) (s : Right w) (k : ℕ) (in_table : k < desk.rows) where
   module _ (i j d : ℕ) (free : get_or w.first k 0 ≡ 0) (good : Good w.n (row i j d)) where
-    pub put-places : (plain_of (put_in w k i j d)).places ≡ set (plain_of w).places k (holds (row i j d))
+    pub put-places : (plain_of (put_in w k (row i j d))).places ≡ set (plain_of w).places k (holds (row i j d))
     unfolding put_in
     put-places = places-set w.first w.second w.amount k i j d ∙ ap (λ x. set (plain_of w).places k x) (place-holds i j d good.on.low)
 
-    put-across : (g h : ℕ) → across (held (put_in w k i j d)) g h ≡ part (row i j d) g h + across (held w) g h
+    put-across : (g h : ℕ) → across (held (put_in w k (row i j d))) g h ≡ part (row i j d) g h + across (held w) g h
     put-across g h =
         let was : get_or (plain_of w).places k empty ≡ empty = place_is w (sized s) k ∙ (rw free) in
         let sum = rw was at (across-set (plain_of w).places k (holds (row i j d)) g h (omega (arith, count w (sized s)))) in
         rw put-places (omega arith)
 
-    pub put_right : Right (put_in w k i j d)
+    pub put_right : Right (put_in w k (row i j d))
     unfolding put_in
     put_right =
         record {
@@ -120,7 +121,7 @@ module _ (w : Work) (s : Right w) (k : ℕ) (in_table : k < desk.rows) where
           kept = λ g h a b c.
               rw (size_is w s)
               (omega
-              (arith, row-at true w.n (row i j d) w.triangle s.few g h a b c, s.kept g h a b c, put-across g h, number_small w s g h, part_small (row i j d) g h, good.small));
+              (arith, row-at raised w.n (row i j d) w.triangle s.few g h a b c, s.kept g h a b c, put-across g h, number_small w s g h, part_small (row i j d) g h, good.small));
         }
 
   -- ---- a row is taken off its place
@@ -151,7 +152,7 @@ module _ (w : Work) (s : Right w) (k : ℕ) (in_table : k < desk.rows) where
           amounts = length-set w.amount k 0 ∙ s.amounts;
           rows = rw clear-places (each_set (plain_of w).places k empty s.rows tt);
           kept = λ g h a b c.
-              rw (size_is w s) (omega (arith, row-at false w.n gone w.triangle s.few g h a b c, s.kept g h a b c, clear-across g h, number_small w s g h));
+              rw (size_is w s) (omega (arith, row-at lowered w.n gone w.triangle s.few g h a b c, s.kept g h a b c, clear-across g h, number_small w s g h));
         }
 
 -- ---- an empty table

@@ -6,6 +6,7 @@ use native.Mathlib.Omega.{arith}
 use native.Mathlib.Decide.{ℕ_discrete}
 use borrow.Author.Tests.{eq-eqb, ne_eqb}
 use lib.ListN.{length, get_or, set, replicate}
+use Rattle.text.proofs.Apart.{clash}
 use Rattle.ring.specs.Lists.{Each, more}
 use Rattle.ring.specs.declared.types.Row.{Row}
 use Rattle.ring.specs.Cut.{part, across}
@@ -50,8 +51,8 @@ each_set (holds r ∷ ps) (suc k) x (more q e) o = more q (each_set ps k x e o)
 
 pub each_at : {P : Row → Type 0} (ps : List Place) (k : ℕ) (r : Row) → Each P (rows_held ps) → get_or ps k empty ≡ holds r → P r
 unfolding rows_held
-each_at [] k r e q = absurd (let z : ◌≡◌ {A = ℕ} 0 1 = cc in omega arith)
-each_at {P} (empty ∷ ps) zero r e q = absurd (let z : ◌≡◌ {A = ℕ} 0 1 = cc in omega arith)
+each_at [] k r e q = clash (cc)
+each_at {P} (empty ∷ ps) zero r e q = clash (cc)
 each_at {P} (holds s ∷ ps) zero r (more p e) q = let same : s ≡ r = cc in rw same at p
 each_at {P} (empty ∷ ps) (suc k) r e q = each_at {P = P} ps k r e q
 each_at {P} (holds s ∷ ps) (suc k) r (more p e) q = each_at {P = P} ps k r e q

@@ -1,19 +1,20 @@
 -- Internal: what each call answers and leaves, for every value of the struct; what a call promises is said over the list of places (Places, Calls, Promises), and names none of this.
-use Rattle.std.specs.Prelude.{ℕ, zero, suc, ◌+◌, ◌-◌, ◌≤◌, ◌<◌, min, max, Bool, true, false, cond, ◌&&◌, List, ltb, eqb, get_or, set, replicate}
+use Rattle.std.specs.Prelude.{ℕ, zero, suc, ◌+◌, ◌-◌, ◌≤◌, ◌<◌, ◌≡◌, min, max, Bool, true, cond, ◌&&◌, List, ltb, eqb, get_or, set, replicate}
 use Rattle.ring.specs.Limits.{desk}
 use Rattle.ring.specs.Ring.{ring_of}
 use Rattle.ring.specs.Row.{row}
+use Rattle.ring.specs.declared.types.Row.{Row}
 use Rattle.ring.specs.declared.types.Cut.{Cut}
 use Rattle.ring.specs.RuleA.{largest_cut}
 use Rattle.ring.specs.Columns.{row_at}
 use Rattle.across.specs.Triangle.{most_pairs, at}
-use Rattle.across.specs.Step.{step_row}
+use Rattle.across.specs.Step.{raised, lowered, step_row}
 use Rattle.table.specs.Judge.{judge_ring, judge_row}
 use Rattle.table.specs.Reasons.{number_of}
 use Rattle.table.specs.declared.reason.Reason.TheVariants.{NoRow, Full}
 use Rattle.table.specs.Verdict.{Verdict}
 use Rattle.std.specs.Prelude.{Ok, Err}
-use Rattle.work.specs.Calls.{Call, start, add, change, remove}
+use Rattle.work.specs.Calls.{Call, start, add, change, remove, refusal, no_row, the_row}
 use Rattle.work.specs.declared.Work.{Work}
 use Rattle.work.specs.declared.held.WorkReply.{WorkReply}
 use Rattle.work.specs.declared.held.Changed.{Changed}
@@ -26,7 +27,7 @@ ring_size n = max desk.fewest (min n desk.nodes)
 -- ---- the answer and the table behind it
 
 abbrev pub refused_in : Work → ℕ → Changed
-refused_in w reason = record { reply = record { reason = reason; line = 0; place = 0; g = 0; h = 0; across = 0 }; work = w }
+refused_in w reason = record { reply = refusal reason; work = w }
 
 abbrev pub with_cut : Work → Cut → Work
 with_cut w c =
@@ -57,10 +58,7 @@ unfoldable pub holds_in : List ℕ → ℕ → Bool
 holds_in first place = ltb 0 place && (ltb (place - 1) desk.rows && ltb 0 (get_or first (place - 1) 0))
 
 unfoldable pub row_in : Work → ℕ → RowReply
-row_in w p =
-    cond (holds_in w.first p)
-    (record { reason = 0; line = 0; first = get_or w.first (p - 1) 0; second = get_or w.second (p - 1) 0; amount = get_or w.amount (p - 1) 0 })
-    (record { reason = number_of NoRow; line = 0; first = 0; second = 0; amount = 0 })
+row_in w p = cond (holds_in w.first p) (the_row (row_at w.first w.second w.amount (p - 1))) no_row
 
 -- ---- a row put at place k+1, and taken off it: its share of every number, and the three columns
 
@@ -78,11 +76,11 @@ with_row w triangle k i j d =
       second = set w.second k j;
     }
 
-unfoldable pub put_in : Work → ℕ → ℕ → ℕ → ℕ → Work
-put_in w k i j d = with_row w (step_row true (ring_size w.n) (row i j d) w.triangle) k i j d
+unfoldable pub put_in : Work → ℕ → Row → Work
+put_in w k r = with_row w (step_row raised (ring_size w.n) r w.triangle) k r.first r.second r.amount
 
 unfoldable pub cleared_in : Work → ℕ → Work
-cleared_in w k = with_row w (step_row false (ring_size w.n) (row_at w.first w.second w.amount k) w.triangle) k 0 0 0
+cleared_in w k = with_row w (step_row lowered (ring_size w.n) (row_at w.first w.second w.amount k) w.triangle) k 0 0 0
 
 -- ---- the calls
 
@@ -109,22 +107,19 @@ unfoldable pub started_in : Work → ℕ → ℕ → Changed
 started_in w n fibres = unless_fault (judge_ring desk (ring_of n fibres)) w (kept_in (fresh_in n fibres) 0)
 
 -- a row is judged as the first of a table is: 4, 5, 7
-abbrev pub judged : Work → ℕ → ℕ → ℕ → Verdict
-judged w i j d = judge_row desk (ring_size w.n) 0 0 0 i j d
+abbrev pub judged : Work → Row → Verdict
+judged w r = judge_row desk (ring_size w.n) 0 0 0 r.first r.second r.amount
 
 unfoldable pub added_in : Work → ℕ → ℕ → ℕ → Changed
 added_in w i j d =
-    unless_fault (judged w i j d) w
-    (cond (ltb (free_in w.first) desk.rows) (kept_in (put_in w (free_in w.first) i j d) (free_in w.first + 1)) (refused_in w (number_of Full)))
+    unless_fault (judged w (row i j d)) w
+    (cond (ltb (free_in w.first) desk.rows) (kept_in (put_in w (free_in w.first) (row i j d)) (free_in w.first + 1)) (refused_in w (number_of Full)))
 
 -- a change's place first: 22; then its row
-abbrev pub judged_at : Work → ℕ → ℕ → ℕ → ℕ → Verdict
-judged_at w p i j d = cond (holds_in w.first p) (judged w i j d) (Err NoRow)
-
 unfoldable pub changed_in : Work → ℕ → ℕ → ℕ → ℕ → Changed
 changed_in w p i j d =
     cond (holds_in w.first p)
-    (unless_fault (judged w i j d) w (kept_in (put_in (cleared_in w (p - 1)) (p - 1) i j d) p))
+    (unless_fault (judged w (row i j d)) w (kept_in (put_in (cleared_in w (p - 1)) (p - 1) (row i j d)) p))
     (refused_in w (number_of NoRow))
 
 unfoldable pub removed_in : Work → ℕ → Changed
@@ -136,10 +131,21 @@ called_in w (add i j d) = added_in w i j d
 called_in w (change p i j d) = changed_in w p i j d
 called_in w (remove p) = removed_in w p
 
--- what a row must be to stand in the columns
-pub record Fitting (k i j d : ℕ) : Type 0 where
+-- the place k+1 holds a row
+pub record Occupied (w : Work) (k : ℕ) : Type 0 where
   pub place : k < desk.rows
-  pub low : 1 ≤ i
-  pub first : i < 256
-  pub second : j < 256
-  pub amount : d < 65536
+  pub row : 1 ≤ get_or w.first k 0
+
+-- the row of the place p stands at the place k+1
+pub record Placed (w : Work) (p k : ℕ) : Type 0 where
+  pub is : k ≡ p - 1
+  pub held : holds_in w.first p ≡ true
+  pub row : Occupied w k
+
+-- what a row must be to stand in the columns
+pub record Fitting (k : ℕ) (r : Row) : Type 0 where
+  pub place : k < desk.rows
+  pub low : 1 ≤ r.first
+  pub first : r.first < 256
+  pub second : r.second < 256
+  pub amount : r.amount < 65536

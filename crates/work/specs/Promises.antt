@@ -1,13 +1,15 @@
 -- To believe: what the calls of the working table promise: each reason exactly when it holds and none before it does; else the place, the cut and the table, or the row at a place.
 use Rattle.std.specs.Prelude.{ℕ, ◌-◌, ◌≤◌, ◌<◌, List, ◌⊎◌, ◌↔◌, ◌≡◌, length}
 use Rattle.ring.specs.Limits.{desk}
-use Rattle.ring.specs.LineSize.{IsFibres}
+use Rattle.ring.specs.Ring.{ring_of}
 use Rattle.ring.specs.Row.{row}
 use Rattle.ring.specs.declared.types.Row.{Row}
 use Rattle.across.specs.Triangle.{at}
 use Rattle.table.specs.Reasons.{number_of}
+use Rattle.table.specs.Findings.{Findings, nothing, finding, Given, NoneHolds, ring_findings}
 use Rattle.table.specs.Says.{NoNode}
-use Rattle.table.specs.declared.reason.Reason.TheVariants.{RingSize, Fibres, NoRow as NoPlaceRow, NoSuchNode, NotBelow, TooMuch, Full}
+use Rattle.table.specs.declared.reason.Reason.{Reason}
+use Rattle.table.specs.declared.reason.Reason.TheVariants.{NoRow as NoPlaceRow, NoSuchNode, NotBelow, TooMuch, Full}
 use Rattle.work.specs.Places.{Place, empty, holds, Plain, plain_of}
 use Rattle.work.specs.Calls.{Call, start, add, change, remove, with_place, fresh_plain, refusal, acceptance, no_row, the_row}
 use Rattle.work.specs.Kept.{kept_cut, Keeps}
@@ -42,32 +44,18 @@ pub record LowestFree (ps : List Place) (p : ℕ) : Type 0 where
   pub free : NoRow ps p
   pub below : (q : ℕ) → 1 ≤ q → q < p → Taken ps q
 
--- ---- reasons in their order, each with what it says
-
-pub data Faults : Type 1 where
-  no_more : Faults
-  fault : ℕ → Type 0 → Faults → Faults
-
--- a reason is given: it holds, and none before it does
-unfoldable pub Given : Faults → ℕ → Type 0
-Given no_more reason = ⊥
-Given (fault k A fs) reason = ((reason ≡ k) × A) ⊎ ((A → ⊥) × Given fs reason)
-
--- no reason holds
-unfoldable pub NoneHolds : Faults → Type 0
-NoneHolds no_more = Unit {0}
-NoneHolds (fault k A fs) = (A → ⊥) × NoneHolds fs
+-- ---- reasons in their order, each with what it says; a call judges no row or link of a sheet, and so the place is 0
 
 -- a node outside 1..n; the first not below the second; an amount over 9,999
-abbrev pub row_faults : ℕ → ℕ → ℕ → ℕ → Faults → Faults
-row_faults n i j d fs = fault (number_of NoSuchNode) (NoNode n i ⊎ NoNode n j) (fault (number_of NotBelow) (j ≤ i) (fault (number_of TooMuch) (desk.amount < d) fs))
+abbrev pub row_findings : ℕ → ℕ → ℕ → ℕ → Findings → Findings
+row_findings n i j d fs = finding (NoNode n i ⊎ NoNode n j) NoSuchNode 0 (finding (j ≤ i) NotBelow 0 (finding (desk.amount < d) TooMuch 0 fs))
 
--- start: n outside 2..32, then fibres neither 2 nor 4; else: the place named holds no row; then those of the row; then for adding: all places are taken
-unfoldable pub faults : Plain → Call → Faults
-faults t (start n fibres) = fault (number_of RingSize) ((n < desk.fewest) ⊎ (desk.nodes < n)) (fault (number_of Fibres) (IsFibres fibres → ⊥) no_more)
-faults t (add i j d) = row_faults t.n i j d (fault (number_of Full) (AllTaken t.places) no_more)
-faults t (change p i j d) = fault (number_of NoPlaceRow) (NoRow t.places p) (row_faults t.n i j d no_more)
-faults t (remove p) = fault (number_of NoPlaceRow) (NoRow t.places p) no_more
+-- start: those of the ring; else: the place named holds no row; then those of the row; then for adding: all places are taken
+unfoldable pub findings : Plain → Call → Findings
+findings t (start n fibres) = ring_findings desk (ring_of n fibres)
+findings t (add i j d) = row_findings t.n i j d (finding (AllTaken t.places) Full 0 nothing)
+findings t (change p i j d) = finding (NoRow t.places p) NoPlaceRow 0 (row_findings t.n i j d nothing)
+findings t (remove p) = finding (NoRow t.places p) NoPlaceRow 0 nothing
 
 -- ---- the calls that alter a table
 
@@ -80,18 +68,18 @@ pub data Makes (t : Plain) : Call → ℕ → Plain → Type 0 where
 
 -- one of the two is the case
 pub data WorkSays (w : Work) (c : Call) (r : WorkReply) (x : Work) : Type 0 where
-  refused : {reason : ℕ} → Given (faults (plain_of w) c) reason → r ≡ refusal reason → x ≡ w → WorkSays w c r x
-  accepted : {p : ℕ} {u : Plain} → NoneHolds (faults (plain_of w) c) → Makes (plain_of w) c p u → r ≡ acceptance p u → plain_of x ≡ u → WorkSays w c r x
+  refused : (reason : Reason) → Given (findings (plain_of w) c) reason 0 → r ≡ refusal (number_of reason) → x ≡ w → WorkSays w c r x
+  accepted : {p : ℕ} {u : Plain} → NoneHolds (findings (plain_of w) c) → Makes (plain_of w) c p u → r ≡ acceptance p u → plain_of x ≡ u → WorkSays w c r x
 
 -- all that a call c on the table w promises of its reply r and of the table x that it leaves
 pub record WorkPromise (w : Work) (c : Call) (r : WorkReply) (x : Work) : Type 0 where
   pub cases : WorkSays w c r x
   -- a reason is given, and nothing else said, exactly when it holds and none before it does;
-  pub refuses : (reason : ℕ) → (r ≡ refusal reason) ↔ Given (faults (plain_of w) c) reason
+  pub refuses : (reason : Reason) → (r ≡ refusal (number_of reason)) ↔ Given (findings (plain_of w) c) reason 0
   -- and then nothing is changed;
   pub unchanged : (reason : ℕ) → r ≡ refusal reason → x ≡ w
   -- a place, rule A's cut of the rows then held, and the table that holds them, exactly when no reason holds and the call makes this
-  pub accepts : (p : ℕ) (u : Plain) → ((r ≡ acceptance p u) × (plain_of x ≡ u)) ↔ (NoneHolds (faults (plain_of w) c) × Makes (plain_of w) c p u)
+  pub accepts : (p : ℕ) (u : Plain) → ((r ≡ acceptance p u) × (plain_of x ≡ u)) ↔ (NoneHolds (findings (plain_of w) c) × Makes (plain_of w) c p u)
 
 -- two structs keep one cut, and the same number for each
 pub record SameKept (x y : Work) : Type 0 where

@@ -1,12 +1,15 @@
-// What a change keeps and answers.
+//! What a change keeps and answers.
 ghost use Rattle.std.specs.Prelude.{◌≡◌};
+ghost use Rattle.table.specs.Reasons.{number_of};
 ghost use Rattle.work.specs.Changes.{ring_size, refused_in, kept_in};
 
 use crate::Work;
 use across::largest_cut;
 use ring::{FEWEST, NODES, wide};
+use table::Reason;
 
-// reason 0 is success. line is always 0; on a refusal the rest is 0 too.
+/// The place that a change names, and the largest cut from then on, its across number in units. Reason 0 is success; line is always 0, and on a refusal the rest
+/// is 0 too.
 #[repr(C)]
 #[derive(Drop)]
 pub struct WorkReply {
@@ -18,6 +21,7 @@ pub struct WorkReply {
     pub across: u32,
 }
 
+/// The answer of a change, and the table behind it: a refused one leaves it as it was.
 #[derive(Drop)]
 pub struct Changed {
     pub reply: WorkReply,
@@ -37,12 +41,12 @@ pub(crate) fn ring_size(n: u32) -> u32
     }
 }
 
-pub(crate) fn refused(work: Work, reason: u32) -> Changed
-    ensures { result ≡ refused_in work reason }
+pub(crate) fn refused(work: Work, reason: Reason) -> Changed
+    ensures { result ≡ refused_in work (number_of reason) }
 {
     Changed {
         reply: WorkReply {
-            reason,
+            reason: reason.number(),
             line: 0,
             place: 0,
             g: 0,

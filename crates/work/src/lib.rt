@@ -16,7 +16,7 @@ use ring::ROWS;
 pub use sort::sorted;
 pub use start::started;
 
-// Place p has its row at p-1 of the three columns; a first node of 0 says that it is empty. g, h and across are the largest cut.
+/// Place p has its row at p-1 of the three columns; a first node of 0 says that it is empty. g, h and across are the largest cut, its number in units.
 #[repr(C)]
 #[derive(Clone, Copy)]
 pub struct Work {

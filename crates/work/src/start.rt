@@ -1,4 +1,4 @@
-// An empty table.
+//! An empty table.
 ghost use Rattle.std.specs.Prelude.{◌≡◌};
 ghost use Rattle.work.specs.Changes.{fresh_in, started_in};
 
@@ -6,7 +6,7 @@ use crate::held::{kept, refused};
 use crate::{Changed, Work};
 use across::PAIRS;
 use ring::{ROWS, Ring};
-use table::judge_ring;
+use table::ring_fault;
 
 fn fresh(n: u32, fibres: u32) -> Work
     ensures { result ≡ fresh_in n fibres }
@@ -24,13 +24,14 @@ fn fresh(n: u32, fibres: u32) -> Work
     }
 }
 
-// A ring of n nodes and so many fibres with no row, in place of what the table was.
+/// A ring of n nodes and so many fibres with no row, in place of whatever the table was. Refused with 3 where n is outside 2 to 32, then with 20 where the fibres
+/// are neither 2 nor 4.
 pub fn started(work: Work, n: u32, fibres: u32) -> Changed
     ensures { result ≡ started_in work n fibres }
 {
-    let verdict = judge_ring(Ring { nodes: n, fibres });
-    match verdict {
-        Err(reason) => refused(work, reason.number()),
-        Ok(()) => kept(fresh(n, fibres), 0),
+    let fault = ring_fault(Ring { nodes: n, fibres });
+    match fault {
+        Some(found) => refused(work, found.reason),
+        None => kept(fresh(n, fibres), 0),
     }
 }

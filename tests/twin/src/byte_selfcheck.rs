@@ -75,7 +75,7 @@ const ROWS: [(&str, u32, u32); 22] = [
 ];
 
 /// Where a row or the cut of a sheet is due.
-const EITHER: [(&str, u32, u32); 17] = [
+const EITHER: [(&str, u32, u32); 16] = [
     ("D \n", 2, 2),
     ("DD\n", 2, 2),
     ("CC\n", 2, 2),
@@ -92,11 +92,10 @@ const EITHER: [(&str, u32, u32); 17] = [
     ("D|1|2|1|1|1|F", 2, 14),
     ("D|1|2|1|1|1\n", 2, 12),
     ("D|1|2|10000|1|1|F\n", 7, 7),
-    ("D|1|2|1|1|2|F\n", 8, 1),
 ];
 
 /// Texts whose line is missing or left over, and of a matrix the rest.
-const LINES: [(Call, &str, (u32, u32, u32)); 18] = [
+const LINES: [(Call, &str, (u32, u32, u32)); 20] = [
     (Call::Route, "", (2, 1, 1)),
     (Call::Check, "", (2, 1, 1)),
     (Call::Check, "R|2|4\nC|1|2|0\nL|1|0|0\n", (2, 4, 1)),
@@ -110,6 +109,13 @@ const LINES: [(Call, &str, (u32, u32, u32)); 18] = [
         "R|2|4\nC|1|2|0\nL|1|0|0\nL|2|0|0\nZ|0|3",
         (2, 5, 6),
     ),
+    // A false figure points to its line as a whole, where all lines have been read.
+    (
+        Call::Check,
+        "R|2|4\nD|1|2|1|1|2|F\nC|1|2|0\nL|1|0|0\nL|2|0|0\nZ|0|3\n",
+        (8, 2, 1),
+    ),
+    (Call::Check, "R|2|4\nD|1|2|1|1|2|F\nC|1|2|0\n", (2, 4, 1)),
     (Call::ReadMatrix(4), "", (2, 1, 1)),
     (Call::ReadMatrix(4), "0|1\n", (2, 2, 1)),
     (Call::ReadMatrix(4), "0|1\n1|0\n0|x\n", (2, 3, 1)),

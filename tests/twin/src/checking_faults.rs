@@ -2,13 +2,13 @@
 //! sheet: what mutant.rs lists. Each is a question that is asked wrongly, or a
 //! reader that reads another text.
 
-use crate::check::{self, Questions, Sheet, QUESTIONS};
+use crate::check::{self, Finding, Questions, Sheet, QUESTIONS};
 use crate::row_faults::{first_rows, too_many_lines, MANY_NEVER};
 use crate::rules::{self, Cut};
 use crate::table::{refuse, Refusal, Row};
 use crate::twin::{Pair, Reply, Said};
 
-pub fn yes(_: &Sheet) -> bool {
+pub fn yes(_: &Sheet, _: usize) -> bool {
     true
 }
 
@@ -21,6 +21,7 @@ fn blank(text: &[u8]) -> Sheet {
         sum: yes,
         way: yes,
         cut: yes,
+        count: yes,
         link: yes,
         size: yes,
         best: yes,
@@ -96,9 +97,9 @@ pub fn lower_case(text: &[u8]) -> Result<Sheet, Refusal> {
     check::read(&upper)
 }
 
-/// 2 is given wherever a sheet that no figure is asked of would get it.
+/// 2 is given wherever a sheet of whose rows nothing else is asked would get it.
 pub fn sheet_shape_first(text: &[u8]) -> Result<Sheet, Refusal> {
-    match check::read_asking(text, &NO_LINE_ASKED) {
+    match check::read_values(text, &[]) {
         Err(refusal) if refusal.reason == 2 => Err(refusal),
         _ => check::read(text),
     }
@@ -133,6 +134,52 @@ pub fn sheet_without_many(text: &[u8]) -> Result<Sheet, Refusal> {
     }
 }
 
+/// Each line is judged as it is read, so that a false figure wins over a fault of
+/// form on a later line.
+pub fn judged_early(text: &[u8]) -> Result<Sheet, Refusal> {
+    let (seen, Err(refusal)) = check::read_so_far(text, QUESTIONS.rows) else {
+        return check::read(text);
+    };
+    match first_false(&seen, refusal.line) {
+        Some(finding) => Err(check::on_line(&seen, finding)),
+        None => Err(refusal),
+    }
+}
+
+/// The first false figure of the lines above one, by what these lines say.
+fn first_false(seen: &Sheet, line: u32) -> Option<Finding> {
+    let cut_line = seen.table.rows.len() as u32 + 2;
+    let last_line = cut_line + seen.table.n as u32 + 1;
+    let cut = if cut_line < line { QUESTIONS.cut } else { yes };
+    let size = if last_line < line {
+        QUESTIONS.size
+    } else {
+        yes
+    };
+    let asked = Questions {
+        rows: &[],
+        cut,
+        count: yes,
+        size,
+        best: yes,
+        bound: yes,
+        ..QUESTIONS
+    };
+    // Above line 2 nothing but the ring is judged.
+    (line >= 2).then(|| check::judge_asking(seen, &asked).err())?
+}
+
+/// What is found of a row is given the row's place for a line.
+pub fn place_for_line(text: &[u8]) -> Result<Sheet, Refusal> {
+    check::read(text).map_err(|refusal| match refusal.reason {
+        8 | 9 => Refusal {
+            line: refusal.line - 1,
+            ..refusal
+        },
+        _ => refusal,
+    })
+}
+
 // Faults of the reply where no buffer is lent.
 
 pub fn yes_with_length(text: &[u8], said: Said) -> Said {
@@ -159,112 +206,112 @@ pub fn refused_with_pair(text: &[u8], said: Said) -> Said {
 
 // Faults of checking: rows.
 
-pub fn sum_most(sheet: &Sheet) -> bool {
-    let (row, sent) = check::last_row(sheet);
+pub fn sum_most(sheet: &Sheet, at: usize) -> bool {
+    let (row, sent) = check::row_at(sheet, at);
     sent.front + sent.back <= 2 * row.d
 }
 
-pub fn sum_short(sheet: &Sheet) -> bool {
-    let (row, sent) = check::last_row(sheet);
+pub fn sum_short(sheet: &Sheet, at: usize) -> bool {
+    let (row, sent) = check::row_at(sheet, at);
     (sent.front as u16).wrapping_add(sent.back as u16) == 2 * row.d as u16
 }
 
-pub fn way_of_zero(sheet: &Sheet) -> bool {
-    check::last_row(sheet).0.d == 0 || (QUESTIONS.way)(sheet)
+pub fn way_of_zero(sheet: &Sheet, at: usize) -> bool {
+    check::row_at(sheet, at).0.d == 0 || (QUESTIONS.way)(sheet, at)
 }
 
 /// Rule D asked of the rows so far, with the D that they have.
-pub fn way_of_split(sheet: &Sheet) -> bool {
-    let ways = rules::rule_d(&sheet.table.rows, &sheet.plan.sent);
-    sheet.plan.ways.last() == ways.last()
+pub fn way_of_split(sheet: &Sheet, at: usize) -> bool {
+    let ways = rules::rule_d(&sheet.table.rows[..=at], &sheet.plan.sent[..=at]);
+    sheet.plan.ways[at] == ways[at]
 }
 
 // Faults of checking: the cut.
 
-pub fn cut_on_ring(sheet: &Sheet) -> bool {
+pub fn cut_on_ring(sheet: &Sheet, _: usize) -> bool {
     let Cut { g, h, .. } = sheet.plan.cut;
     1 <= g && g < h && h <= sheet.table.n
 }
 
-pub fn cut_most(sheet: &Sheet) -> bool {
+pub fn cut_most(sheet: &Sheet, _: usize) -> bool {
     let Cut { g, h, across } = sheet.plan.cut;
-    cut_on_ring(sheet) && across <= rules::across(&sheet.table.rows, g, h)
+    cut_on_ring(sheet, 0) && across <= rules::across(&sheet.table.rows, g, h)
 }
 
-pub fn cut_equal(sheet: &Sheet) -> bool {
+pub fn cut_equal(sheet: &Sheet, _: usize) -> bool {
     let Cut { g, h, across } = sheet.plan.cut;
     let equal = 1 <= g && g == h && h <= sheet.table.n && across == 0;
-    equal || (QUESTIONS.cut)(sheet)
+    equal || (QUESTIONS.cut)(sheet, 0)
 }
 
-pub fn cut_either(sheet: &Sheet) -> bool {
+pub fn cut_either(sheet: &Sheet, _: usize) -> bool {
     let Cut { g, h, across } = sheet.plan.cut;
     let mut turned = sheet.clone();
     turned.plan.cut = Cut { g: h, h: g, across };
-    (QUESTIONS.cut)(sheet) || (QUESTIONS.cut)(&turned)
+    (QUESTIONS.cut)(sheet, 0) || (QUESTIONS.cut)(&turned, 0)
 }
 
-pub fn cut_ours(sheet: &Sheet) -> bool {
+pub fn cut_ours(sheet: &Sheet, _: usize) -> bool {
     sheet.plan.cut == rules::rule_a(&sheet.table)
 }
 
 // Faults of checking: links.
 
-/// The last link's true loads, and whether the sheet has its number right.
-fn loads(sheet: &Sheet) -> (i64, i64, bool) {
+/// A link's true loads, and whether the sheet has its number right.
+fn loads(sheet: &Sheet, at: usize) -> (i64, i64, bool) {
     let (rows, plan) = (&sheet.table.rows, &sheet.plan);
-    let due = sheet.links.len() as i64;
+    let due = at as i64 + 1;
     let split = rules::split_load(rows, &plan.sent, due);
     let unsplit = rules::unsplit_load(rows, &plan.ways, due);
-    (split, unsplit, sheet.links.last() == Some(&due))
+    (split, unsplit, sheet.links[at] == due)
 }
 
-pub fn link_number(sheet: &Sheet) -> bool {
-    loads(sheet).2
+pub fn link_number(sheet: &Sheet, at: usize) -> bool {
+    loads(sheet, at).2
 }
 
-pub fn link_unsplit(sheet: &Sheet) -> bool {
-    let (_, unsplit, number) = loads(sheet);
-    number && sheet.plan.unsplit.last() == Some(&unsplit)
+pub fn link_unsplit(sheet: &Sheet, at: usize) -> bool {
+    let (_, unsplit, number) = loads(sheet, at);
+    number && sheet.plan.unsplit[at] == unsplit
 }
 
-pub fn link_split(sheet: &Sheet) -> bool {
-    let (split, _, number) = loads(sheet);
-    number && sheet.plan.split.last() == Some(&split)
+pub fn link_split(sheet: &Sheet, at: usize) -> bool {
+    let (split, _, number) = loads(sheet, at);
+    number && sheet.plan.split[at] == split
 }
 
-pub fn link_loads(sheet: &Sheet) -> bool {
-    let (split, unsplit, _) = loads(sheet);
-    sheet.plan.split.last() == Some(&split) && sheet.plan.unsplit.last() == Some(&unsplit)
+pub fn link_loads(sheet: &Sheet, at: usize) -> bool {
+    let (split, unsplit, _) = loads(sheet, at);
+    sheet.plan.split[at] == split && sheet.plan.unsplit[at] == unsplit
 }
 
-pub fn link_but_last(sheet: &Sheet) -> bool {
-    sheet.links.len() as i64 == sheet.table.n || (QUESTIONS.link)(sheet)
+pub fn link_but_last(sheet: &Sheet, at: usize) -> bool {
+    at as i64 + 1 == sheet.table.n || (QUESTIONS.link)(sheet, at)
 }
 
 // Faults of checking: peaks, size and bound.
 
-pub fn size_of_named(sheet: &Sheet) -> bool {
+pub fn size_of_named(sheet: &Sheet, _: usize) -> bool {
     sheet.plan.size == rules::line_size(&sheet.table, sheet.plan.peak)
 }
 
-pub fn peak_alone(sheet: &Sheet) -> bool {
+pub fn peak_alone(sheet: &Sheet, _: usize) -> bool {
     sheet.plan.peak == rules::peak(&sheet.plan.unsplit)
 }
 
-pub fn size_enough(sheet: &Sheet) -> bool {
+pub fn size_enough(sheet: &Sheet, _: usize) -> bool {
     let enough = [3, 12, 48, 192, 768].contains(&sheet.plan.size);
     let least = rules::least_size(&sheet.table, sheet.plan.peak);
     let larger = enough && sheet.plan.size >= least;
-    peak_alone(sheet) && (larger || (QUESTIONS.size)(sheet))
+    peak_alone(sheet, 0) && (larger || (QUESTIONS.size)(sheet, 0))
 }
 
-pub fn size_largest(sheet: &Sheet) -> bool {
+pub fn size_largest(sheet: &Sheet, _: usize) -> bool {
     let least = rules::least_size(&sheet.table, sheet.plan.peak);
-    peak_alone(sheet) && sheet.plan.size == rules::size(least.min(768))
+    peak_alone(sheet, 0) && sheet.plan.size == rules::size(least.min(768))
 }
 
-pub fn best_ours(sheet: &Sheet) -> bool {
+pub fn best_ours(sheet: &Sheet, _: usize) -> bool {
     rules::peak(&sheet.plan.split) == rules::rule_a(&sheet.table).across
 }
 
@@ -275,15 +322,15 @@ pub const OUR_CUT: Questions = Questions {
     ..QUESTIONS
 };
 
-pub fn best_most(sheet: &Sheet) -> bool {
+pub fn best_most(sheet: &Sheet, _: usize) -> bool {
     rules::peak(&sheet.plan.split) <= sheet.plan.cut.across
 }
 
-pub fn best_least(sheet: &Sheet) -> bool {
+pub fn best_least(sheet: &Sheet, _: usize) -> bool {
     rules::peak(&sheet.plan.split) >= sheet.plan.cut.across
 }
 
-pub fn best_at_cut(sheet: &Sheet) -> bool {
+pub fn best_at_cut(sheet: &Sheet, _: usize) -> bool {
     let Cut { g, h, across } = sheet.plan.cut;
     let load = |link: i64| sheet.plan.split[link as usize - 1];
     load(g).max(load(h)) == across
@@ -298,28 +345,28 @@ fn largest(sheet: &Sheet) -> i64 {
     rules::largest_split(&sheet.table.rows, &sheet.plan.sent)
 }
 
-pub fn bound_two(sheet: &Sheet) -> bool {
+pub fn bound_two(sheet: &Sheet, _: usize) -> bool {
     bound_with(sheet, 2, largest(sheet), 0)
 }
 
-pub fn bound_four(sheet: &Sheet) -> bool {
+pub fn bound_four(sheet: &Sheet, _: usize) -> bool {
     bound_with(sheet, 4, largest(sheet), 0)
 }
 
-pub fn bound_strict(sheet: &Sheet) -> bool {
+pub fn bound_strict(sheet: &Sheet, _: usize) -> bool {
     bound_with(sheet, 3, largest(sheet), -1)
 }
 
-pub fn bound_loose(sheet: &Sheet) -> bool {
+pub fn bound_loose(sheet: &Sheet, _: usize) -> bool {
     bound_with(sheet, 3, largest(sheet), 1)
 }
 
-pub fn bound_all(sheet: &Sheet) -> bool {
+pub fn bound_all(sheet: &Sheet, _: usize) -> bool {
     let amounts = sheet.table.rows.iter().map(|row| row.d);
     bound_with(sheet, 3, amounts.max().unwrap_or(0), 0)
 }
 
-pub fn bound_half(sheet: &Sheet) -> bool {
+pub fn bound_half(sheet: &Sheet, _: usize) -> bool {
     let split = sheet.plan.sent.iter().filter(|sent| rules::is_split(sent));
     let half = split.map(|sent| sent.front.max(sent.back)).max();
     bound_with(sheet, 3, half.unwrap_or(0), 0)
@@ -443,10 +490,10 @@ pub fn with_our_plan(mut sheet: Sheet) -> Sheet {
 
 // Faults of the size on two fibres and on four.
 
-pub fn size_once(sheet: &Sheet) -> bool {
-    peak_alone(sheet) && sheet.plan.size == rules::size(sheet.plan.peak)
+pub fn size_once(sheet: &Sheet, _: usize) -> bool {
+    peak_alone(sheet, 0) && sheet.plan.size == rules::size(sheet.plan.peak)
 }
 
-pub fn size_twice(sheet: &Sheet) -> bool {
-    peak_alone(sheet) && sheet.plan.size == rules::size(2 * sheet.plan.peak)
+pub fn size_twice(sheet: &Sheet, _: usize) -> bool {
+    peak_alone(sheet, 0) && sheet.plan.size == rules::size(2 * sheet.plan.peak)
 }

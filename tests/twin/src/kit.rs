@@ -2,12 +2,16 @@
 //! `--cfg mock`, the twin itself stands in for the library; with `--cfg remote`
 //! the library is not linked but asked in a process of its own.
 
+use crate::check::Finding;
 use crate::mutant::Mutant;
 #[cfg(remote)]
-use crate::remote::{library, library_work};
+use crate::remote::{library, library_judge, library_work};
 use crate::twin::{Call, Said};
 #[cfg(not(any(mock, remote)))]
 use crate::twin::{Pair, Reply};
+use crate::values::Values;
+#[cfg(not(any(mock, remote)))]
+use crate::values::{HeldLink, HeldRow};
 use crate::working::{Ask, Told};
 #[cfg(not(any(mock, remote)))]
 use crate::working::{RowReply, WorkReply};
@@ -41,6 +45,15 @@ impl Kit {
         match self {
             Kit::Library => library_work(ask, words, area, lent),
             Kit::Mutant(mutant) => mutant.work(ask, words, &mut area[lent]),
+        }
+    }
+
+    /// One judging of values, handed over so that a call that changes them can be
+    /// seen.
+    pub fn judge(self, values: &mut Values) -> Finding {
+        match self {
+            Kit::Library => library_judge(values),
+            Kit::Mutant(mutant) => mutant.judge(values),
         }
     }
 }
@@ -83,6 +96,19 @@ extern "C" {
         buffer_ptr: *mut u8,
         buffer_len: usize,
     ) -> Reply;
+    fn ringkit_judge(
+        rows_ptr: *const HeldRow,
+        rows_len: usize,
+        n: u32,
+        fibres: u32,
+        g: u32,
+        h: u32,
+        across: u32,
+        links_ptr: *const HeldLink,
+        links_len: usize,
+        peak: u32,
+        size: u32,
+    ) -> Finding;
     fn ringkit_work_start(work: *mut u32, n: u32, fibres: u32) -> WorkReply;
     fn ringkit_work_add(work: *mut u32, first: u32, second: u32, amount: u32) -> WorkReply;
     fn ringkit_work_change(
@@ -140,6 +166,33 @@ fn library_work(ask: &Ask, words: &mut [u32], area: &mut [u8], lent: Range<usize
             }
         }
     }
+}
+
+#[cfg(not(any(mock, remote)))]
+fn library_judge(values: &mut Values) -> Finding {
+    let (rows, links) = (&mut values.rows, &mut values.links);
+    // SAFETY: both pointers come from slices of the lengths given, which live
+    // through the call.
+    unsafe {
+        ringkit_judge(
+            rows.as_mut_ptr().cast_const(),
+            rows.len(),
+            values.n,
+            values.fibres,
+            values.g,
+            values.h,
+            values.across,
+            links.as_mut_ptr().cast_const(),
+            links.len(),
+            values.peak,
+            values.size,
+        )
+    }
+}
+
+#[cfg(mock)]
+fn library_judge(values: &mut Values) -> Finding {
+    crate::values::judge(values)
 }
 
 #[cfg(mock)]

@@ -15,9 +15,12 @@
 //! --working-mutants [SEED [COUNT]]` lists which of its faults are caught; `twin
 //! --byte-mutants` does so of the faults of the byte that goes with a refusal.
 //!
+//! `twin --judging [SEED [COUNT]]` compares the judging of values alone, and `twin
+//! --judging-mutants [SEED [COUNT]]` lists which of its faults are caught.
+//!
 //! `twin --cases` answers the stored cases given on standard input by itself,
 //! without the library, so that its reading is compared with the one that wrote
-//! their answers.
+//! their answers; `twin --judged` judges the stored values given there.
 
 mod byte_faults;
 mod byte_groups;
@@ -29,6 +32,10 @@ mod compare;
 mod foreign;
 mod gen;
 mod groups;
+mod judging_faults;
+mod judging_groups;
+mod judging_run;
+mod judging_selfcheck;
 mod kit;
 mod matrices;
 mod matrix;
@@ -49,6 +56,7 @@ mod stored;
 mod table;
 mod text_faults;
 mod twin;
+mod values;
 mod working;
 mod working_bytes;
 mod working_compare;
@@ -61,6 +69,8 @@ mod working_stand_in;
 use byte_tally::ByteTally;
 use compare::{compare, describe, shrink, Case};
 use groups::{Group, GROUPS, SHARES};
+use judging_groups::JUDGING_GROUPS;
+use judging_run::JudgingTally;
 use kit::Kit;
 use mutant::{faults, Mutant, SAME};
 use rng::Rng;
@@ -273,6 +283,11 @@ fn self_checks(seed: u64) -> (u64, u64) {
         ("self-check: sums", matrix_selfcheck::sums()),
         ("self-check: bytes", byte_selfcheck::by_hand()),
         ("self-check: ends of lines", byte_selfcheck::by_ends(seed)),
+        ("self-check: judging values", judging_selfcheck::by_hand()),
+        (
+            "self-check: reading, then judging",
+            judging_selfcheck::random_texts(seed),
+        ),
         ("self-check: working table", working_selfcheck::square()),
         ("self-check: full working table", working_selfcheck::full()),
         ("self-check: theorems", selfcheck::random_theorems(seed)),
@@ -408,10 +423,21 @@ fn working_table(kit: Kit, seed: u64, count: u64) -> (u64, u64) {
     (passed + seen, failed + unseen)
 }
 
+/// The groups of values and their counts: how many passed and failed.
+fn judging(kit: Kit, seed: u64, count: u64) -> (u64, u64) {
+    let mut tally = JudgingTally::default();
+    let (passed, failed) = judging_run::all_groups(kit, (seed, count), &mut tally);
+    let (seen, unseen) = judging_run::print_counts(&tally);
+    (passed + seen, failed + unseen)
+}
+
 /// The groups that catch a mutant: in how many places.
 fn places(mutant: &'static Mutant, seed: u64, count: u64) -> usize {
     if mutant.of_working() {
         return working_places(mutant, seed, count);
+    }
+    if mutant.of_judging() {
+        return judging_places(mutant, seed, count);
     }
     let mut places = 0;
     for (at, group) in GROUPS.iter().enumerate() {
@@ -443,6 +469,19 @@ fn working_places(mutant: &'static Mutant, seed: u64, count: u64) -> usize {
     places
 }
 
+/// The same of a fault of judging values.
+fn judging_places(mutant: &'static Mutant, seed: u64, count: u64) -> usize {
+    let mut places = 0;
+    for (at, group) in JUDGING_GROUPS.iter().enumerate() {
+        let (kit, tally) = (Kit::Mutant(mutant), &mut JudgingTally::default());
+        if let Some((number, _)) = judging_run::group(kit, (seed, count), at, false, tally) {
+            println!("    caught by {}, case {number}", group.name);
+            places += 1;
+        }
+    }
+    places
+}
+
 /// How many of the faults asked for are caught, and where.
 fn caught(seed: u64, count: u64, asked: fn(&Mutant) -> bool) -> usize {
     let mut caught = 0;
@@ -455,6 +494,8 @@ fn caught(seed: u64, count: u64, asked: fn(&Mutant) -> bool) -> usize {
         let word = if places > 0 { "caught" } else { "MISSED" };
         let groups = if mutant.of_working() {
             WORKING_GROUPS.len()
+        } else if mutant.of_judging() {
+            JUDGING_GROUPS.len()
         } else {
             GROUPS.len()
         };
@@ -496,8 +537,10 @@ fn mutants(seed: u64, count: u64) -> bool {
 /// What the arguments ask for.
 struct Asked {
     cases: bool,
+    judged: bool,
     mutants: bool,
     working: bool,
+    judging: bool,
     bytes: bool,
     kit: Kit,
     seed: u64,
@@ -508,7 +551,8 @@ fn asked() -> Option<Asked> {
     let words: Vec<String> = std::env::args().skip(1).collect();
     let mode = words.first().map_or("", |word| word.as_str());
     let taken = match mode {
-        "--cases" | "--mutants" | "--working" | "--working-mutants" | "--byte-mutants" => 1,
+        "--cases" | "--judged" | "--mutants" | "--byte-mutants" => 1,
+        "--working" | "--working-mutants" | "--judging" | "--judging-mutants" => 1,
         "--mutant" => 2,
         _ => 0,
     };
@@ -521,8 +565,10 @@ fn asked() -> Option<Asked> {
     }
     (numbers.len() <= 2).then_some(Asked {
         cases: mode == "--cases",
+        judged: mode == "--judged",
         mutants: mode.ends_with("mutants"),
         working: mode.starts_with("--working"),
+        judging: mode.starts_with("--judging"),
         bytes: mode.starts_with("--byte"),
         kit,
         seed: numbers.first().copied().unwrap_or(SEED),
@@ -532,17 +578,22 @@ fn asked() -> Option<Asked> {
 
 fn main() -> ExitCode {
     let Some(asked) = asked() else {
-        eprintln!("usage: twin --cases | twin [--working | --mutants | --working-mutants | --byte-mutants | --mutant K] [SEED [COUNT]]");
+        eprintln!("usage: twin --cases | twin --judged | twin [--working | --judging | --mutants | --working-mutants | --judging-mutants | --byte-mutants | --mutant K] [SEED [COUNT]]");
         return ExitCode::from(2);
     };
     if asked.cases {
         return ExitCode::from(u8::from(!stored::answer_all()));
+    }
+    if asked.judged {
+        return ExitCode::from(u8::from(!stored::judge_all()));
     }
     let seed = asked.seed;
     if asked.mutants {
         let count = asked.count.unwrap_or(MUTANT_COUNT);
         let good = if asked.working {
             some_mutants(seed, count, "working table", Mutant::of_working)
+        } else if asked.judging {
+            some_mutants(seed, count, "judging of values", Mutant::of_judging)
         } else if asked.bytes {
             some_mutants(seed, count, "byte", Mutant::of_bytes)
         } else {
@@ -556,15 +607,21 @@ fn main() -> ExitCode {
         println!("{passed} passed, {failed} failed");
         return ExitCode::from(u8::from(failed > 0));
     }
+    if asked.judging {
+        let (passed, failed) = judging(asked.kit, seed, count);
+        println!("{passed} passed, {failed} failed");
+        return ExitCode::from(u8::from(failed > 0));
+    }
     println!("seed {seed}, {count} random comparisons and the lists");
     let mut tally = Tally::default();
     let (own_passed, own_failed) = self_checks(seed);
     let (back, not_back) = ways_there_and_back(asked.kit, seed);
     let (passed, failed) = all_groups(asked.kit, seed, count, &mut tally);
     let (seen, unseen) = print_counts(&tally);
+    let (judged, not_judged) = judging(asked.kit, seed, count);
     let (worked, not_worked) = working_table(asked.kit, seed, count);
-    let passed = own_passed + back + passed + seen + worked;
-    let failed = own_failed + not_back + failed + unseen + not_worked;
+    let passed = own_passed + back + passed + seen + judged + worked;
+    let failed = own_failed + not_back + failed + unseen + not_judged + not_worked;
     println!("{passed} passed, {failed} failed");
     ExitCode::from(u8::from(failed > 0))
 }

@@ -2,9 +2,10 @@
 //! Each is the twin with one fault.
 
 use crate::byte_faults::{Pointed, BYTE_FAULTS};
-use crate::check::{self, Question, Questions, Sheet, QUESTIONS};
+use crate::check::{self, Finding, Question, Questions, Sheet, QUESTIONS};
 use crate::checking_faults::*;
 use crate::foreign::cuts;
+use crate::judging_faults::JUDGING_FAULTS;
 use crate::matrix::{self, Matrix};
 use crate::matrix_faults::{self, MATRIX_FAULTS};
 use crate::row_faults::*;
@@ -13,6 +14,7 @@ use crate::sheet;
 use crate::table::{self, refuse, Refusal, Row, RowReason, Table};
 use crate::text_faults::*;
 use crate::twin::{self, Answer, Call, Reply, Said};
+use crate::values::{self, Values};
 use crate::working::{Ask, Told};
 use crate::working_faults::{BY_H, WORKING_FAULTS};
 use crate::working_stand_in::{stand_in, Habits, SOUND};
@@ -44,6 +46,8 @@ enum How {
     Square(fn(&Matrix) -> Vec<u8>),
     /// The byte of a refusal.
     Point(fn(&Pointed) -> u32),
+    /// What is found against values.
+    Judge(fn(&Values) -> Finding),
     Working(Habits),
 }
 
@@ -73,6 +77,14 @@ impl Mutant {
         }
     }
 
+    /// What is found against values.
+    pub fn judge(&self, values: &Values) -> Finding {
+        match &self.how {
+            How::Judge(judge) => judge(values),
+            _ => values::judge(values),
+        }
+    }
+
     /// The refusal with the byte that the fault gives it.
     fn point(&self, call: Call, text: &[u8], refusal: Refusal) -> Refusal {
         let How::Point(point) = self.how else {
@@ -90,6 +102,11 @@ impl Mutant {
     /// Whether the fault lies in the byte of a refusal.
     pub fn of_bytes(&self) -> bool {
         BYTE_FAULTS.iter().any(|fault| std::ptr::eq(fault, self))
+    }
+
+    /// Whether the fault lies in judging values.
+    pub fn of_judging(&self) -> bool {
+        matches!(self.how, How::Judge(_))
     }
 
     /// Whether the fault lies in the working table.
@@ -163,11 +180,19 @@ impl Mutant {
     }
 }
 
-/// All faults, those of a matrix behind the others, then those of the byte, and
-/// those of the working table last.
+/// All faults, those of a matrix behind the others, then those of the byte, those of
+/// judging values, and those of the working table last.
 pub fn faults() -> Vec<&'static Mutant> {
     let texts = FAULTS.iter().chain(&MATRIX_FAULTS).chain(&BYTE_FAULTS);
-    texts.chain(&WORKING_FAULTS).collect()
+    texts
+        .chain(&JUDGING_FAULTS)
+        .chain(&WORKING_FAULTS)
+        .collect()
+}
+
+pub const fn judging(name: &'static str, judge: fn(&Values) -> Finding) -> Mutant {
+    let how = How::Judge(judge);
+    Mutant { name, how }
 }
 
 pub const fn working(name: &'static str, habits: Habits) -> Mutant {
@@ -304,7 +329,7 @@ pub const fn square(name: &'static str, square: fn(&Matrix) -> Vec<u8>) -> Mutan
 }
 
 /// Faults that change some sheet or reply: each must be caught.
-static FAULTS: [Mutant; 147] = [
+static FAULTS: [Mutant; 149] = [
     write("one byte after the text changed", after_text),
     write("one byte after the buffer changed", after_buffer),
     write("one byte before the buffer changed", before_buffer),
@@ -421,6 +446,8 @@ static FAULTS: [Mutant; 147] = [
     read_sheet("checking: lower case f and b taken", lower_case),
     read_sheet("checking: 2 in any line first", sheet_shape_first),
     read_sheet("checking: a missing line is the last", missing_is_last),
+    read_sheet("checking: judging before all lines are read", judged_early),
+    read_sheet("checking: a row's place for its line", place_for_line),
     sheet_rows("checking: 5 before 4", &FIVE_FIRST),
     sheet_rows("checking: 7 before 6", &SEVEN_FIRST),
     sheet_rows("checking: 16 before 6", &MANY_EARLY),

@@ -2,7 +2,9 @@
 //! link it. The program `server` beside this one (tests/twin/server.c, which
 //! says what goes over the pipes) makes the calls; it is started by the first.
 
+use crate::check::Finding;
 use crate::twin::{Call, Pair, Reply, Said};
+use crate::values::{HeldLink, HeldRow, Values};
 use crate::working::{Ask, RowReply, Told, WorkReply, ASK_NAMES};
 use crate::working_compare::GUARD_WORDS;
 use std::io::{BufReader, BufWriter, Error, Read, Result, Write};
@@ -36,6 +38,15 @@ pub fn library_work(ask: &Ask, words: &mut [u32], area: &mut [u8], lent: Range<u
     match server.ask_work(ask, words, area, lent) {
         Ok(told) => told,
         Err(error) => give_up(&format!("was lost in the call {ask:?}"), &error),
+    }
+}
+
+/// One judging of values, which come back as the library left them.
+pub fn library_judge(values: &mut Values) -> Finding {
+    let mut server = SERVER.lock().expect("the twin has one thread");
+    match server.ask_judge(values) {
+        Ok(finding) => finding,
+        Err(error) => give_up("was lost in judging values", &error),
     }
 }
 
@@ -125,6 +136,54 @@ impl Server {
                 across: four,
             }),
         })
+    }
+
+    /// The values go as a text of words, the rows first, then the links, then the
+    /// other figures; the counts of rows and links are told beside it.
+    fn ask_judge(&mut self, values: &mut Values) -> Result<Finding> {
+        let rows = values.rows.iter().flat_map(|row| {
+            let HeldRow {
+                first,
+                second,
+                amount,
+                front,
+                back,
+                way,
+            } = *row;
+            [first, second, amount, front, back, way]
+        });
+        let links = values.links.iter();
+        let links = links.flat_map(|link| [link.link, link.split, link.unsplit]);
+        let (n, fibres) = (values.n, values.fibres);
+        let (g, h, across) = (values.g, values.h, values.across);
+        let last = [n, fibres, g, h, across, values.peak, values.size];
+        let words: Vec<u32> = rows.chain(links).chain(last).collect();
+        let mut bytes: Vec<u8> = words.iter().flat_map(|word| word.to_le_bytes()).collect();
+        let told = [values.rows.len() as u32, values.links.len() as u32, 0, 0];
+        let said = self.made("Judge", told, (&mut bytes, 0), &mut [], 0..0)?;
+        let mut back = bytes
+            .chunks_exact(4)
+            .map(|four| u32::from_le_bytes([four[0], four[1], four[2], four[3]]));
+        let mut next = || back.next().unwrap_or_default();
+        for row in &mut values.rows {
+            *row = HeldRow {
+                first: next(),
+                second: next(),
+                amount: next(),
+                front: next(),
+                back: next(),
+                way: next(),
+            };
+        }
+        for link in &mut values.links {
+            *link = HeldLink {
+                link: next(),
+                split: next(),
+                unsplit: next(),
+            };
+        }
+        let (reason, place) = (said[0] as u32, said[3] as u32);
+        Ok(Finding { reason, place })
     }
 
     /// One request and its answer. A working table is handed over as a text, and

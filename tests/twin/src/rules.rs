@@ -255,9 +255,9 @@ pub fn line_size(table: &Table, peak: i64) -> i64 {
     size(least_size(table, peak))
 }
 
-/// A peak is the largest load.
+/// A peak is the largest load; 0 where there is none, as on no ring.
 pub fn peak(loads: &[i64]) -> i64 {
-    *loads.iter().max().expect("a ring has a link")
+    loads.iter().copied().max().unwrap_or(0)
 }
 
 /// The figures that follow from a cut, a split routing and directions.

@@ -1,8 +1,11 @@
 //! Stored cases, answered by the twin alone: each is a header of 12 bytes (the
 //! letter of the call, the text's length and the buffer's in five digits each,
-//! LF) and the text. Each is answered by a line.
+//! LF) and the text. Each is answered by a line. And stored values, which are judged
+//! by the twin alone: lines that say how the values change, and what is then found.
 
+use crate::check::Finding;
 use crate::twin::{self, Call, Pair, Reply, Said};
+use crate::values::{self, HeldLink, HeldRow, Values};
 use std::io::{Read, Write};
 
 /// The buffer before a call, of which the case lends the beginning.
@@ -73,4 +76,93 @@ fn line(call: Call, text: &[u8], room: usize) -> String {
             format!("{reason} {line} {byte} {length} {sum}\n")
         }
     }
+}
+
+/// Judges the values of standard input, and says where what is found is another
+/// thing than what is stored. False where that is so, or where a line is not
+/// spelled as it should be.
+pub fn judge_all() -> bool {
+    let mut text = String::new();
+    if std::io::stdin().read_to_string(&mut text).is_err() {
+        return false;
+    }
+    let (mut values, mut passed, mut failed) = (Values::default(), 0, 0);
+    for (at, line) in text.lines().enumerate() {
+        match (change(&mut values, line), due(line)) {
+            (Some(()), _) => (),
+            (None, Some(due)) if values::judge(&values) == due => passed += 1,
+            _ => {
+                let found = values::judge(&values);
+                println!("error: line {}: {line}: {found:?}", at + 1);
+                failed += 1;
+            }
+        }
+    }
+    println!("{passed} passed, {failed} failed");
+    failed == 0 && passed > 0
+}
+
+/// What a stored line finds due.
+fn due(line: &str) -> Option<Finding> {
+    let numbers = line.strip_prefix("judge = ")?;
+    let [reason, place] = numbers_of(numbers)?;
+    Some(Finding { reason, place })
+}
+
+fn numbers_of<const COUNT: usize>(words: &str) -> Option<[u32; COUNT]> {
+    let numbers = words.split(' ').map(|word| word.parse().ok());
+    numbers.collect::<Option<Vec<u32>>>()?.try_into().ok()
+}
+
+/// Puts the same at so many places from one on, which is counted from 1.
+fn put<T: Copy + Default>(list: &mut Vec<T>, from: u32, times: u32, new: T) {
+    let end = (from + times) as usize - 1;
+    list.resize(list.len().max(end), T::default());
+    list[from as usize - 1..end].fill(new);
+}
+
+/// What a line says of the values; None where it says nothing of them.
+fn change(values: &mut Values, line: &str) -> Option<()> {
+    let (word, rest) = line.split_once(' ')?;
+    match word {
+        "#" => (),
+        "ring" => {
+            let [n, fibres] = numbers_of(rest)?;
+            *values = Values {
+                n,
+                fibres,
+                ..Values::default()
+            };
+        }
+        "row" => {
+            let [from, times, first, second, amount, front, back, way] = numbers_of(rest)?;
+            let row = HeldRow {
+                first,
+                second,
+                amount,
+                front,
+                back,
+                way,
+            };
+            put(&mut values.rows, from, times, row);
+        }
+        "link" => {
+            let [from, times, link, split, unsplit] = numbers_of(rest)?;
+            let link = HeldLink {
+                link,
+                split,
+                unsplit,
+            };
+            put(&mut values.links, from, times, link);
+        }
+        "counts" => {
+            let [rows, links] = numbers_of(rest)?;
+            values.rows.resize(rows as usize, HeldRow::default());
+            values.links.resize(links as usize, HeldLink::default());
+        }
+        "cut" => [values.g, values.h, values.across] = numbers_of(rest)?,
+        "last" => [values.peak, values.size] = numbers_of(rest)?,
+        _ => return None,
+    }
+    Some(())
 }

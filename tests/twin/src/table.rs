@@ -188,8 +188,15 @@ fn byte_of_row(reason: u32, line: &Line, numbers: &[i64], n: i64) -> u32 {
     }
 }
 
-/// The first reason that holds of a row's nodes, place and amount. Nodes and
-/// amount stand first in the row of a sheet too.
+/// The first reason that holds of a row's nodes, place and amount.
+pub fn reason_of_row(numbers: &[i64], above: &Table, reasons: &[RowReason]) -> Option<u32> {
+    let mut reasons = reasons.iter();
+    let first = reasons.find(|(_, holds)| holds(numbers, above));
+    first.map(|(reason, _)| *reason)
+}
+
+/// The row of a line, or its refusal. Nodes and amount stand first in the row of a
+/// sheet too.
 pub fn judge_row(
     line: &Line,
     numbers: &[i64],
@@ -197,10 +204,8 @@ pub fn judge_row(
     above: &Table,
     reasons: &[RowReason],
 ) -> Result<Row, Refusal> {
-    for (reason, holds) in reasons {
-        if holds(numbers, above) {
-            return refuse(*reason, at, byte_of_row(*reason, line, numbers, above.n));
-        }
+    if let Some(reason) = reason_of_row(numbers, above, reasons) {
+        return refuse(reason, at, byte_of_row(reason, line, numbers, above.n));
     }
     let (i, j, d) = (numbers[0], numbers[1], numbers[2]);
     Ok(Row { i, j, d })

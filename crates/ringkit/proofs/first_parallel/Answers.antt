@@ -1,12 +1,9 @@
--- The first parallel split pair of an accepted sheet: the rows in the checker's arrays are the sheet's (`SheetSteps`).
-use Rattle.ringkit.proofs.SheetSteps.{pair-refused, rows-have-room, pair_found, no-pair-found}
+-- The first parallel split pair of an accepted sheet: the rows that were read are the sheet's (`SheetSteps`).
+use Rattle.ringkit.proofs.SheetSteps.{pair-refused, pair_found, no-pair-found}
 use Rattle.ringkit.proofs.first_parallel.Goals as goal
 
-pub first_pair-pair-requires : goal.first_pair-pair-requires
-first_pair-pair-requires c = search rows-have-room
-
 pub returns-in_default : goal.returns-in_default
-returns-in_default c = search (pair-refused, pair_found, no-pair-found)
+returns-in_default c = search (pair_found, no-pair-found)
 
 pub returns-in-Err : goal.returns-in-Err
 returns-in-Err c = search pair-refused

@@ -4,7 +4,7 @@ use Rattle.ringkit.proofs.FillSteps.{text-too-short, text-fills}
 use Rattle.ringkit.proofs.put_matrix.Goals as goal
 
 pub returns-then-buf-bytes : goal.returns-then-buf-bytes
-returns-then-buf-bytes c = text-too-short _ _ _ (search rules) (search rules)
+returns-then-buf-bytes g c = text-too-short _ _ _ (search rules) (search rules)
 
 pub returns : goal.returns
-returns c = search text-fills
+returns g c = search text-fills

@@ -1,13 +1,16 @@
 -- Routing a table's rows: the router's plan is that of their demands (`RouteSteps`), which is written as sheets are.
-use Rattle.ringkit.proofs.RouteSteps.{router-takes, rows-few, plan-fills}
+use Rattle.ringkit.proofs.RouteSteps.{router-takes, rows-few, links-few, plan-fills}
 use Rattle.std.proofs.Common.{rules}
 use Rattle.ringkit.proofs.put_route.Goals as goal
 
-pub route-p-requires-clause-fit : goal.route-p-requires-clause-fit
-route-p-requires-clause-fit c = search router-takes
+pub route-plan-requires-clause-fit : goal.route-plan-requires-clause-fit
+route-plan-requires-clause-fit c = search router-takes
 
-pub put_sheet-requires-clause-rows : goal.put_sheet-requires-clause-rows
-put_sheet-requires-clause-rows c = search (rows-few, rules)
+pub put_sheet-requires-clause-few_rows : goal.put_sheet-requires-clause-few_rows
+put_sheet-requires-clause-few_rows c = search (rows-few, rules)
 
 pub returns : goal.returns
 returns c = search (rules, plan-fills)
+
+pub put_sheet-requires-clause-few_links : goal.put_sheet-requires-clause-few_links
+put_sheet-requires-clause-few_links c = search (links-few, rules)

@@ -1,5 +1,6 @@
 -- Routing a table: what reading leaves is what the router takes, and its plan is the outcome's (`RouteSteps`).
-use Rattle.ringkit.proofs.RouteSteps.{route-refused, read-range, route-fills}
+use Rattle.table.proofs.Told.{read-range}
+use Rattle.ringkit.proofs.RouteSteps.{route-refused, route-fills}
 use Rattle.ringkit.proofs.route.Goals as goal
 
 pub put_route-requires : goal.put_route-requires

@@ -1,22 +1,22 @@
--- A sheet: its length, its first line and the rest, each way out by one law of `CheckSteps`.
-use Rattle.checker.proofs.NextLine.{next_place}
-use Rattle.checker.proofs.CheckSteps.{too_long, ring-place, no_ring, ring-fault, then-rows, ring-two, ring-fits}
+-- Checking a text: each way out by what reading and judging answer (`CheckSteps`).
+use Rattle.std.proofs.Common.{arith}
+use Rattle.std.proofs.lemmas.Result.{err_from_is_err_and}
+use Rattle.checker.proofs.CheckSteps.{read-refused, links-there, fine-so, found-so}
 use Rattle.checker.proofs.check.check_sheet.Goals as goal
 
-pub returns-then-s-gt-BYTES : goal.returns-then-s-gt-BYTES
-returns-then-s-gt-BYTES c = search too_long
+pub returns-in_err-x-clause-value : goal.returns-in_err-x-clause-value
+returns-in_err-x-clause-value c =
+    let p = err_from_is_err_and c.from_residual.result c.from_residual.ensures.1 in
+    rw (p.1, p.2) (read-refused c.args.text.now _ _ _ c.read_sheet.ensures.value _ c.in_err-x.was)
 
-pub returns-in_default : goal.returns-in_default
-returns-in_default c = search then-rows
+pub shared_ref_as_front-held : goal.shared_ref_as_front-held
+shared_ref_as_front-held c = let l = links-there c.args.text.now _ _ _ c.read_sheet.ensures.value _ c.in_ok-x.was in omega (arith, l, c.wide.ensures)
 
-pub byte_at-requires : goal.byte_at-requires
-byte_at-requires c = search ring-place
+pub returns-in-Ok-clause-value : goal.returns-in-Ok-clause-value
+returns-in-Ok-clause-value c =
+    fine-so c.args.text.now _ _ _ c.read_sheet.ensures.value _ c.in_ok-x.was _ c.wide.ensures _ c.judge.ensures.first _ c.in-Ok.is
 
-pub returns-in-Err : goal.returns-in-Err
-returns-in-Err c = search ring-fault
-
-pub check_rows-requires : goal.check_rows-requires
-check_rows-requires c = search (next_place, ring-two, ring-fits)
-
-pub returns-in-Bad : goal.returns-in-Bad
-returns-in-Bad c = search no_ring
+pub returns-in-Err-clause-value : goal.returns-in-Err-clause-value
+returns-in-Err-clause-value c =
+    found-so c.args.text.now _ _ _ c.read_sheet.ensures.value _ c.in_ok-x.was _ c.wide.ensures _ c.judge.ensures.first _ c.in-Err.is _ _ _
+    c.len.ensures.is c.line_of-line.ensures c.min.ensures

@@ -3,7 +3,7 @@ use Rattle.checker.proofs.PairSteps.{Firsts, Seconds}
 use Rattle.checker.proofs.pair.first_pair.Given as goal
 
 abbrev pub invariant-loop-b : goal.invariant-loop-b
-invariant-loop-b l = Seconds l.count l.first l.second l.front l.back l.found l.a l.b
+invariant-loop-b g l = Seconds (g.R.Rows.rows l.rows) l.one l.found l.a l.b
 
 abbrev pub invariant-search : goal.invariant-search
-invariant-search l = Firsts l.count l.first l.second l.front l.back l.found l.a
+invariant-search g l = Firsts (g.R.Rows.rows l.rows) l.found l.a

@@ -3,4 +3,4 @@ use Rattle.matrix.proofs.WriteSteps.{matrix-placed}
 use Rattle.matrix.proofs.write.matrix_length.Goals as goal
 
 pub write_lines-requires-clause-has_room : goal.write_lines-requires-clause-has_room
-write_lines-requires-clause-has_room c = matrix-placed _ _ c.requires.few_nodes
+write_lines-requires-clause-has_room g c = matrix-placed _ _ c.requires.few_nodes

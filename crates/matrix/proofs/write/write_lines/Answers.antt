@@ -1,17 +1,11 @@
--- A matrix: the lines before place k are behind the pass (`PassingLines`).
-use Rattle.text.proofs.Pieces.{passing-starts, line-room, passes-line, lines-passed}
+-- The lines before place k are behind the pass (`PassingLines`).
+use Rattle.std.proofs.Common.{rules, arith}
+use Rattle.text.proofs.Pieces.{passing-starts, line-room}
 use Rattle.matrix.proofs.WriteSteps.{matrix-pieces}
-use Rattle.std.proofs.Common.{rules}
 use Rattle.matrix.proofs.write.write_lines.Goals as goal
 
 pub loop-k-init : goal.loop-k-init
-loop-k-init g c = passing-starts g.met.P.Pass.laws _ _ (matrix-pieces _ _ (search rules)) _ _ _ (search rules)
+loop-k-init g c = passing-starts g.met.P.Pass.laws _ _ (matrix-pieces _ _ c.requires.few_nodes) _ _ _ (omega (arith, c.requires.has_room))
 
-pub write_sums-p-requires-clause-has_room : goal.write_sums-p-requires-clause-has_room
-write_sums-p-requires-clause-has_room g c = line-room g.met.P.Pass.laws _ _ _ _ _ _ _ _ c.loop-k.invariant (search rules)
-
-pub loop-k-preserved : goal.loop-k-preserved
-loop-k-preserved g c = passes-line g.met.P.Pass.laws _ _ _ _ _ _ _ _ c.loop-k.invariant (search rules) _ _ c.write_sums-p.ensures
-
-pub returns : goal.returns
-returns g c = lines-passed g.met.P.Pass.laws _ _ _ _ _ _ _ _ c.loop-k.invariant (search rules)
+pub write-at-requires : goal.write-at-requires
+write-at-requires g c = rw c.sums_of.ensures (line-room g.met.P.Pass.laws _ _ _ _ _ _ _ _ c.loop-k.invariant (search rules))

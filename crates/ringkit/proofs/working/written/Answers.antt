@@ -12,4 +12,4 @@ returns-clause-value c = search rows_written
 
 pub returns-clause-promise : goal.returns-clause-promise
 returns-clause-promise c =
-    work-write-promise _ (record { firsts = search rules; seconds = search rules; amounts = search rules }) c.sorted-count.ensures.bytes (returns-clause-value c)
+    work-write-promise _ (record { firsts = search rules; seconds = search rules; amounts = search rules }) c.sorted.ensures.bytes (returns-clause-value c)

@@ -1,10 +1,7 @@
 -- `send_all` is rule B: what is sent so far, and what the rule sends from the rooms and rows that are left, is what it sends of all.
 use Rattle.std.proofs.Common.{◌≤◌, length, arith}
-use Rattle.router.proofs.SendSteps.{send-start, here, send-front, send-over, send-turn, send-done}
+use Rattle.router.proofs.SendSteps.{here, send-front, send-over, send-turn, send-done}
 use Rattle.router.proofs.sending.send_all.Goals as goal
-
-pub loop-t-init : goal.loop-t-init
-loop-t-init g c = search send-start
 
 pub least_slack-requires : goal.least_slack-requires
 least_slack-requires g c = search send-front
@@ -15,8 +12,8 @@ overflow_mul-d g c = let h = here _ _ _ c.requires.fit _ _ _ _ _ c.row-row.ensur
 pub overflow_mul-sent : goal.overflow_mul-sent
 overflow_mul-sent g c = let h = here _ _ _ c.requires.fit _ _ _ _ _ c.row-row.ensures c.loop-t.invariant _ _ c.wide-i.ensures c.wide-j.ensures in omega (arith, h.small)
 
-pub step_row-requires : goal.step_row-requires
-step_row-requires g c = let h = here _ _ _ c.requires.fit _ _ _ _ _ c.row-row.ensures c.loop-t.invariant _ _ c.wide-i.ensures c.wide-j.ensures in record { low = omega (arith, h.on.low); few = c.requires.fit.links }
+pub take_row-requires : goal.take_row-requires
+take_row-requires g c = let h = here _ _ _ c.requires.fit _ _ _ _ _ c.row-row.ensures c.loop-t.invariant _ _ c.wide-i.ensures c.wide-j.ensures in record { low = h.on.low; few = c.requires.fit.links }
 
 pub step_over-requires : goal.step_over-requires
 step_over-requires g c =

@@ -6,8 +6,8 @@ use Rattle.router.proofs.triangle.fill.Goals as goal
 pub loop-k-init : goal.loop-k-init
 loop-k-init g c = search fill_start
 
-pub step_row-requires : goal.step_row-requires
-step_row-requires g c = let h = fill-row _ _ c.requires.fit _ _ _ c.row.ensures c.loop-k.invariant in record { low = omega (arith, h.on.low, c.wide.ensures); few = c.requires.fit.links }
+pub put_row-requires : goal.put_row-requires
+put_row-requires g c = let h = fill-row _ _ c.requires.fit _ _ _ c.row.ensures c.loop-k.invariant in record { low = h.on.low; few = c.requires.fit.links }
 
 pub loop-k-preserved : goal.loop-k-preserved
 loop-k-preserved g c = search fill-turn

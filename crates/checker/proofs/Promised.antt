@@ -1,0 +1,107 @@
+-- What is promised of accepted sheets: from what checking accepts (`Reasons`), and that a plan is a true sheet in range.
+use Prim.Native.Nat.{ℕ, ◌<◌, ◌≤◌}
+use mathlib.Core.List.{List}
+use lib.ListN.{length}
+use mathlib.Core.Path.{◌≡◌, refl}
+use native.Mathlib.Omega.{arith}
+use Rattle.ring.specs.Limits.{desk}
+use Rattle.ring.specs.Sheet.{plan}
+use Rattle.ring.proofs.Figures.{demands-length}
+use Rattle.ring.proofs.NoLower.{no_lower}
+use Rattle.ring.proofs.OurPlan.{plan-true}
+use Rattle.table.specs.Findings.{found}
+use Rattle.judge.specs.Findings.{findings}
+use Rattle.table.specs.Reasons.{rank_of}
+use Rattle.table.specs.declared.reason.Reason.{Reason}
+use Rattle.table.specs.declared.reason.Reason.TheVariants.{TooLong, Misshapen, RingSize, Fibres, NoSuchNode, NotBelow, OutOfOrder, TooMany, TooMuch, NoRow, Full, WrongSum, WrongWay, WrongCut, WrongLink, WrongLast, NotTight, OverBound, NotZero, NotSymmetric, SumTooMuch, NoRoom}
+use Rattle.table.proofs.TableText.{desk-spelled}
+use Rattle.sheet.specs.Read.{Result, accepted, refused, read_sheet}
+use Rattle.sheet.specs.Says as reading
+use Rattle.sheet.specs.Says.{Says}
+use Rattle.sheet.specs.WriteSheet.{write_sheet}
+use Rattle.sheet.proofs.Promised.{same-sheet}
+use Rattle.sheet.proofs.SheetReasons.{given as read-given, well-formed-is}
+use Rattle.sheet.proofs.Short.{true-spelled, true-links, true-short, plan-in-range}
+use Rattle.checker.specs.Laws.{TrueAccepted, PlanAccepted, NoLowerPeak, FormedIs, JudgedInRange}
+use Rattle.checker.specs.Says.{Given, of_form, of_figures}
+use Rattle.checker.proofs.Found.{OfFigures, a_sum, a_way, a_cut, a_link, a_last, a_peak, a_bound, first-is, all-figures}
+use Rattle.checker.proofs.Reasons.{accepted-is, check-text}
+
+pub true-accepted : TrueAccepted desk
+true-accepted x range true_sheet = let t = write_sheet x in (accepted-is t).0 (record { x = x; is = (check-text t x).1 (refl, (range, true_sheet)) })
+
+pub no-lower-peak : NoLowerPeak desk
+no-lower-peak x range a =
+    let reads = (accepted-is (write_sheet x)).1 a in
+    let text = (check-text (write_sheet x) reads.x).0 reads.is in
+    let e : x ≡ reads.x = same-sheet desk desk-spelled x reads.x range text.1.0 text.0 in
+    no_lower x (rw e text.1.1)
+
+pub judged-in-range : JudgedInRange
+judged-in-range x f t =
+    let count : length x.rows ≤ desk.rows = omega (arith, f.count, demands-length x.rows) in
+    record {
+      few = f.few;
+      many = f.many;
+      fibres = f.fibres;
+      rows = f.rows;
+      count = count;
+      amounts = f.amounts;
+      spelled = true-spelled x t f.many f.fibres f.rows count f.amounts;
+      links = true-links x t f.many f.fibres f.rows count f.amounts;
+      short = omega (arith, true-short x t f.many f.fibres f.rows count f.amounts);
+    }
+
+-- the sheet of a table's plan is accepted
+pub plan-accepted : PlanAccepted
+plan-accepted ring rs h = true-accepted (plan ring rs) (plan-in-range ring rs h) (plan-true ring rs h.few h.rows)
+
+-- ---- 8 to 14 judge figures, the reasons of reading come before them
+
+late : {r : Reason} → OfFigures r → (rank_of WrongSum ≤ rank_of r) × (rank_of r ≤ rank_of OverBound)
+late a_sum = (omega arith, omega arith)
+late a_way = (omega arith, omega arith)
+late a_cut = (omega arith, omega arith)
+late a_link = (omega arith, omega arith)
+late a_last = (omega arith, omega arith)
+late a_peak = (omega arith, omega arith)
+late a_bound = (omega arith, omega arith)
+
+of-reading : (t : List ℕ) (r : Reason) (line : ℕ) → reading.Says desk t r line → rank_of r < rank_of WrongSum
+unfolding Says
+of-reading t TooLong line h = omega arith
+of-reading t Misshapen line h = omega arith
+of-reading t RingSize line h = omega arith
+of-reading t Fibres line h = omega arith
+of-reading t NoSuchNode line h = omega arith
+of-reading t NotBelow line h = omega arith
+of-reading t OutOfOrder line h = omega arith
+of-reading t TooMany line h = omega arith
+of-reading t TooMuch line h = omega arith
+of-reading t NoRow line h = absurd h
+of-reading t Full line h = absurd h
+of-reading t WrongSum line h = absurd h
+of-reading t WrongWay line h = absurd h
+of-reading t WrongCut line h = absurd h
+of-reading t WrongLink line h = absurd h
+of-reading t WrongLast line h = absurd h
+of-reading t NotTight line h = absurd h
+of-reading t OverBound line h = absurd h
+of-reading t NotZero line h = absurd h
+of-reading t NotSymmetric line h = absurd h
+of-reading t SumTooMuch line h = absurd h
+of-reading t NoRoom line h = absurd h
+
+pub formed-is : FormedIs desk
+formed-is t = (λ w r line byte g. to_late w g, λ all. formed all (read_sheet desk t) refl)
+  where
+    to_late : reading.WellFormed desk t → {r : Reason} {line byte : ℕ} → Given desk t r line byte → (rank_of WrongSum ≤ rank_of r) × (rank_of r ≤ rank_of OverBound)
+    to_late w {r} {line} (of_form g) = absurd (w r line g.holds)
+    to_late w {r} (of_figures x place is first stands) = late (first-is _ (findings desk x) (found r place) (all-figures desk x is.range) first)
+
+    formed : ((r : Reason) (line byte : ℕ) → Given desk t r line byte → (rank_of WrongSum ≤ rank_of r) × (rank_of r ≤ rank_of OverBound)) → (y : Result) → read_sheet desk t ≡ y → reading.WellFormed desk t
+    formed all (accepted x) e = (well-formed-is desk t).0 (record { x = x; is = e })
+    formed all (refused r line byte) e =
+        let g = (read-given desk t r line byte).0 e in
+        let early : rank_of r < rank_of WrongSum = of-reading t r line g.holds in
+        absurd (omega (arith, (all r line byte (of_form g)).0))

@@ -1,0 +1,185 @@
+-- Checking a text is reading it and then judging what was read: so a reason is given exactly when one of the two gives it, a text has one refusal at most, and it is accepted exactly where it is the sheet of
+-- values in range that are true.
+use Prim.Native.Nat.{ℕ, ◌+◌, ◌≤◌}
+use mathlib.Core.List.{List}
+use lib.ListN.{length}
+use mathlib.Core.Logic.{◌↔◌}
+use mathlib.Core.Path.{◌≡◌, refl, ap, ◌∙◌, sym, subst}
+use native.Mathlib.Omega.{arith}
+use Rattle.std.specs.Prelude.{Result as Either, Ok, Err}
+use Rattle.ring.specs.Limits.{desk}
+use Rattle.ring.specs.Sheet.{Sheet, sents, demands}
+use Rattle.ring.proofs.Figures.{demands-length}
+use Rattle.table.proofs.Short.{table-short}
+use Rattle.ring.specs.True.{TrueSheet}
+use Rattle.table.specs.Findings.{First, found}
+use Rattle.table.specs.Reasons.{number_of}
+use Rattle.table.specs.declared.reason.Reason.TheVariants.{NoRoom}
+use Rattle.table.proofs.ReasonNumbers.{same-reason}
+use Rattle.table.specs.declared.finding.Finding.{Finding}
+use Rattle.table.specs.declared.reason.Reason.{Reason}
+use Rattle.judge.specs.Findings.{findings, Fits}
+use Rattle.judge.specs.Tests.{judged}
+use Rattle.judge.proofs.Tests.{judged-first, judged-is}
+use Rattle.judge.proofs.Accepted.{fine-accepted, true-fine}
+use Rattle.table.proofs.TableText.{desk-spelled}
+use Rattle.sheet.specs.Range.{InRange}
+use Rattle.sheet.specs.Read.{Result, accepted, refused, read_sheet}
+use Rattle.sheet.specs.Says as reading
+use Rattle.sheet.specs.Says.{Says}
+use Rattle.sheet.specs.WriteSheet.{write_sheet}
+use Rattle.sheet.proofs.SheetText.{sheet-text}
+use Rattle.sheet.proofs.SheetReasons.{given as read-given}
+use Rattle.checker.specs.Check.{line_of, byte_on, on_line, judged_on, check_read, check}
+use Rattle.checker.specs.Says.{ReadTo, Stands, of_sum, of_way, of_cut, of_link, of_last, of_peak, of_bound, Given, of_form, of_figures, Accepted}
+use Rattle.checker.proofs.Found.{OfFigures, a_sum, a_way, a_cut, a_link, a_last, a_peak, a_bound, first-is, all-figures}
+
+-- ---- where a finding stands
+
+byte-1 : (line : ℕ) → 1 ≤ line → byte_on line ≡ 1
+byte-1 line l = omega arith
+
+module _ (x : Sheet) where
+  there-is : {reason : Reason} (place : ℕ) → OfFigures reason → Stands x reason place (line_of (length x.rows) x.ring.nodes reason place) (byte_on (line_of (length x.rows) x.ring.nodes reason place))
+  unfolding line_of
+  there-is k a_sum = rw (byte-1 (k + 1) (omega arith)) of_sum
+  there-is k a_way = rw (byte-1 (k + 1) (omega arith)) of_way
+  there-is k a_cut = rw (byte-1 (length x.rows + 2) (omega arith)) of_cut
+  there-is k a_link = rw (byte-1 (length x.rows + 2 + k) (omega arith)) of_link
+  there-is k a_last = rw (byte-1 (length x.rows + x.ring.nodes + 3) (omega arith)) of_last
+  there-is k a_peak = of_peak
+  there-is k a_bound = of_bound
+
+  on-its-line : {reason : Reason} {place line byte : ℕ} → Stands x reason place line byte → on_line x (found reason place) ≡ refused reason line byte
+  unfolding line_of
+  on-its-line (of_sum {k}) = rw (byte-1 (k + 1) (omega arith)) refl
+  on-its-line (of_way {k}) = rw (byte-1 (k + 1) (omega arith)) refl
+  on-its-line (of_cut {k}) = rw (byte-1 (length x.rows + 2) (omega arith)) refl
+  on-its-line (of_link {k}) = rw (byte-1 (length x.rows + 2 + k) (omega arith)) refl
+  on-its-line (of_last {k}) = rw (byte-1 (length x.rows + x.ring.nodes + 3) (omega arith)) refl
+  on-its-line of_peak = refl
+  on-its-line of_bound = refl
+
+no-room : (t : List ℕ) (line : ℕ) → reading.Says desk t NoRoom line → ⊥
+unfolding Says
+no-room t line h = h
+
+figures-not-15 : {r : Reason} → OfFigures r → number_of r ≡ number_of NoRoom → ⊥
+figures-not-15 a_sum e = omega arith
+figures-not-15 a_way e = omega arith
+figures-not-15 a_cut e = omega arith
+figures-not-15 a_link e = omega arith
+figures-not-15 a_last e = omega arith
+figures-not-15 a_peak e = omega arith
+figures-not-15 a_bound e = omega arith
+
+module _ (t : List ℕ) where
+  pub read-as : (x : Sheet) → (read_sheet desk t ≡ accepted x) ↔ ReadTo desk t x
+  read-as x =
+      (λ e. let h = (sheet-text desk desk-spelled t x).0 e in record { text = h.0; range = h.1 }, λ h. (sheet-text desk desk-spelled t x).1 (h.text, h.range))
+
+  -- ---- refusals
+
+  module _ (r : Reason) (line byte : ℕ) where
+    found-on : (x : Sheet) → ReadTo desk t x → (v : Either Unit Finding) → judged desk x ≡ v → judged_on x v ≡ refused r line byte → Given desk t r line byte
+    unfolding judged_on
+    found-on x is (Ok _) q h = absurd (cc)
+    found-on x is (Err f) q h =
+        let first : First (findings desk x) (Err f) = subst (First (findings desk x)) q (judged-first desk x) in
+        let stands = there-is x f.place (first-is _ (findings desk x) f (all-figures desk x is.range) first) in
+        let a : f.reason ≡ r = cc in
+        let b : line_of (length x.rows) x.ring.nodes f.reason f.place ≡ line = cc in
+        let c : byte_on (line_of (length x.rows) x.ring.nodes f.reason f.place) ≡ byte = cc in
+        let d : byte_on line ≡ byte = rw b at c in
+        of_figures x f.place is (rw (← a) first) (rw (b, d, a) at stands)
+
+    refused-is : (y : Result) → read_sheet desk t ≡ y → check_read desk y ≡ refused r line byte → Given desk t r line byte
+    unfolding check_read
+    refused-is (refused a b c) e h = of_form ((read-given desk t r line byte).0 (e ∙ h))
+    refused-is (accepted x) e h = found-on x ((read-as x).0 e) (judged desk x) refl h
+
+    is-refused : Given desk t r line byte → check desk t ≡ refused r line byte
+    unfolding check check_read judged_on
+    is-refused (of_form g) = ap (check_read desk) ((read-given desk t r line byte).1 g)
+    is-refused (of_figures x place is first stands) =
+        ap (check_read desk) ((read-as x).1 is)
+        ∙ ap (judged_on x) (sym (judged-is desk x (Err (found r place)) first))
+        ∙ on-its-line x stands
+
+    pub given : (check desk t ≡ refused r line byte) ↔ Given desk t r line byte
+    unfolding check
+    given = (λ e. refused-is (read_sheet desk t) refl e, is-refused)
+
+  -- ---- acceptance
+
+  -- read to these values, against which nothing is found
+  pub accepted-as : (x : Sheet) → (check desk t ≡ accepted x) ↔ (ReadTo desk t x × First (findings desk x) (Ok tt))
+  unfolding check check_read judged_on
+  accepted-as x = (λ e. there (read_sheet desk t) refl e, λ h. ap (check_read desk) ((read-as x).1 h.0) ∙ ap (judged_on x) (sym (judged-is desk x (Ok tt) h.1)))
+    where
+      judged-there : (y : Sheet) → ReadTo desk t y → (v : Either Unit Finding) → judged desk y ≡ v → judged_on y v ≡ accepted x → ReadTo desk t x × First (findings desk x) (Ok tt)
+      judged-there y is (Ok _) q h =
+          let e : y ≡ x = cc in
+          let first : First (findings desk y) (Ok tt) = subst (First (findings desk y)) q (judged-first desk y) in
+          rw (← e) (is, first)
+      judged-there y is (Err f) q h = absurd (cc)
+
+      there : (y : Result) → read_sheet desk t ≡ y → check_read desk y ≡ accepted x → ReadTo desk t x × First (findings desk x) (Ok tt)
+      there (accepted y) e h = judged-there y ((read-as y).0 e) (judged desk y) refl h
+      there (refused a b c) e h = absurd (cc)
+
+  -- the text is checked to a sheet
+  pub record Reads : Type 0 where
+    pub x : Sheet
+    pub is : check desk t ≡ accepted x
+
+  pub accepted-is : Reads ↔ Accepted desk t
+  accepted-is = (
+    λ h. let a = (accepted-as h.x).0 h.is in record { x = h.x; is = a.0; none = a.1 },
+    λ a. record { x = a.x; is = (accepted-as a.x).1 (a.is, a.none) },
+  )
+
+  -- a text is accepted as this sheet exactly when it is the sheet written, in range, and true
+  pub check-text : (x : Sheet) → (check desk t ≡ accepted x) ↔ ((t ≡ write_sheet x) × (InRange desk x × TrueSheet x))
+  check-text x = (
+    λ e. let a = (accepted-as x).0 e in (a.0.text, (a.0.range, (fine-accepted x a.1).1)),
+    λ h. (accepted-as x).1 (record { text = h.0; range = h.1.0 }, true-fine x (fits h.1.0) h.1.1),
+  )
+    where
+      fits : InRange desk x → Fits desk x
+      fits r =
+          let count : length (demands (sents x.rows)) ≤ desk.rows = omega (arith, r.count, demands-length x.rows) in
+          record {
+            few = r.few;
+            many = r.many;
+            fibres = r.fibres;
+            rows = r.rows;
+            count = count;
+            amounts = r.amounts;
+            short = omega (arith, table-short desk desk-spelled x.ring (demands (sents x.rows)) r.many r.fibres r.rows.nodes count r.amounts);
+          }
+
+  -- a text that is read to this sheet is accepted exactly when that is true
+  pub accepted-if-true : (x : Sheet) → ReadTo desk t x → (check desk t ≡ accepted x) ↔ TrueSheet x
+  accepted-if-true x is = (λ e. ((check-text x).0 e).1.1, λ true_sheet. (check-text x).1 (is.text, (is.range, true_sheet)))
+
+  -- ---- one answer
+
+  pub one-given : {r s : Reason} {line other byte on : ℕ} → Given desk t r line byte → Given desk t s other on → (r ≡ s) × (line ≡ other) × (byte ≡ on)
+  one-given {r} {s} {line} {other} {byte} {on} f g =
+      let e : refused r line byte ≡ refused s other on = sym (is-refused r line byte f) ∙ is-refused s other on g in
+      let a : r ≡ s = cc in
+      let b : line ≡ other = cc in
+      let c : byte ≡ on = cc in
+      (a, b, c)
+
+  pub not-both : {r : Reason} {line byte : ℕ} → Accepted desk t → Given desk t r line byte → ⊥
+  not-both {r} {line} {byte} a g =
+      let h = accepted-is.1 a in
+      let e : accepted h.x ≡ refused r line byte = sym h.is ∙ is-refused r line byte g in
+      absurd (cc)
+
+  -- 15 is given by the calls, and not here
+  pub not-15 : (r : Reason) {line byte : ℕ} → Given desk t r line byte → number_of r ≡ number_of NoRoom → ⊥
+  not-15 r {line} (of_form g) e = no-room t line (subst (λ s. reading.Says desk t s line) (same-reason r NoRoom e) g.holds)
+  not-15 r (of_figures x place is first stands) e = figures-not-15 (first-is _ (findings desk x) (found r place) (all-figures desk x is.range) first) e

@@ -1,0 +1,56 @@
+-- Internal: checking a sheet's text: reading it, then judging what was read.
+use Rattle.std.specs.Prelude.{ℕ, ◌+◌, min, List, Result as Either, Ok, Err, length}
+use Rattle.ring.specs.Limits.{Limits}
+use Rattle.ring.specs.Sheet.{Sheet}
+use Rattle.table.specs.declared.finding.Finding.{Finding}
+use Rattle.table.specs.declared.reason.Reason.{Reason}
+use Rattle.table.specs.declared.reason.Reason.TheVariants.{TooLong, Misshapen, RingSize, Fibres, NoRow, NoSuchNode, NotBelow, OutOfOrder, TooMany, TooMuch, Full, WrongSum, WrongWay, WrongCut, WrongLink, WrongLast, NotTight, OverBound, NotZero, NotSymmetric, SumTooMuch, NoRoom}
+use Rattle.judge.specs.Tests.{judged}
+use Rattle.sheet.specs.Read.{Result, accepted, refused, read_sheet}
+
+-- the line of a finding in a sheet of so many rows and nodes, by its reason and its place; against values that were read no other reason is found
+unfoldable pub line_of : ℕ → ℕ → Reason → ℕ → ℕ
+line_of rows nodes WrongSum k = k + 1
+line_of rows nodes WrongWay k = k + 1
+line_of rows nodes WrongCut k = rows + 2
+line_of rows nodes WrongLink k = rows + 2 + k
+line_of rows nodes WrongLast k = rows + nodes + 3
+line_of rows nodes NotTight k = 0
+line_of rows nodes OverBound k = 0
+line_of rows nodes TooLong k = 0
+line_of rows nodes Misshapen k = 0
+line_of rows nodes RingSize k = 0
+line_of rows nodes Fibres k = 0
+line_of rows nodes NoRow k = 0
+line_of rows nodes NoSuchNode k = 0
+line_of rows nodes NotBelow k = 0
+line_of rows nodes OutOfOrder k = 0
+line_of rows nodes TooMany k = 0
+line_of rows nodes TooMuch k = 0
+line_of rows nodes Full k = 0
+line_of rows nodes NotZero k = 0
+line_of rows nodes NotSymmetric k = 0
+line_of rows nodes SumTooMuch k = 0
+line_of rows nodes NoRoom k = 0
+
+-- byte 1 of a line, and byte 0 of none
+abbrev pub byte_on : ℕ → ℕ
+byte_on line = min line 1
+
+-- a finding, on its line
+abbrev pub on_line : Sheet → Finding → Result
+on_line x f = let line = line_of (length x.rows) x.ring.nodes f.reason f.place in refused f.reason line (byte_on line)
+
+unfoldable pub judged_on : Sheet → Either Unit Finding → Result
+unfolding line_of
+judged_on x (Ok tt) = accepted x
+judged_on x (Err f) = on_line x f
+
+unfoldable pub check_read : Limits → Result → Result
+unfolding judged_on judged
+check_read limits (accepted x) = judged_on x (judged limits x)
+check_read limits (refused reason line byte) = refused reason line byte
+
+unfoldable pub check : Limits → List ℕ → Result
+unfolding read_sheet check_read
+check limits t = check_read limits (read_sheet limits t)

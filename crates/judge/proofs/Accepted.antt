@@ -1,0 +1,132 @@
+-- Nothing is found exactly where a sheet keeps to the limits and is true.
+use Rattle.std.proofs.Common.{ℕ, ◌+◌, ◌*◌, ◌<◌, ◌≤◌, List, [], ◌∷◌, map, None, Result, Ok, Err, IsOk, ◌↔◌, inl, inr, ◌≡◌, refl, ap, sym, ◌∙◌, length, arith}
+use Rattle.std.proofs.lemmas.List.{length-map}
+use mathlib.Core.Logic.{⊎_elim}
+use native.Mathlib.Decide.{dec_lt, dec_le}
+use Rattle.ring.specs.declared.types.Row.{Row}
+use Rattle.ring.specs.declared.types.Sent.{Sent}
+use Rattle.ring.specs.declared.types.Routed.{Routed}
+use Rattle.ring.specs.declared.types.Cut.{Cut}
+use Rattle.ring.specs.declared.types.Link.{Link}
+use Rattle.ring.specs.Limits.{desk}
+use Rattle.ring.specs.Lists.{Each, none, more}
+use Rattle.ring.specs.Row.{OnRing}
+use Rattle.ring.specs.Cut.{IsCut}
+use Rattle.ring.specs.Sheet.{Sheet, numbers_from, sents, demands, true_link, split_peak, unsplit_peak, largest_split_of}
+use Rattle.ring.specs.True.{SumsTo2d, Kept, TrueSheet}
+use Rattle.ring.proofs.Lists.{each, each-of-map}
+use Rattle.ring.proofs.Figures.{demands-length}
+use Rattle.table.specs.Findings.{Findings, then, First, ring_findings}
+use Rattle.table.specs.declared.finding.Finding.{Finding}
+use Rattle.table.proofs.Findings.{fine, then-on, none-of, both-of, one-answer}
+use Rattle.table.proofs.Short.{table-short}
+use Rattle.table.proofs.TableText.{desk-spelled}
+use Rattle.judge.specs.Findings.{rows_findings, cut_findings, loads_findings, findings, Fits}
+use Rattle.judge.specs.Due.{last_by}
+use Rattle.judge.proofs.Rows.{same-number, Fine, rows-fine, fine-rows}
+use Rattle.judge.proofs.Links.{links-true, true-links, length-numbers}
+use Rattle.judge.proofs.Judging.{ring-fine}
+
+each-map : {A B : Type 0} (g : A → B) {P : B → Type 0} (l : List A) → Each (λ a. P (g a)) l → Each P (map g l)
+each-map g [] none = none
+each-map g (a ∷ l) (more p e) = more p (each-map g l e)
+
+is-cut : (n : ℕ) (c : Cut) → ((IsCut n c → ⊥) → ⊥) → IsCut n c
+is-cut n c is = record {
+  low = elim (dec_le 1 c.g) [ yes l ↦ l | no l ↦ absurd (is (λ k. l k.low)) ];
+  order = elim (dec_lt c.g c.h) [ yes l ↦ l | no l ↦ absurd (is (λ k. l k.order)) ];
+  high = elim (dec_le c.h n) [ yes l ↦ l | no l ↦ absurd (is (λ k. l k.high)) ];
+}
+
+module _ (x : Sheet) where
+  abbrev tail-of : Findings
+  tail-of =
+      then (loads_findings x.ring.nodes (true_link x.rows) x.links)
+      (last_by x.ring.fibres (split_peak x) (unsplit_peak x) (largest_split_of x) x.cut.number x.peak x.size)
+
+  -- what holds of each row holds of the demands
+  of-demands : {P : Row → Type 0} → Each (λ (r : Routed). P r.sent.row) x.rows → Each P (demands (sents x.rows))
+  of-demands e = each-map (λ (s : Sent). s.row) _ (each-map (λ (r : Routed). r.sent) x.rows e)
+
+  of-rows : {P : Row → Type 0} → Each P (demands (sents x.rows)) → Each (λ (r : Routed). P r.sent.row) x.rows
+  of-rows e = each-of-map (λ (r : Routed). r.sent) x.rows (each-of-map (λ (s : Sent). s.row) _ e)
+
+  pub fine-fits : First (ring_findings desk x.ring) fine → First (rows_findings desk x.ring.nodes 1 None x.rows) fine → Fits desk x
+  fine-fits a b =
+      let ring = ring-fine desk x.ring a in
+      let rows = rows-fine desk x.ring.nodes 1 None x.rows b in
+      let rs = demands (sents x.rows) in
+      let nodes = of-demands (each (λ r f. f.on) rows.each) in
+      let amounts = of-demands (each (λ r f. f.amount) rows.each) in
+      let count : length rs ≤ desk.rows = omega (arith, rows.count, demands-length x.rows) in
+      record {
+        few = ring.few;
+        many = ring.many;
+        fibres = ring.fibres;
+        rows = record { nodes = nodes; order = rows.order };
+        count = count;
+        amounts = amounts;
+        short = omega (arith, table-short desk desk-spelled x.ring rs ring.many ring.fibres nodes count amounts);
+      }
+
+  pub fine-true : First (findings desk x) fine → TrueSheet x
+  fine-true h =
+      let p = both-of (ring_findings desk x.ring) _ h in
+      let q = both-of (rows_findings desk x.ring.nodes 1 None x.rows) _ p.1 in
+      let r = both-of (cut_findings x.ring.nodes x.rows x.cut) tail-of q.1 in
+      let s = both-of (loads_findings x.ring.nodes (true_link x.rows) x.links) _ r.1 in
+      let rows = rows-fine desk x.ring.nodes 1 None x.rows q.0 in
+      let cut = none-of r.0 in
+      let count = none-of s.0 in
+      let links = links-true x 1 x.links count.1 in
+      let last = none-of s.1 in
+      let tight = none-of last.1 in
+      let bound = none-of tight.1 in
+      let many = same-number (length x.links) x.ring.nodes count.0 in
+      let over : split_peak x + 3 * largest_split_of x < 2 * unsplit_peak x → ⊥ = bound.0 in
+      record {
+        sums = each-map (λ (r : Routed). r.sent) x.rows (each (λ r f. f.sums) rows.each);
+        cut = is-cut x.ring.nodes x.cut (λ d. cut.0 (inl d));
+        across = same-number _ _ (λ d. cut.0 (inr d));
+        links = links.numbers ∙ ap (numbers_from 1) many;
+        loads = links.loads;
+        peak = same-number _ _ (λ d. last.0 (inl d));
+        size = same-number _ _ (λ d. last.0 (inr d));
+        tight = same-number _ _ tight.0;
+        kept = each (λ r f. f.kept) rows.each;
+        bound = omega arith;
+      }
+
+  pub fine-accepted : First (findings desk x) fine → Fits desk x × TrueSheet x
+  fine-accepted h =
+      let p = both-of (ring_findings desk x.ring) _ h in
+      let q = both-of (rows_findings desk x.ring.nodes 1 None x.rows) _ p.1 in
+      (fine-fits p.0 q.0, fine-true h)
+
+  many-of : TrueSheet x → length x.links ≡ x.ring.nodes
+  many-of t = sym (length-map x.links (λ (l : Link). l.link)) ∙ ap length t.links ∙ length-numbers 1 x.ring.nodes
+
+  each-fine : (rs : List Routed) → Each (λ (r : Routed). OnRing x.ring.nodes r.sent.row) rs → Each (λ (r : Routed). r.sent.row.amount ≤ desk.amount) rs →
+      Each (λ (r : Routed). SumsTo2d r.sent) rs → Each Kept rs → Each (Fine desk x.ring.nodes) rs
+  each-fine [] none none none none = none
+  each-fine (r ∷ rs) (more a e) (more b bs) (more c cs) (more d ds) = more (record { on = a; amount = b; sums = c; kept = d }) (each-fine rs e bs cs ds)
+
+  pub true-fine : Fits desk x → TrueSheet x → First (findings desk x) fine
+  true-fine f t =
+      let many = many-of t in
+      let sums = each-of-map (λ (r : Routed). r.sent) x.rows t.sums in
+      let rows = each-fine x.rows (of-rows f.rows.nodes) (of-rows f.amounts) sums t.kept in
+      then-on _ _ _ (inr (⊎_elim (λ l. omega (arith, f.few)) (λ l. omega (arith, f.many)), inr (λ d. d f.fibres, refl)))
+      (then-on _ _ _ (fine-rows desk x.ring.nodes 1 None x.rows rows f.rows.order (omega (arith, f.count, demands-length x.rows)))
+      (then-on _ _ _ (inr (⊎_elim (λ d. d t.cut) (λ d. d t.across), refl))
+      (then-on _ _ _ (inr (λ d. d many, true-links x 1 x.links (record { numbers = t.links ∙ ap (numbers_from 1) (sym many); loads = t.loads })))
+      (inr (⊎_elim (λ d. d t.peak) (λ d. d t.size), inr (λ d. d t.tight, inr (λ l. omega (arith, t.bound), refl)))))))
+
+-- ---- so of an answer that is the first
+
+pub accepts : (x : Sheet) (r : Result Unit Finding) → First (findings desk x) r → IsOk r ↔ (Fits desk x × TrueSheet x)
+accepts x (Ok tt) h = (λ _. fine-accepted x h, λ _. refl)
+accepts x (Err f) h = (λ e. absurd (cc), λ p. absurd (clash (one-answer (findings desk x) fine (Err f) (true-fine x p.0 p.1) h)))
+  where
+    clash : fine ≡ Err f → ⊥
+    clash e = absurd (cc)

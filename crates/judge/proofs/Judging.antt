@@ -1,0 +1,83 @@
+-- All findings, part by part: what is given of a part is given of all, where nothing is found before it.
+use Rattle.std.proofs.Common.{ℕ, ◌*◌, ◌^◌, ◌<◌, ◌≤◌, List, None, Result, Err, inl, inr, ◌≡◌, ap, ◌∙◌, arith}
+use mathlib.Core.Logic.{⊎_elim}
+use native.Mathlib.Decide.{ℕ_discrete}
+use Rattle.ring.specs.declared.types.Ring.{Ring}
+use Rattle.ring.specs.declared.types.Routed.{Routed}
+use Rattle.ring.specs.Limits.{Limits, desk}
+use Rattle.ring.specs.LineSize.{IsFibres, two_fibres, four_fibres}
+use Rattle.ring.specs.Sheet.{Sheet, true_link}
+use Rattle.ring.proofs.Lists.{each}
+use Rattle.table.specs.Findings.{First, ring_findings}
+use Rattle.table.specs.declared.finding.Finding.{Finding}
+use Rattle.table.proofs.Findings.{fine, then-on, then-stop, none-of}
+use Rattle.weight.specs.Rows.{Fit}
+use Rattle.weight.specs.Weighed.{weight_in}
+use Rattle.weight.specs.declared.Weight.{Weight}
+use Rattle.weight.proofs.Weighing.{peak-fits}
+use Rattle.judge.specs.Due.{link_in, last_by}
+use Rattle.judge.specs.Findings.{rows_findings, cut_findings, loads_findings, findings}
+use Rattle.judge.proofs.Rows.{rows-fine}
+use Rattle.judge.proofs.Links.{loads-same, due-links}
+
+-- ---- the ring
+
+pub record FineRing (limits : Limits) (ring : Ring) : Type 0 where
+  pub few : limits.fewest ≤ ring.nodes
+  pub many : ring.nodes ≤ limits.nodes
+  pub fibres : IsFibres ring.fibres
+
+fibres-of : (fibres : ℕ) → ((IsFibres fibres → ⊥) → ⊥) → IsFibres fibres
+fibres-of fibres n =
+    elim (ℕ_discrete fibres two_fibres) [ yes e ↦ inl e | no a ↦ elim (ℕ_discrete fibres four_fibres) [ yes e ↦ inr e | no b ↦ absurd (n (⊎_elim a b)) ] ]
+
+pub ring-fine : (limits : Limits) (ring : Ring) → First (ring_findings limits ring) fine → FineRing limits ring
+ring-fine limits ring h =
+    let a = none-of h in
+    let b = none-of a.1 in
+    let low : ring.nodes < limits.fewest → ⊥ = λ l. a.0 (inl l) in
+    let high : limits.nodes < ring.nodes → ⊥ = λ l. a.0 (inr l) in
+    record { few = omega arith; many = omega arith; fibres = fibres-of ring.fibres b.0 }
+
+-- ---- so the rows can be weighed
+
+pub rows-fit : (ring : Ring) (rs : List Routed) → First (ring_findings desk ring) fine → First (rows_findings desk ring.nodes 1 None rs) fine → Fit ring.nodes rs
+rows-fit ring rs a b =
+    let ok = rows-fine desk ring.nodes 1 None rs b in
+    record {
+      links = (ring-fine desk ring a).many;
+      few = omega (arith, ok.count);
+      each = each (λ r f. record { on = f.on; amount = f.amount; halves = omega (arith, f.sums, f.amount) }) ok.each;
+    }
+
+-- ---- part by part
+
+module _ (x : Sheet) where
+  pub at-ring : (f : Finding) → First (ring_findings desk x.ring) (Err f) → First (findings desk x) (Err f)
+  at-ring = then-stop _ _
+
+  module _ (a : First (ring_findings desk x.ring) fine) where
+    pub at-rows : (f : Finding) → First (rows_findings desk x.ring.nodes 1 None x.rows) (Err f) → First (findings desk x) (Err f)
+    at-rows f h = then-on _ _ _ a (then-stop _ _ f h)
+
+    module _ (b : First (rows_findings desk x.ring.nodes 1 None x.rows) fine) where
+      pub at-cut : (f : Finding) → First (cut_findings x.ring.nodes x.rows x.cut) (Err f) → First (findings desk x) (Err f)
+      at-cut f h = then-on _ _ _ a (then-on _ _ _ b (then-stop _ _ f h))
+
+      -- the links that are due by a weight, and its figures, are those of the rows
+      module _ (c : First (cut_findings x.ring.nodes x.rows x.cut) fine) (w : Weight) (weighs : w ≡ weight_in x.ring.nodes x.rows) where
+        links-of-rows : (r : Result Unit Finding) → First (loads_findings x.ring.nodes (link_in w) x.links) r → First (loads_findings x.ring.nodes (true_link x.rows) x.links) r
+        links-of-rows =
+            loads-same (link_in w) (true_link x.rows) x.ring.nodes x.links
+            (λ k l h. ap (λ w. link_in w k) weighs ∙ due-links x.ring.nodes x.rows (ring-fine desk x.ring a).many k l h)
+
+        pub at-links : (f : Finding) → First (loads_findings x.ring.nodes (link_in w) x.links) (Err f) → First (findings desk x) (Err f)
+        at-links f h = then-on _ _ _ a (then-on _ _ _ b (then-on _ _ _ c (then-stop _ _ f (links-of-rows (Err f) h))))
+
+        pub carries : 2 * w.peak < 2 ^ 32
+        carries = omega (arith, peak-fits x.ring.nodes x.rows (rows-fit x.ring x.rows a b) w weighs)
+
+        pub at-last : First (loads_findings x.ring.nodes (link_in w) x.links) fine → (r : Result Unit Finding) →
+            First (last_by x.ring.fibres w.split_peak w.peak w.largest x.cut.number x.peak x.size) r → First (findings desk x) r
+        unfolding weight_in
+        at-last d r h = then-on _ _ _ a (then-on _ _ _ b (then-on _ _ _ c (then-on _ _ _ (links-of-rows fine d) (rw weighs at h))))

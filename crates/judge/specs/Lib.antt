@@ -1,0 +1,3 @@
+pub mod Findings
+pub mod Due
+pub mod Tests

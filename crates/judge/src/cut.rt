@@ -1,0 +1,64 @@
+// The cut: two links of the ring, and the across number of the rows.
+ghost use Rattle.std.specs.Prelude.{◌≡◌, ◌↔◌, ◌^◌, ◌<◌, IsTrue, sum_by};
+ghost use Rattle.ring.specs.Cut.{IsCut, part};
+ghost use Rattle.ring.specs.Row.{in_front};
+ghost use Rattle.weight.specs.Rows.{Fit};
+ghost use Rattle.table.specs.Findings.{First};
+ghost use Rattle.judge.specs.Findings.{cut_findings};
+
+use ring::{Cut, Row};
+use rows::Rows;
+use table::{Finding, Reason};
+
+// Whether two links are a cut of a ring of so many nodes.
+fn is_cut(nodes: u32, cut: Cut) -> bool
+    ensures { IsTrue result ↔ IsCut nodes cut }
+{
+    1 <= cut.g && cut.g < cut.h && cut.h <= nodes
+}
+
+// Whether the front of a row holds a link.
+fn in_front(row: Row, link: u32) -> bool
+    ensures { result ≡ in_front row link }
+{
+    row.first <= link && link < row.second
+}
+
+// What a row adds to the across number of g and h.
+#[tactic(auto, unfolding(ring::specs::Cut::part, ring::specs::Cut::if_one))]
+fn part(row: Row, g: u32, h: u32) -> u32
+    ensures { result ≡ part row g h }
+{
+    if in_front(row, g) == in_front(row, h) {
+        0
+    } else {
+        row.amount
+    }
+}
+
+// The across number of g and h.
+fn across<R: Rows>(rows: &R, g: u32, h: u32) -> u32
+    requires { sum_by (λ r. part r.sent.row g h) (R.rows rows.now) < 2 ^ 32 }
+    ensures { result ≡ sum_by (λ r. part r.sent.row g h) (R.rows rows.now) }
+{
+    let mut sum: u32 = 0;
+    for k in 0..rows.count() {
+        sum += part(rows.row(k).sent.row, g, h);
+    }
+    sum
+}
+
+// 10: no cut, or an across number that is not that of the rows.
+#[tactic(auto, using(crate::proofs::Across::across_sum, crate::proofs::Across::across_fits))]
+pub(crate) fn judge_cut<R: Rows>(nodes: u32, rows: &R, cut: Cut) -> Result<(), Finding>
+    requires { Fit nodes (R.rows rows.now) }
+    ensures { First (cut_findings nodes (R.rows rows.now) cut) result }
+{
+    if !is_cut(nodes, cut) {
+        return Err(Finding::at(Reason::WrongCut, 0));
+    }
+    if across(rows, cut.g, cut.h) != cut.number {
+        return Err(Finding::at(Reason::WrongCut, 0));
+    }
+    Ok(())
+}

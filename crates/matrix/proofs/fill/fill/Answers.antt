@@ -1,0 +1,25 @@
+-- The pairs of the nodes before the first are passed (`Filling`), and of the first those with the nodes before the second (`Crossing`).
+use Rattle.std.proofs.Common.{rules, arith}
+use Rattle.matrix.proofs.FillSteps.{filling-starts, node-begins, node-over, no-demand, has-room, adds-row, filled}
+use Rattle.matrix.proofs.fill.fill.Goals as goal
+
+pub loop-first-init : goal.loop-first-init
+loop-first-init c = search (filling-starts, rules)
+
+pub loop-second-init : goal.loop-second-init
+loop-second-init c = search (node-begins, rules)
+
+pub loop-second-preserved-then-amount-eq0 : goal.loop-second-preserved-then-amount-eq0
+loop-second-preserved-then-amount-eq0 c = search (no-demand, rules)
+
+pub push_unsent-requires : goal.push_unsent-requires
+push_unsent-requires c = search (has-room, rules)
+
+pub loop-second-preserved : goal.loop-second-preserved
+loop-second-preserved c = adds-row _ _ _ _ _ c.loop-second.invariant c.loop-second-test.true _ c.get-amount.ensures (λ e. omega arith) _ c.push_unsent.ensures
+
+pub loop-first-preserved : goal.loop-first-preserved
+loop-first-preserved c = search (node-over, rules)
+
+pub returns : goal.returns
+returns c = search (filled, rules)

@@ -1,0 +1,12 @@
+-- The faulty byte of a line is within the text, and the line is told of by it (`LineSteps`).
+use Rattle.matrix.proofs.LineSteps.{line-place, line-wrong, line-right}
+use Rattle.matrix.proofs.line.numbers_on.Goals as goal
+
+pub misshapen-requires : goal.misshapen-requires
+misshapen-requires c = search line-place
+
+pub returns-in-Err : goal.returns-in-Err
+returns-in-Err c = search line-wrong
+
+pub returns-in-Ok : goal.returns-in-Ok
+returns-in-Ok c = search line-right

@@ -1,0 +1,29 @@
+//! The rows of a square.
+ghost use Rattle.std.specs.Prelude.{◌≡◌, [], length};
+ghost use Rattle.ring.specs.Sheet.{sents, demands};
+ghost use Rattle.matrix.specs.Demands.{rows_of_matrix};
+
+use crate::square::Square;
+use ring::Row;
+use rows::Columns;
+
+/// Fills columns that hold no row with a row for each pair whose entry is above 0, in table order.
+pub(crate) fn fill(square: &Square, rows: &mut Columns)
+    requires { rows.old ≡ [] }
+    ensures { demands (sents rows.new) ≡ rows_of_matrix (length square.now) square.now }
+{
+    let nodes = square.nodes();
+    for first in 1..nodes + 1 {
+        for second in first + 1..nodes + 1 {
+            let amount = square.get(first, second);
+            if amount == 0 {
+                continue;
+            }
+            rows.push_unsent(Row {
+                first,
+                second,
+                amount,
+            });
+        }
+    }
+}

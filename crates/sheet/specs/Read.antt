@@ -1,0 +1,122 @@
+-- Internal: reading a sheet: reason 1 first, then lines in order, and in a line the reasons in their order; nothing is judged by its figures.
+use Rattle.std.specs.Prelude.{ℕ, ◌+◌, max, cond, List, [], ◌∷◌, ◌++◌, length, get_or, ltb, Option, Some, None, Ok, Err}
+use Rattle.ring.specs.Routing.{way_of, routed, sent}
+use Rattle.ring.specs.declared.types.Routed.{Routed}
+use Rattle.ring.specs.declared.types.Cut.{Cut}
+use Rattle.ring.specs.Limits.{Limits}
+use Rattle.ring.specs.Ring.{ring_of}
+use Rattle.ring.specs.declared.types.Ring.{Ring}
+use Rattle.ring.specs.declared.types.Row.{Row}
+use Rattle.ring.specs.Sheet.{Sheet, sents, demands}
+use Rattle.ring.specs.declared.types.Link.{Link}
+use Rattle.text.specs.FieldByte.{field_byte}
+use Rattle.text.specs.ReadLine.{Reading, read_line}
+use Rattle.text.specs.Shapes.{ring_shape, sent_shape, cut_shape, link_shape, last_shape}
+use Rattle.text.specs.declared.field.Field.{Field}
+use Rattle.table.specs.Lines.{lines}
+use Rattle.table.specs.Faults.{ring_found, row_found, last_of as last_demand}
+use Rattle.table.specs.declared.fault.Fault.{Fault}
+use Rattle.table.specs.declared.reason.Reason.{Reason}
+use Rattle.table.specs.declared.reason.Reason.TheVariants.{TooLong, Misshapen}
+use Rattle.sheet.specs.Says.{State, start, rows, links, end}
+
+-- a sheet; or a reason, a line and a byte of it
+pub data Result : Type 0 where
+  accepted : Sheet → Result
+  refused : Reason → ℕ → ℕ → Result
+
+-- a line leads on to another state, or to a reason and a byte
+pub data Turn : Type 0 where
+  on : State → Turn
+  stop : Reason → ℕ → Turn
+
+-- where nothing is found against the values of a line; else the byte is where the field starts
+unfoldable pub unless : List Field → List ℕ → Option Fault → State → Turn
+unless shape vs None next = on next
+unless shape vs (Some f) next = stop f.reason (field_byte shape vs f.field)
+
+-- ---- the values of a line; that of the letter is the first
+
+-- R n fibres
+abbrev pub ring_in : List ℕ → Ring
+ring_in vs = ring_of (get_or vs 1 0) (get_or vs 2 0)
+
+-- D i j amount front back F-or-B
+abbrev pub row_in : List ℕ → Routed
+row_in vs = routed (sent (get_or vs 1 0) (get_or vs 2 0) (get_or vs 3 0) (get_or vs 4 0) (get_or vs 5 0)) (way_of (get_or vs 6 0))
+
+-- C g h across
+abbrev pub cut_in : List ℕ → Cut
+cut_in vs = record { g = get_or vs 1 0; h = get_or vs 2 0; number = get_or vs 3 0 }
+
+-- L link split-load unsplit-load
+abbrev pub link_in : List ℕ → Link
+link_in vs = record { link = get_or vs 1 0; split = get_or vs 2 0; unsplit = get_or vs 3 0 }
+
+-- Z unsplit-peak size, behind everything else
+abbrev pub sheet_with : Ring → List Routed → Cut → List Link → List ℕ → Sheet
+sheet_with ring rs c ks vs = record { ring = ring; rows = rs; cut = c; links = ks; peak = get_or vs 1 0; size = get_or vs 2 0 }
+
+-- the demand of the last of some rows; its nodes are 0, 0 where there is none
+abbrev pub last_of : List Routed → Row
+last_of rs = last_demand (demands (sents rs))
+
+-- ---- one line: its shape, then what is found against its numbers
+
+-- R n fibres
+unfoldable pub ring_turn : Limits → Reading → Turn
+unfolding unless ring_found
+ring_turn limits (Ok vs) = unless ring_shape vs (ring_found limits (ring_in vs)) (rows (ring_in vs) [])
+ring_turn limits (Err p) = stop Misshapen (p + 1)
+
+-- C g h across; the line is no D line, whose first faulty byte is at the place q: the first at which neither goes on is at the later place
+unfoldable pub cut_turn : Ring → List Routed → ℕ → Reading → Turn
+cut_turn ring rs q (Ok vs) = on (links ring rs (cut_in vs) [])
+cut_turn ring rs q (Err p) = stop Misshapen (max q p + 1)
+
+-- D i j amount front back F-or-B, else C
+unfoldable pub row_turn : Limits → Ring → List Routed → Reading → Reading → Turn
+unfolding unless cut_turn row_found
+row_turn limits ring rs (Ok vs) other = unless sent_shape vs (row_found limits ring.nodes (length rs) (last_of rs) (row_in vs).sent.row) (rows ring (rs ++ row_in vs ∷ []))
+row_turn limits ring rs (Err p) other = cut_turn ring rs p other
+
+-- L link split-load unsplit-load
+unfoldable pub link_turn : Ring → List Routed → Cut → List Link → Reading → Turn
+link_turn ring rs c ks (Ok vs) = on (links ring rs c (ks ++ link_in vs ∷ []))
+link_turn ring rs c ks (Err p) = stop Misshapen (p + 1)
+
+-- Z unsplit-peak size
+unfoldable pub last_turn : Ring → List Routed → Cut → List Link → Reading → Turn
+last_turn ring rs c ks (Ok vs) = on (end (sheet_with ring rs c ks vs))
+last_turn ring rs c ks (Err p) = stop Misshapen (p + 1)
+
+-- by what is due; a line behind the last is left over
+unfoldable pub turn : Limits → State → List ℕ → Turn
+unfolding ring_turn row_turn link_turn last_turn
+turn limits start l = ring_turn limits (read_line ring_shape l)
+turn limits (rows ring rs) l = row_turn limits ring rs (read_line sent_shape l) (read_line cut_shape l)
+turn limits (links ring rs c ks) l = cond (ltb (length ks) ring.nodes) (link_turn ring rs c ks (read_line link_shape l)) (last_turn ring rs c ks (read_line last_shape l))
+turn limits (end x) l = stop Misshapen 1
+
+-- ---- the lines in order
+
+-- no line is left: the one that is due is missing
+unfoldable pub at_end : State → ℕ → Result
+at_end (end x) line = accepted x
+at_end start line = refused Misshapen line 1
+at_end (rows ring rs) line = refused Misshapen line 1
+at_end (links ring rs c ks) line = refused Misshapen line 1
+
+unfoldable pub after : Turn → ℕ → (State → Result) → Result
+after (on next) line rest = rest next
+after (stop reason byte) line rest = refused reason line byte
+
+-- from a state, the lines ls, of which the first has the number `line`
+unfoldable pub read_from : Limits → State → ℕ → List (List ℕ) → Result
+unfolding turn at_end after
+read_from limits state line [] = at_end state line
+read_from limits state line (l ∷ ls) = after (turn limits state l) line λ next. read_from limits next (line + 1) ls
+
+unfoldable pub read_sheet : Limits → List ℕ → Result
+unfolding read_from
+read_sheet limits t = cond (ltb limits.bytes (length t)) (refused TooLong 0 0) (read_from limits start 1 (lines t))

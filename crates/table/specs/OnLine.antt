@@ -1,0 +1,32 @@
+-- Internal: what one line is read to: a value, against which nothing is found; or the refusal of the line.
+use Rattle.std.specs.Prelude.{ℕ, ◌+◌, List, Option, Some, None, Result, Ok, Err}
+use Rattle.text.specs.FieldByte.{field_byte}
+use Rattle.text.specs.ReadLine.{Reading, read_line}
+use Rattle.text.specs.declared.field.Field.{Field}
+use Rattle.table.specs.declared.reason.Reason.{Reason}
+use Rattle.table.specs.declared.reason.Reason.TheVariants.{Misshapen}
+use Rattle.table.specs.declared.reason.Refusal.{Refusal}
+use Rattle.table.specs.declared.fault.Fault.{Fault}
+
+abbrev pub refusal : Reason → ℕ → ℕ → Refusal
+refusal reason line byte = record { reason = reason; line = line; byte = byte }
+
+-- what is read, then what `next` reads behind it
+unfoldable pub and_then : {A B : Type 0} → Result A Refusal → (A → Result B Refusal) → Result B Refusal
+and_then (Ok x) next = next x
+and_then (Err r) next = Err r
+
+-- the values of the line; or the place of its first faulty byte
+unfoldable pub values_on : ℕ → Reading → Result (List ℕ) Refusal
+values_on line (Ok vs) = Ok vs
+values_on line (Err p) = Err (refusal Misshapen line (p + 1))
+
+-- what its values say, where nothing is found against them
+unfoldable pub passed : {A : Type 0} → ℕ → List Field → List ℕ → Option Fault → A → Result A Refusal
+passed line shape vs None x = Ok x
+passed line shape vs (Some f) x = Err (refusal f.reason line (field_byte shape vs f.field))
+
+-- the line l by its shape, by what its values are and what is found against that
+unfoldable pub judged : {A : Type 0} → ℕ → List Field → (List ℕ → A) → (A → Option Fault) → List ℕ → Result A Refusal
+unfolding and_then values_on passed
+judged line shape value fault l = and_then (values_on line (read_line shape l)) λ vs. passed line shape vs (fault (value vs)) (value vs)

@@ -1,0 +1,272 @@
+//! The groups of sheets that are held as values: those of the sheets that are
+//! texts, as far as their lines have their shape, and these with numbers that no
+//! text can spell, sums that wrap, and rows and links left out, put in and moved.
+
+use crate::check;
+use crate::compare::Case;
+use crate::rng::Rng;
+use crate::sheets;
+use crate::values::{HeldRow, Values};
+
+type Make = fn(&mut Rng, u64) -> Option<Case>;
+
+/// A group of values: those of the texts that `make` gives, changed by `change`. A
+/// group with share 0 is a list, any other runs until it has its share, out of all
+/// `JUDGING_SHARES`, of the number of comparisons.
+pub struct JudgingGroup {
+    pub name: &'static str,
+    pub share: u64,
+    make: Make,
+    change: fn(&mut Rng, &mut Values),
+}
+
+/// The next values of a group: none where the list has ended, or where the text's
+/// lines have not their shape.
+pub enum Made {
+    Ended,
+    NoValues,
+    Values(Values),
+}
+
+impl JudgingGroup {
+    pub fn values(&self, rng: &mut Rng, case: u64) -> Made {
+        let Some(made) = (self.make)(rng, case) else {
+            return Made::Ended;
+        };
+        let Ok(sheet) = check::read_values(&made.text, &[]) else {
+            return Made::NoValues;
+        };
+        let mut values = Values::of(&sheet);
+        (self.change)(rng, &mut values);
+        Made::Values(values)
+    }
+}
+
+const fn group(name: &'static str, share: u64, make: Make) -> JudgingGroup {
+    let change = as_they_are;
+    JudgingGroup {
+        name,
+        share,
+        make,
+        change,
+    }
+}
+
+const fn changed(
+    name: &'static str,
+    share: u64,
+    change: fn(&mut Rng, &mut Values),
+) -> JudgingGroup {
+    let make = any_sheet;
+    JudgingGroup {
+        name,
+        share,
+        make,
+        change,
+    }
+}
+
+pub const JUDGING_SHARES: u64 = {
+    let (mut at, mut sum) = (0, 0);
+    while at < JUDGING_GROUPS.len() {
+        sum += JUDGING_GROUPS[at].share;
+        at += 1;
+    }
+    sum
+};
+
+pub const JUDGING_GROUPS: [JudgingGroup; 19] = [
+    group("judging: the stated sheets", 0, sheets::stated),
+    group("judging: all small sheets", 0, sheets::all_small),
+    group("judging: about 496 rows", 0, sheets::about_496),
+    group("judging: sheets of ours", 80, sheets::ours),
+    group("judging: sheets of ours, full rings", 6, sheets::ours_full),
+    group(
+        "judging: foreign sheets, 2 to 15 offices",
+        40,
+        sheets::foreign_small,
+    ),
+    group(
+        "judging: foreign sheets, 16 to 32 offices",
+        90,
+        sheets::foreign_large,
+    ),
+    group(
+        "judging: foreign sheets, full rings",
+        6,
+        sheets::foreign_full,
+    ),
+    group("judging: rows that cross", 50, sheets::crossing),
+    group("judging: 496 rows", 12, sheets::most_rows),
+    group("judging: 497 rows and more", 24, sheets::too_many_rows),
+    group("judging: a figure off by one", 100, sheets::off_by_one),
+    group("judging: two figures off", 60, sheets::two_off),
+    group("judging: fields damaged", 60, sheets::damaged_fields),
+    group("judging: rows damaged", 60, sheets::damaged_rows),
+    changed("judging: numbers that no text can spell", 120, any_numbers),
+    changed("judging: sums that wrap", 60, wrapping),
+    changed("judging: rows and links moved", 90, moved),
+    changed("judging: up to 5,000 rows", 10, lengthened),
+];
+
+fn as_they_are(_: &mut Rng, _: &mut Values) {}
+
+/// Sheets of every kind, mostly true ones.
+fn any_sheet(rng: &mut Rng, case: u64) -> Option<Case> {
+    let makes: [Make; 8] = [
+        sheets::ours,
+        sheets::foreign_small,
+        sheets::foreign_large,
+        sheets::crossing,
+        sheets::all_across,
+        sheets::ours,
+        sheets::off_by_one,
+        sheets::most_rows,
+    ];
+    // Sheets of 496 rows are dear.
+    let kinds = if case % 16 == 0 { 8 } else { 7 };
+    makes[rng.below(kinds)](rng, case)
+}
+
+/// Any number, by the one that stands there: the ends of 32 bits, the true one with
+/// a high bit more, its neighbours.
+fn any_number(rng: &mut Rng, number: u32) -> u32 {
+    match rng.below(12) {
+        0 => u32::MAX,
+        1 => 4_000_000_000,
+        2 => number.wrapping_add(1 << 31),
+        3 => number.wrapping_add(1 << 16),
+        4 => number.wrapping_add(1 << 8),
+        5 => number.wrapping_add(1),
+        6 => number.wrapping_sub(1),
+        7 => rng.next() as u32,
+        8 => rng.pick(&[0, 1, 2, 32, 33, 9_999, 10_000]),
+        9 => number.wrapping_mul(2),
+        10 => number.wrapping_add(3 << 30),
+        _ => 0,
+    }
+}
+
+/// All numbers of the values, each to be changed in place.
+fn numbers(values: &mut Values) -> Vec<&mut u32> {
+    let mut all: Vec<&mut u32> = Vec::new();
+    for row in &mut values.rows {
+        all.extend([&mut row.first, &mut row.second, &mut row.amount]);
+        all.extend([&mut row.front, &mut row.back, &mut row.way]);
+    }
+    for link in &mut values.links {
+        all.extend([&mut link.link, &mut link.split, &mut link.unsplit]);
+    }
+    all.extend([&mut values.g, &mut values.h, &mut values.across]);
+    all.extend([&mut values.peak, &mut values.size]);
+    all
+}
+
+/// One number changed, or several; seldom those of the ring, behind which nothing is
+/// judged.
+fn any_numbers(rng: &mut Rng, values: &mut Values) {
+    if rng.chance(1, 20) {
+        values.n = any_number(rng, values.n);
+    }
+    if rng.chance(1, 20) {
+        values.fibres = any_number(rng, values.fibres);
+    }
+    let times = rng.pick(&[1, 1, 1, 2, 3]);
+    let mut all = numbers(values);
+    let behind_rows = all.len().min(40);
+    for _ in 0..times {
+        let anywhere = rng.below(all.len());
+        let late = all.len() - 1 - rng.below(behind_rows);
+        let at = if rng.chance(1, 2) { anywhere } else { late };
+        *all[at] = any_number(rng, *all[at]);
+    }
+}
+
+/// Any of the rows.
+fn a_row<'a>(rng: &mut Rng, values: &'a mut Values) -> Option<&'a mut HeldRow> {
+    let at = rng.below(values.rows.len().max(1));
+    values.rows.get_mut(at)
+}
+
+/// Front and back of a row that add up to twice its amount in 8, 16, 31 or 32 bits
+/// alone; B by another number than 1.
+fn wrapping(rng: &mut Rng, values: &mut Values) {
+    let way = rng.pick(&[1, 2, 7, 1 << 8, 1 << 16, u32::MAX]);
+    for row in &mut values.rows {
+        row.way *= way;
+    }
+    let (bits, share) = (rng.pick(&[8, 16, 31, 32, 32, 32]), rng.next());
+    let Some(row) = a_row(rng, values) else {
+        return;
+    };
+    let sum = 2 * u64::from(row.amount.min(9_999)) + (1_u64 << bits);
+    let most = sum.min(u32::MAX.into());
+    let front = sum - most + share % (2 * most - sum + 1);
+    row.front = front as u32;
+    row.back = (sum - front) as u32;
+}
+
+/// Rows and links left out, doubled, exchanged, or put at the end; often none left
+/// at all.
+fn moved(rng: &mut Rng, values: &mut Values) {
+    match rng.below(12) {
+        0 => values.links.clear(),
+        1 => values.rows.clear(),
+        2 => {
+            values.links.pop();
+        }
+        3 => {
+            let link = values.links[0];
+            values.links.push(link);
+        }
+        4 => values.links.reverse(),
+        5 => {
+            let (one, two) = (rng.below(values.links.len()), rng.below(values.links.len()));
+            values.links.swap(one, two);
+        }
+        6 => {
+            let at = rng.below(values.links.len());
+            values.links.remove(at);
+        }
+        7 => {
+            let links = values.links.clone();
+            values.links.extend(links);
+        }
+        what if values.rows.is_empty() => values.links.truncate(what / 4),
+        8 => {
+            let at = rng.below(values.rows.len());
+            values.rows.remove(at);
+        }
+        9 => {
+            let at = rng.below(values.rows.len());
+            values.rows.insert(at, values.rows[at]);
+        }
+        10 => {
+            let at = rng.below(values.rows.len());
+            values.rows[at..].reverse();
+        }
+        _ => {
+            let at = rng.below(values.rows.len());
+            values.rows.swap(0, at);
+        }
+    }
+}
+
+/// The last row again and again, and sometimes a fault in one of them.
+fn lengthened(rng: &mut Rng, values: &mut Values) {
+    let length = rng.pick(&[495, 496, 497, 498, 1_000, 5_000]);
+    let last = values.rows.last().copied().unwrap_or(HeldRow {
+        first: 1,
+        second: 2,
+        ..HeldRow::default()
+    });
+    values.rows.resize(length, last);
+    if rng.chance(1, 2) {
+        let anywhere = rng.below(length);
+        let at = rng.pick(&[0, 494, length - 1, anywhere, 496]);
+        if let Some(row) = values.rows.get_mut(at.min(length - 1)) {
+            row.back = any_number(rng, row.back);
+            row.amount = any_number(rng, row.amount);
+        }
+    }
+}
