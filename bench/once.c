@@ -1,5 +1,6 @@
 /* What the library does once, to be counted from outside: it is all that the function `counted` does.
  *   once route TABLE, once check SHEET           what a call writes goes to standard output
+ *   once turn TABLE                              peak, link and turns, and the ways as letters, go there
  *   once judge SHEET                             the values that the sheet says
  *   once add|change|remove|write [FIRST SECOND]  of a full working table of 32 offices, at its last place, a row of these nodes or else the dearest
  *   once kept, once afresh                       496 rows are added and removed again, with the largest cut behind each: kept by the library, or summed
@@ -15,6 +16,8 @@ enum { N = RINGKIT_MAX_OFFICES, ROWS = RINGKIT_MAX_ROWS, MOST = RINGKIT_MAX_AMOU
 
 static uint8_t text[RINGKIT_MAX_TEXT_BYTES], buffer[RINGKIT_SHEET_BYTES];
 static size_t length, written;
+static uint8_t ways[ROWS];
+static ringkit_turn_reply turned;
 static ringkit_work work;
 /* the row that is added, changed to or removed: the dearest for all three, by trying all pairs */
 static uint32_t first = 8, second = 23;
@@ -27,6 +30,12 @@ static uint32_t route(void)
     ringkit_reply reply = ringkit_route(text, length, buffer, sizeof buffer);
     written = reply.length;
     return reply.reason;
+}
+
+static uint32_t turn(void)
+{
+    turned = ringkit_turn(text, length, ways);
+    return turned.reason;
 }
 
 static uint32_t check(void)
@@ -159,7 +168,7 @@ static const struct job {
     void (*prepare)(void);
     uint32_t (*call)(void);
 } JOBS[] = {
-    {"route", nothing, route}, {"check", nothing, check}, {"judge", take_down, judge}, {"add", all_but_one, add}, {"change", all, change}, {"remove", all, removes}, {"write", all, writes},
+    {"route", nothing, route}, {"turn", nothing, turn}, {"check", nothing, check}, {"judge", take_down, judge}, {"add", all_but_one, add}, {"change", all, change}, {"remove", all, removes}, {"write", all, writes},
     {"kept", draw, kept}, {"afresh", draw, afresh},
 };
 
@@ -170,6 +179,18 @@ __attribute__((noipa)) void counted(uint32_t (*call)(void));
 void counted(uint32_t (*call)(void))
 {
     reason = call();
+}
+
+static void tell_turned(void)
+{
+    if (turned.link == 0) {
+        return;
+    }
+    printf("%u %u %u ", (unsigned)turned.peak, (unsigned)turned.link, (unsigned)turned.turns);
+    for (size_t row = 0; row < turned.rows; row++) {
+        putchar(ways[row] == RINGKIT_F ? 'F' : 'B');
+    }
+    putchar('\n');
 }
 
 static void read_text(const char *name)
@@ -191,6 +212,7 @@ int main(int words, char **word)
             JOBS[k].prepare();
             counted(JOBS[k].call);
             fwrite(buffer, 1, written, stdout);
+            tell_turned();
             if (told != 0) {
                 printf("%u\n", (unsigned)told);
             }

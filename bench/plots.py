@@ -4,7 +4,7 @@ import math
 
 WIDTH, HEIGHT = 640, 340
 LEFT, RIGHT, TOP, BOTTOM = 60, 190, 40, 50
-COLOURS = ("#0b6e99", "#c4511d", "#4d7c2a", "#7a4b9a")
+COLOURS = ("#0b6e99", "#c4511d", "#4d7c2a", "#7a4b9a", "#b08900")
 
 
 def ticks(most):

@@ -56,6 +56,7 @@ class Result:
     rows: int
     across: int
     ours: int
+    turned: int
     best: int
     bound: int
     proved: int
@@ -77,8 +78,13 @@ class Result:
 
     @property
     def over(self):
-        """How far ours is above the best known peak, as a part of that."""
+        """How far the plan's peak is above the best known one, as a part of that."""
         return ratio(self.ours, self.best) - 1
+
+    @property
+    def turned_over(self):
+        """The same of one turn at a time."""
+        return ratio(self.turned, self.best) - 1
 
 
 COLUMNS = [field.name for field in fields(Result)]
@@ -115,7 +121,7 @@ def cells(results):
 
 
 def peaks(results):
-    head = "offices", "split peak = LP", "ours over best", "at most", "in units", "within 5 %", "ours = best", "ours over bound", "best = bound", "proved best"
+    head = "offices", "split peak = LP", "rule D over best", "at most", "in units", "within 5 %", "= best", "over floor", "best = floor", "best proved"
     return grid(head, *(peaks_row(n, some) for n, some in by_size(results, "pairs").items()))
 
 
@@ -132,6 +138,27 @@ def peaks_row(n, some):
         percent(mean(r.ours / r.least - 1 for r in some)),
         share_of(some, lambda r: r.best == r.least),
         f"{sum(r.proved for r in some)} of {len(some)}",
+    )
+
+
+def turned_peaks(results):
+    head = "offices", "over best", "at most", "in units", "at most", "= best", "proved best by the floor", "below rule D", "above rule D", "rule D = best", "proved best by the floor"
+    return grid(head, *(turned_row(n, some) for n, some in by_size(results, "pairs").items()))
+
+
+def turned_row(n, some):
+    return (
+        n,
+        percent(mean(r.turned_over for r in some), 3),
+        percent(max(r.turned_over for r in some)),
+        f"{mean(r.turned - r.best for r in some):.2f}",
+        max(r.turned - r.best for r in some),
+        share_of(some, lambda r: r.turned == r.best),
+        share_of(some, lambda r: r.turned == r.least),
+        share_of(some, lambda r: r.turned < r.ours),
+        share_of(some, lambda r: r.turned > r.ours),
+        share_of(some, lambda r: r.ours == r.best),
+        share_of(some, lambda r: r.ours == r.least),
     )
 
 
@@ -155,7 +182,7 @@ def times_row(n, some):
 
 
 def beside_8_1(results):
-    head = "offices", "A-C, there", "A-C, here", "A=C, there", "A=C, here", "C-B, there", "C-B, here", "B=C, there", "B=C, here"
+    head = "offices", "A-C, there", "rule D-C, here", "turned-C, here", "A=C, there", "rule D=C, here", "turned=C, here", "C-B, there", "C-B, here", "B=C, there", "B=C, here"
     return grid(head, *(beside_8_1_row(n, some) for n, some in by_size(results, "pairs").items()))
 
 
@@ -167,8 +194,10 @@ def beside_8_1_row(n, some):
         n,
         f"{gap:.4f}",
         f"{mean(r.over for r in sure):.4f}",
+        f"{mean(r.turned_over for r in sure):.4f}",
         f"{hit:.0f} %",
         share_of(sure, lambda r: r.ours == r.best),
+        share_of(sure, lambda r: r.turned == r.best),
         f"{bound_gap:.4f}",
         f"{mean(1 - r.across / 2 / r.best for r in sure):.4f}",
         f"{bound_hit} %",
@@ -177,7 +206,10 @@ def beside_8_1_row(n, some):
 
 
 def beside_6_to_8(results):
-    head = "chance", "offices", "best, there", "best, here", "DENS over best", "dual ascent over best", "ours over best, here", "at most", "ours = best", "proved best"
+    head = (
+        *("chance", "offices", "best, there", "best, here", "DENS over best, there", "here", "at most", "= best", "proved best by the floor"),
+        *("dual ascent over best, there", "rule D over best, here", "at most", "= best", "best proved"),
+    )
     return grid(head, *(beside_6_to_8_row(cell, some) for cell, some in cells(results).items()))
 
 
@@ -189,6 +221,10 @@ def beside_6_to_8_row(cell, some):
         best,
         f"{mean(r.best for r in some):.1f}",
         percent(dens / best - 1),
+        percent(turned_above(some)),
+        percent(max(r.turned_over for r in some)),
+        share_of(some, lambda r: r.turned == r.best),
+        share_of(some, lambda r: r.turned == r.least),
         percent(ascent / best - 1),
         percent(ours_above(some)),
         percent(max(r.over for r in some)),
@@ -201,14 +237,44 @@ def ours_above(some):
     return above([r.ours for r in some], [r.best for r in some])
 
 
+def turned_above(some):
+    return above([r.turned for r in some], [r.best for r in some])
+
+
 def printed(results):
-    head = "ring", "split peak", "best", "ours"
-    return grid(head, *((r.family, f"{r.across / 2:g}", r.best, r.ours) for r in results if r.family not in ("pairs", "lee")))
+    head = "ring", "split peak", "best", "rule D", "one turn at a time"
+    return grid(head, *((r.family, f"{r.across / 2:g}", r.best, r.ours, r.turned) for r in results if r.family not in ("pairs", "lee")))
+
+
+def all_together(results):
+    """Of all random tables, and of each family: how often each of the two hits the best, and how often the floor proves it."""
+    drawn = [r for r in results if r.family in ("pairs", "lee")]
+    kinds = {"all pairs": [r for r in drawn if r.family == "pairs"], "as Lee and Chang drew them": [r for r in drawn if r.family == "lee"], "all": drawn}
+    head = "tables", "count", "one turn at a time over best", "at most", "= best", "proved best by the floor", "above rule D", "rule D over best", "at most", "= best", "proved best by the floor"
+    return grid(head, *(together_row(name, some) for name, some in kinds.items() if some))
+
+
+def together_row(name, some):
+    return (
+        name,
+        len(some),
+        percent(mean(r.turned_over for r in some), 3),
+        percent(max(r.turned_over for r in some)),
+        percent(mean(r.turned == r.best for r in some), 1),
+        percent(mean(r.turned == r.least for r in some), 1),
+        sum(r.turned > r.ours for r in some),
+        percent(mean(r.over for r in some)),
+        percent(max(r.over for r in some)),
+        percent(mean(r.ours == r.best for r in some), 1),
+        percent(mean(r.ours == r.least for r in some), 1),
+    )
 
 
 def text(results):
     parts = {
-        "Peaks, all pairs": peaks,
+        "The two ways of sending whole circuits": all_together,
+        "One turn at a time, all pairs": turned_peaks,
+        "Rule D, all pairs": peaks,
         "Times, all pairs": times,
         "Beside table 8.1 of Schrijver, Seymour and Winkler": beside_8_1,
         "Beside tables 6 to 8 of Lee and Chang": beside_6_to_8,
@@ -225,9 +291,11 @@ def plot(results, folder):
         "Unsplit peak over the best, all pairs",
         "percent",
         [
-            ("ours, largest", [(n, 100 * max(r.over for r in some)) for n, some in sizes.items()]),
-            ("ours, average", [(n, 100 * mean(r.over for r in some)) for n, some in sizes.items()]),
+            ("rule D, largest", [(n, 100 * max(r.over for r in some)) for n, some in sizes.items()]),
+            ("rule D, average", [(n, 100 * mean(r.over for r in some)) for n, some in sizes.items()]),
             ("A, Schrijver et al.", [(n, 100 * TABLE_8_1[n][2]) for n in sizes]),
+            ("one turn, largest", [(n, 100 * max(r.turned_over for r in some)) for n, some in sizes.items()]),
+            ("one turn, average", [(n, 100 * mean(r.turned_over for r in some)) for n, some in sizes.items()]),
         ],
     )
     drawn = cells(results)
@@ -237,8 +305,9 @@ def plot(results, folder):
         "Unsplit peak over the best, drawn as by Lee and Chang",
         "percent",
         [
-            *((f"ours, chance {chance} %", [(n, 100 * ours_above(some)) for (share, n), some in drawn.items() if share == chance]) for chance in chances),
+            *((f"rule D, chance {chance} %", [(n, 100 * ours_above(some)) for (share, n), some in drawn.items() if share == chance]) for chance in chances),
             ("DENS, Lee and Chang", dens_line()),
+            ("one turn at a time", turned_line(drawn)),
         ],
     )
     plots.chart(
@@ -253,6 +322,12 @@ def plot(results, folder):
         ],
         log=True,
     )
+
+
+def turned_line(drawn):
+    """One turn at a time over the best by ring size, the chances taken together."""
+    sizes = sorted({n for _, n in drawn})
+    return [(n, 100 * mean(turned_above(some) for (_, m), some in drawn.items() if m == n)) for n in sizes]
 
 
 def dens_line():

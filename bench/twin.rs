@@ -1,6 +1,7 @@
 //! `twin make N` writes the table of all pairs of N offices with amounts drawn
 //! from a fixed seed; `twin route FILE` routes a table once by the twin, to be
-//! counted from outside, and writes the sheet.
+//! counted from outside, and writes the sheet; `twin turn FILE` sends its circuits
+//! one turn at a time, and writes peak, link and turns, and the ways as letters.
 
 #![allow(dead_code)]
 
@@ -20,22 +21,33 @@ mod shape;
 mod sheet;
 #[path = "../tests/twin/src/table.rs"]
 mod table;
+#[path = "../tests/twin/src/turns.rs"]
+mod turns;
 #[path = "../tests/twin/src/twin.rs"]
 mod twin;
 
 use std::io::Write;
+use turns::{TurnReply, WAYS};
 use twin::{Call, Reply};
 
 const SEED: u64 = 20_010_496;
 /// Room for every sheet.
 const ROOM: usize = 32_768;
 
-/// Text to text, as the library's call. It is never inlined, so that it can be
-/// counted by name.
+/// What one of the two calls says.
+enum Said {
+    Routed(Reply),
+    Turned(TurnReply),
+}
+
+/// As the library's call. It is never inlined, so that it can be counted by name.
 #[no_mangle]
 #[inline(never)]
-fn counted(table: &[u8], buffer: &mut [u8]) -> Reply {
-    twin::reply(&twin::answer(Call::Route, table), buffer)
+fn counted(what: &str, table: &[u8], buffer: &mut [u8]) -> Said {
+    if what == "turn" {
+        return Said::Turned(turns::turn(table, &mut buffer[..WAYS]));
+    }
+    Said::Routed(twin::reply(&twin::answer(Call::Route, table), buffer))
 }
 
 fn main() {
@@ -49,10 +61,21 @@ fn main() {
         out.write_all(&sheet::table_text(&table)).expect("output");
         return;
     }
-    assert_eq!(what, "route");
+    assert!(what == "route" || what == "turn");
     let table = std::fs::read(word).expect("a table");
     let mut buffer = vec![0; ROOM];
-    let reply = counted(&table, &mut buffer);
-    assert_eq!(reply.reason, 0);
-    out.write_all(&buffer[..reply.length]).expect("output");
+    let written = match counted(what, &table, &mut buffer) {
+        Said::Routed(reply) => {
+            assert_eq!(reply.reason, 0);
+            buffer[..reply.length].to_vec()
+        }
+        Said::Turned(reply) => {
+            assert_eq!(reply.reason, 0);
+            let ways = buffer[..reply.rows].iter();
+            let letters: String = ways.map(|way| if *way == 0 { 'F' } else { 'B' }).collect();
+            let (peak, link, turns) = (reply.peak, reply.link, reply.turns);
+            format!("{peak} {link} {turns} {letters}\n").into_bytes()
+        }
+    };
+    out.write_all(&written).expect("output");
 }

@@ -1,6 +1,7 @@
 /* The desk: plans a ring and checks plan sheets, and tells a planner what comes of it.
  *
  *   desk plan [--sheet] [TABLE]   the plan of the table in words, or its sheet
+ *   desk turn [TABLE]             whole circuits sent one turn at a time: often a lower peak than the plan's, and sometimes proved the lowest
  *   desk check [SHEET]            whether the sheet is accepted
  *   desk parallel [SHEET]         its first two split rows that are parallel
  *   desk table --fibres 2 [MATRIX]    the table of a matrix of demands, on a ring of two fibres; --fibres 4 of four
@@ -17,6 +18,7 @@
 #include "fields.h"
 #include "plan.h"
 #include "refusal.h"
+#include "turn.h"
 #include "work.h"
 
 static enum status refused(const struct text *text, ringkit_reply reply)
@@ -117,6 +119,7 @@ static const struct command {
 } COMMANDS[] = {
     {"plan", NULL, NULL, plan_table},
     {"plan", "--sheet", NULL, sheet_of},
+    {"turn", NULL, NULL, turn_table},
     {"check", NULL, NULL, check_sheet},
     {"parallel", NULL, NULL, ask_parallel},
     {"table", NULL, "2", table_for_two},
@@ -202,6 +205,7 @@ static bool carry_out(const struct order *order, enum status *status)
 }
 
 static const char USAGE[] = "usage: desk plan [--sheet] [TABLE]\n"
+                            "       desk turn [TABLE]\n"
                             "       desk check [SHEET]\n"
                             "       desk parallel [SHEET]\n"
                             "       desk table --fibres 2|4 [MATRIX]\n"

@@ -3,24 +3,6 @@
 #include "fields.h"
 #include "refusal.h"
 
-/* Front, back and split loads are in halves. */
-struct circuit {
-    unsigned first, second, amount, front, back;
-    bool goes_back;
-};
-
-struct load {
-    unsigned split, unsplit;
-};
-
-struct plan {
-    unsigned offices, fibres, circuits;
-    struct circuit circuit[RINGKIT_MAX_ROWS];
-    unsigned g, h, across;
-    struct load load[RINGKIT_MAX_OFFICES];
-    unsigned peak, size;
-};
-
 static struct circuit read_circuit(struct rest *rest)
 {
     struct circuit c;
@@ -85,6 +67,20 @@ static struct units in_units(unsigned halves)
     return (struct units){halves / 2, halves % 2 * 5};
 }
 
+void tell_ring(FILE *out, const struct plan *plan)
+{
+    fprintf(out, "Ring of %u offices and %u fibres, %u circuit%s; amounts and loads in %s.\n", plan->offices, plan->fibres, plan->circuits, plan->circuits == 1 ? "" : "s", RINGKIT_UNIT);
+}
+
+void tell_way(FILE *out, const struct circuit *circuit, bool goes_back)
+{
+    if (goes_back) {
+        fprintf(out, "back, from %u round to %u\n", circuit->second, circuit->first);
+    } else {
+        fprintf(out, "front, from %u up to %u\n", circuit->first, circuit->second);
+    }
+}
+
 static void tell_circuits(FILE *out, const struct plan *plan)
 {
     fprintf(out, "\nCircuit   offices  amount  split: front      back  unsplit, it goes\n");
@@ -93,11 +89,7 @@ static void tell_circuits(FILE *out, const struct plan *plan)
         struct units front = in_units(c->front);
         struct units back = in_units(c->back);
         fprintf(out, "%7u   %2u - %2u  %6u  %10u.%u  %6u.%u  ", k + 1, c->first, c->second, c->amount, front.whole, front.tenths, back.whole, back.tenths);
-        if (c->goes_back) {
-            fprintf(out, "back, from %u round to %u\n", c->second, c->first);
-        } else {
-            fprintf(out, "front, from %u up to %u\n", c->first, c->second);
-        }
+        tell_way(out, c, c->goes_back);
     }
 }
 
@@ -147,31 +139,83 @@ static void tell_size(FILE *out, const struct plan *plan)
     }
 }
 
-/* Which way each circuit goes, the cut and what it means, the links' loads, and the line size to buy. */
+/* The library owns the list of sizes, and is asked for the plan of one circuit of so much, which has that peak. A larger amount than a circuit may have is beyond all sizes, as that is. */
+unsigned line_size(unsigned peak, unsigned fibres)
+{
+    struct text table = {.name = "one circuit"};
+    struct plan plan;
+    unsigned amount = peak < RINGKIT_MAX_AMOUNT ? peak : RINGKIT_MAX_AMOUNT;
+    table.length = (size_t)sprintf((char *)table.bytes, "R\t%d\t%u\nD\t1\t2\t%u\n", RINGKIT_MIN_OFFICES, fibres, amount);
+    return make_plan(&plan, &table) == FINE ? plan.size : 0;
+}
+
+/* Half the across number, rounded up: of whole circuits one of the two links carries at least so much. */
+static unsigned floor_of(const struct plan *plan)
+{
+    return (plan->across + 1) / 2;
+}
+
+/* A lower peak is of no use where the line stays the same. */
+static void tell_size_at(FILE *out, const struct plan *plan, unsigned peak, unsigned least)
+{
+    unsigned size = line_size(least, plan->fibres);
+    if (size != line_size(peak, plan->fibres)) {
+        return;
+    }
+    if (size > 0) {
+        fprintf(out, "Even with %u the line to buy would be %u.\n", least, size);
+    } else {
+        fprintf(out, "Even with %u no line would be large enough.\n", least);
+    }
+}
+
+void tell_floor(FILE *out, const struct plan *plan, unsigned peak)
+{
+    unsigned least = floor_of(plan);
+    fprintf(out, "However whole circuits are sent, the peak is at least %u: half of the %u across links %u and %u%s.\n", least, plan->across, plan->g, plan->h, plan->across % 2 == 0 ? "" : ", rounded up");
+    if (peak == least) {
+        fprintf(out, "So %u is proved to be the best there is.\n", peak);
+    } else {
+        fprintf(out, "That does not prove %u to be the best there is; nothing can be more than %u below it.\n", peak, peak - least);
+        tell_size_at(out, plan, peak, least);
+    }
+}
+
+/* Which way each circuit goes, the cut and what it means, the links' loads, the line size to buy, and how low a peak could be. */
 static void tell_plan(FILE *out, const struct plan *plan)
 {
-    fprintf(out, "Ring of %u offices and %u fibres, %u circuit%s; amounts and loads in %s.\n", plan->offices, plan->fibres, plan->circuits, plan->circuits == 1 ? "" : "s", RINGKIT_UNIT);
+    tell_ring(out, plan);
     if (plan->circuits > 0) {
         tell_circuits(out, plan);
     }
     tell_cut(out, plan);
     tell_links(out, plan);
     tell_size(out, plan);
+    fputc('\n', out);
+    tell_floor(out, plan, plan->peak);
 }
 
-enum status plan_table(const struct text *table)
+enum status make_plan(struct plan *plan, const struct text *table)
 {
     uint8_t sheet[RINGKIT_SHEET_BYTES];
-    struct plan plan;
     ringkit_reply reply = ringkit_route(table->bytes, table->length, sheet, sizeof sheet);
     if (reply.reason != RINGKIT_OK) {
         tell_refusal(table, (struct refusal){reply.reason, reply.line, reply.byte}, true);
         return REFUSED;
     }
-    if (!read_plan(&plan, sheet, reply.length)) {
+    if (!read_plan(plan, sheet, reply.length)) {
         fputs("desk: the library's sheet is not one that this desk can read\n", stderr);
         return TROUBLE;
     }
-    tell_plan(stdout, &plan);
     return FINE;
+}
+
+enum status plan_table(const struct text *table)
+{
+    struct plan plan;
+    enum status status = make_plan(&plan, table);
+    if (status == FINE) {
+        tell_plan(stdout, &plan);
+    }
+    return status;
 }

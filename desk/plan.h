@@ -5,10 +5,43 @@
 #include "status.h"
 #include "text.h"
 
-/* Routes the table and tells its plan: which way each circuit goes, the cut and what it means, the links' loads, and the line size to buy. */
+/* Front, back and split loads are in halves. */
+struct circuit {
+    unsigned first, second, amount, front, back;
+    bool goes_back;
+};
+
+struct load {
+    unsigned split, unsplit;
+};
+
+struct plan {
+    unsigned offices, fibres, circuits;
+    struct circuit circuit[RINGKIT_MAX_ROWS];
+    unsigned g, h, across;
+    struct load load[RINGKIT_MAX_OFFICES];
+    unsigned peak, size;
+};
+
+/* Routes the table and takes its sheet apart. Says on standard error why it cannot. */
+enum status make_plan(struct plan *plan, const struct text *table);
+
+/* Routes the table and tells its plan: which way each circuit goes, the cut and what it means, the links' loads, the line size to buy, and how low a peak could be. */
 enum status plan_table(const struct text *table);
+
+/* The line size to buy at a peak; 0 where none is large enough. */
+unsigned line_size(unsigned peak, unsigned fibres);
+
+/* Tells of what ring the figures are. */
+void tell_ring(FILE *out, const struct plan *plan);
+
+/* Ends a line by the way that a circuit goes. */
+void tell_way(FILE *out, const struct circuit *circuit, bool goes_back);
 
 /* Ends a sentence on a cut of links g and h by what they part: offices g+1 to h from the others. */
 void tell_parted(FILE *out, unsigned g, unsigned h);
+
+/* Tells below what no peak of whole circuits can be, whether that proves this one to be the best there is, and where it does not, whether a lower one could be of use. */
+void tell_floor(FILE *out, const struct plan *plan, unsigned peak);
 
 #endif

@@ -1,4 +1,4 @@
-/* ringkit: plans a ring of offices, checks plans, as texts and as values, and keeps a table at work. For C11 and C++11, x86-64 Linux.
+/* ringkit: plans a ring of offices, checks plans, as texts and as values, sends whole circuits with a low peak, and keeps a table at work. For C11 and C++11, x86-64 Linux.
  *
  * A text is read as a table, as a sheet or as a matrix. Fields are parted by one tab, every line ends with LF, numbers are 1 to 7 digits with no leading
  * zero but 0 itself.
@@ -28,9 +28,11 @@
  *     2^63 bytes of them. Whatever numbers are in them, and whatever the counts are, the call ends with an answer. A count may be 0; its pointer is then not used, and
  *     may be NULL. Nobody writes to rows or links during the call.
  *   - Text and buffer do not overlap, and nobody else writes to either during the call.
+ *   - A pointer to ways (of ringkit_turn) names RINGKIT_MAX_ROWS bytes that may be written until the call returns, however few rows there are, so it has no length. They do not overlap
+ *     the text, and nobody else reads or writes them during the call.
  *   - A pointer to a working table names a whole struct ringkit_work, whatever bytes are in it. It does not overlap the buffer, and nobody else
  *     writes to it during the call, nor reads it while a call alters it.
- *   - RINGKIT_STACK_BYTES of stack are free. That figure is measured and not proved.
+ *   - RINGKIT_STACK_BYTES of stack are free, for ringkit_turn RINGKIT_TURN_STACK_BYTES. These figures are measured and not proved.
  *
  * No call keeps anything from one call to the next but in the working table that it is lent, allocates, touches a file or errno, or changes the
  * text, the rows or the links. Calls may run in any number of threads at the same time.
@@ -48,7 +50,7 @@ extern "C" {
 #endif
 
 /* Grows by 1 whenever a call, an answer or a limit changes. */
-#define RINGKIT_VERSION 6
+#define RINGKIT_VERSION 7
 
 /* The limits of what is accepted. */
 #define RINGKIT_MAX_TEXT_BYTES 32768
@@ -59,7 +61,7 @@ extern "C" {
 #define RINGKIT_TWO_FIBRES 2
 #define RINGKIT_FOUR_FIBRES 4
 
-/* The way of a row that is held as a struct. Any number but RINGKIT_F is B. */
+/* The way of a row: front or back. Of a row that is held as a struct any number but RINGKIT_F is B; ringkit_turn writes these two. */
 #define RINGKIT_F 0
 #define RINGKIT_B 1
 
@@ -74,8 +76,9 @@ extern "C" {
 #define RINGKIT_TABLE_BYTES 15896
 #define RINGKIT_MATRIX_BYTES 5120
 
-/* Enough stack for each call, with some to spare for binding memcpy and memset when they are first called. */
+/* Enough stack for each call but ringkit_turn, and for that, with some to spare for binding memcpy and memset when they are first called. */
 #define RINGKIT_STACK_BYTES 28672
+#define RINGKIT_TURN_STACK_BYTES 36864
 
 /* Why a text is refused. Each is given exactly when it holds and nothing before it in this order does: the fibres that a matrix is read with; RINGKIT_TOO_LONG; then line by line,
  * and in a line by rising number, 2 to 7, RINGKIT_FIBRES behind 3 and RINGKIT_TOO_MANY_ROWS between 6 and 7; then, when all lines have been read, of a sheet 8 to 12 line by line,
@@ -157,6 +160,17 @@ typedef struct ringkit_pair_reply {
     size_t second;   /* first < second; both 0 where there is no such pair, and when refused */
 } ringkit_pair_reply;
 
+/* The answer of ringkit_turn. When refused, all but reason, line and byte is 0. */
+typedef struct ringkit_turn_reply {
+    uint32_t reason; /* as above */
+    uint32_t line;
+    uint32_t byte;
+    uint32_t peak;   /* the largest load, in units, where every row goes the way that is written, */
+    uint32_t link;   /* the link that the start avoids which led there, */
+    uint32_t turns;  /* and how many turns it took; at most that start's own peak less this one */
+    size_t rows;     /* the rows of the table, and so many bytes of the ways are written */
+} ringkit_turn_reply;
+
 /* A table at work, lent by the caller, who makes it by ringkit_work_start: rows at places 1 to 496, and kept beside them the largest cut. Its fields
  * are the library's. They are unsigned integers and arrays of them with no padding, so any bytes are a value: copies may be kept and put back, and a call
  * on bytes that no call made still ends, with an answer that the bytes alone decide. A pointer to it is to a whole struct, aligned as C aligns it. */
@@ -192,6 +206,17 @@ typedef struct ringkit_work_row_reply {
 
 /* Routes a table and writes its sheet. */
 ringkit_reply ringkit_route(const uint8_t *table, size_t table_length, uint8_t *buffer, size_t buffer_length);
+
+/* Sends every row of a table whole, one turn at a time, and writes the ways: the first `rows` bytes become RINGKIT_F or RINGKIT_B, row by row, and those behind them stay; a refusal,
+ * which is one of the table's own, changes no byte. There is no sheet, and so no split peak and no size.
+ *
+ * For each link in turn it starts with every row on the way that avoids the link. List each row's loads on its path from largest to smallest, and compare the lists from the front, one
+ * that runs out first being the smaller: in falling order of these, the earlier of rows with equal lists first, the first row whose turn, to its other way, lowers the peak is turned; and so
+ * again until no row's turn does. The answer is the start that comes to the least peak, the smallest link of several.
+ *
+ * No start begins above the largest across number M, that of the C line, and no single turn lowers the answer's peak. It need not be the least there is. But no way of sending the rows has a peak
+ * below M / 2, so a peak that is M / 2, rounded up, is. */
+ringkit_turn_reply ringkit_turn(const uint8_t *table, size_t table_length, uint8_t *ways);
 
 /* Checks a sheet, whatever tool made it: reads all its lines, and then judges what they say. Accepted means that every figure is true, that no division of the demands, however fine, has a lower
  * peak than the split peak, and that the unsplit peak is within the bound of rule D. */

@@ -13,6 +13,7 @@
 #include "held.h"
 
 _Static_assert(sizeof(ringkit_row) == 24 && sizeof(ringkit_link) == 12 && sizeof(ringkit_judge_reply) == 8, "numbers of 4 bytes, with no padding");
+_Static_assert(sizeof(ringkit_turn_reply) == 24 + sizeof(size_t), "six numbers of 4 bytes, and the rows");
 _Static_assert(RINGKIT_SHEET_BYTES == 8 * (3 + 7 * RINGKIT_MAX_ROWS + 4 + 4 * RINGKIT_MAX_OFFICES + 3),
                "8 bytes for each field of the longest sheet, as in crates/ringkit");
 _Static_assert(RINGKIT_TABLE_BYTES == 8 * (3 + 4 * RINGKIT_MAX_ROWS), "8 bytes for each field of the longest table");
@@ -181,6 +182,88 @@ static void route(const char *name)
     make(name, ringkit_route, &table, &sheet, RINGKIT_SHEET_BYTES);
 }
 
+/* ---- whole circuits, one turn at a time */
+
+/* The lent ways end before the fence. */
+static uint8_t *lent_ways(void)
+{
+    return buffer_area + AREA - RINGKIT_MAX_ROWS;
+}
+
+static ringkit_turn_reply turn(const struct text *text)
+{
+    memset(buffer_area, PATTERN, AREA);
+    return ringkit_turn(fenced(text), text->length, lent_ways());
+}
+
+static bool turn_says(ringkit_turn_reply reply, uint32_t reason, uint32_t line, uint32_t byte)
+{
+    return reply.reason == reason && reply.line == line && reply.byte == byte;
+}
+
+/* The table is refused like this, and nothing is said or written beside it; or it is accepted. */
+static void turn_judged(const char *name, uint32_t reason, uint32_t line, uint32_t byte)
+{
+    ringkit_turn_reply reply = turn(&table);
+    expect(turn_says(reply, reason, line, byte), "%s: turning gives %u on line %u at byte %u", name, (unsigned)reply.reason, (unsigned)reply.line, (unsigned)reply.byte);
+    if (reason != RINGKIT_OK) {
+        expect(reply.peak == 0 && reply.link == 0 && reply.turns == 0 && reply.rows == 0, "%s: turning says something beside a refusal", name);
+        expect(untouched(buffer_area, buffer_area + AREA), "%s: a refusal touches the ways", name);
+    }
+}
+
+/* The load of a link by the ways, of the rows that are held. */
+static uint32_t load_by(const uint8_t *ways, uint32_t link)
+{
+    uint32_t load = 0;
+    for (size_t k = 0; k < held.row_count; k++) {
+        bool front = held.rows[k].first <= link && link < held.rows[k].second;
+        load += front == (ways[k] == RINGKIT_F) ? held.rows[k].amount : 0;
+    }
+    return load;
+}
+
+static uint32_t peak_by(const uint8_t *ways)
+{
+    uint32_t peak = 0;
+    for (uint32_t link = 1; link <= held.n; link++) {
+        uint32_t load = load_by(ways, link);
+        peak = load > peak ? load : peak;
+    }
+    return peak;
+}
+
+/* Whether the turn of some row lowers the peak. */
+static bool some_turn_lowers(uint8_t *ways, uint32_t peak)
+{
+    for (size_t k = 0; k < held.row_count; k++) {
+        ways[k] ^= RINGKIT_B;
+        bool lower = peak_by(ways) < peak;
+        ways[k] ^= RINGKIT_B;
+        if (lower) {
+            return true;
+        }
+    }
+    return false;
+}
+
+/* What is promised of the ways of a table whose sheet is held, without working them out. */
+static void test_ways(const char *name)
+{
+    ringkit_turn_reply reply = turn(&table);
+    uint8_t *ways = lent_ways();
+    bool two = true;
+    for (size_t k = 0; k < held.row_count; k++) {
+        two = two && (ways[k] == RINGKIT_F || ways[k] == RINGKIT_B);
+    }
+    expect(turn_says(reply, RINGKIT_OK, 0, 0) && reply.rows == held.row_count, "%s: turning gives %u of %u rows", name, (unsigned)reply.reason, (unsigned)reply.rows);
+    expect(two && untouched(buffer_area, ways) && untouched(ways + reply.rows, buffer_area + AREA), "%s: bytes beside the ways", name);
+    expect(reply.peak == peak_by(ways), "%s: the peak of the ways is %u", name, (unsigned)peak_by(ways));
+    expect(2 * reply.peak >= held.across && reply.peak + reply.turns <= held.across, "%s: peak %u and %u turns, across %u", name, (unsigned)reply.peak, (unsigned)reply.turns, (unsigned)held.across);
+    expect(1 <= reply.link && reply.link <= held.n, "%s: the start of link %u", name, (unsigned)reply.link);
+    expect(!some_turn_lowers(ways, reply.peak), "%s: a turn lowers the peak", name);
+}
+
 /* ---- values */
 
 static bool judged(ringkit_judge_reply reply, uint32_t reason, uint32_t place)
@@ -249,6 +332,8 @@ static void test_table(const char *name)
     writes(name, ringkit_route, &table, &sheet);
     writes(name, ringkit_rewrite_table, &table, &table);
     writes(name, ringkit_rewrite_sheet, &sheet, &sheet);
+    hold(sheet.bytes, sheet.length);
+    test_ways(name);
     test_values(name);
 }
 
@@ -570,13 +655,14 @@ static void test_work(void)
 
 /* ---- what the header says of limits, and of no text at all */
 
-/* Both calls that route or rewrite give the table that reason, line and byte. */
+/* The calls that route, rewrite or turn give the table that reason, line and byte. */
 static void table_judged(const char *name, uint32_t reason, uint32_t line, uint32_t byte)
 {
     writing *calls[] = {ringkit_route, ringkit_rewrite_table};
     for (unsigned k = 0; k < 2; k++) {
         judges(name, calls[k], &table, reason, line, byte);
     }
+    turn_judged(name, reason, line, byte);
 }
 
 static void test_limits(void)
@@ -670,6 +756,7 @@ static void test_no_text(void)
     expect(says(ringkit_route(NULL, 0, NULL, 0), RINGKIT_MISSHAPEN, 1, 1, 0), "route: no text");
     expect(says(ringkit_rewrite_table(NULL, 0, NULL, 0), RINGKIT_MISSHAPEN, 1, 1, 0), "rewrite a table: no text");
     expect(says(ringkit_rewrite_sheet(NULL, 0, NULL, 0), RINGKIT_MISSHAPEN, 1, 1, 0), "rewrite a sheet: no text");
+    expect(turn_says(ringkit_turn(NULL, 0, lent_ways()), RINGKIT_MISSHAPEN, 1, 1), "turn: no text");
     expect(says(ringkit_read_matrix(NULL, 0, 4, NULL, 0), RINGKIT_MISSHAPEN, 1, 1, 0), "read a matrix: no text");
     expect(says(ringkit_write_matrix(NULL, 0, NULL, 0), RINGKIT_MISSHAPEN, 1, 1, 0), "write a matrix: no text");
 }

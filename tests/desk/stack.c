@@ -9,9 +9,9 @@
 
 #include "held.h"
 
-enum { STACK = RINGKIT_STACK_BYTES, PAGE = 4096, PAINT = 0xa5, MOST = RINGKIT_MAX_TEXT_BYTES + 1 };
+enum { PAGE = 4096, PAINT = 0xa5, MOST = RINGKIT_MAX_TEXT_BYTES + 1 };
 
-_Static_assert(STACK % PAGE == 0, "whole pages, so that the one below the stack can be closed");
+_Static_assert(RINGKIT_STACK_BYTES % PAGE == 0 && RINGKIT_TURN_STACK_BYTES % PAGE == 0, "whole pages, so that the one below the stack can be closed");
 
 static const char TABLE[] = "R\t2\t4\nD\t1\t2\t5\n";
 static const char SHEET[] = "R\t2\t4\nD\t1\t2\t5\t5\t5\tF\nC\t1\t2\t5\nL\t1\t5\t5\nL\t2\t5\t0\nZ\t5\t12\n";
@@ -19,11 +19,17 @@ static const char MATRIX[] = "0\t5\n5\t0\n";
 static uint8_t text[MOST];
 static size_t length;
 static uint8_t buffer[MOST]; /* room for whatever is written */
+static uint8_t ways[RINGKIT_MAX_ROWS];
 static ringkit_work work;
 
 static uint32_t route(void)
 {
     return ringkit_route(text, length, buffer, sizeof buffer).reason;
+}
+
+static uint32_t turn(void)
+{
+    return ringkit_turn(text, length, ways).reason;
 }
 
 static uint32_t rewrite_table(void)
@@ -97,6 +103,7 @@ static const struct named {
     const char *small; /* a text that it accepts */
 } CALLS[] = {
     {"ringkit_route", route, TABLE},
+    {"ringkit_turn", turn, TABLE},
     {"ringkit_rewrite_table", rewrite_table, TABLE},
     {"ringkit_rewrite_sheet", rewrite_sheet, SHEET},
     {"ringkit_check", check, SHEET},
@@ -111,6 +118,12 @@ static const struct named {
     {"ringkit_work_row", work_row, ""},
     {"ringkit_work_write", work_write, ""},
 };
+
+/* As much as the header promises to be enough. */
+static size_t stack_for(const struct named *named)
+{
+    return named->call == turn ? RINGKIT_TURN_STACK_BYTES : RINGKIT_STACK_BYTES;
+}
 
 struct dive {
     const struct named *named;
@@ -127,9 +140,9 @@ static void *dive(void *with)
 }
 
 /* A volatile byte is written by no memset. */
-static void paint(uint8_t *stack)
+static void paint(uint8_t *stack, size_t size)
 {
-    for (size_t k = 0; k < STACK; k++) {
+    for (size_t k = 0; k < size; k++) {
         *(volatile uint8_t *)&stack[k] = PAINT;
     }
 }
@@ -139,13 +152,14 @@ static size_t touched(struct dive *d)
 {
     pthread_t thread;
     pthread_attr_t attributes;
-    uint8_t *closed = mmap(NULL, PAGE + STACK, PROT_NONE, MAP_PRIVATE | MAP_ANONYMOUS, -1, 0);
+    size_t size = stack_for(d->named);
+    uint8_t *closed = mmap(NULL, PAGE + size, PROT_NONE, MAP_PRIVATE | MAP_ANONYMOUS, -1, 0);
     uint8_t *stack = closed + PAGE;
-    if (closed == MAP_FAILED || mprotect(stack, STACK, PROT_READ | PROT_WRITE) != 0 || pthread_attr_init(&attributes) != 0
-        || pthread_attr_setstack(&attributes, stack, STACK) != 0) {
+    if (closed == MAP_FAILED || mprotect(stack, size, PROT_READ | PROT_WRITE) != 0 || pthread_attr_init(&attributes) != 0
+        || pthread_attr_setstack(&attributes, stack, size) != 0) {
         return 0;
     }
-    paint(stack);
+    paint(stack, size);
     if (pthread_create(&thread, &attributes, dive, d) != 0 || pthread_join(thread, NULL) != 0) {
         return 0;
     }

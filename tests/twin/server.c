@@ -16,15 +16,17 @@ struct answer {
     uint64_t reason, line, byte, numbers[4];
 };
 
-/* A call has one of four forms, those of the working table a fifth, and judging values a sixth. */
+/* A call has one of four forms, those of the working table a fifth, judging values a sixth, and turning circuits a seventh. */
 typedef ringkit_reply writing(const uint8_t *, size_t, uint8_t *, size_t);
 typedef ringkit_reply telling(const uint8_t *, size_t, uint32_t, uint8_t *, size_t);
 typedef ringkit_reply judging(const uint8_t *, size_t);
 typedef ringkit_pair_reply finding(const uint8_t *, size_t);
 typedef struct answer working(ringkit_work *, const uint64_t told[4], uint8_t *, size_t);
 typedef struct answer holding(const struct request *, const uint8_t *);
+typedef struct answer turning(const struct request *, const uint8_t *, uint8_t *);
 
 static holding judge_values;
+static turning turn_circuits;
 static working work_start, work_add, work_change, work_remove, work_row, work_write;
 
 static const struct call {
@@ -34,6 +36,7 @@ static const struct call {
     judging *judge;
     finding *find;
     holding *hold;
+    turning *turn;
     working *work;
 } CALLS[] = {
     {.name = "Route", .write = ringkit_route},
@@ -44,6 +47,7 @@ static const struct call {
     {.name = "ReadMatrix", .tell = ringkit_read_matrix},
     {.name = "WriteMatrix", .write = ringkit_write_matrix},
     {.name = "Judge", .hold = judge_values},
+    {.name = "Turn", .turn = turn_circuits},
     {.name = "WorkStart", .work = work_start},
     {.name = "WorkAdd", .work = work_add},
     {.name = "WorkChange", .work = work_change},
@@ -132,6 +136,15 @@ static struct answer judge_values(const struct request *r, const uint8_t *text)
     return (struct answer){judged.reason, 0, 0, {judged.place}};
 }
 
+static struct answer turn_circuits(const struct request *r, const uint8_t *text, uint8_t *area)
+{
+    if (r->end - r->begin != RINGKIT_MAX_ROWS) {
+        fail("the twin's ways have another size than the library's");
+    }
+    ringkit_turn_reply turned = ringkit_turn(text, r->text_length, area + r->begin);
+    return (struct answer){turned.reason, turned.line, turned.byte, {turned.peak, turned.link, turned.turns, turned.rows}};
+}
+
 /* The working table in what is handed over as a text, with as many bytes behind it as before it. */
 static ringkit_work *lent_table(const struct request *r, uint8_t *text)
 {
@@ -148,6 +161,9 @@ static struct answer make(const struct call *call, const struct request *r, uint
     }
     if (call->hold != NULL) {
         return call->hold(r, text);
+    }
+    if (call->turn != NULL) {
+        return call->turn(r, text, area);
     }
     if (call->write != NULL) {
         return reply(call->write(text, r->text_length, area + r->begin, r->end - r->begin));

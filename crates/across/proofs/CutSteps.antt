@@ -7,7 +7,7 @@ use Rattle.ring.proofs.LargestCut.{largest-cut}
 use Rattle.across.specs.Lines.{Pairwise}
 
 abbrev cut : ℕ → ℕ → ℕ → Cut
-cut a b m = record { g = a; h = b; number = m }
+cut a b m = record { g = a; h = b; across = m }
 
 -- a, b, m are the best so far; the first links before g are done
 pub record Firsts (number : ℕ → ℕ → ℕ) (n a b m g : ℕ) : Type 0 where
@@ -70,7 +70,7 @@ module _ (number : ℕ → ℕ → ℕ) (n : ℕ) where
     all_seen : cut a b m ≡ largest_cut number n
     all_seen = let e : n - g ≡ 0 = omega arith in (rw e (unfold scan_firsts in refl)) ∙ f.left
 
-    pub cut-done : record { g = a; h = b; number = m } ≡ (largest_cut number n)
+    pub cut-done : record { g = a; h = b; across = m } ≡ (largest_cut number n)
     cut-done = all_seen
 
     -- both links are links of the ring

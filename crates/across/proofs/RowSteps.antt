@@ -3,21 +3,22 @@ use Rattle.std.proofs.Common.{◌≡◌, ℕ, suc, ◌+◌, ◌-◌, ◌<◌, �
 use mathlib.Core.Bool.{xor}
 use native.Mathlib.Decide.{ℕ_discrete, dec_lt, dec_le}
 use borrow.Author.Tests.{lt-leb}
-use Rattle.ring.specs.Row.{row, in_front}
-use Rattle.ring.specs.declared.types.Row.{Row}
+use Rattle.ring.specs.Demand.{demand, in_front}
+use Rattle.ring.specs.declared.types.Demand.{Demand}
 use Rattle.ring.specs.Cut.{part}
 use Rattle.ring.proofs.Side.{Side, before, within, after, side, in-front, before-front, after_front}
-use Rattle.across.specs.Triangle.{most_links, most_pairs, offset, place_of, at, triangle}
+use Rattle.ring.specs.Limits.{desk}
+use Rattle.across.specs.Triangle.{most_pairs, offset, place_of, at, triangle}
 use Rattle.across.specs.Step.{type_end, raised, lowered, stepped, step_row}
 use Rattle.across.specs.Lines.{Pairwise, LineStep, LineFits}
 use Rattle.across.proofs.Places.{apart, line-below, triangle-length, triangle-at, triangle-is, all-pairs}
 
 -- the line of link h, which has h - 1 places, lies in the triangle
-pub line_in : (h : ℕ) → h ≤ most_links → offset h + (h - 1) ≤ most_pairs
-line_in h c = omega (arith, line-below h (suc most_links) (omega arith), all-pairs)
+pub line_in : (h : ℕ) → h ≤ desk.nodes → offset h + (h - 1) ≤ most_pairs
+line_in h c = omega (arith, line-below h (suc desk.nodes) (omega arith), all-pairs)
 
 -- so does a pair's place
-pub place_in : (g h : ℕ) → 1 ≤ g → g < h → h ≤ most_links → place_of g h < most_pairs
+pub place_in : (g h : ℕ) → 1 ≤ g → g < h → h ≤ desk.nodes → place_of g h < most_pairs
 place_in g h a b c = omega (arith, line_in h c)
 
 -- ---- one line
@@ -51,7 +52,7 @@ module _ (op : ℕ → ℕ) (h low high : ℕ) (old : List ℕ) (fits : LineFits
               | no q ↦ get_or-set_other now p (place_of x h) z 0 (λ y. omega arith) ∙ s.so_far.within x a (omega arith)
             ]
 
-        outer : Pairwise most_links (λ x k. ((k ≡ h) × (low ≤ x) × (x < g + 1) → ⊥) → at (set now p z) x k ≡ at old x k)
+        outer : Pairwise desk.nodes (λ x k. ((k ≡ h) × (low ≤ x) × (x < g + 1) → ⊥) → at (set now p z) x k ≡ at old x k)
         outer x k a b c out =
             get_or-set_other now p (place_of x k) z 0
             (λ y.
@@ -66,7 +67,7 @@ module _ (op : ℕ → ℕ) (h low high : ℕ) (old : List ℕ) (fits : LineFits
 
 -- ---- a row's lines
 
-part_of : (r : Row) (g h : ℕ) (x y : Bool) → in_front r g ≡ x → in_front r h ≡ y → part r g h ≡ cond (xor x y) r.amount 0
+part_of : (r : Demand) (g h : ℕ) (x y : Bool) → in_front r g ≡ x → in_front r h ≡ y → part r g h ≡ cond (xor x y) r.amount 0
 unfolding part xor
 part_of r g h x y p q = rw (p, q)
 
@@ -75,19 +76,19 @@ raised-none : (y : ℕ) → y < type_end → raised y 0 ≡ y
 raised-none y l = omega arith
 
 -- where the loop stands: the lines before h are changed by the row's share
-pub record Rowing (n : ℕ) (r : Row) (old now : List ℕ) (h : ℕ) : Type 0 where
+pub record Rowing (n : ℕ) (r : Demand) (old now : List ℕ) (h : ℕ) : Type 0 where
   pub past : r.first ≤ h
   pub reached : r.first < h → h ≤ n + 1
   pub size : length now ≡ length old
-  pub changed : Pairwise most_links (λ g k. k < h → at now g k ≡ raised (at old g k) (part r g k))
-  pub kept : Pairwise most_links (λ g k. h ≤ k → at now g k ≡ at old g k)
+  pub changed : Pairwise desk.nodes (λ g k. k < h → at now g k ≡ raised (at old g k) (part r g k))
+  pub kept : Pairwise desk.nodes (λ g k. h ≤ k → at now g k ≡ at old g k)
 
 -- a triangle as it is lent: each number fits
 pub record Lent (t : List ℕ) : Type 0 where
   pub size : length t ≡ most_pairs
   pub fits : (x : ℕ) → Fits w32 (get_or t x 0)
 
-module _ (n : ℕ) (r : Row) (i j : ℕ) (ei : i ≡ r.first) (ej : j ≡ r.second) (old : List ℕ) (lent : Lent old) (low : 1 ≤ r.first) (few : n ≤ most_links) where
+module _ (n : ℕ) (r : Demand) (i j : ℕ) (ei : i ≡ r.first) (ej : j ≡ r.second) (old : List ℕ) (lent : Lent old) (low : 1 ≤ r.first) (few : n ≤ desk.nodes) where
   abbrev op : ℕ → ℕ
   op y = raised y r.amount
 
@@ -164,13 +165,13 @@ module _ (n : ℕ) (r : Row) (i j : ℕ) (ei : i ≡ r.first) (ej : j ≡ r.seco
   pub rows-done : (now : List ℕ) (h : ℕ) → n + 1 ≤ h → Rowing n r old now h → now ≡ step_row raised n r old
   unfolding step_row
   rows-done now h l s =
-      triangle-is (stepped raised n r old) most_links now (s.size ∙ lent.size ∙ sym all-pairs) (λ g k a b c. go g k a b c)
+      triangle-is (stepped raised n r old) desk.nodes now (s.size ∙ lent.size ∙ sym all-pairs) (λ g k a b c. go g k a b c)
     where
       -- the lines behind n were not reached; where the row's first node lies behind n, it has no share in them up to that node
       early : (k : ℕ) → k < h → n < k → k < r.first
       early k y z = elim (dec_lt r.first h) [ yes p ↦ absurd (omega (arith, s.reached p)) | no p ↦ omega arith ]
 
-      go : Pairwise most_links (λ g k. at now g k ≡ stepped raised n r old g k)
+      go : Pairwise desk.nodes (λ g k. at now g k ≡ stepped raised n r old g k)
       go g k a b c =
           elim (dec_le k n) [
             | yes z ↦ rw (le-leb k n z) (s.changed g k a b c (omega arith))
@@ -189,10 +190,10 @@ lowered-is : (y d rest : ℕ) (b : Bool) → rest ≡ (type_end - d) % type_end 
 lowered-is y d rest true e = omega arith
 lowered-is y d rest false e = omega arith
 
-pub taken-is : (n : ℕ) (r : Row) (rest : ℕ) (old : List ℕ) → rest ≡ (type_end - r.amount) % type_end → step_row raised n (row r.first r.second rest) old ≡ step_row lowered n r old
+pub taken-is : (n : ℕ) (r : Demand) (rest : ℕ) (old : List ℕ) → rest ≡ (type_end - r.amount) % type_end → step_row raised n (demand r.first r.second rest) old ≡ step_row lowered n r old
 unfolding step_row part
 taken-is n r rest old e =
-    triangle-is (stepped lowered n r old) most_links (triangle (stepped raised n (row r.first r.second rest) old) most_links) (triangle-length _ most_links)
+    triangle-is (stepped lowered n r old) desk.nodes (triangle (stepped raised n (demand r.first r.second rest) old) desk.nodes) (triangle-length _ desk.nodes)
     (λ g h a b c.
-    triangle-at (stepped raised n (row r.first r.second rest) old) most_links g h a b c ∙
+    triangle-at (stepped raised n (demand r.first r.second rest) old) desk.nodes g h a b c ∙
     ap (λ x. cond (nat_le h n) x (at old g h)) (lowered-is (at old g h) r.amount rest (xor (in_front r g) (in_front r h)) e))

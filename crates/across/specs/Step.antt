@@ -1,8 +1,9 @@
 -- To believe: a row is put on a triangle, or taken off it: each pair's number is raised or lowered by the row's share of it.
 use Rattle.std.specs.Prelude.{ℕ, ◌+◌, ◌-◌, ◌%◌, cond, List, nat_le}
-use Rattle.ring.specs.declared.types.Row.{Row}
+use Rattle.ring.specs.declared.types.Demand.{Demand}
 use Rattle.ring.specs.Cut.{part}
-use Rattle.across.specs.Triangle.{most_links, at, triangle}
+use Rattle.ring.specs.Limits.{desk}
+use Rattle.across.specs.Triangle.{at, triangle}
 
 -- where a number that is kept wraps around
 abbrev pub type_end : ℕ
@@ -16,8 +17,8 @@ abbrev pub lowered : ℕ → ℕ → ℕ
 lowered number amount = (number + (type_end - amount)) % type_end
 
 -- the pairs of a ring of n nodes change by the row's share; those of links behind it stay
-abbrev pub stepped : (ℕ → ℕ → ℕ) → ℕ → Row → List ℕ → ℕ → ℕ → ℕ
+abbrev pub stepped : (ℕ → ℕ → ℕ) → ℕ → Demand → List ℕ → ℕ → ℕ → ℕ
 stepped change n r t g h = cond (nat_le h n) (change (at t g h) (part r g h)) (at t g h)
 
-unfoldable pub step_row : (ℕ → ℕ → ℕ) → ℕ → Row → List ℕ → List ℕ
-step_row change n r t = triangle (stepped change n r t) most_links
+unfoldable pub step_row : (ℕ → ℕ → ℕ) → ℕ → Demand → List ℕ → List ℕ
+step_row change n r t = triangle (stepped change n r t) desk.nodes

@@ -1,7 +1,8 @@
 //! Rule A: the cut with the largest across number; ties go to the smallest g, then the smallest h.
 ghost use Rattle.std.specs.Prelude.{◌≡◌, ◌≤◌};
 ghost use Rattle.ring.specs.RuleA.{largest_cut};
-ghost use Rattle.across.specs.Triangle.{most_links, at};
+ghost use Rattle.ring.specs.Limits.{desk};
+ghost use Rattle.across.specs.Triangle.{at};
 
 use crate::PAIRS;
 use crate::place::get;
@@ -10,7 +11,7 @@ use ring::Cut;
 /// The largest cut of a ring of n nodes, 2 to 32.
 pub fn largest_cut(triangle: &[u32; PAIRS], n: usize) -> Cut
     requires two { 2 ≤ n }
-    requires few { n ≤ most_links }
+    requires few { n ≤ desk.nodes }
     ensures { result ≡ (largest_cut (at triangle.now) n) }
 {
     let mut best_g: usize = 1;
@@ -29,6 +30,6 @@ pub fn largest_cut(triangle: &[u32; PAIRS], n: usize) -> Cut
     Cut {
         g: best_g as u32,
         h: best_h as u32,
-        number: best,
+        across: best,
     }
 }

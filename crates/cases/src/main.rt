@@ -5,8 +5,9 @@
 // `ringkit_check` and P is `ringkit_parallel`: these lend no buffer, so their lines have reason, line and byte, and for P the two places. Any other letter ends the run.
 ghost use Rattle.std.specs.Prelude.{◌≤◌, ◌<◌};
 
-use ringkit::Reply;
+use checker::Pair;
 use std::alloc::Global;
+use table::Refusal;
 use std::io::{self, BufReader, BufWriter, Read, Write};
 
 const ROOM: usize = 40000;
@@ -82,8 +83,8 @@ fn next_bytes<R: Read>(alloc: Global, input: &mut R, size: usize) -> io::Result<
     Ok(bytes)
 }
 
-// The reply of a call that fills a buffer.
-fn filled(call: Filling, text: &[u8], buffer: &mut [u8]) -> Reply {
+// The answer of a call that fills a buffer.
+fn filled(call: Filling, text: &[u8], buffer: &mut [u8]) -> Result<usize, Refusal> {
     match call {
         Filling::RewriteTable => ringkit::ringkit_rewrite_table(text, buffer),
         Filling::Route => ringkit::ringkit_route(text, buffer),
@@ -93,16 +94,26 @@ fn filled(call: Filling, text: &[u8], buffer: &mut [u8]) -> Reply {
     }
 }
 
+// The numbers that are written of a refusal: its reason, line and byte; 0 for each where there is none.
+fn told(refusal: Option<Refusal>) -> (u32, u32, u32) {
+    match refusal {
+        Some(refusal) => (refusal.reason.number(), refusal.line, refusal.byte),
+        None => (0, 0, 0),
+    }
+}
+
 fn answer_check<W: Write>(output: &mut W, text: &[u8]) -> io::Result<()> {
-    let reply = ringkit::ringkit_check(text);
-    let (reason, line, byte) = (reply.reason, reply.line, reply.byte);
+    let (reason, line, byte) = told(ringkit::ringkit_check(text).err());
     writeln!(output, "{reason} {line} {byte}")
 }
 
 fn answer_parallel<W: Write>(output: &mut W, text: &[u8]) -> io::Result<()> {
-    let pair = ringkit::ringkit_parallel(text);
-    let (reason, line, byte) = (pair.reason, pair.line, pair.byte);
-    let (first, second) = (pair.first, pair.second);
+    let answer = ringkit::ringkit_parallel(text);
+    let (first, second) = match answer {
+        Ok(Pair::Are(first, second)) => (first, second),
+        _ => (0, 0),
+    };
+    let (reason, line, byte) = told(answer.err());
     writeln!(output, "{reason} {line} {byte} {first} {second}")
 }
 
@@ -116,8 +127,9 @@ fn answer_filled<W: Write>(
 ) -> io::Result<()> {
     let mut buffer = vec![in alloc; PATTERN; ROOM]?;
     let lent = room.min(buffer.len());
-    let reply = filled(call, text, &mut buffer[..lent]);
-    let (reason, line, byte, length) = (reply.reason, reply.line, reply.byte, reply.length);
+    let answer = filled(call, text, &mut buffer[..lent]);
+    let length = answer.unwrap_or(0);
+    let (reason, line, byte) = told(answer.err());
     let sum = sum_of(&buffer);
     writeln!(output, "{reason} {line} {byte} {length} {sum}")
 }

@@ -8,12 +8,12 @@ use Rattle.text.specs.FieldByte.{field_byte}
 use Rattle.text.specs.ReadLine.{field_at, read_line, fields_from}
 use Rattle.text.specs.WriteLine.{end_of, write_line}
 use Rattle.table.specs.Lines.{lines}
-use Rattle.table.specs.Judge.{wrong_size, other_fibres, judge_ring, judge_row, outside, is_below}
+use Rattle.table.specs.Judge.{wrong_size, other_fibres, ring_verdict, row_verdict, outside, falls}
 use Rattle.checker.specs.Cases.{cases, stated, computed, CasesHold}
 
 pub cases-hold : CasesHold
 unfolding computed stated cases
     lines read_line fields_from field_at number_at digit_of mark_at mark_of end_from
-    wrong_size other_fibres judge_ring judge_row outside is_below
+    wrong_size other_fibres ring_verdict row_verdict outside falls
     write_line spell digits digits_in end_of field_byte
 cases-hold = refl

@@ -14,8 +14,8 @@ use Rattle.judge.specs.Findings.{findings}
 use Rattle.judge.proofs.Tests.{judged-is}
 use Rattle.sheet.specs.Answer.{with_values}
 use Rattle.sheet.specs.Read.{read_sheet}
-use Rattle.sheet.specs.Values.{sheet_in}
-use Rattle.sheet.specs.declared.Figures.{Figures}
+use Rattle.ring.specs.Sheet.{sheet_in}
+use Rattle.ring.specs.declared.types.Figures.{Figures}
 use Rattle.checker.specs.Check.{line_of, judged_on, check_read, check}
 use Rattle.checker.proofs.Reasons.{read-as}
 
@@ -37,7 +37,7 @@ module _ (s : List ℕ) (rs : List Routed) (ls : List Link) (answer : Either Fig
       unfolding check check_read
       judged-so =
           let f = rw nodes at first in
-          ap (check_read desk) read ∙ ap (judged_on (sheet_in x rs (take x.ring.nodes ls))) (sym (judged-is desk (sheet_in x rs (take x.ring.nodes ls)) v f))
+          ap (check_read desk) read ∙ ap (judged_on (sheet_in x rs (take x.ring.nodes ls))) (sym (judged-is (sheet_in x rs (take x.ring.nodes ls)) v f))
 
       pub fine-so : (u : Unit) → v ≡ Ok u → with_values rs ls (Ok x) ≡ check desk s
       unfolding judged_on

@@ -2,24 +2,24 @@
 use Prim.Native.Nat.{ℕ, ◌+◌, ◌≤◌}
 use mathlib.Core.List.{List, [], ◌∷◌}
 use lib.ListN.{length}
-use mathlib.Core.Logic.{◌⊎◌, inl, inr, ⊎_elim}
+use mathlib.Core.Logic.{inl, inr, ⊎_elim}
 use mathlib.Core.Path.{◌≡◌}
 use native.Mathlib.Omega.{arith}
 use Rattle.std.specs.Prelude.{Option, Some, None, Err}
-use Rattle.ring.specs.declared.types.Row.{Row}
+use Rattle.ring.specs.declared.types.Demand.{Demand}
 use Rattle.ring.specs.declared.types.Routed.{Routed}
 use Rattle.ring.specs.declared.types.Link.{Link}
 use Rattle.ring.specs.Limits.{Limits}
-use Rattle.ring.specs.Lists.{Each, none, more, Steps, step}
-use Rattle.ring.specs.Row.{OnRing, PairBefore, InTableOrder}
-use Rattle.ring.specs.Sheet.{Sheet, sents, demands, true_link}
+use Rattle.ring.specs.Lists.{Each, none, more}
+use Rattle.ring.specs.Demand.{OnRing}
+use Rattle.ring.specs.Sheet.{Sheet, true_link}
 use Rattle.ring.proofs.Lists.{each-of-map}
-use Rattle.table.specs.Findings.{Findings, nothing, finding, then, found, First, ring_findings}
-use Rattle.table.specs.Says.{NoNode}
+use Rattle.table.specs.Findings.{Findings, nothing, finding, then, found, First, ring_findings, demand_findings}
 use Rattle.table.specs.declared.finding.Finding.{Finding}
 use Rattle.table.specs.declared.reason.Reason.{Reason}
 use Rattle.table.specs.declared.reason.Reason.TheVariants.{WrongSum, WrongWay, WrongCut, WrongLink, WrongLast, NotTight, OverBound}
-use Rattle.judge.specs.Findings.{Falls, row_findings, rows_findings, cut_findings, links_findings, loads_findings, findings}
+use Rattle.judge.specs.Findings.{sending_findings, row_findings, rows_findings, cut_findings, links_findings, loads_findings, findings}
+use Rattle.judge.proofs.Rows.{From, behind, has-nodes}
 use Rattle.sheet.specs.Range.{InRange}
 
 -- ---- what holds of each finding whose fact holds, holds of the first
@@ -49,56 +49,17 @@ pub data OfFigures : Reason → Type 0 where
   a_peak : OfFigures NotTight
   a_bound : OfFigures OverBound
 
-not-below : (q r : Row) → InTableOrder q r → PairBefore r.first r.second q.first q.second → ⊥
-not-below q r (inl l) (inl m) = omega arith
-not-below q r (inl l) (inr m) = omega (arith, m.0)
-not-below q r (inr l) (inl m) = omega (arith, l.0)
-not-below q r (inr l) (inr m) = omega (arith, l.1, m.1)
-
--- rows in table order behind a row, if there is one
-abbrev From : Option Row → List Routed → Type 0
-From None rs = Steps InTableOrder (demands (sents rs))
-From (Some q) rs = Steps InTableOrder (q ∷ demands (sents rs))
-
-behind : (before : Option Row) (r : Routed) (rs : List Routed) → From before (r ∷ rs) → (Falls before r.sent.row → ⊥) × From (Some r.sent.row) rs
-behind None r rs s = (λ f. f, s)
-behind (Some q) r rs (step u s) = (not-below q r.sent.row u, s)
-
 module _ (limits : Limits) (n : ℕ) where
-  on-ring : (r : Row) → OnRing n r → NoNode n r.first ⊎ NoNode n r.second → ⊥
-  on-ring r on (inl (inl l)) = omega (arith, on.low)
-  on-ring r on (inl (inr l)) = omega (arith, on.order, on.high)
-  on-ring r on (inr (inl l)) = omega (arith, on.low, on.order)
-  on-ring r on (inr (inr l)) = omega (arith, on.high)
-
-  all-rows : (place : ℕ) (before : Option Row) (rs : List Routed) → Each (λ (r : Routed). OnRing n r.sent.row) rs → Each (λ (r : Routed). r.sent.row.amount ≤ limits.amount) rs
-      → From before rs → place + length rs ≤ limits.rows + 1 → All OfFigures (rows_findings limits n place before rs)
-  all-rows place before [] none none s count = tt
-  all-rows place before (r ∷ rs) (more on ons) (more amount amounts) s count =
-      let t = behind before r rs s in
-      all-then OfFigures (row_findings limits n place before r) (rows_findings limits n (place + 1) (Some r.sent.row) rs) (
-        λ h. absurd (on-ring r.sent.row on h),
-        (
-          λ l. absurd (omega (arith, on.order)),
-          (
-            λ f. absurd (t.0 f),
-            (
-              λ l. absurd (omega arith),
-              (
-                λ l. absurd (omega (arith, amount)),
-                (
-                  λ _. a_sum,
-                  (
-                    λ _. a_way,
-                    tt,
-                  ),
-                ),
-              ),
-            ),
-          ),
-        ),
-      )
-      (all-rows (place + 1) (Some r.sent.row) rs ons amounts t.1 (omega arith))
+  all-rows : (place : ℕ) (above : Option Demand) (rs : List Routed) → Each (λ (r : Routed). OnRing n r.sent.demand) rs → Each (λ (r : Routed). r.sent.demand.amount ≤ limits.amount) rs
+      → From above rs → place + length rs ≤ limits.rows + 1 → All OfFigures (rows_findings limits n place above rs)
+  all-rows place above [] none none s count = tt
+  all-rows place above (r ∷ rs) (more on ons) (more amount amounts) s count =
+      let t = behind above r rs s in
+      all-then OfFigures (row_findings limits n place above r) (rows_findings limits n (place + 1) (Some r.sent.demand) rs)
+      (all-then OfFigures (demand_findings limits n place above r.sent.demand) (sending_findings place r)
+      (λ h. absurd (has-nodes n r.sent.demand on h), (λ l. absurd (omega (arith, on.order)), (λ f. absurd (t.0 f), (λ l. absurd (omega arith), (λ l. absurd (omega (arith, amount)), tt)))))
+      (λ _. a_sum, (λ _. a_way, tt)))
+      (all-rows (place + 1) (Some r.sent.demand) rs ons amounts t.1 (omega arith))
 
 all-links : (due : ℕ → Link) (k : ℕ) (ls : List Link) → All OfFigures (links_findings due k ls)
 all-links due k [] = tt
@@ -106,8 +67,8 @@ all-links due k (x ∷ ls) = (λ _. a_link, all-links due (k + 1) ls)
 
 pub all-figures : (limits : Limits) (x : Sheet) → InRange limits x → All OfFigures (findings limits x)
 all-figures limits x range =
-    let on = each-of-map (λ (r : Routed). r.sent) x.rows (each-of-map (λ s. s.row) _ range.rows.nodes) in
-    let amounts = each-of-map (λ (r : Routed). r.sent) x.rows (each-of-map (λ s. s.row) _ range.amounts) in
+    let on = each-of-map (λ (r : Routed). r.sent) x.rows (each-of-map (λ s. s.demand) _ range.rows.nodes) in
+    let amounts = each-of-map (λ (r : Routed). r.sent) x.rows (each-of-map (λ s. s.demand) _ range.amounts) in
     all-then _ (ring_findings limits x.ring) _
     (⊎_elim (λ l. absurd (omega (arith, range.few))) (λ l. absurd (omega (arith, range.many))), (λ d. absurd (d range.fibres), tt))
     (all-then _ (rows_findings limits x.ring.nodes 1 None x.rows) _ (all-rows limits x.ring.nodes 1 None x.rows on amounts range.rows.order (omega (arith, range.count)))

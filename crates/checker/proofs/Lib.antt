@@ -3,7 +3,6 @@ pub mod Reasons
 pub mod CheckSteps
 pub mod Promised
 pub mod CasesHold
-pub mod PairTests
 pub mod PairSteps
 pub mod PairLaws
 pub mod OurPair

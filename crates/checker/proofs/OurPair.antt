@@ -6,8 +6,8 @@ use mathlib.Core.List.{List}
 use mathlib.Core.Path.{◌≡◌, sym, ◌∙◌, subst}
 use Rattle.ring.specs.Lists.{Each, more, Pairs, no_pair, and_pairs, none}
 use Rattle.ring.specs.declared.types.Ring.{Ring}
-use Rattle.ring.specs.Row.{TableRows}
-use Rattle.ring.specs.declared.types.Row.{Row}
+use Rattle.ring.specs.Demand.{TableRows}
+use Rattle.ring.specs.declared.types.Demand.{Demand}
 use Rattle.ring.specs.declared.types.Sent.{Sent}
 use Rattle.ring.specs.Sheet.{sents, plan}
 use Rattle.ring.specs.Rules.{Quiet}
@@ -33,7 +33,7 @@ quiet_none k (and_pairs {a = s} {l = ss} e h) p q x = go (quiet_none (k + 1) h p
     go m (with_head i r c) = not-both (each_at e r) c
     go m (in_tail y) = m y
 
-pub plan-no-pair : (ring : Ring) (rs : List Row) → 2 ≤ ring.nodes → TableRows ring.nodes rs → first_pair (sents (plan ring rs).rows) ≡ None
+pub plan-no-pair : (ring : Ring) (rs : List Demand) → 2 ≤ ring.nodes → TableRows ring.nodes rs → first_pair (sents (plan ring rs).rows) ≡ None
 unfolding plan
 plan-no-pair ring rs two table =
     let n = ring.nodes in

@@ -8,7 +8,7 @@ use mathlib.Core.Path.{◌≡◌, refl, sym, ◌∙◌, subst, ap₂}
 use native.Mathlib.Omega.{arith}
 use native.Mathlib.Decide.{dec_lt}
 use native.Mathlib.Nat.{le_refl}
-use Rattle.ring.specs.Row.{PairBefore}
+use Rattle.ring.specs.Demand.{PairBefore}
 use Rattle.ring.specs.declared.types.Sent.{Sent}
 use Rattle.ring.specs.Crossing.{parallel}
 use Rattle.ring.specs.RuleC.{clash}
@@ -26,9 +26,9 @@ data Clashing (a b : Sent) : Type 0 where
 
 clashing : (a b : Sent) → Clashing a b
 unfolding clash
-clashing a b = go (splitting a) (splitting b) (parallel a.row b.row) refl
+clashing a b = go (splitting a) (splitting b) (parallel a.demand b.demand) refl
   where
-    go : Splitting a → Splitting b → (x : Bool) → parallel a.row b.row ≡ x → Clashing a b
+    go : Splitting a → Splitting b → (x : Bool) → parallel a.demand b.demand ≡ x → Clashing a b
     go (whole n e) y x p = not_so (λ c. n c.one) (rw e)
     go (split h e) (whole n f) x p = not_so (λ c. n c.two) (rw (e, f))
     go (split h e) (split i f) true p = does (record { one = h; two = i; parallel = p }) (rw (e, f, p))

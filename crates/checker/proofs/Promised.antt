@@ -6,7 +6,7 @@ use mathlib.Core.Path.{◌≡◌, refl}
 use native.Mathlib.Omega.{arith}
 use Rattle.ring.specs.Limits.{desk}
 use Rattle.ring.specs.Sheet.{plan}
-use Rattle.ring.proofs.Figures.{demands-length}
+use Rattle.ring.proofs.Small.{demands-length}
 use Rattle.ring.proofs.NoLower.{no_lower}
 use Rattle.ring.proofs.OurPlan.{plan-true}
 use Rattle.table.specs.Findings.{found}

@@ -9,7 +9,7 @@ use native.Mathlib.Omega.{arith}
 use Rattle.std.specs.Prelude.{Result as Either, Ok, Err}
 use Rattle.ring.specs.Limits.{desk}
 use Rattle.ring.specs.Sheet.{Sheet, sents, demands}
-use Rattle.ring.proofs.Figures.{demands-length}
+use Rattle.ring.proofs.Small.{demands-length}
 use Rattle.table.proofs.Short.{table-short}
 use Rattle.ring.specs.True.{TrueSheet}
 use Rattle.table.specs.Findings.{First, found}
@@ -85,7 +85,7 @@ module _ (t : List ℕ) where
     unfolding judged_on
     found-on x is (Ok _) q h = absurd (cc)
     found-on x is (Err f) q h =
-        let first : First (findings desk x) (Err f) = subst (First (findings desk x)) q (judged-first desk x) in
+        let first : First (findings desk x) (Err f) = subst (First (findings desk x)) q (judged-first x) in
         let stands = there-is x f.place (first-is _ (findings desk x) f (all-figures desk x is.range) first) in
         let a : f.reason ≡ r = cc in
         let b : line_of (length x.rows) x.ring.nodes f.reason f.place ≡ line = cc in
@@ -103,7 +103,7 @@ module _ (t : List ℕ) where
     is-refused (of_form g) = ap (check_read desk) ((read-given desk t r line byte).1 g)
     is-refused (of_figures x place is first stands) =
         ap (check_read desk) ((read-as x).1 is)
-        ∙ ap (judged_on x) (sym (judged-is desk x (Err (found r place)) first))
+        ∙ ap (judged_on x) (sym (judged-is x (Err (found r place)) first))
         ∙ on-its-line x stands
 
     pub given : (check desk t ≡ refused r line byte) ↔ Given desk t r line byte
@@ -115,12 +115,12 @@ module _ (t : List ℕ) where
   -- read to these values, against which nothing is found
   pub accepted-as : (x : Sheet) → (check desk t ≡ accepted x) ↔ (ReadTo desk t x × First (findings desk x) (Ok tt))
   unfolding check check_read judged_on
-  accepted-as x = (λ e. there (read_sheet desk t) refl e, λ h. ap (check_read desk) ((read-as x).1 h.0) ∙ ap (judged_on x) (sym (judged-is desk x (Ok tt) h.1)))
+  accepted-as x = (λ e. there (read_sheet desk t) refl e, λ h. ap (check_read desk) ((read-as x).1 h.0) ∙ ap (judged_on x) (sym (judged-is x (Ok tt) h.1)))
     where
       judged-there : (y : Sheet) → ReadTo desk t y → (v : Either Unit Finding) → judged desk y ≡ v → judged_on y v ≡ accepted x → ReadTo desk t x × First (findings desk x) (Ok tt)
       judged-there y is (Ok _) q h =
           let e : y ≡ x = cc in
-          let first : First (findings desk y) (Ok tt) = subst (First (findings desk y)) q (judged-first desk y) in
+          let first : First (findings desk y) (Ok tt) = subst (First (findings desk y)) q (judged-first y) in
           rw (← e) (is, first)
       judged-there y is (Err f) q h = absurd (cc)
 

@@ -163,7 +163,7 @@ best_peak n rs (s ∷ ss) = min (best_peak n (routed s Front ∷ rs) ss) (best_p
 
 unfoldable pub truth : Sheet → Claim → Claim
 unfolding across rule_a rule_b best_peak peak
-truth x (M_is m) = M_is (rule_a x.ring.nodes (demands (sents x.rows))).number
+truth x (M_is m) = M_is (rule_a x.ring.nodes (demands (sents x.rows))).across
 truth x (sent_by_B hs) = sent_by_B (halves (rule_b x.ring.nodes (demands (sents x.rows))))
 truth x (tight s m) = tightness x
 truth x (not_tight s m) = tightness x

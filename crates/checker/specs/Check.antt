@@ -4,34 +4,19 @@ use Rattle.ring.specs.Limits.{Limits}
 use Rattle.ring.specs.Sheet.{Sheet}
 use Rattle.table.specs.declared.finding.Finding.{Finding}
 use Rattle.table.specs.declared.reason.Reason.{Reason}
-use Rattle.table.specs.declared.reason.Reason.TheVariants.{TooLong, Misshapen, RingSize, Fibres, NoRow, NoSuchNode, NotBelow, OutOfOrder, TooMany, TooMuch, Full, WrongSum, WrongWay, WrongCut, WrongLink, WrongLast, NotTight, OverBound, NotZero, NotSymmetric, SumTooMuch, NoRoom}
+use Rattle.table.specs.declared.reason.Reason.TheVariants.{WrongSum, WrongWay, WrongCut, WrongLink, WrongLast}
 use Rattle.judge.specs.Tests.{judged}
 use Rattle.sheet.specs.Read.{Result, accepted, refused, read_sheet}
 
--- the line of a finding in a sheet of so many rows and nodes, by its reason and its place; against values that were read no other reason is found
+-- the line of a finding in a sheet of so many rows and nodes, by its reason and its place; 0 where it is against the sheet as a whole, and no other reason is found against
+-- values that were read
 unfoldable pub line_of : ℕ → ℕ → Reason → ℕ → ℕ
 line_of rows nodes WrongSum k = k + 1
 line_of rows nodes WrongWay k = k + 1
 line_of rows nodes WrongCut k = rows + 2
 line_of rows nodes WrongLink k = rows + 2 + k
 line_of rows nodes WrongLast k = rows + nodes + 3
-line_of rows nodes NotTight k = 0
-line_of rows nodes OverBound k = 0
-line_of rows nodes TooLong k = 0
-line_of rows nodes Misshapen k = 0
-line_of rows nodes RingSize k = 0
-line_of rows nodes Fibres k = 0
-line_of rows nodes NoRow k = 0
-line_of rows nodes NoSuchNode k = 0
-line_of rows nodes NotBelow k = 0
-line_of rows nodes OutOfOrder k = 0
-line_of rows nodes TooMany k = 0
-line_of rows nodes TooMuch k = 0
-line_of rows nodes Full k = 0
-line_of rows nodes NotZero k = 0
-line_of rows nodes NotSymmetric k = 0
-line_of rows nodes SumTooMuch k = 0
-line_of rows nodes NoRoom k = 0
+line_of rows nodes _ k = 0
 
 -- byte 1 of a line, and byte 0 of none
 abbrev pub byte_on : ℕ → ℕ

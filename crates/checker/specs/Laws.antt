@@ -3,7 +3,7 @@ use Rattle.std.specs.Prelude.{ℕ, ◌*◌, ◌≤◌, List, ◌↔◌}
 use Rattle.ring.specs.Division.{Divides}
 use Rattle.ring.specs.Limits.{Limits, desk}
 use Rattle.ring.specs.declared.types.Ring.{Ring}
-use Rattle.ring.specs.declared.types.Row.{Row}
+use Rattle.ring.specs.declared.types.Demand.{Demand}
 use Rattle.ring.specs.Routing.{split_load, peak}
 use Rattle.ring.specs.declared.types.Sent.{Sent}
 use Rattle.ring.specs.Sheet.{Sheet, sents, demands, plan}
@@ -24,13 +24,13 @@ TrueAccepted limits = (x : Sheet) → InRange limits x → TrueSheet x → Accep
 
 -- the plan that the four rules give for a table in the desk's range is an accepted sheet
 abbrev pub PlanAccepted : Type 0
-PlanAccepted = (ring : Ring) (rs : List Row) → table.InRange desk ring rs → Accepted desk (write_sheet (plan ring rs))
+PlanAccepted = (ring : Ring) (rs : List Demand) → table.InRange desk ring rs → Accepted desk (write_sheet (plan ring rs))
 
 -- no division of the demands of an accepted sheet, however fine, has a lower peak
 abbrev pub NoLowerPeak : Limits → Type 0
 NoLowerPeak limits =
     (x : Sheet) → InRange limits x → Accepted limits (write_sheet x) → (q : ℕ) (ss : List Sent) →
-    Divides q (demands (sents x.rows)) ss → q * x.cut.number ≤ 2 * peak (split_load ss) x.ring.nodes
+    Divides q (demands (sents x.rows)) ss → q * x.cut.across ≤ 2 * peak (split_load ss) x.ring.nodes
 
 -- well-formed is exactly what would not be refused if 8 to 14 were never given: each refusal that it may get is one of them
 abbrev pub FormedIs : Limits → Type 0

@@ -1,6 +1,6 @@
 -- To believe: the first parallel pair of split rows (Rules, the parallel question), or that none is.
 use Rattle.std.specs.Prelude.{ℕ, ◌+◌, ◌<◌, true, List, ◌∷◌, ◌≡◌}
-use Rattle.ring.specs.Row.{PairBefore}
+use Rattle.ring.specs.Demand.{PairBefore}
 use Rattle.ring.specs.Routing.{Split}
 use Rattle.ring.specs.declared.types.Sent.{Sent}
 use Rattle.ring.specs.Crossing.{parallel}
@@ -14,7 +14,7 @@ pub data RowFrom : ℕ → List Sent → ℕ → Sent → Type 0 where
 pub record ParallelSplit (a b : Sent) : Type 0 where
   pub one : Split a
   pub two : Split b
-  pub parallel : parallel a.row b.row ≡ true
+  pub parallel : parallel a.demand b.demand ≡ true
 
 -- rows p and q are such, the first before the second
 pub record PairAt (k : ℕ) (ss : List Sent) (p q : ℕ) : Type 0 where

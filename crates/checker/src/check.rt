@@ -5,12 +5,13 @@ ghost use Rattle.sheet.specs.Answer.{with_values};
 ghost use Rattle.checker.specs.Check.{line_of, check};
 
 use judge::judge;
-use ring::{LINKS, Link, wide};
-use rows::Columns;
-use sheet::{Figures, read_sheet};
+use ring::{Figures, LINKS, Link, wide};
+use rows::{Columns, Rows};
+use sheet::read_sheet;
 use table::{Finding, Reason, Refusal};
 
-/// The line of a sheet of so many rows and nodes on which a finding against its values stands, counted from 1; 0 where it is against the sheet as a whole.
+// The line on which a finding against the values of a sheet of so many rows and nodes stands, counted from 1: behind the R line stand the rows, the C line, a line for
+// each link, and the Z line. 0 where the finding is against the sheet as a whole; other reasons than these are not found against values that were read.
 #[tactic(auto, unfolding(crate::specs::Check::line_of))]
 fn line_of(rows: usize, nodes: u32, found: Finding) -> u32
     requires few { rows ≤ desk.rows }
@@ -29,8 +30,9 @@ fn line_of(rows: usize, nodes: u32, found: Finding) -> u32
     }
 }
 
-/// Checks a sheet's text, whatever tool it comes from: its figures are answered, its rows are in the columns and its links in the array, link k at place k - 1. After a
-/// refusal the columns hold no row, and what the array holds means nothing.
+/// Checks a sheet's text, whatever tool it comes from: its figures are answered, its rows are in the columns and its links in the array, link k at place k - 1.
+/// A refusal names the first reason that holds, with its line and its byte: those for which no sheet is read, and then 8 to 14, with byte 1 of their line, or, against the
+/// sheet as a whole, with line 0 and byte 0. After it the columns hold no row, and what the array holds means nothing.
 pub fn check_sheet(
     text: &[u8],
     rows: &mut Columns,
@@ -42,10 +44,10 @@ pub fn check_sheet(
     let x = read_sheet(text, rows, links)?;
     let nodes = x.ring.nodes;
     let held = &links[..wide(nodes)];
-    match judge(x.ring, rows, x.cut, held, x.peak, x.size) {
+    match judge(x, rows, held) {
         Ok(()) => Ok(x),
         Err(found) => {
-            let line = line_of(rows.len(), nodes, found);
+            let line = line_of(rows.count(), nodes, found);
             rows.clear();
             Err(Refusal {
                 reason: found.reason,

@@ -5,10 +5,10 @@ ghost use Rattle.ring.specs.Crossing.{distinct as distinct_of, between as betwee
 ghost use Rattle.ring.specs.RuleC.{clash};
 ghost use Rattle.checker.specs.FindPair.{first_pair};
 
-use ring::{Row, Sent, both_split};
+use ring::{Demand, Sent, both_split};
 use rows::Rows;
 
-/// Two rows by their places among all rows, counted from 1; or none.
+/// Two rows by their places among all rows, counted from 1, the first before the second; or none.
 #[derive(Clone, Copy)]
 pub enum Pair {
     Are(usize, usize),
@@ -17,36 +17,34 @@ pub enum Pair {
 
 // ---- two rows
 
-/// Whether the nodes of two rows are four.
-fn distinct(a: Row, b: Row) -> bool
+// Whether the nodes of two rows are four.
+fn distinct(a: Demand, b: Demand) -> bool
     ensures { result ≡ distinct_of a b }
 {
     a.first != b.first && a.first != b.second && a.second != b.first && a.second != b.second
 }
 
-/// Whether a node lies strictly between the nodes of a row.
-fn between(row: Row, node: u32) -> bool
+// Whether a node lies strictly between the nodes of a row.
+fn between(row: Demand, node: u32) -> bool
     ensures { result ≡ between_of row node }
 {
     row.first < node && node < row.second
 }
 
-/// Whether two rows are parallel: they do not cross. The test is by nodes; one by fronts would need the first node of each below its second.
-fn parallel(a: Row, b: Row) -> bool
+// Whether two rows are parallel: they do not cross. The test is by nodes; one by fronts would need the first node of each below its second.
+#[tactic(auto, unfolding(ring::specs::Crossing::parallel, ring::specs::Crossing::crosses))]
+fn parallel(a: Demand, b: Demand) -> bool
     ensures { result ≡ parallel_of a b }
 {
-    let four = distinct(a, b);
-    let begins = between(a, b.first);
-    let ends = between(a, b.second);
-    if four { begins == ends } else { true }
+    !distinct(a, b) || between(a, b.first) == between(a, b.second)
 }
 
-/// Whether two rows are both split, and parallel.
+// Whether two rows are both split, and parallel.
 #[tactic(auto, unfolding(ring::specs::RuleC::clash))]
 fn clashes(a: Sent, b: Sent) -> bool
     ensures { result ≡ clash a b }
 {
-    both_split(a, b) && parallel(a.row, b.row)
+    both_split(a, b) && parallel(a.demand, b.demand)
 }
 
 // ---- all rows

@@ -3,26 +3,25 @@ use Rattle.std.proofs.Common.{ℕ, ◌+◌, ◌*◌, ◌<◌, ◌≤◌, List, [
 use Rattle.std.proofs.lemmas.List.{length-map}
 use mathlib.Core.Logic.{⊎_elim}
 use native.Mathlib.Decide.{dec_lt, dec_le}
-use Rattle.ring.specs.declared.types.Row.{Row}
+use Rattle.ring.specs.declared.types.Demand.{Demand}
 use Rattle.ring.specs.declared.types.Sent.{Sent}
 use Rattle.ring.specs.declared.types.Routed.{Routed}
 use Rattle.ring.specs.declared.types.Cut.{Cut}
 use Rattle.ring.specs.declared.types.Link.{Link}
 use Rattle.ring.specs.Limits.{desk}
 use Rattle.ring.specs.Lists.{Each, none, more}
-use Rattle.ring.specs.Row.{OnRing}
+use Rattle.ring.specs.Demand.{OnRing}
 use Rattle.ring.specs.Cut.{IsCut}
-use Rattle.ring.specs.Sheet.{Sheet, numbers_from, sents, demands, true_link, split_peak, unsplit_peak, largest_split_of}
-use Rattle.ring.specs.True.{SumsTo2d, Kept, TrueSheet}
+use Rattle.ring.specs.Sheet.{Sheet, figures_of, numbers_from, sents, demands, true_link, split_peak, unsplit_peak, largest_split_of}
+use Rattle.ring.specs.True.{SumsTo2d, GoesByRuleD, TrueSheet}
 use Rattle.ring.proofs.Lists.{each, each-of-map}
-use Rattle.ring.proofs.Figures.{demands-length}
+use Rattle.ring.proofs.Small.{demands-length}
 use Rattle.table.specs.Findings.{Findings, then, First, ring_findings}
 use Rattle.table.specs.declared.finding.Finding.{Finding}
 use Rattle.table.proofs.Findings.{fine, then-on, none-of, both-of, one-answer}
 use Rattle.table.proofs.Short.{table-short}
 use Rattle.table.proofs.TableText.{desk-spelled}
-use Rattle.judge.specs.Findings.{rows_findings, cut_findings, loads_findings, findings, Fits}
-use Rattle.judge.specs.Due.{last_by}
+use Rattle.judge.specs.Findings.{rows_findings, cut_findings, loads_findings, last_findings, findings, Fits}
 use Rattle.judge.proofs.Rows.{same-number, Fine, rows-fine, fine-rows}
 use Rattle.judge.proofs.Links.{links-true, true-links, length-numbers}
 use Rattle.judge.proofs.Judging.{ring-fine}
@@ -42,14 +41,14 @@ module _ (x : Sheet) where
   abbrev tail-of : Findings
   tail-of =
       then (loads_findings x.ring.nodes (true_link x.rows) x.links)
-      (last_by x.ring.fibres (split_peak x) (unsplit_peak x) (largest_split_of x) x.cut.number x.peak x.size)
+      (last_findings (figures_of x) (split_peak x) (unsplit_peak x) (largest_split_of x))
 
   -- what holds of each row holds of the demands
-  of-demands : {P : Row → Type 0} → Each (λ (r : Routed). P r.sent.row) x.rows → Each P (demands (sents x.rows))
-  of-demands e = each-map (λ (s : Sent). s.row) _ (each-map (λ (r : Routed). r.sent) x.rows e)
+  of-demands : {P : Demand → Type 0} → Each (λ (r : Routed). P r.sent.demand) x.rows → Each P (demands (sents x.rows))
+  of-demands e = each-map (λ (s : Sent). s.demand) _ (each-map (λ (r : Routed). r.sent) x.rows e)
 
-  of-rows : {P : Row → Type 0} → Each P (demands (sents x.rows)) → Each (λ (r : Routed). P r.sent.row) x.rows
-  of-rows e = each-of-map (λ (r : Routed). r.sent) x.rows (each-of-map (λ (s : Sent). s.row) _ e)
+  of-rows : {P : Demand → Type 0} → Each P (demands (sents x.rows)) → Each (λ (r : Routed). P r.sent.demand) x.rows
+  of-rows e = each-of-map (λ (r : Routed). r.sent) x.rows (each-of-map (λ (s : Sent). s.demand) _ e)
 
   pub fine-fits : First (ring_findings desk x.ring) fine → First (rows_findings desk x.ring.nodes 1 None x.rows) fine → Fits desk x
   fine-fits a b =
@@ -93,7 +92,7 @@ module _ (x : Sheet) where
         peak = same-number _ _ (λ d. last.0 (inl d));
         size = same-number _ _ (λ d. last.0 (inr d));
         tight = same-number _ _ tight.0;
-        kept = each (λ r f. f.kept) rows.each;
+        ways = each (λ r f. f.way) rows.each;
         bound = omega arith;
       }
 
@@ -106,16 +105,16 @@ module _ (x : Sheet) where
   many-of : TrueSheet x → length x.links ≡ x.ring.nodes
   many-of t = sym (length-map x.links (λ (l : Link). l.link)) ∙ ap length t.links ∙ length-numbers 1 x.ring.nodes
 
-  each-fine : (rs : List Routed) → Each (λ (r : Routed). OnRing x.ring.nodes r.sent.row) rs → Each (λ (r : Routed). r.sent.row.amount ≤ desk.amount) rs →
-      Each (λ (r : Routed). SumsTo2d r.sent) rs → Each Kept rs → Each (Fine desk x.ring.nodes) rs
+  each-fine : (rs : List Routed) → Each (λ (r : Routed). OnRing x.ring.nodes r.sent.demand) rs → Each (λ (r : Routed). r.sent.demand.amount ≤ desk.amount) rs →
+      Each (λ (r : Routed). SumsTo2d r.sent) rs → Each GoesByRuleD rs → Each (Fine desk x.ring.nodes) rs
   each-fine [] none none none none = none
-  each-fine (r ∷ rs) (more a e) (more b bs) (more c cs) (more d ds) = more (record { on = a; amount = b; sums = c; kept = d }) (each-fine rs e bs cs ds)
+  each-fine (r ∷ rs) (more a e) (more b bs) (more c cs) (more d ds) = more (record { on = a; amount = b; sums = c; way = d }) (each-fine rs e bs cs ds)
 
   pub true-fine : Fits desk x → TrueSheet x → First (findings desk x) fine
   true-fine f t =
       let many = many-of t in
       let sums = each-of-map (λ (r : Routed). r.sent) x.rows t.sums in
-      let rows = each-fine x.rows (of-rows f.rows.nodes) (of-rows f.amounts) sums t.kept in
+      let rows = each-fine x.rows (of-rows f.rows.nodes) (of-rows f.amounts) sums t.ways in
       then-on _ _ _ (inr (⊎_elim (λ l. omega (arith, f.few)) (λ l. omega (arith, f.many)), inr (λ d. d f.fibres, refl)))
       (then-on _ _ _ (fine-rows desk x.ring.nodes 1 None x.rows rows f.rows.order (omega (arith, f.count, demands-length x.rows)))
       (then-on _ _ _ (inr (⊎_elim (λ d. d t.cut) (λ d. d t.across), refl))

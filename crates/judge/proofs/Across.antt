@@ -11,17 +11,17 @@ use Rattle.ring.proofs.Totals.{part_small}
 use Rattle.weight.specs.Limits.{most_amount}
 use Rattle.weight.specs.Rows.{RowFits, Fit}
 
-pub across_sum : (g h : ℕ) (rs : List Routed) → across (demands (sents rs)) g h ≡ sum_by (λ r. part r.sent.row g h) rs
+pub across_sum : (g h : ℕ) (rs : List Routed) → across (demands (sents rs)) g h ≡ sum_by (λ r. part r.sent.demand g h) rs
 unfolding across
 across_sum g h [] = refl
-across_sum g h (r ∷ rs) = ap (λ n. part r.sent.row g h + n) (across_sum g h rs) ∙ sym (sum_by-cons (λ (r : Routed). part r.sent.row g h) r rs)
+across_sum g h (r ∷ rs) = ap (λ n. part r.sent.demand g h + n) (across_sum g h rs) ∙ sym (sum_by-cons (λ (r : Routed). part r.sent.demand g h) r rs)
 
-pub across_fits : (n : ℕ) (rs : List Routed) → Fit n rs → (g h : ℕ) → sum_by (λ r. part r.sent.row g h) rs < 2 ^ 32
+pub across_fits : (n : ℕ) (rs : List Routed) → Fit n rs → (g h : ℕ) → sum_by (λ r. part r.sent.demand g h) rs < 2 ^ 32
 across_fits n rs fit g h = omega (arith, go rs fit.each, fit.few)
   where
-    go : (l : List Routed) → Each (RowFits n) l → sum_by (λ r. part r.sent.row g h) l ≤ most_amount * length l
+    go : (l : List Routed) → Each (RowFits n) l → sum_by (λ r. part r.sent.demand g h) l ≤ most_amount * length l
     go [] none = omega arith
-    go (r ∷ l) (more p e) = omega (arith, sum_by-cons (λ (r : Routed). part r.sent.row g h) r l, part_small r.sent.row g h, p.amount, mul-suc most_amount (length l), go l e)
+    go (r ∷ l) (more p e) = omega (arith, sum_by-cons (λ (r : Routed). part r.sent.demand g h) r l, part_small r.sent.demand g h, p.amount, mul-suc most_amount (length l), go l e)
 
 -- one row more
 module _ (f : Routed → ℕ) (rs : List Routed) (t : ℕ) (x : Routed) (at : slice_get rs t ≡ Some x) (sum p : ℕ) (e : sum ≡ sum_by f (take t rs)) (ep : p ≡ f x) where

@@ -6,7 +6,7 @@ use Rattle.ring.specs.declared.types.Ring.{Ring}
 use Rattle.ring.specs.declared.types.Routed.{Routed}
 use Rattle.ring.specs.Limits.{Limits, desk}
 use Rattle.ring.specs.LineSize.{IsFibres, two_fibres, four_fibres}
-use Rattle.ring.specs.Sheet.{Sheet, true_link}
+use Rattle.ring.specs.Sheet.{Sheet, figures_of, true_link}
 use Rattle.ring.proofs.Lists.{each}
 use Rattle.table.specs.Findings.{First, ring_findings}
 use Rattle.table.specs.declared.finding.Finding.{Finding}
@@ -14,11 +14,11 @@ use Rattle.table.proofs.Findings.{fine, then-on, then-stop, none-of}
 use Rattle.weight.specs.Rows.{Fit}
 use Rattle.weight.specs.Weighed.{weight_in}
 use Rattle.weight.specs.declared.Weight.{Weight}
-use Rattle.weight.proofs.Weighing.{peak-fits}
-use Rattle.judge.specs.Due.{link_in, last_by}
-use Rattle.judge.specs.Findings.{rows_findings, cut_findings, loads_findings, findings}
+use Rattle.weight.proofs.Weighing.{peak-fits, link_is}
+use Rattle.weight.specs.Weighed.{weighed_link}
+use Rattle.judge.specs.Findings.{rows_findings, cut_findings, loads_findings, last_findings, findings}
 use Rattle.judge.proofs.Rows.{rows-fine}
-use Rattle.judge.proofs.Links.{loads-same, due-links}
+use Rattle.judge.proofs.Links.{loads-same}
 
 -- ---- the ring
 
@@ -66,18 +66,18 @@ module _ (x : Sheet) where
 
       -- the links that are due by a weight, and its figures, are those of the rows
       module _ (c : First (cut_findings x.ring.nodes x.rows x.cut) fine) (w : Weight) (weighs : w ≡ weight_in x.ring.nodes x.rows) where
-        links-of-rows : (r : Result Unit Finding) → First (loads_findings x.ring.nodes (link_in w) x.links) r → First (loads_findings x.ring.nodes (true_link x.rows) x.links) r
+        links-of-rows : (r : Result Unit Finding) → First (loads_findings x.ring.nodes (weighed_link w) x.links) r → First (loads_findings x.ring.nodes (true_link x.rows) x.links) r
         links-of-rows =
-            loads-same (link_in w) (true_link x.rows) x.ring.nodes x.links
-            (λ k l h. ap (λ w. link_in w k) weighs ∙ due-links x.ring.nodes x.rows (ring-fine desk x.ring a).many k l h)
+            loads-same (weighed_link w) (true_link x.rows) x.ring.nodes x.links
+            (λ k l h. ap (λ w. weighed_link w k) weighs ∙ link_is x.ring.nodes x.rows k l h)
 
-        pub at-links : (f : Finding) → First (loads_findings x.ring.nodes (link_in w) x.links) (Err f) → First (findings desk x) (Err f)
+        pub at-links : (f : Finding) → First (loads_findings x.ring.nodes (weighed_link w) x.links) (Err f) → First (findings desk x) (Err f)
         at-links f h = then-on _ _ _ a (then-on _ _ _ b (then-on _ _ _ c (then-stop _ _ f (links-of-rows (Err f) h))))
 
         pub carries : 2 * w.peak < 2 ^ 32
         carries = omega (arith, peak-fits x.ring.nodes x.rows (rows-fit x.ring x.rows a b) w weighs)
 
-        pub at-last : First (loads_findings x.ring.nodes (link_in w) x.links) fine → (r : Result Unit Finding) →
-            First (last_by x.ring.fibres w.split_peak w.peak w.largest x.cut.number x.peak x.size) r → First (findings desk x) r
+        pub at-last : First (loads_findings x.ring.nodes (weighed_link w) x.links) fine → (r : Result Unit Finding) →
+            First (last_findings (figures_of x) w.split_peak w.peak w.largest) r → First (findings desk x) r
         unfolding weight_in
         at-last d r h = then-on _ _ _ a (then-on _ _ _ b (then-on _ _ _ c (then-on _ _ _ (links-of-rows fine d) (rw weighs at h))))

@@ -1,19 +1,12 @@
 -- Link by link: what is given of the links that are left is given of all, by the links that are due; and nothing is found exactly where each is true.
-use Rattle.std.proofs.Common.{ℕ, ◌+◌, ◌-◌, ◌<◌, ◌≤◌, zero, suc, List, [], ◌∷◌, map, Result, inl, inr, ◌≡◌, refl, ap, ap₂, sym, ◌∙◌, length, drop, get_or, replicate, arith}
-use lib.ListN.{length-replicate, get_or-append}
-use lib.Seq.{sets-eq}
-use Rattle.ring.specs.declared.types.Routed.{Routed}
+use Rattle.std.proofs.Common.{ℕ, ◌+◌, ◌≤◌, zero, suc, List, [], ◌∷◌, map, Result, inl, inr, ◌≡◌, refl, ap, ap₂, sym, ◌∙◌, length, drop, arith}
 use Rattle.ring.specs.declared.types.Link.{Link}
-use Rattle.ring.specs.Limits.{desk}
 use Rattle.ring.specs.Lists.{Each, none, more}
-use Rattle.ring.specs.Columns.{column}
 use Rattle.ring.specs.Sheet.{Sheet, numbers_from, true_link}
 use Rattle.ring.specs.True.{TrueLoads}
 use Rattle.table.specs.Findings.{First}
 use Rattle.table.specs.declared.finding.Finding.{Finding}
 use Rattle.table.proofs.Findings.{fine, none-of}
-use Rattle.weight.specs.Weighed.{weight_in}
-use Rattle.judge.specs.Due.{link_in}
 use Rattle.judge.specs.Findings.{links_findings, loads_findings}
 use Rattle.judge.proofs.Rows.{same-number}
 
@@ -39,40 +32,12 @@ loads-same due due' n ls same r (inr h) =
     let many : length ls ≡ n = same-number (length ls) n h.0 in
     inr (h.0, links-same due due' n 1 ls same (omega arith) (omega arith) r h.1)
 
--- ---- those of a weight are those of the rows
-
-numbers-at : (f : ℕ → ℕ) (k m x : ℕ) → x < m → get_or (map f (numbers_from k m)) x 0 ≡ f (k + x)
-unfolding numbers_from
-numbers-at f k zero x l = absurd (omega arith)
-numbers-at f k (suc m) zero l = let e : k + 0 ≡ k = omega arith in rw e
-numbers-at f k (suc m) (suc x) l = let e : k + suc x ≡ suc k + x = omega arith in rw e (numbers-at f (suc k) m x (omega arith))
+-- ---- numbers that run on
 
 pub length-numbers : (k m : ℕ) → length (numbers_from k m) ≡ m
 unfolding numbers_from
 length-numbers k zero = refl
 length-numbers k (suc m) = ap suc (length-numbers (suc k) m)
-
-length-figures : (f : ℕ → ℕ) (k m : ℕ) → length (map f (numbers_from k m)) ≡ m
-unfolding numbers_from
-length-figures f k zero = refl
-length-figures f k (suc m) = ap suc (length-figures f (suc k) m)
-
-column-at : (f : ℕ → ℕ) (size n k : ℕ) → n ≤ size → 1 ≤ k → k ≤ n → get_or (column f size (numbers_from 1 n)) (k - 1) 0 ≡ f k
-unfolding column
-column-at f size n k few low high =
-    let figures = map f (numbers_from 1 n) in
-    let zeros = replicate {A = ℕ} size 0 in
-    let e : 1 + (k - 1) ≡ k = omega arith in
-    let m = length-figures f 1 n in
-    rw (sets-eq figures zeros 0 (omega (arith, length-replicate {A = ℕ} size 0))) (get_or-append figures _ 0 (k - 1) (omega arith) ∙ numbers-at f 1 n (k - 1) (omega arith) ∙ ap f e)
-
-pub due-links : (n : ℕ) (rs : List Routed) → n ≤ desk.nodes → (k : ℕ) → 1 ≤ k → k ≤ n → link_in (weight_in n rs) k ≡ true_link rs k
-unfolding weight_in
-due-links n rs few k low high =
-    let true_one = true_link rs in
-    let split = column-at (λ x. (true_one x).split) desk.nodes n k few low high in
-    let unsplit = column-at (λ x. (true_one x).unsplit) desk.nodes n k few low high in
-    λ i. record { link = k; split = split i; unsplit = unsplit i }
 
 -- ---- what it means that nothing is found
 

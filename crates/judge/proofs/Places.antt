@@ -1,17 +1,16 @@
 -- The place that is given with a reason is near: of the rows one that a sheet can have, or the first behind them, and of the links one of the ring.
 use Rattle.std.proofs.Common.{ℕ, ◌+◌, ◌≤◌, List, [], ◌∷◌, Option, Some, None, Result, Ok, Err, IfErr, ◌⊎◌, inl, inr, ◌≡◌, ap, length, arith}
-use Rattle.ring.specs.declared.types.Row.{Row}
+use Rattle.ring.specs.declared.types.Demand.{Demand}
 use Rattle.ring.specs.declared.types.Routed.{Routed}
 use Rattle.ring.specs.declared.types.Link.{Link}
 use Rattle.ring.specs.Limits.{Limits, desk}
-use Rattle.ring.specs.Sheet.{Sheet, true_link, split_peak, unsplit_peak, largest_split_of}
+use Rattle.ring.specs.Sheet.{Sheet, figures_of, true_link, split_peak, unsplit_peak, largest_split_of}
 use Rattle.table.specs.Findings.{Findings, nothing, finding, then, found, First, ring_findings}
 use Rattle.table.specs.declared.finding.Finding.{Finding}
 use Rattle.table.specs.declared.reason.Reason.{Reason}
 use Rattle.table.specs.declared.reason.Reason.TheVariants.{WrongLink}
 use Rattle.table.proofs.Findings.{fine, either-of}
-use Rattle.judge.specs.Findings.{row_findings, rows_findings, cut_findings, links_findings, loads_findings, findings}
-use Rattle.judge.specs.Due.{last_by}
+use Rattle.judge.specs.Findings.{row_findings, rows_findings, cut_findings, links_findings, loads_findings, last_findings, findings}
 use Rattle.judge.proofs.Rows.{same-number, row-fine}
 use Rattle.judge.proofs.Judging.{ring-fine}
 
@@ -29,19 +28,20 @@ place-within f (one_at {reason = reason} {place = place} l w) (inl h) =
 place-within f (one_at l w) (inr h) = place-within f w h.1
 
 module _ (limits : Limits) (n : ℕ) where
-  row-within : (place most : ℕ) (before : Option Row) (r : Routed) → place ≤ most → Within most (row_findings limits n place before r)
-  row-within place most before r l = one_at l (one_at l (one_at l (one_at l (one_at l (one_at l (one_at l none_at))))))
+  row-within : (place most : ℕ) (above : Option Demand) (r : Routed) → place ≤ most → Within most (row_findings limits n place above r)
+  unfolding then
+  row-within place most above r l = one_at l (one_at l (one_at l (one_at l (one_at l (one_at l (one_at l none_at))))))
 
   -- the first row behind those that a sheet can have is too many
-  rows-near : (place : ℕ) (before : Option Row) (rs : List Routed) (f : Finding) → place ≤ limits.rows + 1 → First (rows_findings limits n place before rs) (Err f) → f.place ≤ limits.rows + 1
-  rows-near place before [] f l h = absurd (cc)
-  rows-near place before (r ∷ rs) f l h =
-      go (either-of (row_findings limits n place before r) (rows_findings limits n (place + 1) (Some r.sent.row) rs) f h) (rows-near (place + 1) (Some r.sent.row) rs f)
+  rows-near : (place : ℕ) (above : Option Demand) (rs : List Routed) (f : Finding) → place ≤ limits.rows + 1 → First (rows_findings limits n place above rs) (Err f) → f.place ≤ limits.rows + 1
+  rows-near place above [] f l h = absurd (cc)
+  rows-near place above (r ∷ rs) f l h =
+      go (either-of (row_findings limits n place above r) (rows_findings limits n (place + 1) (Some r.sent.demand) rs) f h) (rows-near (place + 1) (Some r.sent.demand) rs f)
     where
-      go : First (row_findings limits n place before r) (Err f) ⊎ (First (row_findings limits n place before r) fine × First (rows_findings limits n (place + 1) (Some r.sent.row) rs) (Err f)) →
-          (place + 1 ≤ limits.rows + 1 → First (rows_findings limits n (place + 1) (Some r.sent.row) rs) (Err f) → f.place ≤ limits.rows + 1) → f.place ≤ limits.rows + 1
-      go (inl k) later = place-within f (row-within place (limits.rows + 1) before r l) k
-      go (inr k) later = let at = row-fine limits n place before r k.0 in later (omega (arith, at.count)) k.1
+      go : First (row_findings limits n place above r) (Err f) ⊎ (First (row_findings limits n place above r) fine × First (rows_findings limits n (place + 1) (Some r.sent.demand) rs) (Err f)) →
+          (place + 1 ≤ limits.rows + 1 → First (rows_findings limits n (place + 1) (Some r.sent.demand) rs) (Err f) → f.place ≤ limits.rows + 1) → f.place ≤ limits.rows + 1
+      go (inl k) later = place-within f (row-within place (limits.rows + 1) above r l) k
+      go (inr k) later = let at = row-fine limits n place above r k.0 in later (omega (arith, at.count)) k.1
 
 links-within : (due : ℕ → Link) (place most : ℕ) (ls : List Link) → place + length ls ≤ most + 1 → Within most (links_findings due place ls)
 links-within due place most [] l = none_at
@@ -53,7 +53,7 @@ loads-near n due ls f (inr h) = let many = same-number (length ls) n h.0 in plac
 
 module _ (x : Sheet) where
   abbrev behind_links : Findings
-  behind_links = last_by x.ring.fibres (split_peak x) (unsplit_peak x) (largest_split_of x) x.cut.number x.peak x.size
+  behind_links = last_findings (figures_of x) (split_peak x) (unsplit_peak x) (largest_split_of x)
 
   abbrev behind_cut : Findings
   behind_cut = then (loads_findings x.ring.nodes (true_link x.rows) x.links) behind_links

@@ -1,28 +1,27 @@
--- Each test is of its finding's fact, so the first test that holds is the first finding.
-use Rattle.std.proofs.Common.{ℕ, ◌+◌, ◌*◌, ◌<◌, ◌≤◌, Bool, List, [], ◌∷◌, ◌++◌, Option, Some, None, Result, ◌⊎◌, inl, inr, ◌≡◌, refl, ap, length, arith}
-use mathlib.Core.Logic.{⊎_elim}
+-- Each test is of its finding's fact, and a table's faults are its findings, so what is judged is the first finding.
+use Rattle.std.proofs.Common.{ℕ, ◌+◌, ◌*◌, ◌<◌, ◌≤◌, Bool, List, [], ◌∷◌, ◌++◌, Option, Some, None, Result, Ok, Err, ◌⊎◌, inl, inr, ◌≡◌, refl, ap, length, arith}
 use Rattle.sonet.specs.Size.{sonet_sizes}
-use Rattle.ring.specs.declared.types.Ring.{Ring}
-use Rattle.ring.specs.declared.types.Row.{Row}
+use Rattle.ring.specs.declared.types.Demand.{Demand}
 use Rattle.ring.specs.declared.types.Routed.{Routed}
 use Rattle.ring.specs.declared.types.Way.{Way}
 use Rattle.ring.specs.declared.types.Way.TheVariants.{Front, Back}
 use Rattle.ring.specs.declared.types.Cut.{Cut}
 use Rattle.ring.specs.declared.types.Link.{Link}
-use Rattle.ring.specs.Limits.{Limits}
-use Rattle.ring.specs.LineSize.{two_fibres, four_fibres, line_size}
+use Rattle.ring.specs.declared.types.Figures.{Figures}
+use Rattle.ring.specs.Limits.{desk}
+use Rattle.ring.specs.LineSize.{line_size}
 use Rattle.ring.specs.Cut.{IsCut, across}
-use Rattle.ring.specs.Sheet.{Sheet, sents, demands, true_link, split_peak, unsplit_peak, largest_split_of}
-use Rattle.ring.specs.True.{Kept}
-use Rattle.table.specs.Findings.{Findings, nothing, finding, then, found, First, ring_findings}
+use Rattle.ring.specs.Sheet.{Sheet, figures_of, sents, demands, true_link, split_peak, unsplit_peak, largest_split_of}
+use Rattle.ring.specs.True.{GoesByRuleD}
+use Rattle.table.specs.Findings.{Findings, nothing, finding, then, found, First, ring_findings, demand_findings}
 use Rattle.table.specs.declared.finding.Finding.{Finding}
 use Rattle.table.specs.declared.reason.Reason.{Reason}
-use Rattle.table.proofs.Findings.{one-answer}
+use Rattle.table.proofs.Findings.{then-on, then-stop, one-answer}
+use Rattle.table.proofs.Faults.{ring_given, row_given}
 use Rattle.table.proofs.Tested.{Tested, is_so, not_so, test_of, test-or, test-and, test-less, test-most, test-same, test-other}
-use Rattle.judge.specs.Findings.{Falls, row_findings, rows_findings, cut_findings, links_findings, loads_findings, findings}
-use Rattle.judge.specs.Due.{last_by}
+use Rattle.judge.specs.Findings.{row_findings, rows_findings, cut_findings, links_findings, loads_findings, last_findings, findings}
 use Rattle.judge.proofs.Rows.{same-number}
-use Rattle.judge.specs.Tests.{Test, first_of, ring_tests, no_node, falls, strays, row_tests, rows_tests, cut_tests, differs, links_tests, loads_tests, last_tests, tests, judged}
+use Rattle.judge.specs.Tests.{Test, first_of, or_else, strays, row_tests, row_judged, rows_judged, cut_tests, differs, links_tests, loads_tests, last_tests, figures_tests, judged}
 
 -- ---- test by test
 
@@ -41,23 +40,15 @@ unfolding then
 tested-then no_test u = u
 tested-then (test a t) u = test a (tested-then t u)
 
--- ---- the ring
-
-ring-tested : (limits : Limits) (ring : Ring) → AllTested (ring_findings limits ring) (ring_tests limits ring)
-unfolding ring_tests
-ring-tested limits ring =
-    test (test-or (test-less ring.nodes limits.fewest) (test-less limits.nodes ring.nodes))
-    (test (test_of (λ p. ⊎_elim p.0 p.1) (λ n k. n (λ e. k (inl e), λ e. k (inr e))) (test-and (test-other ring.fibres two_fibres) (test-other ring.fibres four_fibres)))
-    no_test)
+-- so of tests behind an answer that is the first
+first-or : (fs gs : Findings) (r s : Result Unit Finding) → First fs r → First gs s → First (then fs gs) (or_else r s)
+unfolding or_else
+first-or fs gs (Ok tt) s h k = then-on fs gs s h k
+first-or fs gs (Err f) s h k = then-stop fs gs f h
 
 -- ---- a row
 
-falls-tested : (before : Option Row) (r : Row) → Tested (Falls before r) (falls before r)
-unfolding falls
-falls-tested None r = not_so (λ f. f)
-falls-tested (Some q) r = test-or (test-less r.first q.first) (test-and (test-same r.first q.first) (test-less r.second q.second))
-
-strays-tested : (r : Routed) (w : Way) → r.way ≡ w → Tested (Kept r → ⊥) (strays w r.sent)
+strays-tested : (r : Routed) (w : Way) → r.way ≡ w → Tested (GoesByRuleD r → ⊥) (strays w r.sent)
 unfolding strays
 strays-tested r Front e =
     test_of (λ p k. absurd (cc (e, k.back p.0 p.1))) (λ n m. m (record { front = λ z. e; back = λ z l. absurd (n (z, l)) }))
@@ -65,30 +56,23 @@ strays-tested r Front e =
 strays-tested r Back e =
     test_of (λ z k. absurd (cc (e, k.front z))) (λ n m. m (record { front = λ z. absurd (n z); back = λ z l. e })) (test-same r.sent.back 0)
 
-module _ (limits : Limits) (n : ℕ) where
-  row-tested : (place : ℕ) (before : Option Row) (r : Routed) → AllTested (row_findings limits n place before r) (row_tests limits n place before r)
-  unfolding row_tests no_node
-  row-tested place before r =
-      let row = r.sent.row in
-      test (test-or (test-or (test-less row.first 1) (test-less n row.first)) (test-or (test-less row.second 1) (test-less n row.second)))
-      (test (test-most row.second row.first)
-      (test (falls-tested before row)
-      (test (test-less limits.rows place)
-      (test (test-less limits.amount row.amount)
-      (test (test-other (r.sent.front + r.sent.back) (2 * row.amount))
-      (test (strays-tested r r.way refl)
-      no_test))))))
+row-tested : (n k : ℕ) (above : Option Demand) (r : Routed) → First (row_findings desk n (k + 1) above r) (row_judged desk n k above r)
+unfolding row_judged row_tests
+row-tested n k above r =
+    first-or (demand_findings desk n (k + 1) above r.sent.demand) _ _ _ (row_given n k above r.sent.demand _ refl)
+    (first-tested (test (test-other (r.sent.front + r.sent.back) (2 * r.sent.demand.amount)) (test (strays-tested r r.way refl) no_test)))
 
-  rows-tested : (place : ℕ) (before : Option Row) (rs : List Routed) → AllTested (rows_findings limits n place before rs) (rows_tests limits n place before rs)
-  unfolding rows_tests
-  rows-tested place before [] = no_test
-  rows-tested place before (r ∷ rs) = tested-then (row-tested place before r) (rows-tested (place + 1) (Some r.sent.row) rs)
+rows-tested : (n k : ℕ) (above : Option Demand) (rs : List Routed) → First (rows_findings desk n (k + 1) above rs) (rows_judged desk n k above rs)
+unfolding rows_judged
+rows-tested n k above [] = refl
+rows-tested n k above (r ∷ rs) =
+    first-or (row_findings desk n (k + 1) above r) (rows_findings desk n (k + 1 + 1) (Some r.sent.demand) rs) _ _ (row-tested n k above r) (rows-tested n (k + 1) (Some r.sent.demand) rs)
 
 -- ---- the figures
 
 module _ (n : ℕ) (rs : List Routed) (c : Cut) where
   abbrev Number : Type 0
-  Number = c.number ≡ across (demands (sents rs)) c.g c.h → ⊥
+  Number = c.across ≡ across (demands (sents rs)) c.g c.h → ⊥
 
   abbrev Any : Type 0
   Any = (((c.g < 1) ⊎ (c.h ≤ c.g)) ⊎ (n < c.h)) ⊎ Number
@@ -111,7 +95,7 @@ module _ (n : ℕ) (rs : List Routed) (c : Cut) where
   unfolding cut_tests
   cut-tested =
       let number = across (demands (sents rs)) c.g c.h in
-      test (test_of cut_there cut_back (test-or (test-or (test-or (test-less c.g 1) (test-most c.h c.g)) (test-less n c.h)) (test-other c.number number))) no_test
+      test (test_of cut_there cut_back (test-or (test-or (test-or (test-less c.g 1) (test-most c.h c.g)) (test-less n c.h)) (test-other c.across number))) no_test
 
 link-tested : (a b : Link) → Tested (a ≡ b → ⊥) (differs a b)
 unfolding differs
@@ -138,26 +122,26 @@ loads-tested : (n : ℕ) (due : ℕ → Link) (ls : List Link) → AllTested (lo
 unfolding loads_tests
 loads-tested n due ls = test (test-other (length ls) n) (links-tested due 1 ls)
 
-last-tested : (fibres split-top top largest number peak size : ℕ) → AllTested (last_by fibres split-top top largest number peak size) (last_tests fibres split-top top largest number peak size)
+last-tested : (x : Figures) (split unsplit largest : ℕ) → AllTested (last_findings x split unsplit largest) (last_tests x split unsplit largest)
 unfolding last_tests
-last-tested fibres split-top top largest number peak size =
-    test (test-or (test-other peak top) (test-other size (line_size sonet_sizes fibres top)))
-    (test (test-other split-top number)
-    (test (test-less (split-top + 3 * largest) (2 * top))
+last-tested x split unsplit largest =
+    test (test-or (test-other x.peak unsplit) (test-other x.size (line_size sonet_sizes x.ring.fibres unsplit)))
+    (test (test-other split x.cut.across)
+    (test (test-less (split + 3 * largest) (2 * unsplit))
     no_test))
 
 -- ---- all of them
 
-pub judged-first : (limits : Limits) (x : Sheet) → First (findings limits x) (judged limits x)
-unfolding judged tests
-judged-first limits x =
-    first-tested
-    (tested-then (ring-tested limits x.ring)
-    (tested-then (rows-tested limits x.ring.nodes 1 None x.rows)
+pub judged-first : (x : Sheet) → First (findings desk x) (judged desk x)
+unfolding judged figures_tests
+judged-first x =
+    first-or (ring_findings desk x.ring) _ _ _ (ring_given x.ring _ refl)
+    (first-or (rows_findings desk x.ring.nodes 1 None x.rows) _ _ _ (rows-tested x.ring.nodes 0 None x.rows)
+    (first-tested
     (tested-then (cut-tested x.ring.nodes x.rows x.cut)
     (tested-then (loads-tested x.ring.nodes (true_link x.rows) x.links)
-    (last-tested x.ring.fibres (split_peak x) (unsplit_peak x) (largest_split_of x) x.cut.number x.peak x.size)))))
+    (last-tested (figures_of x) (split_peak x) (unsplit_peak x) (largest_split_of x))))))
 
 -- so an answer that is the first is that of the tests
-pub judged-is : (limits : Limits) (x : Sheet) (r : Result Unit Finding) → First (findings limits x) r → r ≡ judged limits x
-judged-is limits x r h = one-answer (findings limits x) r (judged limits x) h (judged-first limits x)
+pub judged-is : (x : Sheet) (r : Result Unit Finding) → First (findings desk x) r → r ≡ judged desk x
+judged-is x r h = one-answer (findings desk x) r (judged desk x) h (judged-first x)

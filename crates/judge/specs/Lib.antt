@@ -1,3 +1,2 @@
 pub mod Findings
-pub mod Due
 pub mod Tests

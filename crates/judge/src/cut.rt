@@ -1,12 +1,12 @@
 // The cut: two links of the ring, and the across number of the rows.
 ghost use Rattle.std.specs.Prelude.{◌≡◌, ◌↔◌, ◌^◌, ◌<◌, IsTrue, sum_by};
 ghost use Rattle.ring.specs.Cut.{IsCut, part};
-ghost use Rattle.ring.specs.Row.{in_front};
+ghost use Rattle.ring.specs.Demand.{in_front};
 ghost use Rattle.weight.specs.Rows.{Fit};
 ghost use Rattle.table.specs.Findings.{First};
 ghost use Rattle.judge.specs.Findings.{cut_findings};
 
-use ring::{Cut, Row};
+use ring::{Cut, Demand};
 use rows::Rows;
 use table::{Finding, Reason};
 
@@ -18,7 +18,7 @@ fn is_cut(nodes: u32, cut: Cut) -> bool
 }
 
 // Whether the front of a row holds a link.
-fn in_front(row: Row, link: u32) -> bool
+fn in_front(row: Demand, link: u32) -> bool
     ensures { result ≡ in_front row link }
 {
     row.first <= link && link < row.second
@@ -26,7 +26,7 @@ fn in_front(row: Row, link: u32) -> bool
 
 // What a row adds to the across number of g and h.
 #[tactic(auto, unfolding(ring::specs::Cut::part, ring::specs::Cut::if_one))]
-fn part(row: Row, g: u32, h: u32) -> u32
+fn part(row: Demand, g: u32, h: u32) -> u32
     ensures { result ≡ part row g h }
 {
     if in_front(row, g) == in_front(row, h) {
@@ -38,12 +38,12 @@ fn part(row: Row, g: u32, h: u32) -> u32
 
 // The across number of g and h.
 fn across<R: Rows>(rows: &R, g: u32, h: u32) -> u32
-    requires { sum_by (λ r. part r.sent.row g h) (R.rows rows.now) < 2 ^ 32 }
-    ensures { result ≡ sum_by (λ r. part r.sent.row g h) (R.rows rows.now) }
+    requires { sum_by (λ r. part r.sent.demand g h) (R.rows rows.now) < 2 ^ 32 }
+    ensures { result ≡ sum_by (λ r. part r.sent.demand g h) (R.rows rows.now) }
 {
     let mut sum: u32 = 0;
     for k in 0..rows.count() {
-        sum += part(rows.row(k).sent.row, g, h);
+        sum += part(rows.row(k).sent.demand, g, h);
     }
     sum
 }
@@ -54,10 +54,7 @@ pub(crate) fn judge_cut<R: Rows>(nodes: u32, rows: &R, cut: Cut) -> Result<(), F
     requires { Fit nodes (R.rows rows.now) }
     ensures { First (cut_findings nodes (R.rows rows.now) cut) result }
 {
-    if !is_cut(nodes, cut) {
-        return Err(Finding::at(Reason::WrongCut, 0));
-    }
-    if across(rows, cut.g, cut.h) != cut.number {
+    if !is_cut(nodes, cut) || across(rows, cut.g, cut.h) != cut.across {
         return Err(Finding::at(Reason::WrongCut, 0));
     }
     Ok(())

@@ -1,30 +1,25 @@
 // The unsplit peak and the size, the split peak, and the bound of the directions.
 ghost use Rattle.std.specs.Prelude.{◌*◌, ◌^◌, ◌<◌};
 ghost use Rattle.table.specs.Findings.{First};
-ghost use Rattle.judge.specs.Due.{last_by};
+ghost use Rattle.judge.specs.Findings.{last_findings};
 
-use ring::{must_carry, wide};
+use ring::{Figures, must_carry, wide};
 use sonet::Sonet;
 use table::{Finding, Reason};
 use weight::Weight;
 
 // 12: unsplit peak or size false; 13: the split peak, in halves, is not the across number; 14: twice the unsplit peak is above the split peak and 3D.
 #[tactic(auto, unfolding(ring::specs::LineSize::line_size))]
-pub(crate) fn judge_last(
-    fibres: u32,
-    weight: &Weight,
-    number: u32,
-    peak: u32,
-    size: u32,
-) -> Result<(), Finding>
+pub(crate) fn judge_last(figures: Figures, weight: &Weight) -> Result<(), Finding>
     requires { 2 * weight.now.peak < 2 ^ 32 }
-    ensures { First (last_by fibres weight.now.split_peak weight.now.peak weight.now.largest
-        number peak size) result }
+    ensures { First (last_findings figures weight.now.split_peak weight.now.peak
+        weight.now.largest) result }
 {
-    if peak != weight.peak || size != Sonet::size(must_carry(fibres, weight.peak)) {
+    let size = Sonet::size(must_carry(figures.ring.fibres, weight.peak));
+    if figures.peak != weight.peak || figures.size != size {
         return Err(Finding::at(Reason::WrongLast, 0));
     }
-    if weight.split_peak != number {
+    if weight.split_peak != figures.cut.across {
         return Err(Finding::at(Reason::NotTight, 0));
     }
     if wide(weight.split_peak) + 3 * wide(weight.largest) < 2 * wide(weight.peak) {

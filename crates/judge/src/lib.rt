@@ -7,74 +7,67 @@ mod row; // row by row
 
 ghost use Rattle.std.specs.Prelude.{◌≡◌, ◌↔◌, ◌+◌, ◌≤◌, Result, IsOk, IfErr};
 ghost use Rattle.ring.specs.Limits.{desk};
+ghost use Rattle.ring.specs.Sheet.{sheet_in};
 ghost use Rattle.ring.specs.True.{TrueSheet};
-ghost use Rattle.table.specs.Findings.{First, ring_findings};
-ghost use Rattle.judge.specs.Findings.{findings, sheet_held, Fits};
+ghost use Rattle.table.specs.Findings.{First, found_at, ring_findings};
+ghost use Rattle.judge.specs.Findings.{findings, Fits};
 
 use crate::cut::judge_cut;
 use crate::last::judge_last;
 use crate::link::judge_links;
 use crate::row::judge_rows;
-use ring::{Cut, FEWEST, FOUR_FIBRES, Link, NODES, Ring, TWO_FIBRES};
+use ring::{Figures, Link, Ring};
 use rows::Rows;
-use table::{Finding, Reason};
+use table::{Fault, Finding, ring_fault};
 use weight::weigh;
+
+// A fault of the ring or of a row as what is found at a place, or nothing.
+#[tactic(auto, unfolding(table::specs::Findings::found_at))]
+fn found_at(place: usize, fault: Option<Fault>) -> Result<(), Finding>
+    ensures { result ≡ found_at place fault }
+{
+    match fault {
+        None => Ok(()),
+        Some(fault) => Err(Finding::at(fault.reason, place)),
+    }
+}
 
 // 3 and 20.
 fn judge_ring(ring: Ring) -> Result<(), Finding>
     ensures { First (ring_findings desk ring) result }
 {
-    if ring.nodes < FEWEST || NODES < ring.nodes {
-        return Err(Finding::at(Reason::RingSize, 0));
-    }
-    if ring.fibres != TWO_FIBRES && ring.fibres != FOUR_FIBRES {
-        return Err(Finding::at(Reason::Fibres, 0));
-    }
-    Ok(())
+    found_at(0, ring_fault(ring))
 }
 
-// Part by part, as far as the first that is at fault.
-fn judge_parts<R: Rows>(
-    ring: Ring,
-    rows: &R,
-    cut: Cut,
-    links: &[Link],
-    peak: u32,
-    size: u32,
-) -> Result<(), Finding>
-    ensures { let x = sheet_held ring (R.rows rows.now) cut links.now peak size in
+// Part by part, as far as the first that is at fault. Apart from `judge` for its proof alone: six ways out with one clause each, and all other clauses follow from that one.
+fn judge_parts<R: Rows>(figures: Figures, rows: &R, links: &[Link]) -> Result<(), Finding>
+    ensures { let x = sheet_in figures (R.rows rows.now) links.now in
         First (findings desk x) result }
 {
-    judge_ring(ring)?;
-    judge_rows(ring.nodes, rows)?;
-    judge_cut(ring.nodes, rows, cut)?;
-    let weight = weigh(ring.nodes, rows);
-    judge_links(ring.nodes, &weight, links)?;
-    judge_last(ring.fibres, &weight, cut.number, peak, size)
+    let nodes = figures.ring.nodes;
+    judge_ring(figures.ring)?;
+    judge_rows(nodes, rows)?;
+    judge_cut(nodes, rows, figures.cut)?;
+    let weight = weigh(nodes, rows);
+    judge_links(nodes, &weight, links)?;
+    judge_last(figures, &weight)
 }
 
 /// Judges a sheet by its values, however its rows are held: accepted, or the first reason that holds, with its place, counted from 1: that of the row for 4 to 9 and
-/// 16, and that of the link for 11; 0 for all else, and for 11 where there are not as many links as the ring has. Amounts, `cut.number`, `unsplit` and `peak` are in
-/// units, `front`, `back` and `split` in halves; each may be any number, and there may be any number of rows and links.
-pub fn judge<R: Rows>(
-    ring: Ring,
-    rows: &R,
-    cut: Cut,
-    links: &[Link],
-    peak: u32,
-    size: u32,
-) -> Result<(), Finding>
+/// 16, and that of the link for 11; 0 for all else, and for 11 where there are not as many links as the ring has. Amounts, the cut's `across`, a link's
+/// `unsplit` and the figure `peak` are in units; a row's `front` and `back` and a link's `split` are in halves. Each may be any number, and there may be any number of rows and links.
+pub fn judge<R: Rows>(figures: Figures, rows: &R, links: &[Link]) -> Result<(), Finding>
     // The first of the findings that holds, with its place.
-    ensures first { let x = sheet_held ring (R.rows rows.now) cut links.now peak size in
+    ensures first { let x = sheet_in figures (R.rows rows.now) links.now in
         First (findings desk x) result }
     // It accepts exactly the sheets that keep to the limits and are true.
-    ensures accepts { let x = sheet_held ring (R.rows rows.now) cut links.now peak size in
+    ensures accepts { let x = sheet_in figures (R.rows rows.now) links.now in
         IsOk result ↔ (Fits desk x × TrueSheet x) }
     // Any other answer that is the first is this one.
-    ensures only { let x = sheet_held ring (R.rows rows.now) cut links.now peak size in
+    ensures only { let x = sheet_in figures (R.rows rows.now) links.now in
         (other : Result Unit Finding) → First (findings desk x) other → other ≡ result }
     // The place is at most that of the first row behind all that a sheet can have.
     ensures place { IfErr result (λ f. f.place ≤ desk.rows + 1) }
 {
-    judge_parts(ring, rows, cut, links, peak, size)
+    judge_parts(figures, rows, links)
 }

@@ -1,9 +1,9 @@
-// Link by link: its number and its two loads.
+// Link by link: its number and its two loads, as the rows weigh them.
 ghost use Rattle.std.specs.Prelude.{◌≤◌};
 ghost use Rattle.ring.specs.Limits.{desk};
 ghost use Rattle.table.specs.Findings.{First};
 ghost use Rattle.judge.specs.Findings.{loads_findings};
-ghost use Rattle.judge.specs.Due.{link_in};
+ghost use Rattle.weight.specs.Weighed.{weighed_link};
 
 use ring::{Link, wide};
 use table::{Finding, Reason};
@@ -12,17 +12,13 @@ use weight::Weight;
 // 11: as many links as the ring has, and each the one that is due at its place.
 pub(crate) fn judge_links(nodes: u32, weight: &Weight, links: &[Link]) -> Result<(), Finding>
     requires { nodes ≤ desk.nodes }
-    ensures { First (loads_findings nodes (link_in weight.now) links.now) result }
+    ensures { First (loads_findings nodes (weighed_link weight.now) links.now) result }
 {
     if links.len() != wide(nodes) {
         return Err(Finding::at(Reason::WrongLink, 0));
     }
     for (k, &link) in links.iter().enumerate() {
-        let due = Link {
-            link: k as u32 + 1,
-            split: weight.split[k],
-            unsplit: weight.unsplit[k],
-        };
+        let due = weight.links[k];
         if link != due {
             return Err(Finding::at(Reason::WrongLink, k + 1));
         }

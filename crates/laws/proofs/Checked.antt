@@ -5,7 +5,7 @@ use mathlib.Core.Path.{◌≡◌, refl}
 use native.Mathlib.Omega.{arith}
 use Rattle.ring.specs.Limits.{desk}
 use Rattle.ring.specs.declared.types.Ring.{Ring}
-use Rattle.ring.specs.declared.types.Row.{Row}
+use Rattle.ring.specs.declared.types.Demand.{Demand}
 use Rattle.ring.specs.declared.types.Routed.{Routed}
 use Rattle.ring.specs.Routing.{routed, way_number}
 use Rattle.ring.specs.Sheet.{plan}
@@ -34,11 +34,11 @@ routed-checked t old new r p a room =
       checked = λ q c. c.accepts.1 (due-checked t s.text s.is);
     }
 
-plan-ring : (ring : Ring) (rs : List Row) → (plan ring rs).ring ≡ ring
+plan-ring : (ring : Ring) (rs : List Demand) → (plan ring rs).ring ≡ ring
 unfolding plan
 plan-ring ring rs = refl
 
-plan-fits : (ring : Ring) (rs : List Row) → table.InRange desk ring rs → Fits desk (plan ring rs)
+plan-fits : (ring : Ring) (rs : List Demand) → table.InRange desk ring rs → Fits desk (plan ring rs)
 plan-fits ring rs h = rw (plan-ring ring rs, plan-demands ring rs h.few h.rows) h
 
 -- rows as C holds them
@@ -46,9 +46,9 @@ as_held : List Routed → List SheetRow
 as_held [] = []
 as_held (r ∷ rs) =
     record {
-      first = r.sent.row.first;
-      second = r.sent.row.second;
-      amount = r.sent.row.amount;
+      first = r.sent.demand.first;
+      second = r.sent.demand.second;
+      amount = r.sent.demand.amount;
       front = r.sent.front;
       back = r.sent.back;
       way = way_number r.way;

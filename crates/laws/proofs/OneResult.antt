@@ -3,7 +3,7 @@ use Prim.Native.Nat.{ℕ, ◌*◌, ◌/◌, min}
 use mathlib.Core.List.{List, ◌∷◌}
 use mathlib.Core.Path.{◌≡◌, refl, sym, ◌∙◌, ap, ap₂, subst}
 use native.Mathlib.Omega.{arith}
-use Rattle.ring.specs.declared.types.Row.{Row}
+use Rattle.ring.specs.declared.types.Demand.{Demand}
 use Rattle.ring.specs.declared.types.Sent.{Sent}
 use Rattle.ring.specs.declared.types.Routed.{Routed}
 use Rattle.ring.specs.RuleB.{Room, room_after}
@@ -12,22 +12,22 @@ use Rattle.ring.specs.Rules.{LeastOf, RowSent, RowsSent, all_sent, sent_then, St
 -- ---- B
 
 -- one number is the least slack
-one-least : (room : Room) (number : ℕ → ℕ → ℕ) (r : Row) (s t : ℕ) → LeastOf room number r s → LeastOf room number r t → s ≡ t
+one-least : (room : Room) (number : ℕ → ℕ → ℕ) (r : Demand) (s t : ℕ) → LeastOf room number r s → LeastOf room number r t → s ≡ t
 one-least room number r s t a b =
     let s-below = a.below b.one.x b.one.y b.one.low b.one.order b.one.high in
     let t-below = b.below a.one.x a.one.y a.one.low a.one.order a.one.high in
     omega (arith, s-below, t-below, a.one.is, b.one.is)
 
-one-row : (n : ℕ) (room : Room) (r : Row) (rest : List Row) (t u : Sent) → RowSent n room r rest t → RowSent n room r rest u → t ≡ u
-one-row n room r rest t u a b = same (a.row ∙ sym b.row) fronts (omega (arith, fronts, a.back, b.back))
+one-row : (n : ℕ) (room : Room) (r : Demand) (rest : List Demand) (t u : Sent) → RowSent n room r rest t → RowSent n room r rest u → t ≡ u
+one-row n room r rest t u a b = same (a.demand ∙ sym b.demand) fronts (omega (arith, fronts, a.back, b.back))
   where
     fronts : t.front ≡ u.front
     fronts = a.front ∙ ap (λ s. min (2 * r.amount) (s / 2)) (one-least room _ r a.s b.s a.least b.least) ∙ sym b.front
 
-    same : t.row ≡ u.row → t.front ≡ u.front → t.back ≡ u.back → t ≡ u
-    same e f g i = record { row = e i; front = f i; back = g i }
+    same : t.demand ≡ u.demand → t.front ≡ u.front → t.back ≡ u.back → t ≡ u
+    same e f g i = record { demand = e i; front = f i; back = g i }
 
-pub one-sending : {n : ℕ} {room : Room} {rs : List Row} {ss ts : List Sent} → RowsSent n room rs ss → RowsSent n room rs ts → ss ≡ ts
+pub one-sending : {n : ℕ} {room : Room} {rs : List Demand} {ss ts : List Sent} → RowsSent n room rs ss → RowsSent n room rs ts → ss ≡ ts
 one-sending all_sent all_sent = refl
 one-sending {n} (sent_then {room} {r} {rest} {t} {ts} a later) (sent_then {t = u} {ts = us} b bs) =
     let e = one-row n room r rest t u a b in

@@ -2,7 +2,7 @@
 -- function that does nothing.
 use Rattle.std.specs.Prelude.{ℕ, ◌*◌, ◌≤◌, List, ◌≡◌}
 use Rattle.ring.specs.Lists.{Each}
-use Rattle.ring.specs.declared.types.Row.{Row}
+use Rattle.ring.specs.declared.types.Demand.{Demand}
 use Rattle.ring.specs.Cut.{across}
 use Rattle.ring.specs.Routing.{split_load, unsplit_load}
 use Rattle.ring.specs.declared.types.Sent.{Sent}
@@ -12,7 +12,7 @@ use Rattle.ring.specs.Paper.{paper_d, paper_l, Fraction, paper_star, Routes, Fra
 
 -- the across number is D(g,h)
 abbrev pub AcrossIsD : Type 0
-AcrossIsD = (rs : List Row) (g h : ℕ) → g ≤ h → across rs g h ≡ paper_d rs g h
+AcrossIsD = (rs : List Demand) (g h : ℕ) → g ≤ h → across rs g h ≡ paper_d rs g h
 
 -- the unsplit load of a link is L(k)
 abbrev pub UnsplitIsL : Type 0

@@ -3,8 +3,8 @@
 use Rattle.std.specs.Prelude.{ℕ, ◌+◌, ◌*◌, ◌≤◌, true, not, List, ◌⊎◌, ◌↔◌, ◌≡◌}
 use Rattle.sonet.specs.Size.{sonet_sizes, sonet_size, rises, Answers}
 use Rattle.ring.specs.Lists.{Pairs}
-use Rattle.ring.specs.Row.{OnRing, in_front, Leads, TableRows}
-use Rattle.ring.specs.declared.types.Row.{Row}
+use Rattle.ring.specs.Demand.{OnRing, in_front, Leads, TableRows}
+use Rattle.ring.specs.declared.types.Demand.{Demand}
 use Rattle.ring.specs.Cut.{IsCut, across}
 use Rattle.ring.specs.declared.types.Cut.{Cut}
 use Rattle.ring.specs.Routing.{is_split, Split, split_load, unsplit_load, peak, Attains}
@@ -20,22 +20,22 @@ use Rattle.ring.specs.RuleD.{largest_split, rule_d}
 use Rattle.ring.specs.Rules.{Best, Sends, SameNodes, NotBoth, Moved, OncePerPair, Untangled, Staggered, Largest, Directed}
 
 -- it holds for the rows of every table, on a ring of two nodes or more
-abbrev pub OfTables : (ℕ → List Row → Type 0) → Type 0
-OfTables Holding = (n : ℕ) (rs : List Row) → 2 ≤ n → TableRows n rs → Holding n rs
+abbrev pub OfTables : (ℕ → List Demand → Type 0) → Type 0
+OfTables Holding = (n : ℕ) (rs : List Demand) → 2 ≤ n → TableRows n rs → Holding n rs
 
 -- it holds of every two rows on a ring
-abbrev pub OfTwoRows : (Row → Row → Type 0) → Type 0
-OfTwoRows Holding = (n : ℕ) (a b : Row) → OnRing n a → OnRing n b → Holding a b
+abbrev pub OfTwoRows : (Demand → Demand → Type 0) → Type 0
+OfTwoRows Holding = (n : ℕ) (a b : Demand) → OnRing n a → OnRing n b → Holding a b
 
 -- ---- fronts
 
 -- over its front a row's first node leads to its second
 abbrev pub FrontLeads : Type 0
-FrontLeads = (n : ℕ) (r : Row) → OnRing n r → Leads n (in_front r) r.first r.second
+FrontLeads = (n : ℕ) (r : Demand) → OnRing n r → Leads n (in_front r) r.first r.second
 
 -- over its back its second node leads on round to its first: up to node n, by link n to node 1, and on from there
 abbrev pub BackLeads : Type 0
-BackLeads = (n : ℕ) (r : Row) → OnRing n r → Leads n (λ k. not (in_front r k)) r.second r.first
+BackLeads = (n : ℕ) (r : Demand) → OnRing n r → Leads n (λ k. not (in_front r k)) r.second r.first
 
 -- the test of disjoint fronts says that no link is in both
 abbrev pub DisjointIs : Type 0
@@ -55,7 +55,7 @@ ParallelEither = OfTwoRows (λ a b. parallel a b ≡ parallel b a)
 
 -- rows of the same two nodes are parallel
 abbrev pub SameAreParallel : Type 0
-SameAreParallel = (a b : Row) → SameNodes a b → parallel a b ≡ true
+SameAreParallel = (a b : Demand) → SameNodes a b → parallel a b ≡ true
 
 -- ---- loads, peaks and cuts
 
@@ -73,21 +73,21 @@ PeakIsLoad = (load : ℕ → ℕ) (n : ℕ) → 1 ≤ n → Attains load n
 
 -- of two links the across number is the same in either order
 abbrev pub EitherOrder : Type 0
-EitherOrder = (rs : List Row) (g h : ℕ) → across rs g h ≡ across rs h g
+EitherOrder = (rs : List Demand) (g h : ℕ) → across rs g h ≡ across rs h g
 
 -- of a link and itself it is 0
 abbrev pub OneLink : Type 0
-OneLink = (rs : List Row) (g : ℕ) → across rs g g ≡ 0
+OneLink = (rs : List Demand) (g : ℕ) → across rs g g ≡ 0
 
 -- in parts of 1/q unit, twice the peak of every division of the demands is at least q times the across number of every cut
 abbrev pub CutBounds : Type 0
-CutBounds = (q n : ℕ) (rs : List Row) (ss : List Sent) → Divides q rs ss → (c : Cut) → IsCut n c → q * across rs c.g c.h ≤ 2 * peak (split_load ss) n
+CutBounds = (q n : ℕ) (rs : List Demand) (ss : List Sent) → Divides q rs ss → (c : Cut) → IsCut n c → q * across rs c.g c.h ≤ 2 * peak (split_load ss) n
 
 -- ---- A, the cut
 
 -- M, the across number of the cut that rule A gives
-abbrev pub most_across : ℕ → List Row → ℕ
-most_across n rs = (rule_a n rs).number
+abbrev pub most_across : ℕ → List Demand → ℕ
+most_across n rs = (rule_a n rs).across
 
 -- the cut is the first of those with the largest across number
 abbrev pub CutIsBest : Type 0
@@ -119,12 +119,12 @@ OneIsSplit = OfTables (λ n rs. Pairs NotBoth (rule_b n rs))
 
 -- what a move is, by how the two rows stand to each other
 abbrev pub MoveIs : Type 0
-MoveIs = (n : ℕ) (a b : Sent) → OnRing n a.row → OnRing n b.row → Moved a b (move a b)
+MoveIs = (n : ℕ) (a b : Sent) → OnRing n a.demand → OnRing n b.demand → Moved a b (move a b)
 
 -- of two split rows of the same nodes the earlier is the outer
 abbrev pub EarlierIsOuter : Type 0
 EarlierIsOuter =
-    (n : ℕ) (a b : Sent) → OnRing n a.row → SameNodes a.row b.row → Split a → Split b → move a b ≡ both (to_back a (inward a b)) (to_front b (inward a b))
+    (n : ℕ) (a b : Sent) → OnRing n a.demand → SameNodes a.demand b.demand → Split a → Split b → move a b ≡ both (to_back a (inward a b)) (to_front b (inward a b))
 
 -- one move is made at each pair of rows, the first before the second, by first and then by second
 abbrev pub MovesOncePerPair : Type 0

@@ -1,10 +1,12 @@
--- To believe: how numbers are spelled, what a line of a shape says, and which texts are a sheet or a matrix: each the contract of a function that does nothing.
-use Rattle.std.specs.Prelude.{ℕ, ◌<◌, List, ◌↔◌, ◌≡◌}
+-- To believe: how numbers are spelled, what a line of a shape says, which texts are a sheet or a matrix, and how reasons are numbered: each the contract of a function that does nothing.
+use Rattle.std.specs.Prelude.{ℕ, ◌≤◌, ◌<◌, List, ◌↔◌, ◌≡◌}
 use Rattle.ring.specs.Limits.{desk}
 use Rattle.text.specs.Number.{limit, digits, Spelling}
 use Rattle.text.specs.declared.field.Field.{Field}
 use Rattle.text.specs.WriteLine.{write_line, FitsShape}
 use Rattle.text.specs.FirstFault.{FirstFault}
+use Rattle.table.specs.Reasons.{number_of}
+use Rattle.table.specs.declared.reason.Reason.{Reason}
 use Rattle.matrix.specs.Says as matrix
 use Rattle.sheet.specs.Says as sheet
 use Rattle.ringkit.specs.Texts.{SomeForm, SomeMatrix}
@@ -28,3 +30,11 @@ WellFormedIs = (t : List ℕ) → sheet.WellFormed desk t ↔ SomeForm t
 -- a text is an accepted matrix exactly where it is n lines of n numbers in range, symmetric, with 0 on the diagonal
 abbrev pub AcceptedMatrixIs : Type 0
 AcceptedMatrixIs = (t : List ℕ) → matrix.Accepted desk t ↔ SomeMatrix t
+
+-- no two reasons have one number
+abbrev pub ReasonsApart : Type 0
+ReasonsApart = (a b : Reason) → number_of a ≡ number_of b → a ≡ b
+
+-- and none has 0, by which C is told of success
+abbrev pub ReasonsFromOne : Type 0
+ReasonsFromOne = (a : Reason) → 1 ≤ number_of a

@@ -23,7 +23,7 @@ pub fn sheet_there_and_back()
     ensures { SheetThereAndBack }
 {}
 
-/// A working table, written out and routed, has the cut that the last accepted reply named.
+/// A working table, written out and routed, has the cut that the last accepted answer named.
 pub fn routed_as_named()
     ensures { RoutedAsNamed }
 {}

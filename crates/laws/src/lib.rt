@@ -15,6 +15,6 @@ pub use rules::{
 };
 pub use texts::{
     accepted_matrix, cases_as_promised, cases_hold, judged_in_range, lines_of_a_shape,
-    no_lower_peak, numbers_spelled, plan_accepted, same_sheet, true_sheet_accepted,
-    well_formed_sheet,
+    no_lower_peak, numbers_spelled, plan_accepted, reason_numbers, same_sheet, true_sheet_accepted,
+    turned_cases_hold, well_formed_sheet,
 };

@@ -2,8 +2,9 @@
 ghost use Rattle.ring.specs.Limits.{desk};
 ghost use Rattle.sheet.specs.Laws.{SameSheet};
 ghost use Rattle.checker.specs.Cases.{CasesHold};
+ghost use Rattle.turns.specs.Cases.{CasesHold as TurnedCasesHold};
 ghost use Rattle.checker.specs.Laws.{TrueAccepted, PlanAccepted, NoLowerPeak, FormedIs, JudgedInRange};
-ghost use Rattle.laws.specs.Texts.{SpellingIs, OneLine, FaultyIs, WellFormedIs, AcceptedMatrixIs};
+ghost use Rattle.laws.specs.Texts.{SpellingIs, OneLine, FaultyIs, WellFormedIs, AcceptedMatrixIs, ReasonsApart, ReasonsFromOne};
 ghost use Rattle.laws.specs.Cases.{CasesPromised};
 
 /// Numbers are spelled in one way each: by 1 to 7 digits with no leading zero but 0 itself.
@@ -58,7 +59,18 @@ pub fn cases_hold()
     ensures { CasesHold }
 {}
 
-/// They hold in the words of what the calls promise: each plan is due to its table and accepted, each refusal is given.
+/// So do those of tables whose rows are turned one at a time.
+pub fn turned_cases_hold()
+    ensures { TurnedCasesHold }
+{}
+
+/// The listed sheets hold in the words of what the calls promise: each plan is due to its table and accepted, each refusal is given.
 pub fn cases_as_promised()
     ensures { CasesPromised }
+{}
+
+/// Each reason has a number of its own, and none is 0: so what C is told by numbers is told as by names.
+pub fn reason_numbers()
+    ensures apart { ReasonsApart }
+    ensures from_one { ReasonsFromOne }
 {}

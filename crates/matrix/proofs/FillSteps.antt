@@ -7,8 +7,8 @@ use lib.ListN.{length, length-append}
 use borrow.Author.Tests.{eq-eqb, ne_eqb}
 use Rattle.ring.specs.Limits.{desk}
 use Rattle.ring.specs.Lists.{listed}
-use Rattle.ring.specs.Row.{row}
-use Rattle.ring.specs.declared.types.Row.{Row}
+use Rattle.ring.specs.Demand.{demand}
+use Rattle.ring.specs.declared.types.Demand.{Demand}
 use Rattle.ring.specs.declared.types.Routed.{Routed}
 use Rattle.ring.specs.Sheet.{sents, demands}
 use Rattle.ring.proofs.Listed.{listed_cons}
@@ -19,8 +19,8 @@ use Rattle.matrix.proofs.RowLaws.{pair_count, count_small, above-append}
 
 module _ (n : ℕ) (a : ℕ → ℕ → ℕ) where
   -- the rows of node i from the pair with node j on
-  abbrev pub across : ℕ → ℕ → List Row
-  across i j = above_zero (listed (λ x. row i x (a i x)) j (n + 1 - j))
+  abbrev pub across : ℕ → ℕ → List Demand
+  across i j = above_zero (listed (λ x. demand i x (a i x)) j (n + 1 - j))
 
   -- the pairs of the nodes before i are passed
   pub record Filling (rows : List Routed) (i : ℕ) : Type 0 where
@@ -45,7 +45,7 @@ module _ (n : ℕ) (a : ℕ → ℕ → ℕ) where
         let e : n + 1 - i ≡ suc (n + 1 - (i + 1)) = omega arith in
         let f : n - i ≡ n + 1 - (i + 1) = omega arith in
         record {
-          rest = filling.rest ∙ rw (e, f) (ap (λ rs. demands (sents rows) ++ rs) (above-append (listed (λ x. row i x (a i x)) (i + 1) (n + 1 - (i + 1))) (pairs_from a n (i + 1) (n + 1 - (i + 1)))));
+          rest = filling.rest ∙ rw (e, f) (ap (λ rs. demands (sents rows) ++ rs) (above-append (listed (λ x. demand i x (a i x)) (i + 1) (n + 1 - (i + 1))) (pairs_from a n (i + 1) (n + 1 - (i + 1)))));
           room = let q = rw e at filling.room in omega (arith, q);
         }
 
@@ -61,21 +61,21 @@ module _ (n : ℕ) (a : ℕ → ℕ → ℕ) where
         pub no-demand : d ≡ 0 → Crossing rows i (j + 1)
         unfolding above_zero
         no-demand z =
-            record { rest = crossing.rest ∙ rw (listed_cons (λ x. row i x (a i x)) j (n + 1) l, ← ed, eq-eqb d 0 z); room = omega (arith, crossing.room) }
+            record { rest = crossing.rest ∙ rw (listed_cons (λ x. demand i x (a i x)) j (n + 1) l, ← ed, eq-eqb d 0 z); room = omega (arith, crossing.room) }
 
         -- an entry above 0
         module _ (z : d ≡ 0 → ⊥) where
           pub has-room : length rows < desk.rows
           has-room = omega (arith, crossing.room)
 
-          pub adds-row : (new : List Routed) → new ≡ rows ++ unsent (row i j d) ∷ [] → Crossing new i (j + 1)
+          pub adds-row : (new : List Routed) → new ≡ rows ++ unsent (demand i j d) ∷ [] → Crossing new i (j + 1)
           unfolding above_zero
           adds-row new e =
               record {
                 rest =
-                    crossing.rest ∙ rw (listed_cons (λ x. row i x (a i x)) j (n + 1) l, ← ed, ne_eqb d 0 z)
-                    (rw (e, demands-more rows (unsent (row i j d))) (sym (append_assoc (demands (sents rows)) (row i j d ∷ []) _)));
-                room = omega (arith, crossing.room, ap length e, length-append rows (unsent (row i j d) ∷ []));
+                    crossing.rest ∙ rw (listed_cons (λ x. demand i x (a i x)) j (n + 1) l, ← ed, ne_eqb d 0 z)
+                    (rw (e, demands-more rows (unsent (demand i j d))) (sym (append_assoc (demands (sents rows)) (demand i j d ∷ []) _)));
+                room = omega (arith, crossing.room, ap length e, length-append rows (unsent (demand i j d) ∷ []));
               }
 
   pub filled : (rows : List Routed) (i : ℕ) → Filling rows i → n + 1 ≤ i → demands (sents rows) ≡ rows_by n a

@@ -23,7 +23,7 @@ use Rattle.std.proofs.lemmas.List.Recursion.{is_count_by}
 use Rattle.matrix.proofs.AnyFields.{fields-some}
 use Rattle.table.specs.OnLine.{refusal, and_then, values_on}
 use Rattle.matrix.specs.Answer.{read_as}
-use Rattle.matrix.specs.Read.{Numbers, is_tab, fields_in, kept, first_over, unless_over, amounts_in}
+use Rattle.matrix.specs.Read.{Numbers, is_tab, fields_in, first_numbers, first_over, unless_over, amounts_in}
 use Rattle.matrix.proofs.LinesText.{NumbersRead, are_numbers, numbers-read, over-within}
 
 -- ---- fields are what tabs part
@@ -62,8 +62,8 @@ module _ (s : List ℕ) (n : ℕ) (read : List ℕ) (p t : ℕ) (on : ReadingOn 
         let e : n - t ≡ suc (n - t - 1) = omega arith in
         on.rest ∙ ap (λ k. fields_from (numbers k) s p on.vs) e ∙ rw (length-replicate (n - t - 1) Number, ← behind_it, ← ex)
 
-    pub reading-stops : (q : ℕ) → x ≡ Err q → read_as (Err q) read ≡ kept (read_line (numbers n) s)
-    unfolding field_then kept read_as
+    pub reading-stops : (q : ℕ) → x ≡ Err q → read_as (Err q) read ≡ first_numbers (read_line (numbers n) s)
+    unfolding field_then first_numbers read_as
     reading-stops q f = let h : read_line (numbers n) s ≡ Err q = next-is ∙ rw f in rw h
 
     pub reads-number : (v q : ℕ) (new : List ℕ) → x ≡ Ok (v, q) → new ≡ take desk.nodes (read ++ v ∷ []) → ReadingOn s n new q (t + 1)
@@ -76,12 +76,12 @@ module _ (s : List ℕ) (n : ℕ) (read : List ℕ) (p t : ℕ) (on : ReadingOn 
     all_read : read_line (numbers n) s ≡ fields_from [] s p on.vs
     all_read = let e : n - t ≡ 0 = omega arith in rw e at on.rest
 
-    pub reading-done : p ≡ length s → read_as (Ok tt) read ≡ kept (read_line (numbers n) s)
-    unfolding fields_from kept read_as
+    pub reading-done : p ≡ length s → read_as (Ok tt) read ≡ first_numbers (read_line (numbers n) s)
+    unfolding fields_from first_numbers read_as
     reading-done e = rw (all_read, eq-eqb _ _ e, on.held)
 
-    pub reading-over : (p ≡ length s → ⊥) → read_as (Err p) read ≡ kept (read_line (numbers n) s)
-    unfolding fields_from kept read_as
+    pub reading-over : (p ≡ length s → ⊥) → read_as (Err p) read ≡ first_numbers (read_line (numbers n) s)
+    unfolding fields_from first_numbers read_as
     reading-over e = rw (all_read, ne_eqb _ _ e)
 
 -- ---- what the caller learns
@@ -104,8 +104,8 @@ module _ (line : ℕ) (y : Reading) (x : Result Unit ℕ) (read : List ℕ) (ex 
   unfolding read_as values_on
   line-right e = rw (sym ex ∙ read-all x read e)
 
-bad-kept : (line : ℕ) (y : Reading) (r : Refusal) → values_on line (kept y) ≡ Err r → values_on line y ≡ Err r
-unfolding kept values_on
+bad-kept : (line : ℕ) (y : Reading) (r : Refusal) → values_on line (first_numbers y) ≡ Err r → values_on line y ≡ Err r
+unfolding first_numbers values_on
 bad-kept line (Ok vs) r e = clash (cc)
 bad-kept line (Err p) r e = e
 
@@ -115,21 +115,21 @@ pub record Good (y : Reading) (read : List ℕ) : Type 0 where
   pub is : y ≡ Ok vs
   pub held : read ≡ take desk.nodes vs
 
-good-kept : (line : ℕ) (y : Reading) (read : List ℕ) → values_on line (kept y) ≡ Ok read → Good y read
-unfolding kept values_on
+good-kept : (line : ℕ) (y : Reading) (read : List ℕ) → values_on line (first_numbers y) ≡ Ok read → Good y read
+unfolding first_numbers values_on
 good-kept line (Ok vs) read e = record { vs = vs; is = refl; held = cc }
 good-kept line (Err p) read e = clash (cc)
 
 -- the faulty byte of a line is within the text
-pub line-place : (n : ℕ) (l : List ℕ) (x : Result Unit ℕ) (read : List ℕ) → read_as x read ≡ kept (read_line (numbers n) l) → (p : ℕ) → x ≡ Err p → length l ≤ desk.bytes → p ≤ desk.bytes
-unfolding kept
+pub line-place : (n : ℕ) (l : List ℕ) (x : Result Unit ℕ) (read : List ℕ) → read_as x read ≡ first_numbers (read_line (numbers n) l) → (p : ℕ) → x ≡ Err p → length l ≤ desk.bytes → p ≤ desk.bytes
+unfolding first_numbers
 line-place n l x read ex p e short = go (read_line (numbers n) l) refl (sym ex ∙ read-not x read p e)
   where
-    go : (y : Reading) → read_line (numbers n) l ≡ y → kept y ≡ Err p → p ≤ desk.bytes
+    go : (y : Reading) → read_line (numbers n) l ≡ y → first_numbers y ≡ Err p → p ≤ desk.bytes
     go (Ok vs) f g = clash (cc)
     go (Err q) f g = let k : q ≡ p = cc in omega (arith, bad-within (numbers n) l q f)
 
-module _ (n line : ℕ) (l : List ℕ) (x : Numbers) (ex : x ≡ values_on line (kept (read_line (numbers n) l))) where
+module _ (n line : ℕ) (l : List ℕ) (x : Numbers) (ex : x ≡ values_on line (first_numbers (read_line (numbers n) l))) where
   pub told-bad : (r : Refusal) → x ≡ Err r → values_on line (read_line (numbers n) l) ≡ Err r
   told-bad r e = bad-kept line (read_line (numbers n) l) r (sym ex ∙ e)
 

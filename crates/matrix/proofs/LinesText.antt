@@ -29,7 +29,7 @@ use Rattle.table.specs.declared.reason.Reason.TheVariants.{Misshapen, TooMuch}
 use Rattle.table.proofs.LinesOf.{NoLf, FirstLine, written-first}
 use Rattle.matrix.specs.Matrix.{write_matrix, entry_byte}
 use Rattle.table.specs.OnLine.{refusal, and_then, values_on}
-use Rattle.matrix.specs.Read.{Matrix, Numbers, first_over, unless_over, amounts_in, lines_of}
+use Rattle.matrix.specs.Read.{SquareRead, Numbers, first_over, unless_over, amounts_in, lines_of}
 
 -- ---- one line
 
@@ -164,13 +164,13 @@ abbrev pub Within : Limits → List (List ℕ) → Type 0
 Within limits m = Each (Each (λ v. v ≤ limits.amount)) m
 
 -- the lines ls, of which `left` are due behind the lines m, are read to this
-pub data LinesRead (limits : Limits) (n left : ℕ) (m ls : List (List ℕ)) : Matrix → Type 0 where
+pub data LinesRead (limits : Limits) (n left : ℕ) (m ls : List (List ℕ)) : SquareRead → Type 0 where
   lines_are : {all : List (List ℕ)} (rest : List (List ℕ)) → all ≡ m ++ rest → flatten ls ≡ write_matrix rest → length rest ≡ left
       → Wide n rest → Within limits rest → LinesRead limits n left m ls (Ok (n, all))
   lines_refused : {r : Refusal} → LinesRead limits n left m ls (Err r)
 
 module _ {limits : Limits} {n : ℕ} where
-  line-more : {left : ℕ} {m ls : List (List ℕ)} {l vs : List ℕ} {x : Matrix} → l ≡ numbers_line vs → length vs ≡ n → Each (λ v. v ≤ limits.amount) vs
+  line-more : {left : ℕ} {m ls : List (List ℕ)} {l vs : List ℕ} {x : SquareRead} → l ≡ numbers_line vs → length vs ≡ n → Each (λ v. v ≤ limits.amount) vs
       → LinesRead limits n left (m ++ vs ∷ []) ls x → LinesRead limits n (suc left) m (l ∷ ls) x
   unfolding write_matrix flatten
   line-more {m = m} {vs = vs} e k a (lines_are rest whole text many wide within) =
@@ -184,7 +184,7 @@ module _ {limits : Limits} {n : ℕ} where
   lines-read [] line (suc left) m = lines_refused
   lines-read (l ∷ ls) line (suc left) m = go (line-read limits n line l) (λ vs. lines-read ls (line + 1) left (m ++ vs ∷ []))
     where
-      next : List ℕ → Matrix
+      next : List ℕ → SquareRead
       next vs = lines_of limits n (line + 1) left (m ++ vs ∷ []) ls
 
       go : {x : Numbers} → LineRead limits n line l x → ((vs : List ℕ) → LinesRead limits n left (m ++ vs ∷ []) ls (next vs)) → LinesRead limits n (suc left) m (l ∷ ls) (and_then x next)

@@ -24,7 +24,7 @@ use Rattle.table.specs.Verdict as of_table
 use Rattle.table.proofs.Judged.{SizeJudged, not_so_many, right_size, size-judged, fine-size}
 use Rattle.table.proofs.LinesOf.{join-lines}
 use Rattle.matrix.specs.Matrix.{entry, write_matrix, Node, InRange}
-use Rattle.matrix.specs.Read.{Matrix, Verdict, fields_in, lines_of, judge_down, square_judged, on_first, matrix_lines, matrix_of}
+use Rattle.matrix.specs.Read.{SquareRead, Found, fields_in, lines_of, judge_down, square_judged, on_first, matrix_lines, matrix_of}
 use Rattle.std.specs.Prelude.{Ok, Err}
 use Rattle.table.specs.OnLine.{and_then, values_on}
 use Rattle.table.specs.declared.reason.Refusal.{Refusal}
@@ -61,18 +61,18 @@ desk-possible = record { some = omega arith; amount = omega arith }
 
 -- ---- read, so written
 
-data MatrixRead (limits : Limits) (t : List ℕ) : Matrix → Type 0 where
+data MatrixRead (limits : Limits) (t : List ℕ) : SquareRead → Type 0 where
   matrix_is : {n : ℕ} {m : List (List ℕ)} → t ≡ write_matrix m → InRange limits n m → MatrixRead limits t (Ok (n, m))
   matrix_refused : {r : Refusal} → MatrixRead limits t (Err r)
 
 module _ {limits : Limits} {t : List ℕ} (short : length t ≤ limits.bytes) where
-  square-read : {n : ℕ} {ls : List (List ℕ)} {x : Matrix} → limits.fewest ≤ n → n ≤ limits.nodes → t ≡ flatten ls → LinesRead limits n n [] ls x
+  square-read : {n : ℕ} {ls : List (List ℕ)} {x : SquareRead} → limits.fewest ≤ n → n ≤ limits.nodes → t ≡ flatten ls → LinesRead limits n n [] ls x
       → MatrixRead limits t (square_judged x)
   unfolding square_judged and_then
   square-read few many whole lines_refused = matrix_refused
   square-read {n} few many whole (lines_are {all = m} rest is text tall wide within) = go (down-judged m n 1 n)
     where
-      go : {z : Verdict} → DownJudged m n 1 n z → MatrixRead limits t (and_then z (λ u. Ok (n, m)))
+      go : {z : Found} → DownJudged m n 1 n z → MatrixRead limits t (and_then z (λ u. Ok (n, m)))
       go (down_wrong at a b c d e) = matrix_refused
       go (down_right right) =
           let written : t ≡ write_matrix m = whole ∙ text ∙ ap write_matrix (sym is) in
@@ -95,7 +95,7 @@ module _ {limits : Limits} {t : List ℕ} (short : length t ≤ limits.bytes) wh
   lines-matrix [] whole = matrix_refused
   lines-matrix (l ∷ ls) whole = go (numbers-read (fields_in l) l) (size-judged limits (fields_in l))
     where
-      next : Matrix
+      next : SquareRead
       next = square_judged (lines_of limits (fields_in l) 1 (fields_in l) [] (l ∷ ls))
 
       ring : {v : of_table.Verdict} → SizeJudged limits (fields_in l) v → MatrixRead limits t (and_then (on_first v) (λ u. next))
@@ -121,7 +121,7 @@ right-square limits n m range = go (down-judged m n 1 n)
     right {i} p q (not_zero e w) = w (rw (← e) (range.zeros i p))
     right {i} {j} p q (not_mirror e w) = w (range.symmetric i j p q)
 
-    go : {z : Verdict} → DownJudged m n 1 n z → z ≡ Ok tt
+    go : {z : Found} → DownJudged m n 1 n z → z ≡ Ok tt
     go (down_wrong at a b c d e) = absurd (right (a, omega arith) c d)
     go (down_right all) = refl
 

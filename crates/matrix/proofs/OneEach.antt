@@ -8,8 +8,8 @@ use lib.ListN.{get_or, take}
 use Rattle.ring.specs.Limits.{desk}
 use Rattle.ring.specs.declared.types.Ring.{Ring}
 use Rattle.ring.specs.Lists.{Each, none, more}
-use Rattle.ring.specs.Row.{row, OnRing}
-use Rattle.ring.specs.declared.types.Row.{Row}
+use Rattle.ring.specs.Demand.{demand, OnRing}
+use Rattle.ring.specs.declared.types.Demand.{Demand}
 use Rattle.table.specs.Table.{InRange as TableInRange}
 use Rattle.matrix.specs.Demands.{sum_of, OneEach, Passes}
 use Rattle.matrix.proofs.LinesText.{each_at}
@@ -18,13 +18,13 @@ use Rattle.matrix.proofs.RoundTrip.{rising-rows}
 
 -- ---- one row for a pair: each sum is an amount
 
-take-small : (k : ℕ) (rs : List Row) (i j : ℕ) → sum_of (take k rs) i j ≤ sum_of rs i j
+take-small : (k : ℕ) (rs : List Demand) (i j : ℕ) → sum_of (take k rs) i j ≤ sum_of rs i j
 unfolding sum_of
 take-small zero rs i j = omega arith
 take-small (suc k) [] i j = omega arith
 take-small (suc k) (r ∷ rs) i j = omega (arith, take-small k rs i j)
 
-rising-small : {n a b : ℕ} {rs : List Row} (most : ℕ) → Each (OnRing n) rs → Each (λ r. r.amount ≤ most) rs → Rising a b rs → (i j : ℕ) → i < j → sum_of rs i j ≤ most
+rising-small : {n a b : ℕ} {rs : List Demand} (most : ℕ) → Each (OnRing n) rs → Each (λ r. r.amount ≤ most) rs → Rising a b rs → (i j : ℕ) → i < j → sum_of rs i j ≤ most
 unfolding sum_of
 rising-small most none none no_row i j l = omega arith
 rising-small most (more {a = r} {l = rs} o os) (more d ds) (next_row p rest) i j l =
@@ -39,10 +39,10 @@ rising-small most (more {a = r} {l = rs} o os) (more d ds) (next_row p rest) i j
     other : ((r.first ≡ i) × (r.second ≡ j) → ⊥) → sum_of rs i j ≤ most → part_of r i j + sum_of rs i j ≤ most
     other h small = omega (arith, part-other r i j h (λ z. omega (arith, z.0, z.1, o.order)))
 
-pub one-each-fit : (ring : Ring) (rs : List Row) → TableInRange desk ring rs → OneEach rs → (k : ℕ) → Passes desk rs k → ⊥
+pub one-each-fit : (ring : Ring) (rs : List Demand) → TableInRange desk ring rs → OneEach rs → (k : ℕ) → Passes desk rs k → ⊥
 one-each-fit ring rs table each k p =
-    let r : Row = get_or rs (k - 1) (row 0 0 0) in
-    let o : OnRing ring.nodes r = each_at table.rows.nodes (row 0 0 0) (k - 1) (omega (arith, p.low, p.high)) in
+    let r : Demand = get_or rs (k - 1) (demand 0 0 0) in
+    let o : OnRing ring.nodes r = each_at table.rows.nodes (demand 0 0 0) (k - 1) (omega (arith, p.low, p.high)) in
     omega (
       arith,
       p.wrong,

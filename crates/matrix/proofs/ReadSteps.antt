@@ -4,32 +4,28 @@ use mathlib.Core.List.{List, [], ◌∷◌, ◌++◌}
 use mathlib.Core.Path.{◌≡◌, refl, ap, ◌∙◌, sym, subst}
 use native.Mathlib.Omega.{arith}
 use lib.Dec.{eqb}
-use lib.ListN.{length, set, take, drop, length-set, length-drop, drop_of_length-le}
+use lib.ListN.{length, set, take, length-set}
 use lib.Seq.{take_all}
-use mir.Syntax.{w32}
-use mir.Val.{Fits}
 use borrow.Author.Tests.{lt-ltb, le-ltb}
 use Rattle.std.specs.Prelude.{Ok, Err}
 use Rattle.std.proofs.lemmas.List.{take_more_set}
 use Rattle.ring.specs.Limits.{desk}
 use Rattle.ring.specs.Lists.{Each}
-use Rattle.ring.specs.declared.types.Row.{Row}
+use Rattle.ring.specs.declared.types.Demand.{Demand}
 use Rattle.ring.proofs.Side.{cond-elim}
 use Rattle.text.specs.Bytes.{tab}
 use Rattle.text.specs.ReadLine.{read_line}
 use Rattle.text.specs.Shapes.{numbers}
 use Rattle.table.specs.Lines.{lines}
-use Rattle.table.specs.LineEnds.{LineEnds}
 use Rattle.table.specs.Judge.{judge_size}
 use Rattle.table.specs.Verdict as of_table
 use Rattle.table.specs.declared.reason.Reason.{Reason}
 use Rattle.table.specs.declared.reason.Reason.TheVariants.{TooLong, Misshapen}
 use Rattle.table.specs.declared.reason.Refusal.{Refusal}
 use Rattle.table.proofs.Judged.{SizeJudged, right_size, size-judged}
-use Rattle.table.proofs.LineSteps.{first-line, line_at}
 use Rattle.matrix.specs.Demands.{rows_of_matrix}
 use Rattle.table.specs.OnLine.{refusal, and_then, values_on}
-use Rattle.matrix.specs.Read.{Matrix, Verdict, Numbers, fields_in, kept, amounts_in, lines_of, judge_down, square_judged, on_first, matrix_of}
+use Rattle.matrix.specs.Read.{SquareRead, Found, Numbers, fields_in, first_numbers, amounts_in, lines_of, judge_down, square_judged, on_first, matrix_of}
 use Rattle.matrix.specs.Answer.{read_to, IsMatrix, IsGiven}
 use Rattle.matrix.proofs.LineSteps.{told-bad, told-good}
 use Rattle.matrix.proofs.LinesText.{LineRead, line_is, line-read, LinesRead, lines_are, lines-read}
@@ -43,9 +39,6 @@ unfolding fields_in
 fields-small [] = omega arith
 fields-small (b ∷ l) = omega (arith, fields-small l, cond-elim (λ x. x ≤ 1) (eqb b tab) 1 0 (λ e. omega arith) (λ e. omega arith))
 
-pub fields_fit : (l : List ℕ) (count : ℕ) → length l ≤ desk.bytes → count ≡ fields_in l → Fits w32 count
-fields_fit l count short e = omega (arith, fields-small l)
-
 pub ring-few : (n : ℕ) (v : of_table.Verdict) → v ≡ judge_size desk n → v ≡ Ok tt → n ≤ desk.nodes
 ring-few n v e f = let q = sym e ∙ f in go (rw q at (size-judged desk n))
   where
@@ -57,41 +50,31 @@ module _ (s : List ℕ) where
   unfolding matrix_of
   too_long h = rw (lt-ltb _ _ h)
 
-  pub no_line : length s ≤ 0 → (r : Refusal) → r ≡ refusal Misshapen 1 (0 + 1) → matrix_of desk s ≡ Err r
-  unfolding matrix_of lines
-  no_line h r e = rw e (go s h)
-    where
-      go : (s : List ℕ) → length s ≤ 0 → matrix_of desk s ≡ Err (refusal Misshapen 1 1)
-      go [] h = refl
-      go (b ∷ s) h = absurd (omega arith)
+  module _ (short : length s ≤ desk.bytes) where
+    pub no_line : lines s ≡ [] → matrix_of desk s ≡ Err (refusal Misshapen 1 1)
+    unfolding matrix_of
+    no_line none = rw (le-ltb desk.bytes (length s) short, none)
 
-  module _ (short : length s ≤ desk.bytes) (there : 0 < length s) (end : ℕ) (ends : LineEnds s 0 end) where
-    abbrev first : List ℕ
-    first = take end s
+    module _ (first : List ℕ) (ls : List (List ℕ)) (left : lines s ≡ first ∷ ls) where
+      module _ (count : ℕ) (ec : count ≡ fields_in first) (x : Numbers) (ex : x ≡ values_on 1 (first_numbers (read_line (numbers count) first))) where
+        pub first-misshapen : (r : Refusal) → x ≡ Err r → matrix_of desk s ≡ Err r
+        unfolding matrix_of and_then
+        first-misshapen r f = rw (le-ltb desk.bytes (length s) short, left, ← ec, told-bad count 1 first x ex r f)
 
-    first-of : lines s ≡ first ∷ lines (drop end s)
-    first-of = let e : end - 0 ≡ end = omega arith in rw e at (line_at s 0 end there ends)
+        module _ (read : List ℕ) (f : x ≡ Ok read) (n : ℕ) (en : n ≡ count) (v : of_table.Verdict) (ev : v ≡ judge_size desk n) where
+          pub ring-fault : (reason : Reason) → v ≡ Err reason → matrix_of desk s ≡ Err (refusal reason 1 1)
+          unfolding matrix_of and_then values_on on_first
+          ring-fault reason g = rw (le-ltb desk.bytes (length s) short, left, ← ec, (told-good count 1 first x ex read f).is, ← en, ← ev, g)
 
-    module _ (count : ℕ) (ec : count ≡ fields_in first) (x : Numbers) (ex : x ≡ values_on 1 (kept (read_line (numbers count) first))) where
-      pub first-misshapen : (r : Refusal) → x ≡ Err r → matrix_of desk s ≡ Err r
-      unfolding matrix_of and_then
-      first-misshapen r f = rw (le-ltb desk.bytes (length s) short, first-of, ← ec, told-bad count 1 first x ex r f)
+          pub then-square : v ≡ Ok tt → matrix_of desk s ≡ square_judged (lines_of desk n 1 n [] (lines s))
+          unfolding matrix_of and_then values_on on_first
+          then-square g = rw (le-ltb desk.bytes (length s) short, left, ← ec, (told-good count 1 first x ex read f).is, ← en, ← ev, g)
 
-      module _ (read : List ℕ) (f : x ≡ Ok read) (n : ℕ) (en : n ≡ count) (v : of_table.Verdict) (ev : v ≡ judge_size desk n) where
-        pub ring-fault : (reason : Reason) → v ≡ Err reason → matrix_of desk s ≡ Err (refusal reason 1 1)
-        unfolding matrix_of and_then values_on on_first
-        ring-fault reason g = rw (le-ltb desk.bytes (length s) short, first-of, ← ec, (told-good count 1 first x ex read f).is, ← en, ← ev, g)
+-- ---- line by line: those before `line` are read, and `left` are left of the lines ls
 
-        pub then-square : v ≡ Ok tt → matrix_of desk s ≡ square_judged (lines_of desk n 1 n [] (lines s))
-        unfolding matrix_of and_then values_on on_first
-        then-square g = rw (le-ltb desk.bytes (length s) short, first-of, ← ec, (told-good count 1 first x ex read f).is, ← en, ← ev, g)
-
--- ---- line by line: those before `line` are read, and the next begins at `at`
-
-pub record ReadingLines (s : List ℕ) (n : ℕ) (square : List (List ℕ)) (line at : ℕ) : Type 0 where
-  pub rest : lines_of desk n 1 n [] (lines s) ≡ lines_of desk n line (n + 1 - line) (take (line - 1) square) (lines (drop at s))
+pub record ReadingLines (ls : List (List ℕ)) (n : ℕ) (square : List (List ℕ)) (line : ℕ) (left : List (List ℕ)) : Type 0 where
+  pub rest : lines_of desk n 1 n [] ls ≡ lines_of desk n line (n + 1 - line) (take (line - 1) square) left
   pub tall : length square ≡ n
-  pub within : at ≤ length s
 
 -- a line that was read has as many numbers as are due
 pub amounts-wide : (n line : ℕ) (l : List ℕ) (x : Numbers) → x ≡ amounts_in desk line (read_line (numbers n) l) → (vs : List ℕ) → x ≡ Ok vs → length vs ≡ n
@@ -107,50 +90,50 @@ amounts-within n line l x ex vs e = go (rw (sym ex ∙ e) at (line-read desk n l
     go : LineRead desk n line l (Ok vs) → Each (λ v. v ≤ desk.amount) vs
     go (line_is t k s a) = a
 
-module _ (s : List ℕ) (n : ℕ) (square : List (List ℕ)) (line at : ℕ) (on : ReadingLines s n square line at) (low : 1 ≤ line) where
-  abbrev whole : Matrix
-  whole = lines_of desk n 1 n [] (lines s)
+module _ (ls : List (List ℕ)) (n : ℕ) (square : List (List ℕ)) (line : ℕ) (left : List (List ℕ)) (on : ReadingLines ls n square line left) (low : 1 ≤ line) where
+  abbrev whole : SquareRead
+  whole = lines_of desk n 1 n [] ls
 
   module _ (due : line < n + 1) where
     one-more : n + 1 - line ≡ suc (n - line)
     one-more = omega arith
 
     -- no line is left, and one is missing
-    pub missing : length s ≤ at → (r : Refusal) → r ≡ refusal Misshapen line (0 + 1) → read_to (Err r) square ≡ whole
-    unfolding lines_of lines and_then read_to
-    missing none r e = sym (on.rest ∙ rw (one-more, drop_of_length-le s none, e))
+    pub missing : left ≡ [] → (r : Refusal) → r ≡ refusal Misshapen line (0 + 1) → read_to (Err r) square ≡ whole
+    unfolding lines_of and_then read_to
+    missing none r e = sym (on.rest ∙ rw (one-more, none, e))
 
-    module _ (there : at < length s) (end : ℕ) (ends : LineEnds s at end) (x : Numbers) (ex : x ≡ amounts_in desk line (read_line (numbers n) (take (end - at) (drop at s)))) where
-      next-line : whole ≡ and_then x λ vs. lines_of desk n (line + 1) (n - line) (take (line - 1) square ++ vs ∷ []) (lines (drop end s))
+    module _ (l : List ℕ) (behind : List (List ℕ)) (there : left ≡ l ∷ behind) (x : Numbers) (ex : x ≡ amounts_in desk line (read_line (numbers n) l)) where
+      next-line : whole ≡ and_then x λ vs. lines_of desk n (line + 1) (n - line) (take (line - 1) square ++ vs ∷ []) behind
       unfolding lines_of
-      next-line = on.rest ∙ rw (one-more, line_at s at end there ends, ← ex)
+      next-line = on.rest ∙ rw (one-more, there, ← ex)
 
       pub line-refused : (r : Refusal) → x ≡ Err r → read_to (Err r) square ≡ whole
       unfolding and_then read_to
       line-refused r e = sym (next-line ∙ rw e)
 
-      pub line-kept : (vs : List ℕ) → x ≡ Ok vs → (new : List (List ℕ)) → new ≡ set square (line - 1) vs → ReadingLines s n new (line + 1) end
+      pub line-kept : (vs : List ℕ) → x ≡ Ok vs → (new : List (List ℕ)) → new ≡ set square (line - 1) vs → ReadingLines ls n new (line + 1) behind
       unfolding and_then
       line-kept vs e new en =
           let k : line - 1 + 1 ≡ line + 1 - 1 = omega arith in
           let m : n - line ≡ n + 1 - (line + 1) = omega arith in
           let more : take (line + 1 - 1) new ≡ take (line - 1) square ++ vs ∷ [] = ap (take (line + 1 - 1)) en ∙ (rw k at (take_more_set square (line - 1) vs (omega (arith, on.tall)))) in
-          record { rest = next-line ∙ rw (e, more, m); tall = ap length en ∙ length-set square (line - 1) vs ∙ on.tall; within = ends.within }
+          record { rest = next-line ∙ rw (e, more, m); tall = ap length en ∙ length-set square (line - 1) vs ∙ on.tall }
 
   module _ (done : n + 1 ≤ line) where
     none-due : n + 1 - line ≡ 0
     none-due = omega arith
 
     -- a line behind the n-th
-    pub left-over : at < length s → line ≤ n + 1 → (r : Refusal) → r ≡ refusal Misshapen (n + 1) (0 + 1) → read_to (Err r) square ≡ whole
+    pub left-over : (l : List ℕ) (behind : List (List ℕ)) → left ≡ l ∷ behind → line ≤ n + 1 → (r : Refusal) → r ≡ refusal Misshapen (n + 1) (0 + 1) → read_to (Err r) square ≡ whole
     unfolding lines_of and_then read_to
-    left-over there high r e =
+    left-over l behind there high r e =
         let k : n + 1 ≡ line = omega arith in
-        sym (on.rest ∙ rw (none-due, first-line (drop at s) (omega (arith, length-drop at s)), e, k))
+        sym (on.rest ∙ rw (none-due, there, e, k))
 
-    pub all-read : length s ≤ at → read_to (Ok tt) square ≡ whole
-    unfolding lines_of lines and_then read_to
-    all-read none = sym (on.rest ∙ rw (none-due, drop_of_length-le s none, take_all (line - 1) square (omega (arith, on.tall)), on.tall))
+    pub all-read : left ≡ [] → read_to (Ok tt) square ≡ whole
+    unfolding lines_of and_then read_to
+    all-read none = sym (on.rest ∙ rw (none-due, none, take_all (line - 1) square (omega (arith, on.tall)), on.tall))
 
 -- ---- the whole
 
@@ -159,14 +142,14 @@ told-refusal s r e = (given desk s r).0 e
 
 module _ (s : List ℕ) (n : ℕ) (is : matrix_of desk s ≡ square_judged (lines_of desk n 1 n [] (lines s))) where
   module _ (square old : List (List ℕ)) (tall : length old ≡ n) where
-    lines-are : (x : Verdict) → read_to x square ≡ lines_of desk (length old) 1 (length old) [] (lines s) → matrix_of desk s ≡ square_judged (read_to x square)
+    lines-are : (x : Found) → read_to x square ≡ lines_of desk (length old) 1 (length old) [] (lines s) → matrix_of desk s ≡ square_judged (read_to x square)
     lines-are x e = is ∙ ap square_judged (sym (rw tall at e))
 
-    pub told-lines : (x : Verdict) → read_to x square ≡ lines_of desk (length old) 1 (length old) [] (lines s) → (r : Refusal) → x ≡ Err r → IsGiven s r
+    pub told-lines : (x : Found) → read_to x square ≡ lines_of desk (length old) 1 (length old) [] (lines s) → (r : Refusal) → x ≡ Err r → IsGiven s r
     unfolding square_judged and_then read_to
     told-lines x e r f = told-refusal s r (lines-are x e ∙ rw f)
 
-    module _ (x : Verdict) (e : read_to x square ≡ lines_of desk (length old) 1 (length old) [] (lines s)) (f : x ≡ Ok tt) (v : Verdict) (ev : v ≡ judge_down square (length square) 1 (length square)) where
+    module _ (x : Found) (e : read_to x square ≡ lines_of desk (length old) 1 (length old) [] (lines s)) (f : x ≡ Ok tt) (v : Found) (ev : v ≡ judge_down square (length square) 1 (length square)) where
       judged : matrix_of desk s ≡ and_then v (λ u. Ok (length square, square))
       unfolding square_judged and_then read_to
       judged = lines-are x e ∙ rw (f, ev)
@@ -175,7 +158,7 @@ module _ (s : List ℕ) (n : ℕ) (is : matrix_of desk s ≡ square_judged (line
       unfolding and_then
       told-entries r g = told-refusal s r (judged ∙ rw g)
 
-      pub told-matrix : v ≡ Ok tt → (rs : List Row) → rs ≡ rows_of_matrix (length square) square → IsMatrix s n rs
+      pub told-matrix : v ≡ Ok tt → (rs : List Demand) → rs ≡ rows_of_matrix (length square) square → IsMatrix s n rs
       unfolding and_then read_to
       told-matrix g rs er =
           let w = (matrix-text desk desk-possible s (length square) square).0 (judged ∙ rw g) in

@@ -11,7 +11,7 @@ use lib.Seq.{get_or-append_seam}
 use borrow.Author.Tests.{ltb-true, ltb-false}
 use Rattle.ring.specs.Limits.{Limits}
 use Rattle.ring.specs.Lists.{Each, none, more, Some, here, there}
-use Rattle.ring.specs.Row.{PairBefore}
+use Rattle.ring.specs.Demand.{PairBefore}
 use Rattle.ring.proofs.Side.{cond-elim}
 use Rattle.text.specs.ReadLine.{Reading}
 use Rattle.text.specs.Shapes.{numbers, numbers_line}
@@ -29,7 +29,7 @@ use Rattle.table.proofs.Judged.{SizeJudged, not_so_many, right_size, size-judged
 use Rattle.table.proofs.LineNumbers.{line-one, LinesFrom, from_first, from_next, line-here, no-line-left}
 use Rattle.table.proofs.ReasonNumbers.{same_rank, no-rank-0}
 use Rattle.matrix.specs.Matrix.{entry, entry_byte, Node}
-use Rattle.matrix.specs.Read.{Matrix, Numbers, Verdict, fields_in, lines_of, byte_of, square_judged, on_first, matrix_lines, matrix_of}
+use Rattle.matrix.specs.Read.{SquareRead, Numbers, Found, fields_in, lines_of, byte_of, square_judged, on_first, matrix_lines, matrix_of}
 use Rattle.matrix.specs.Says.{NumbersAre, EntryIs, NoFirstLine, NoLaterLine, LeftOver, WrongSize, WrongAmount, WrongEntry, not_zero, not_mirror, FirstFaulty, Says, LineByte, first_due, later_due, none_due, EntryStarts, FaultyByte, ByteIs, stage, Earlier, Given, Accepted}
 use Rattle.matrix.proofs.LinesText.{NumbersRead, are_numbers, no_numbers, numbers-read, FirstOver, LineRead, line_is, line_over, line_not, line-read, Spelled}
 use Rattle.matrix.proofs.MatrixText.{fields-are}
@@ -70,7 +70,7 @@ line_low (behind p) = omega arith
 
 -- ---- a result that is right by what the reasons say
 
-data Right (limits : Limits) (t : List ℕ) : Matrix → Type 0 where
+data Right (limits : Limits) (t : List ℕ) : SquareRead → Type 0 where
   none_holds : {s : ℕ × List (List ℕ)} → Accepted limits t → Right limits t (Ok s)
   first_holds : {r : Refusal} → Given limits t r.reason r.line r.byte → Right limits t (Err r)
 
@@ -267,7 +267,7 @@ module _ (limits : Limits) (t : List ℕ) (us : List ℕ) (first : NumbersAre t 
       starts-at : (i j : ℕ) → Node n i → EntryStarts t i j (byte_of m i j)
       starts-at i j p = record { vs = get_or m (i - 1) []; is = held.at i p.0 (omega (arith, p.1)); at = refl }
 
-      square-right : {z : Verdict} → DownJudged m n 1 n z → Right limits t (and_then z (λ u. Ok (n, m)))
+      square-right : {z : Found} → DownJudged m n 1 n z → Right limits t (and_then z (λ u. Ok (n, m)))
       unfolding and_then
       square-right (down_right all) = none_holds (λ r other h. go (told r h))
         where
@@ -352,7 +352,7 @@ module _ (limits : Limits) (t : List ℕ) (us : List ℕ) (first : NumbersAre t 
     lines-right (l ∷ ls) line (suc left) m low due from prev clean held =
         go (line-read limits n line l) (λ vs clean held. lines-right ls (line + 1) left (m ++ vs ∷ []) (omega arith) (omega arith) (from_next from) (is_later (line-here from) refl) clean held)
       where
-        next : List ℕ → Matrix
+        next : List ℕ → SquareRead
         next vs = lines_of limits n (line + 1) left (m ++ vs ∷ []) ls
 
         here-is : {vs : List ℕ} → l ≡ numbers_line vs → length vs ≡ n → Spelled vs → NumbersAre t line vs
@@ -387,7 +387,7 @@ module _ (limits : Limits) (t : List ℕ) where
       (first_due refl (line_missing (λ l is. omega (arith, no-line-left from is)))))
   all_right short (l ∷ ls) from = go (numbers-read (fields_in l) l) (size-judged limits (fields_in l))
     where
-      next : Matrix
+      next : SquareRead
       next = square_judged (lines_of limits (fields_in l) 1 (fields_in l) [] (l ∷ ls))
 
       ring : (us : List ℕ) {v : of_table.Verdict} → NumbersAre t 1 us → length us ≡ fields_in l → SizeJudged limits (fields_in l) v → Right limits t (and_then (on_first v) (λ u. next))
@@ -444,7 +444,7 @@ given limits t r = (λ e. there (subst (Right limits t) e (right limits t)), λ 
     there : Right limits t (Err r) → Given limits t r.reason r.line r.byte
     there (first_holds g) = g
 
-    back : Given limits t r.reason r.line r.byte → {x : Matrix} → Right limits t x → x ≡ Err r
+    back : Given limits t r.reason r.line r.byte → {x : SquareRead} → Right limits t x → x ≡ Err r
     back g (none_holds out) = absurd (out r.reason r.line g.holds)
     back g (first_holds f) = let o = one-given f g in let a = o.0 in let b = o.1 in let c = o.2 in ap Err (λ i. record { reason = a i; line = b i; byte = c i })
 
@@ -460,6 +460,6 @@ accepted-is limits t = (λ h. there (subst (Right limits t) h.is (right limits t
     there : {s : ℕ × List (List ℕ)} → Right limits t (Ok s) → Accepted limits t
     there (none_holds out) = out
 
-    back : Accepted limits t → (x : Matrix) → matrix_of limits t ≡ x → Reads limits t
+    back : Accepted limits t → (x : SquareRead) → matrix_of limits t ≡ x → Reads limits t
     back out (Ok s) e = record { n = s.0; m = s.1; is = e }
     back out (Err r) e = absurd (out r.reason r.line ((given limits t r).0 e).holds)

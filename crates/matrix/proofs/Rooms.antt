@@ -7,7 +7,7 @@ use native.Mathlib.Decide.{dec_lt}
 use lib.ListN.{length, length-append}
 use Rattle.ring.specs.declared.types.Ring.{Ring}
 use Rattle.ring.specs.Limits.{desk}
-use Rattle.ring.specs.declared.types.Row.{Row}
+use Rattle.ring.specs.declared.types.Demand.{Demand}
 use Rattle.ring.specs.Lists.{listed, Each, none, more}
 use Rattle.ring.proofs.Listed.{listed-length, each-listed}
 use Rattle.text.specs.Number.{base, digits}
@@ -53,7 +53,7 @@ matrix-room n m few square amounts = omega (arith, matrix-bytes n m few square.w
 
 -- ---- the matrix of a table
 
-module _ (ring : Ring) (rs : List Row) (table : TableInRange desk ring rs) (fit : (k : ℕ) → Passes desk rs k → ⊥) where
+module _ (ring : Ring) (rs : List Demand) (table : TableInRange desk ring rs) (fit : (k : ℕ) → Passes desk rs k → ⊥) where
   square-of-rows : IsSquare ring.nodes (matrix_of_rows ring.nodes rs)
   square-of-rows = record {
     tall = listed-length (λ i. listed (sum_of rs i) 1 ring.nodes) 1 ring.nodes;

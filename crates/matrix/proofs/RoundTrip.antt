@@ -11,8 +11,8 @@ use Rattle.ring.specs.LineSize.{IsFibres}
 use Rattle.ring.specs.Ring.{ring_of}
 use Rattle.ring.specs.Limits.{Limits, desk}
 use Rattle.ring.specs.Lists.{listed, Each, none, more, Steps, no_member, one_member, step, Pairs, no_pair, and_pairs}
-use Rattle.ring.specs.Row.{OnRing, PairBefore, PairUpTo, InTableOrder, TableRows}
-use Rattle.ring.specs.declared.types.Row.{Row}
+use Rattle.ring.specs.Demand.{OnRing, PairBefore, PairUpTo, InTableOrder, TableRows}
+use Rattle.ring.specs.declared.types.Demand.{Demand}
 use Rattle.ring.proofs.Listed.{listed_same, listed-shift}
 use Rattle.table.specs.Table.{write_table, table_room, InRange as TableInRange}
 use Rattle.table.proofs.TableText.{desk-spelled}
@@ -43,7 +43,7 @@ from_one d l =
 
 -- ---- the entries of a matrix made from rows are their sums
 
-pub entry-sum : (n : ℕ) (rs : List Row) (i j : ℕ) → Node n i → Node n j → entry (matrix_of_rows n rs) i j ≡ sum_of rs i j
+pub entry-sum : (n : ℕ) (rs : List Demand) (i j : ℕ) → Node n i → Node n j → entry (matrix_of_rows n rs) i j ≡ sum_of rs i j
 entry-sum n rs i j p q =
     let e : 1 + (i - 1) ≡ i = omega (arith, p.0) in
     let f : 1 + (j - 1) ≡ j = omega (arith, q.0) in
@@ -51,7 +51,7 @@ entry-sum n rs i j p q =
     ∙ listed_at (sum_of rs (1 + (i - 1))) 0 1 n (j - 1) (omega (arith, q.0, q.1)) ∙ rw (e, f)
 
 -- lines of the sums, where each entry is one
-pub lines-of-sums : (n : ℕ) (m : List (List ℕ)) (rs : List Row) → IsSquare n m → ((i j : ℕ) → Node n i → Node n j → sum_of rs i j ≡ entry m i j) → matrix_of_rows n rs ≡ m
+pub lines-of-sums : (n : ℕ) (m : List (List ℕ)) (rs : List Demand) → IsSquare n m → ((i j : ℕ) → Node n i → Node n j → sum_of rs i j ≡ entry m i j) → matrix_of_rows n rs ≡ m
 lines-of-sums n m rs square same =
     listed_same (λ i. listed (sum_of rs i) 1 n) (λ i. get_or m (i - 1) []) 1 n one_line ∙ subst (λ k. listed (λ i. get_or m (i - 1) []) 1 k ≡ m) square.tall (from_one [] m)
   where
@@ -92,7 +92,7 @@ module _ (limits : Limits) (n : ℕ) (m : List (List ℕ)) (range : InRange limi
 
 -- ---- rows that rise are a table's rows, one for a pair, and back
 
-pub rising-steps : {a b : ℕ} {rs : List Row} → Rising a b rs → Steps InTableOrder rs
+pub rising-steps : {a b : ℕ} {rs : List Demand} → Rising a b rs → Steps InTableOrder rs
 rising-steps no_row = no_member
 rising-steps (next_row p no_row) = one_member
 rising-steps (next_row p (next_row q rest)) = step (up_to q) (rising-steps (next_row q rest))
@@ -102,7 +102,7 @@ rising-steps (next_row p (next_row q rest)) = step (up_to q) (rising-steps (next
     up_to (inr l) = inr (l.0, omega (arith, l.1))
 
 -- a row not behind the pair a, b is apart from all rows that rise behind it
-rising-apart : (r : Row) {a b : ℕ} {rs : List Row} → PairUpTo r.first r.second a b → Rising a b rs → Each (λ s. (r.first ≡ s.first) × (r.second ≡ s.second) → ⊥) rs
+rising-apart : (r : Demand) {a b : ℕ} {rs : List Demand} → PairUpTo r.first r.second a b → Rising a b rs → Each (λ s. (r.first ≡ s.first) × (r.second ≡ s.second) → ⊥) rs
 rising-apart r u no_row = none
 rising-apart r u (next_row {r = s} p rest) = more (λ e. not_same u p e) (rising-apart r (further u p) rest)
   where
@@ -118,11 +118,11 @@ rising-apart r u (next_row {r = s} p rest) = more (λ e. not_same u p e) (rising
     further (inr l) (inl m) = inl (omega (arith, l.0))
     further (inr l) (inr m) = inr (l.0 ∙ m.0, omega (arith, l.1, m.1))
 
-pub rising-pairs : {a b : ℕ} {rs : List Row} → Rising a b rs → Pairs (λ r s. (r.first ≡ s.first) × (r.second ≡ s.second) → ⊥) rs
+pub rising-pairs : {a b : ℕ} {rs : List Demand} → Rising a b rs → Pairs (λ r s. (r.first ≡ s.first) × (r.second ≡ s.second) → ⊥) rs
 rising-pairs no_row = no_pair
 rising-pairs (next_row {r = r} p rest) = and_pairs (rising-apart r (inr (refl, omega arith)) rest) (rising-pairs rest)
 
-pub rising-rows : {n : ℕ} {rs : List Row} → Each (OnRing n) rs → Steps InTableOrder rs → Pairs (λ r s. (r.first ≡ s.first) × (r.second ≡ s.second) → ⊥) rs → Rising 0 0 rs
+pub rising-rows : {n : ℕ} {rs : List Demand} → Each (OnRing n) rs → Steps InTableOrder rs → Pairs (λ r s. (r.first ≡ s.first) × (r.second ≡ s.second) → ⊥) rs → Rising 0 0 rs
 rising-rows none ups apart = no_row
 rising-rows (more o os) ups apart = next_row (inl o.low) (behind ups apart)
   where
@@ -130,13 +130,13 @@ rising-rows (more o os) ups apart = next_row (inl o.low) (behind ups apart)
     strictly (inl l) n = inl l
     strictly {b = b} {d = d} (inr l) n = elim (ℕ_discrete b d) [ yes e ↦ absurd (n (l.0, e)) | no e ↦ inr (l.0, omega (arith, l.1)) ]
 
-    behind : {r : Row} {rs : List Row} → Steps InTableOrder (r ∷ rs) → Pairs (λ r s. (r.first ≡ s.first) × (r.second ≡ s.second) → ⊥) (r ∷ rs) → Rising r.first r.second rs
+    behind : {r : Demand} {rs : List Demand} → Steps InTableOrder (r ∷ rs) → Pairs (λ r s. (r.first ≡ s.first) × (r.second ≡ s.second) → ⊥) (r ∷ rs) → Rising r.first r.second rs
     behind one_member apart = no_row
     behind (step up ups) (and_pairs (more x xs) rest) = next_row (strictly up x) (behind ups rest)
 
 -- ---- from a table
 
-sum-off : {n : ℕ} {rs : List Row} → Each (OnRing n) rs → (i j : ℕ) → i < j → (i < 1) ⊎ (n < j) → sum_of rs i j ≡ 0
+sum-off : {n : ℕ} {rs : List Demand} → Each (OnRing n) rs → (i j : ℕ) → i < j → (i < 1) ⊎ (n < j) → sum_of rs i j ≡ 0
 unfolding sum_of
 sum-off none i j l h = refl
 sum-off {n} (more {a = r} o os) i j l h = omega (arith, part-other r i j (λ e. off h e.0 e.1) (λ e. omega (arith, e.0, e.1, o.order)), sum-off os i j l h)
@@ -146,7 +146,7 @@ sum-off {n} (more {a = r} o os) i j l h = omega (arith, part-other r i j (λ e. 
     off (inr x) e f = omega (arith, o.high)
 
 -- table to matrix to table
-pub table-back : (n : ℕ) (rs : List Row) → TableRows n rs → OneEach rs → rows_of_matrix n (matrix_of_rows n rs) ≡ rs
+pub table-back : (n : ℕ) (rs : List Demand) → TableRows n rs → OneEach rs → rows_of_matrix n (matrix_of_rows n rs) ≡ rs
 table-back n rs table each =
     same-sums (rows_of_matrix n (matrix_of_rows n rs)) rs (rows_on (entry (matrix_of_rows n rs)) n) table.nodes (rows-some (entry (matrix_of_rows n rs)) n) each.some
     (rows-rising (entry (matrix_of_rows n rs)) n) (rising-rows table.nodes table.order each.one) same

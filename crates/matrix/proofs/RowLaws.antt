@@ -11,8 +11,8 @@ use lib.ListN.{length, length-append}
 use borrow.Author.Tests.{eqb-true, eqb-false}
 use Rattle.ring.specs.Limits.{desk}
 use Rattle.ring.specs.Lists.{listed, Each, none, more}
-use Rattle.ring.specs.Row.{row, OnRing, PairBefore}
-use Rattle.ring.specs.declared.types.Row.{Row}
+use Rattle.ring.specs.Demand.{demand, OnRing, PairBefore}
+use Rattle.ring.specs.declared.types.Demand.{Demand}
 use Rattle.ring.proofs.Listed.{each-listed, listed-length}
 use Rattle.matrix.specs.Demands.{pairs_from, above_zero, rows_by, sum_of}
 use Rattle.matrix.proofs.SumLaws.{part_of, part_small, sum-append, part-own, part-other, Rising, no_row, next_row, rising-from}
@@ -36,7 +36,7 @@ count_small n l =
     let e : n + (desk.nodes - n) ≡ desk.nodes = omega arith in
     rw e at (count-grows n (desk.nodes - n))
 
-pub above-append : (rs ss : List Row) → above_zero (rs ++ ss) ≡ above_zero rs ++ above_zero ss
+pub above-append : (rs ss : List Demand) → above_zero (rs ++ ss) ≡ above_zero rs ++ above_zero ss
 unfolding above_zero
 above-append [] ss = refl
 above-append (r ∷ rs) ss = go (eqb r.amount 0) (above-append rs ss)
@@ -49,7 +49,7 @@ above-append (r ∷ rs) ss = go (eqb r.amount 0) (above-append rs ss)
 -- ---- the rows above 0
 
 -- what holds of all rows holds of those above 0
-pub above-each : {P : Row → Type 0} {rs : List Row} → Each P rs → Each P (above_zero rs)
+pub above-each : {P : Demand → Type 0} {rs : List Demand} → Each P rs → Each P (above_zero rs)
 unfolding above_zero
 above-each none = none
 above-each {P} (more {a = r} {l = rs} h hs) = go (eqb r.amount 0) (above-each hs)
@@ -58,7 +58,7 @@ above-each {P} (more {a = r} {l = rs} h hs) = go (eqb r.amount 0) (above-each hs
     go true ih = ih
     go false ih = more h ih
 
-pub above-some : (rs : List Row) → Each (λ r. 1 ≤ r.amount) (above_zero rs)
+pub above-some : (rs : List Demand) → Each (λ r. 1 ≤ r.amount) (above_zero rs)
 unfolding above_zero
 above-some [] = none
 above-some (r ∷ rs) = go (eqb r.amount 0) refl (above-some rs)
@@ -67,7 +67,7 @@ above-some (r ∷ rs) = go (eqb r.amount 0) refl (above-some rs)
     go true e ih = ih
     go false e ih = let n : r.amount ≡ 0 → ⊥ = eqb-false r.amount 0 e in let q : 1 ≤ r.amount = omega arith in more q ih
 
-pub above-rising : {a b : ℕ} {rs : List Row} → Rising a b rs → Rising a b (above_zero rs)
+pub above-rising : {a b : ℕ} {rs : List Demand} → Rising a b rs → Rising a b (above_zero rs)
 unfolding above_zero
 above-rising no_row = no_row
 above-rising {a} {b} (next_row {r = r} {rs = rs} p rest) = go (eqb r.amount 0) (above-rising rest)
@@ -76,7 +76,7 @@ above-rising {a} {b} (next_row {r = r} {rs = rs} p rest) = go (eqb r.amount 0) (
     go true ih = rising-from p ih
     go false ih = next_row p ih
 
-pub above-sum : (rs : List Row) (i j : ℕ) → sum_of (above_zero rs) i j ≡ sum_of rs i j
+pub above-sum : (rs : List Demand) (i j : ℕ) → sum_of (above_zero rs) i j ≡ sum_of rs i j
 unfolding above_zero sum_of
 above-sum [] i j = refl
 above-sum (r ∷ rs) i j = go (eqb r.amount 0) refl (above-sum rs i j)
@@ -85,7 +85,7 @@ above-sum (r ∷ rs) i j = go (eqb r.amount 0) refl (above-sum rs i j)
     go true e ih = omega (arith, eqb-true r.amount 0 e, part_small r i j)
     go false e ih = omega arith
 
-pub above-short : (rs : List Row) → length (above_zero rs) ≤ length rs
+pub above-short : (rs : List Demand) → length (above_zero rs) ≤ length rs
 unfolding above_zero
 above-short [] = omega arith
 above-short (r ∷ rs) = go (eqb r.amount 0) (above-short rs)
@@ -96,16 +96,16 @@ above-short (r ∷ rs) = go (eqb r.amount 0) (above-short rs)
 
 -- ---- all pairs
 
-each_append : {P : Row → Type 0} {rs ss : List Row} → Each P rs → Each P ss → Each P (rs ++ ss)
+each_append : {P : Demand → Type 0} {rs ss : List Demand} → Each P rs → Each P ss → Each P (rs ++ ss)
 each_append none q = q
 each_append (more h hs) q = more h (each_append hs q)
 
 module _ (a : ℕ → ℕ → ℕ) where
   -- the pairs of node i from j on, k of them
-  abbrev pairs_of : ℕ → ℕ → ℕ → List Row
-  pairs_of i j k = listed (λ x. row i x (a i x)) j k
+  abbrev pairs_of : ℕ → ℕ → ℕ → List Demand
+  pairs_of i j k = listed (λ x. demand i x (a i x)) j k
 
-  across-rising : (i j k : ℕ) {c d : ℕ} {rest : List Row} → PairBefore c d i j → ((b : ℕ) → Rising i b rest) → Rising c d (pairs_of i j k ++ rest)
+  across-rising : (i j k : ℕ) {c d : ℕ} {rest : List Demand} → PairBefore c d i j → ((b : ℕ) → Rising i b rest) → Rising c d (pairs_of i j k ++ rest)
   unfolding listed
   across-rising i j zero p all = rising-from p (all j)
   across-rising i j (suc k) p all = next_row p (across-rising i (suc j) k (inr (refl, omega arith)) all)
@@ -115,21 +115,21 @@ module _ (a : ℕ → ℕ → ℕ) where
   unfolding listed sum_of
   across-other i j zero x y l h n = refl
   across-other i j (suc k) x y l h n =
-      omega (arith, part-other (row i j (a i j)) x y (λ e. n (sym e.0)) (λ e. omega (arith, e.0, e.1)), across-other i (suc j) k x y (omega arith) h n)
+      omega (arith, part-other (demand i j (a i j)) x y (λ e. n (sym e.0)) (λ e. omega (arith, e.0, e.1)), across-other i (suc j) k x y (omega arith) h n)
 
   across-later : (i j k y : ℕ) → i < j → y < j → sum_of (pairs_of i j k) i y ≡ 0
   unfolding listed sum_of
   across-later i j zero y l h = refl
   across-later i j (suc k) y l h =
-      omega (arith, part-other (row i j (a i j)) i y (λ e. omega (arith, e.1)) (λ e. omega (arith, e.1)), across-later i (suc j) k y (omega arith) (omega arith))
+      omega (arith, part-other (demand i j (a i j)) i y (λ e. omega (arith, e.1)) (λ e. omega (arith, e.1)), across-later i (suc j) k y (omega arith) (omega arith))
 
   across-own : (i j k y : ℕ) → i < j → j ≤ y → y < j + k → sum_of (pairs_of i j k) i y ≡ a i y
   unfolding listed sum_of
   across-own i j zero y l h m = absurd (omega arith)
   across-own i j (suc k) y l h m =
       elim (ℕ_discrete j y) [
-        | yes e ↦ omega (arith, part-own (row i j (a i j)) i y refl e, across-later i (suc j) k y (omega arith) (omega arith), ap (a i) e)
-        | no e ↦ omega (arith, part-other (row i j (a i j)) i y (λ z. e z.1) (λ z. omega (arith, z.1)), across-own i (suc j) k y (omega arith) (omega arith) (omega arith))
+        | yes e ↦ omega (arith, part-own (demand i j (a i j)) i y refl e, across-later i (suc j) k y (omega arith) (omega arith), ap (a i) e)
+        | no e ↦ omega (arith, part-other (demand i j (a i j)) i y (λ z. e z.1) (λ z. omega (arith, z.1)), across-own i (suc j) k y (omega arith) (omega arith) (omega arith))
       ]
 
   module _ (n : ℕ) where
@@ -138,17 +138,17 @@ module _ (a : ℕ → ℕ → ℕ) where
     pairs-rising zero i c d l = no_row
     pairs-rising (suc k) i c d l = across-rising i (i + 1) (n - i) (inl l) (λ b. pairs-rising k (i + 1) i b (omega arith))
 
-    pub pairs-each : {P : Row → Type 0} → ((x y : ℕ) → 1 ≤ x → x < y → y ≤ n → P (row x y (a x y))) → (k i : ℕ) → 1 ≤ i → i + k ≤ n + 1 → Each P (pairs_from a n i k)
+    pub pairs-each : {P : Demand → Type 0} → ((x y : ℕ) → 1 ≤ x → x < y → y ≤ n → P (demand x y (a x y))) → (k i : ℕ) → 1 ≤ i → i + k ≤ n + 1 → Each P (pairs_from a n i k)
     unfolding pairs_from
     pairs-each h zero i l m = none
     pairs-each h (suc k) i l m =
-        each_append (each-listed (λ x. row i x (a i x)) (i + 1) (n - i) (λ x p q. h i x l (omega arith) (omega arith))) (pairs-each h k (i + 1) (omega arith) (omega arith))
+        each_append (each-listed (λ x. demand i x (a i x)) (i + 1) (n - i) (λ x p q. h i x l (omega arith) (omega arith))) (pairs-each h k (i + 1) (omega arith) (omega arith))
 
     pairs-count : (k i : ℕ) → i + k ≡ n + 1 → length (pairs_from a n i k) ≡ pair_count k
     unfolding pairs_from pair_count
     pairs-count zero i e = refl
     pairs-count (suc k) i e =
-        omega (arith, length-append (pairs_of i (i + 1) (n - i)) (pairs_from a n (i + 1) k), listed-length (λ x. row i x (a i x)) (i + 1) (n - i), pairs-count k (i + 1) (omega arith))
+        omega (arith, length-append (pairs_of i (i + 1) (n - i)) (pairs_from a n (i + 1) k), listed-length (λ x. demand i x (a i x)) (i + 1) (n - i), pairs-count k (i + 1) (omega arith))
 
     pairs-later : (k j x y : ℕ) → x < j → x < y → sum_of (pairs_from a n j k) x y ≡ 0
     unfolding pairs_from sum_of
@@ -171,7 +171,7 @@ module _ (a : ℕ → ℕ → ℕ) where
     unfolding rows_by
     rows-rising = above-rising (pairs-rising n 1 0 0 (omega arith))
 
-    pub rows-each : {P : Row → Type 0} → ((x y : ℕ) → 1 ≤ x → x < y → y ≤ n → P (row x y (a x y))) → Each P (rows_by n a)
+    pub rows-each : {P : Demand → Type 0} → ((x y : ℕ) → 1 ≤ x → x < y → y ≤ n → P (demand x y (a x y))) → Each P (rows_by n a)
     unfolding rows_by
     rows-each h = above-each (pairs-each h n 1 (omega arith) (omega arith))
 

@@ -9,18 +9,18 @@ use lib.ListN.{length}
 use native.Mathlib.Decide.{dec_lt, ℕ_discrete}
 use borrow.Author.Tests.{eq-eqb, ne_eqb}
 use Rattle.ring.specs.Lists.{Each, none, more}
-use Rattle.ring.specs.Row.{row, OnRing, PairBefore}
-use Rattle.ring.specs.declared.types.Row.{Row}
+use Rattle.ring.specs.Demand.{demand, OnRing, PairBefore}
+use Rattle.ring.specs.declared.types.Demand.{Demand}
 use Rattle.ring.proofs.Side.{cond-elim}
 use Rattle.matrix.specs.Demands.{same_pair, joins, sum_of}
 
 -- ---- one row
 
 -- what a row adds
-abbrev pub part_of : Row → ℕ → ℕ → ℕ
+abbrev pub part_of : Demand → ℕ → ℕ → ℕ
 part_of r i j = cond (joins r i j) r.amount 0
 
-pub part_small : (r : Row) (i j : ℕ) → part_of r i j ≤ r.amount
+pub part_small : (r : Demand) (i j : ℕ) → part_of r i j ≤ r.amount
 part_small r i j = cond-elim (λ x. x ≤ r.amount) (joins r i j) r.amount 0 (λ e. omega arith) (λ e. omega arith)
 
 same-pair : (a b i j : ℕ) → a ≡ i → b ≡ j → same_pair a b i j ≡ true
@@ -35,7 +35,7 @@ other-pair a b i j h =
       | no e ↦ rw (ne_eqb a i e)
     ]
 
-module _ (r : Row) (i j : ℕ) where
+module _ (r : Demand) (i j : ℕ) where
   pub part-own : r.first ≡ i → r.second ≡ j → part_of r i j ≡ r.amount
   part-own e f = rw (same-pair r.first r.second i j e f)
 
@@ -53,27 +53,27 @@ module _ (r : Row) (i j : ℕ) where
 
 -- ---- all rows
 
-pub sum-append : (rs ss : List Row) (i j : ℕ) → sum_of (rs ++ ss) i j ≡ sum_of rs i j + sum_of ss i j
+pub sum-append : (rs ss : List Demand) (i j : ℕ) → sum_of (rs ++ ss) i j ≡ sum_of rs i j + sum_of ss i j
 unfolding sum_of
 sum-append [] ss i j = omega arith
 sum-append (r ∷ rs) ss i j = omega (arith, sum-append rs ss i j)
 
-pub sum_more : (rs : List Row) (r : Row) (i j : ℕ) → sum_of (rs ++ r ∷ []) i j ≡ sum_of rs i j + part_of r i j
+pub sum_more : (rs : List Demand) (r : Demand) (i j : ℕ) → sum_of (rs ++ r ∷ []) i j ≡ sum_of rs i j + part_of r i j
 unfolding sum_of
 sum_more rs r i j = omega (arith, sum-append rs (r ∷ []) i j)
 
 -- amounts within a limit have no large sum
-pub sum-small : (most : ℕ) (rs : List Row) (i j : ℕ) → Each (λ r. r.amount ≤ most) rs → sum_of rs i j ≤ most * length rs
+pub sum-small : (most : ℕ) (rs : List Demand) (i j : ℕ) → Each (λ r. r.amount ≤ most) rs → sum_of rs i j ≤ most * length rs
 unfolding sum_of
 sum-small most [] i j none = omega arith
 sum-small most (r ∷ rs) i j (more h hs) = omega (arith, part_small r i j, sum-small most rs i j hs)
 
-pub sum-either : (rs : List Row) (i j : ℕ) → sum_of rs i j ≡ sum_of rs j i
+pub sum-either : (rs : List Demand) (i j : ℕ) → sum_of rs i j ≡ sum_of rs j i
 unfolding sum_of
 sum-either [] i j = refl
 sum-either (r ∷ rs) i j = omega (arith, part-either r i j, sum-either rs i j)
 
-pub sum-diagonal : {n : ℕ} {rs : List Row} → Each (OnRing n) rs → (i : ℕ) → sum_of rs i i ≡ 0
+pub sum-diagonal : {n : ℕ} {rs : List Demand} → Each (OnRing n) rs → (i : ℕ) → sum_of rs i i ≡ 0
 unfolding sum_of
 sum-diagonal none i = refl
 sum-diagonal (more {a = r} o os) i =
@@ -81,9 +81,9 @@ sum-diagonal (more {a = r} o os) i =
 
 -- ---- rows that rise, behind the pair a, b
 
-pub data Rising : ℕ → ℕ → List Row → Type 0 where
+pub data Rising : ℕ → ℕ → List Demand → Type 0 where
   no_row : {a b : ℕ} → Rising a b []
-  next_row : {a b : ℕ} {r : Row} {rs : List Row} → PairBefore a b r.first r.second → Rising r.first r.second rs → Rising a b (r ∷ rs)
+  next_row : {a b : ℕ} {r : Demand} {rs : List Demand} → PairBefore a b r.first r.second → Rising r.first r.second rs → Rising a b (r ∷ rs)
 
 before-trans : {a b c d e f : ℕ} → PairBefore a b c d → PairBefore c d e f → PairBefore a b e f
 before-trans (inl l) (inl m) = inl (omega arith)
@@ -91,7 +91,7 @@ before-trans (inl l) (inr m) = inl (omega (arith, m.0))
 before-trans (inr l) (inl m) = inl (omega (arith, l.0))
 before-trans (inr l) (inr m) = inr (l.0 ∙ m.0, omega (arith, l.1, m.1))
 
-pub rising-from : {a b c d : ℕ} {rs : List Row} → PairBefore a b c d → Rising c d rs → Rising a b rs
+pub rising-from : {a b c d : ℕ} {rs : List Demand} → PairBefore a b c d → Rising c d rs → Rising a b rs
 rising-from p no_row = no_row
 rising-from p (next_row q rest) = next_row (before-trans p q) rest
 
@@ -100,7 +100,7 @@ before-not (inl l) e = omega (arith, e.0)
 before-not (inr l) e = omega (arith, l.1, e.1)
 
 -- a pair up to which all rows come later has no sum
-pub sum-none : {n i j : ℕ} {rs : List Row} → i < j → Each (OnRing n) rs → Rising i j rs → sum_of rs i j ≡ 0
+pub sum-none : {n i j : ℕ} {rs : List Demand} → i < j → Each (OnRing n) rs → Rising i j rs → sum_of rs i j ≡ 0
 unfolding sum_of
 sum-none l none no_row = refl
 sum-none {i = i} {j = j} l (more {a = r} o os) (next_row p rest) =
@@ -126,10 +126,10 @@ order a b c d =
       ]
     ]
 
-same_row : (r s : Row) → r.first ≡ s.first → r.second ≡ s.second → r.amount ≡ s.amount → r ≡ s
-same_row r s e f g = ap (λ i. row i r.second r.amount) e ∙ ap (λ j. row s.first j r.amount) f ∙ ap (λ d. row s.first s.second d) g
+same_row : (r s : Demand) → r.first ≡ s.first → r.second ≡ s.second → r.amount ≡ s.amount → r ≡ s
+same_row r s e f g = ap (λ i. demand i r.second r.amount) e ∙ ap (λ j. demand s.first j r.amount) f ∙ ap (λ d. demand s.first s.second d) g
 
-pub same-sums : {n a b : ℕ} (rs ss : List Row) → Each (OnRing n) rs → Each (OnRing n) ss → Each (λ r. 1 ≤ r.amount) rs → Each (λ r. 1 ≤ r.amount) ss
+pub same-sums : {n a b : ℕ} (rs ss : List Demand) → Each (OnRing n) rs → Each (OnRing n) ss → Each (λ r. 1 ≤ r.amount) rs → Each (λ r. 1 ≤ r.amount) ss
     → Rising a b rs → Rising a b ss → ((i j : ℕ) → i < j → sum_of rs i j ≡ sum_of ss i j) → rs ≡ ss
 unfolding sum_of
 same-sums [] [] none none none none no_row no_row h = refl
@@ -149,5 +149,5 @@ same-sums (r ∷ rs) (s ∷ ss) (more o os) (more q qs) (more d ds) (more e es) 
         let rising : Rising r.first r.second ss = subst (λ k. Rising k r.second ss) (sym x) (subst (λ k. Rising s.first k ss) (sym y) us) in
         let own : r.amount ≡ s.amount = omega (arith, h r.first r.second o.order, part-own r r.first r.second refl refl, part-own s r.first r.second (sym x) (sym y), sum-none o.order os ps, sum-none o.order qs rising) in
         let k : r ≡ s = same_row r s x y own in
-        let parts : (i j : ℕ) → part_of r i j ≡ part_of s i j = λ i j. ap (λ (z : Row). part_of z i j) k in
+        let parts : (i j : ℕ) → part_of r i j ≡ part_of s i j = λ i j. ap (λ (z : Demand). part_of z i j) k in
         rw k (ap (λ l. s ∷ l) (ih rising (λ i j l. omega (arith, h i j l, parts i j))))

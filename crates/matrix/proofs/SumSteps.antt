@@ -8,13 +8,13 @@ use lib.ListN.{length, take, drop, drop_of_length-le}
 use borrow.Author.Tests.{lt-ltb, le-ltb}
 use Rattle.std.specs.Prelude.{Ok, Some, slice_get}
 use Rattle.ring.specs.Limits.{desk}
-use Rattle.ring.specs.declared.types.Row.{Row}
+use Rattle.ring.specs.declared.types.Demand.{Demand}
 use Rattle.ring.specs.declared.types.Routed.{Routed}
 use Rattle.ring.specs.Sheet.{sents, demands}
 use Rattle.matrix.specs.Demands.{sum_of}
 use Rattle.matrix.specs.Judged.{passes_at, sums_from, judge_sums}
 use Rattle.rows.proofs.Demands.{demands-get}
-use Rattle.ring.proofs.Figures.{demands-length}
+use Rattle.ring.proofs.Small.{demands-length}
 use Rattle.matrix.proofs.SumLaws.{part_of, sum_more}
 
 -- ---- a row at a place
@@ -30,15 +30,15 @@ drop-one (y ∷ l) zero x e = let q : y ≡ x = cc in rw q
 drop-one (y ∷ l) (suc k) x e = drop-one l k x e
 
 module _ (rows : List Routed) where
-  abbrev pub all : List Row
+  abbrev pub all : List Demand
   all = demands (sents rows)
 
   module _ (k : ℕ) (r : Routed) (at : slice_get rows k ≡ Some r) where
-    pub rows_more : take (k + 1) all ≡ take k all ++ r.sent.row ∷ []
-    rows_more = rw add-one (take-one all k r.sent.row (demands-get rows k r at))
+    pub rows_more : take (k + 1) all ≡ take k all ++ r.sent.demand ∷ []
+    rows_more = rw add-one (take-one all k r.sent.demand (demands-get rows k r at))
 
-    rows_left : drop k all ≡ r.sent.row ∷ drop (k + 1) all
-    rows_left = rw add-one (drop-one all k r.sent.row (demands-get rows k r at))
+    rows_left : drop k all ≡ r.sent.demand ∷ drop (k + 1) all
+    rows_left = rw add-one (drop-one all k r.sent.demand (demands-get rows k r at))
 
   -- ---- the rows before k are added up
 
@@ -50,10 +50,10 @@ module _ (rows : List Routed) where
   unfolding sum_of
   summing-starts i j = record { is = refl; small = omega arith }
 
-  pub sums-row : (i j sum k : ℕ) → Summing i j sum k → (r : Routed) → slice_get rows k ≡ Some r → (x : ℕ) → x ≡ part_of r.sent.row i j → x ≤ 4294967295 → Summing i j (sum + x) (k + 1)
+  pub sums-row : (i j sum k : ℕ) → Summing i j sum k → (r : Routed) → slice_get rows k ≡ Some r → (x : ℕ) → x ≡ part_of r.sent.demand i j → x ≤ 4294967295 → Summing i j (sum + x) (k + 1)
   sums-row i j sum k summing r at x ex h =
       record {
-        is = omega (arith, summing.is, ap (λ rs. sum_of rs i j) (rows_more k r at), sum_more (take k all) r.sent.row i j);
+        is = omega (arith, summing.is, ap (λ rs. sum_of rs i j) (rows_more k r at), sum_more (take k all) r.sent.demand i j);
         small = omega (arith, summing.small);
       }
 
@@ -67,7 +67,7 @@ module _ (rows : List Routed) where
   judging-sums-starts = record { rest = refl }
 
   module _ (k : ℕ) (judging : JudgingSums k) where
-    module _ (r : Routed) (at : slice_get rows k ≡ Some r) (sum : ℕ) (es : sum ≡ sum_of (take (k + 1) all) r.sent.row.first r.sent.row.second) where
+    module _ (r : Routed) (at : slice_get rows k ≡ Some r) (sum : ℕ) (es : sum ≡ sum_of (take (k + 1) all) r.sent.demand.first r.sent.demand.second) where
       pub sum-passes : desk.amount < sum → passes_at (k + 2) ≡ judge_sums desk all
       unfolding sums_from
       sum-passes h = sym (judging.rest ∙ rw (rows_left k r at, ← rows_more k r at, ← es, lt-ltb _ _ h))

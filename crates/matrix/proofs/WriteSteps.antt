@@ -6,7 +6,7 @@ use native.Mathlib.Omega.{arith}
 use lib.ListN.{length, take, length-append, length-replicate}
 use lib.Seq.{take_all}
 use Rattle.ring.specs.Limits.{desk}
-use Rattle.ring.specs.declared.types.Row.{Row}
+use Rattle.ring.specs.declared.types.Demand.{Demand}
 use Rattle.ring.specs.Lists.{listed}
 use Rattle.ring.specs.Sheet.{sents, demands}
 use Rattle.ring.specs.declared.types.Routed.{Routed}
@@ -18,7 +18,7 @@ use Rattle.text.proofs.Pieces.{Pieces, text-short}
 use Rattle.matrix.specs.Matrix.{write_matrix}
 use Rattle.matrix.specs.Demands.{sum_of}
 use Rattle.matrix.specs.Judged.{Amounts}
-use Rattle.ring.proofs.Figures.{demands-length}
+use Rattle.ring.proofs.Small.{demands-length}
 use Rattle.matrix.proofs.SumLaws.{sum-small}
 
 -- ---- a line's sums: those of the nodes before j
@@ -40,7 +40,7 @@ sums_more rows i n j count old new e l h few all v ev en =
     en ∙ take_all desk.nodes (old ++ v ∷ []) z ∙ rw (e, ev ∙ whole-sum rows count all i j, m) (sym (rw k at (listed-snoc f 1 (j - 1))))
 
 -- the sums of such rows have room in 32 bits
-pub sum-fits : (rs : List Row) → Amounts rs → (i j : ℕ) → sum_of rs i j < 4294967296
+pub sum-fits : (rs : List Demand) → Amounts rs → (i j : ℕ) → sum_of rs i j < 4294967296
 sum-fits rs amounts i j = omega (arith, sum-small desk.amount rs i j amounts.small, amounts.room)
 
 -- ---- the lines
@@ -50,7 +50,7 @@ unfolding write_matrix
 matrix-more [] vs = append-nil _
 matrix-more (us ∷ m) vs = ap (λ l. numbers_line us ++ l) (matrix-more m vs) ∙ sym (append_assoc (numbers_line us) (write_matrix m) _)
 
-module _ (rs : List Row) (n : ℕ) where
+module _ (rs : List Demand) (n : ℕ) where
   abbrev pub sums_line : ℕ → List ℕ
   sums_line i = listed (sum_of rs i) 1 n
 

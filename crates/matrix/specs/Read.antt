@@ -14,14 +14,14 @@ use Rattle.table.specs.declared.reason.Reason.TheVariants.{TooLong, Misshapen, T
 use Rattle.matrix.specs.Matrix.{entry, entry_byte}
 
 -- how many nodes there are, and the lines; or the refusal of the text
-abbrev pub Matrix : Type 0
-Matrix = Result (ℕ × List (List ℕ)) Refusal
+abbrev pub SquareRead : Type 0
+SquareRead = Result (ℕ × List (List ℕ)) Refusal
 
 -- what is found against what was read: nothing, or a refusal
-abbrev pub Verdict : Type 0
-Verdict = Result Unit Refusal
+abbrev pub Found : Type 0
+Found = Result Unit Refusal
 
-abbrev pub refusing : Reason → ℕ → ℕ → Verdict
+abbrev pub refusing : Reason → ℕ → ℕ → Found
 refusing reason line byte = Err (refusal reason line byte)
 
 -- ---- one line
@@ -35,9 +35,9 @@ fields_in [] = 1
 fields_in (b ∷ t) = cond (eqb b tab) 1 0 + fields_in t
 
 -- what is kept of a line that was read: as many numbers as the largest ring has nodes
-unfoldable pub kept : Reading → Reading
-kept (Ok vs) = Ok (take desk.nodes vs)
-kept (Err p) = Err p
+unfoldable pub first_numbers : Reading → Reading
+first_numbers (Ok vs) = Ok (take desk.nodes vs)
+first_numbers (Err p) = Err p
 
 -- how many entries stand before the first over 9,999, where one is
 abbrev pub first_over : Limits → List ℕ → Option ℕ
@@ -58,7 +58,7 @@ amounts_in limits line reading = and_then (values_on line reading) λ vs. unless
 -- ---- the lines in order
 
 -- `left` lines of n numbers are due in ls, of which the first has the number `line`, behind the lines m
-unfoldable pub lines_of : Limits → ℕ → ℕ → ℕ → List (List ℕ) → List (List ℕ) → Matrix
+unfoldable pub lines_of : Limits → ℕ → ℕ → ℕ → List (List ℕ) → List (List ℕ) → SquareRead
 unfolding and_then amounts_in
 lines_of limits n line zero m [] = Ok (n, m)
 lines_of limits n line zero m (l ∷ ls) = Err (refusal Misshapen line 1)
@@ -72,7 +72,7 @@ lines_of limits n line (suc left) m (l ∷ ls) =
 unfoldable pub entry_fault : ℕ → ℕ → ℕ → ℕ → Option Reason
 entry_fault i j x y = cond (eqb i j) (cond (eqb x 0) None (Some NotZero)) (cond (eqb x y) None (Some NotSymmetric))
 
-unfoldable pub unless_fault : Option Reason → ℕ → ℕ → Verdict → Verdict
+unfoldable pub unless_fault : Option Reason → ℕ → ℕ → Found → Found
 unless_fault None line byte next = next
 unless_fault (Some reason) line byte next = refusing reason line byte
 
@@ -81,30 +81,30 @@ abbrev pub byte_of : List (List ℕ) → ℕ → ℕ → ℕ
 byte_of m i j = entry_byte (get_or m (i - 1) []) (j - 1)
 
 -- the entries i, j and on, k of them, then what is next
-unfoldable pub judge_across : List (List ℕ) → ℕ → ℕ → ℕ → Verdict → Verdict
+unfoldable pub judge_across : List (List ℕ) → ℕ → ℕ → ℕ → Found → Found
 unfolding entry_fault unless_fault
 judge_across m i j zero next = next
 judge_across m i j (suc k) next = unless_fault (entry_fault i j (entry m i j) (entry m j i)) i (byte_of m i j) (judge_across m i (j + 1) k next)
 
 -- the lines i and on, k of them, each of n entries
-unfoldable pub judge_down : List (List ℕ) → ℕ → ℕ → ℕ → Verdict
+unfoldable pub judge_down : List (List ℕ) → ℕ → ℕ → ℕ → Found
 unfolding judge_across
 judge_down m n i zero = Ok tt
 judge_down m n i (suc k) = judge_across m i 1 n (judge_down m n (i + 1) k)
 
-unfoldable pub square_judged : Matrix → Matrix
+unfoldable pub square_judged : SquareRead → SquareRead
 unfolding judge_down and_then
 square_judged x = and_then x λ s. and_then (judge_down s.1 s.0 1 s.0) λ u. Ok s
 
 -- ---- the whole
 
 -- what is found against the number of fields of the first line
-unfoldable pub on_first : of_table.Verdict → Verdict
+unfoldable pub on_first : of_table.Verdict → Found
 on_first (Ok tt) = Ok tt
 on_first (Err reason) = refusing reason 1 1
 
 -- n is the number of fields of the first line
-unfoldable pub matrix_lines : Limits → List (List ℕ) → Matrix
+unfoldable pub matrix_lines : Limits → List (List ℕ) → SquareRead
 unfolding and_then values_on on_first lines_of square_judged fields_in
 matrix_lines limits [] = Err (refusal Misshapen 1 1)
 matrix_lines limits (l ∷ ls) =
@@ -112,6 +112,6 @@ matrix_lines limits (l ∷ ls) =
     and_then (on_first (judge_size limits (fields_in l))) λ u.
     square_judged (lines_of limits (fields_in l) 1 (fields_in l) [] (l ∷ ls))
 
-unfoldable pub matrix_of : Limits → List ℕ → Matrix
+unfoldable pub matrix_of : Limits → List ℕ → SquareRead
 unfolding matrix_lines
 matrix_of limits t = cond (ltb limits.bytes (length t)) (Err (refusal TooLong 0 0)) (matrix_lines limits (lines t))

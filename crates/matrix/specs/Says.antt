@@ -2,7 +2,7 @@
 use Rattle.std.specs.Prelude.{ℕ, ◌+◌, ◌-◌, ◌≤◌, ◌<◌, List, ◌⊎◌, ◌≡◌, length, get_or}
 use Rattle.ring.specs.Limits.{Limits}
 use Rattle.ring.specs.Lists.{Each, Some}
-use Rattle.ring.specs.Row.{PairBefore}
+use Rattle.ring.specs.Demand.{PairBefore}
 use Rattle.text.specs.Number.{limit}
 use Rattle.text.specs.FirstFault.{Agrees, FirstFault}
 use Rattle.text.specs.Shapes.{numbers, numbers_line}

@@ -4,7 +4,7 @@ ghost use Rattle.ring.specs.Sheet.{sents, demands};
 ghost use Rattle.matrix.specs.Demands.{rows_of_matrix};
 
 use crate::square::Square;
-use ring::Row;
+use ring::Demand;
 use rows::Columns;
 
 /// Fills columns that hold no row with a row for each pair whose entry is above 0, in table order.
@@ -19,7 +19,7 @@ pub(crate) fn fill(square: &Square, rows: &mut Columns)
             if amount == 0 {
                 continue;
             }
-            rows.push_unsent(Row {
+            rows.push_unsent(Demand {
                 first,
                 second,
                 amount,

@@ -1,39 +1,28 @@
 //! A line of text to its numbers.
-ghost use Rattle.std.specs.Prelude.{◌≡◌, ◌≤◌, ◌+◌, length};
+ghost use Rattle.std.specs.Prelude.{◌≡◌, ◌≤◌, ◌+◌};
 ghost use Rattle.ring.specs.Limits.{desk};
 ghost use Rattle.text.specs.ReadLine.{read_line};
 ghost use Rattle.text.specs.Shapes.{numbers};
-ghost use Rattle.table.specs.OnLine.{refusal, values_on};
-ghost use Rattle.matrix.specs.Read.{fields_in, kept, amounts_in};
+ghost use Rattle.table.specs.OnLine.{values_on};
+ghost use Rattle.matrix.specs.Read.{fields_in, first_numbers, amounts_in};
 ghost use Rattle.matrix.specs.Answer.{read_as};
 
 use crate::numbers::Numbers;
-use table::{Reason, Refusal};
+use table::{Line, Reason, Refusal};
 use text::{Field, end_of, read_field};
 
 /// How many tabs a line has: one less than its fields.
-pub(crate) fn tabs(line: &[u8]) -> usize
-    ensures { result + 1 ≡ fields_in line.now }
+pub(crate) fn tabs(line: &Line) -> usize
+    ensures is { result + 1 ≡ fields_in line.now }
+    ensures few { result ≤ desk.bytes }
 {
-    line.iter().filter(|byte| **byte == b'\t').count()
-}
-
-/// A line that is misshapen at this place.
-pub(crate) fn misshapen(line: u32, place: usize) -> Refusal
-    requires { place ≤ desk.bytes }
-    ensures { result ≡ refusal Reason.Misshapen line (place + 1) }
-{
-    Refusal {
-        reason: Reason::Misshapen,
-        line,
-        byte: place as u32 + 1,
-    }
+    line.bytes().iter().filter(|byte| **byte == b'\t').count()
 }
 
 /// Reads a line of so many numbers, of which a longer line keeps the first; or answers the place of its first faulty byte. The numbers take the place of those
 /// that were there, and hold whatever where they are refused.
 fn numbers_in(text: &[u8], count: usize, read: &mut Numbers) -> Result<(), usize>
-    ensures { read_as result read.new ≡ kept (read_line (numbers count) text.now) }
+    ensures { read_as result read.new ≡ first_numbers (read_line (numbers count) text.now) }
 {
     read.clear();
     let mut at: usize = 0;
@@ -45,38 +34,38 @@ fn numbers_in(text: &[u8], count: usize, read: &mut Numbers) -> Result<(), usize
     if at == text.len() { Ok(()) } else { Err(at) }
 }
 
-/// The same; or the refusal of the line.
+/// The same of the line with this number; or its refusal.
 pub(crate) fn numbers_on(
-    line: u32,
-    text: &[u8],
+    line: &Line,
+    number: u32,
     count: usize,
     read: &mut Numbers,
 ) -> Result<(), Refusal>
-    requires { length text.now ≤ desk.bytes }
-    ensures { read_as result read.new ≡ values_on line (kept (read_line (numbers count) text.now)) }
+    ensures { read_as result read.new
+        ≡ values_on number (first_numbers (read_line (numbers count) line.now)) }
 {
-    match numbers_in(text, count, read) {
-        Err(place) => Err(misshapen(line, place)),
+    match numbers_in(line.bytes(), count, read) {
+        Err(place) => Err(Refusal::misshapen(number, place)),
         Ok(()) => Ok(()),
     }
 }
 
 /// The numbers of a line of a matrix of so many nodes, none over the limit; or the refusal of the line.
 pub(crate) fn amounts_on(
-    line: u32,
-    text: &[u8],
+    line: &Line,
+    number: u32,
     count: usize,
     read: &mut Numbers,
 ) -> Result<(), Refusal>
-    requires few { count ≤ desk.nodes }
-    requires short { length text.now ≤ desk.bytes }
-    ensures { read_as result read.new ≡ amounts_in desk line (read_line (numbers count) text.now) }
+    requires { count ≤ desk.nodes }
+    ensures { read_as result read.new
+        ≡ amounts_in desk number (read_line (numbers count) line.now) }
 {
-    numbers_on(line, text, count, read)?;
+    numbers_on(line, number, count, read)?;
     match read.first_over() {
         Some(k) => Err(Refusal {
             reason: Reason::TooMuch,
-            line,
+            line: number,
             byte: read.byte_of(k),
         }),
         None => Ok(()),

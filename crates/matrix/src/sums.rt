@@ -5,7 +5,7 @@ ghost use Rattle.ring.specs.Sheet.{sents, demands};
 ghost use Rattle.matrix.specs.Demands.{same_pair, joins, sum_of};
 ghost use Rattle.matrix.specs.Judged.{judge_sums};
 
-use ring::{AMOUNT, Row};
+use ring::{AMOUNT, Demand};
 use rows::Rows;
 use table::{Reason, Refusal};
 
@@ -19,7 +19,7 @@ fn same(a: u32, b: u32, i: u32, j: u32) -> bool
 
 /// What a row adds to the pair i, j, which it may name in either order.
 #[tactic(auto, unfolding(crate::specs::Demands::joins))]
-fn part(row: Row, i: u32, j: u32) -> u32
+fn part(row: Demand, i: u32, j: u32) -> u32
     ensures { result ≡ cond (joins row i j) row.amount 0 }
 {
     if same(row.first, row.second, i, j) || same(row.first, row.second, j, i) {
@@ -37,7 +37,7 @@ pub(crate) fn sum_of<R: Rows>(rows: &R, count: usize, i: u32, j: u32) -> u64
 {
     let mut sum: u64 = 0;
     for k in 0..count {
-        sum += u64::from(part(rows.row(k).sent.row, i, j));
+        sum += u64::from(part(rows.row(k).sent.demand, i, j));
     }
     sum
 }
@@ -48,7 +48,7 @@ pub fn judge_sums<R: Rows>(rows: &R) -> Result<(), Refusal>
     ensures { result ≡ judge_sums desk (demands (sents (R.rows rows.now))) }
 {
     for k in 0..rows.count() {
-        let row = rows.row(k).sent.row;
+        let row = rows.row(k).sent.demand;
         if u64::from(AMOUNT) < sum_of(rows, k + 1, row.first, row.second) {
             return Err(Refusal {
                 reason: Reason::SumTooMuch,

@@ -5,6 +5,7 @@ ghost use Rattle.ring.specs.Routing.{way_of, way_number};
 use crate::{BACK, FRONT};
 
 // A ring: its nodes, 1 to `nodes`, and its fibres. Link k joins nodes k and k + 1, the last link the last node and node 1.
+#[repr(C)]
 #[derive(Clone, Copy)]
 pub struct Ring {
     pub nodes: u32,
@@ -13,7 +14,7 @@ pub struct Ring {
 
 // A demand of so many units between two nodes, the first below the second in every table.
 #[derive(Clone, Copy)]
-pub struct Row {
+pub struct Demand {
     pub first: u32,
     pub second: u32,
     pub amount: u32,
@@ -22,7 +23,7 @@ pub struct Row {
 // A demand and what a split routing sends over its front and over its back, in halves of a unit.
 #[derive(Clone, Copy)]
 pub struct Sent {
-    pub row: Row,
+    pub demand: Demand,
     pub front: u32,
     pub back: u32,
 }
@@ -65,11 +66,21 @@ pub struct Routed {
 }
 
 // Two links and the across number that is said of them.
+#[repr(C)]
 #[derive(Clone, Copy)]
 pub struct Cut {
     pub g: u32,
     pub h: u32,
-    pub number: u32,
+    pub across: u32,
+}
+
+// The figures of a sheet that are not of a row or of a link: R n fibres, C g h across, Z peak size; the peak is the unsplit one, in units.
+#[derive(Clone, Copy)]
+pub struct Figures {
+    pub ring: Ring,
+    pub cut: Cut,
+    pub peak: u32,
+    pub size: u32,
 }
 
 // A link with its split load in halves and its unsplit load in units; C lends them as they stand here.

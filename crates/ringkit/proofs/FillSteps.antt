@@ -1,49 +1,58 @@
 -- A call that fills a buffer, over any outcome: a refusal, a buffer that is too short, and a text that was written each meet its contract.
-use Prim.Native.Nat.{ℕ, ◌+◌, ◌≤◌, ◌<◌}
+use Prim.Native.Nat.{ℕ, ◌+◌, ◌≤◌}
 use mathlib.Core.List.{List, ◌++◌}
-use mathlib.Core.Path.{◌≡◌, refl, ap, ◌∙◌}
+use mathlib.Core.Path.{◌≡◌, refl, ap, ◌∙◌, sym}
 use native.Mathlib.Omega.{arith}
 use lib.ListN.{length, drop}
 use lib.Seq.{sets-eq}
-use borrow.Author.Tests.{lt-ltb, le-ltb}
+use native.Mathlib.Decide.{dec_lt}
+use borrow.Author.Tests.{lt-ltb}
+use Rattle.std.specs.Prelude.{Result, Ok, Err}
 use Rattle.text.specs.Written.{Written}
-use Rattle.table.specs.Reasons.{number_of}
-use Rattle.table.specs.declared.reason.Reason.{Reason}
+use Rattle.table.specs.declared.reason.Refusal.{Refusal}
+use Rattle.ringkit.specs.Outcome.{Outcome, room_for, within, answer_of, buffer_after, Fills}
 use Rattle.table.specs.declared.reason.Reason.TheVariants.{NoRoom}
-use Rattle.ringkit.specs.Outcome.{Outcome, write, refuse, within, reply_of, buffer_after, Fills}
-use Rattle.ringkit.specs.declared.Reply.{Reply}
+use Rattle.ringkit.specs.Says.{Answer, refusal}
 
-pub refusal_is : (reason : Reason) (line byte number : ℕ) → number ≡ number_of reason → record { reason = number; line = line; byte = byte; length = 0 } ≡ reply_of (refuse reason line byte)
-unfolding reply_of
-refusal_is reason line byte number e = rw e
+-- a refusal changes nothing
+pub refuses : (outcome : Outcome) (old : List ℕ) (x : Refusal) → outcome ≡ Err x → Fills outcome old old (Err x)
+unfolding within answer_of buffer_after
+refuses outcome old x o = record { answer = rw o; buffer = rw o }
 
-module _ (outcome : Outcome) (old : List ℕ) where
-  pub refuses : (reason : Reason) (line byte : ℕ) (r : Reply) → outcome ≡ refuse reason line byte → r ≡ reply_of (refuse reason line byte) → Fills outcome old old r
-  unfolding within buffer_after
-  refuses reason line byte r o e = record { reply = rw o e; buffer = rw o }
+-- there is room for so many bytes where it is answered so
+has-room : (old size : ℕ) (room : Result Unit Refusal) → room ≡ room_for old size → room ≡ Ok tt → size ≤ old
+unfolding room_for
+has-room old size room e a =
+    elim (dec_lt old size) [
+      | yes l ↦
+          let f = lt-ltb old size l in
+          let g : room_for old size ≡ Err (refusal NoRoom 0 0) = rw f refl in
+          let h : ◌≡◌ {A = Result Unit Refusal} (Ok tt) (Err (refusal NoRoom 0 0)) = sym a ∙ e ∙ g in
+          absurd (cc)
+      | no l ↦ omega arith
+    ]
 
-  module _ (t : List ℕ) (o : outcome ≡ write t) (size : ℕ) (is : size ≡ length t) where
-    pub fills : (new : List ℕ) (n : ℕ) → size ≤ length old → Written old 0 t new n → Fills outcome old new (record { reason = 0; line = 0; byte = 0; length = n })
-    unfolding within reply_of buffer_after
-    fills new n l w =
-        let k : length t ≤ length old = omega arith in
-        let z : n ≡ length t = omega (arith, w.place) in
-        let e : 0 + length t ≡ length t = omega arith in
-        record {
-          reply = rw (o, le-ltb (length old) (length t) k, z);
-          buffer = rw (o, le-ltb (length old) (length t) k) (w.buffer ∙ sets-eq t old 0 (omega arith) ∙ ap (λ m. t ++ drop m old) e);
-        }
+-- a text of `size` bytes, by what is answered to the question for room
+module _ (old t : List ℕ) (size : ℕ) (is : size ≡ length t) (room : Result Unit Refusal) (er : room ≡ room_for (length old) size) where
+  asked : room ≡ room_for (length old) (length t)
+  asked = er ∙ ap (room_for (length old)) is
 
--- a text that the buffer is too short for, whatever the call went by
-pub text-too-short : (old t : List ℕ) (r : Reply) → length old < length t → r ≡ reply_of (refuse NoRoom 0 0) → Fills (write t) old old r
-unfolding within buffer_after
-text-too-short old t r short e = record { reply = rw (lt-ltb (length old) (length t) short) e; buffer = rw (lt-ltb (length old) (length t) short) }
+  pub text-refused : (x : Refusal) → room ≡ Err x → Fills (Ok t) old old (Err x)
+  unfolding within answer_of buffer_after
+  text-refused x a = let e : room_for (length old) (length t) ≡ Err x = sym asked ∙ a in record { answer = rw e; buffer = rw e }
 
--- a text of `size` bytes, where the call goes by the size
-pub text-fills : (old t : List ℕ) (size : ℕ) → size ≡ length t → (new : List ℕ) (n : ℕ) → size ≤ length old → Written old 0 t new n
-    → Fills (write t) old new (record { reason = 0; line = 0; byte = 0; length = n })
-text-fills old t = fills (write t) old t refl
+  pub text-has-room : room ≡ Ok tt → length t ≤ length old
+  text-has-room a = omega (arith, has-room (length old) size room er a)
+
+  pub text-fills : room ≡ Ok tt → (new : List ℕ) (n : ℕ) → Written old 0 t new n → Fills (Ok t) old new (Ok n)
+  unfolding within answer_of buffer_after
+  text-fills a new n w =
+      let e : room_for (length old) (length t) ≡ Ok tt = sym asked ∙ a in
+      let fits = text-has-room a in
+      let z : n ≡ length t = omega (arith, w.place) in
+      let s : 0 + length t ≡ length t = omega arith in
+      record { answer = rw (e, z); buffer = rw e (w.buffer ∙ sets-eq t old 0 (omega arith) ∙ ap (λ m. t ++ drop m old) s) }
 
 -- a call that does what another outcome says does what an equal one says
-pub same-fills : {outcome other : Outcome} (old new : List ℕ) (r : Reply) → outcome ≡ other → Fills other old new r → Fills outcome old new r
+pub same-fills : {outcome other : Outcome} (old new : List ℕ) (r : Answer) → outcome ≡ other → Fills other old new r → Fills outcome old new r
 same-fills old new r e f = rw e f

@@ -1,5 +1,5 @@
 pub mod FillSteps
-pub mod RewriteSteps
+pub mod TableSteps
 pub mod MatrixSteps
 pub mod RouteSteps
 pub mod SheetSteps
@@ -10,3 +10,4 @@ pub mod MatrixCalls
 pub mod WorkSteps
 pub mod WorkCalls
 pub mod JudgeCalls
+pub mod TurnCalls

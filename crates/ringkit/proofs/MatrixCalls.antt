@@ -6,12 +6,13 @@ use mathlib.Core.Logic.{◌↔◌}
 use mathlib.Core.Path.{◌≡◌, refl, ap, ◌∙◌, sym, subst}
 use native.Mathlib.Omega.{arith}
 use lib.ListN.{length, take}
-use Rattle.std.specs.Prelude.{Ok, Err}
+use Rattle.std.specs.Prelude.{Ok, Err, IsOk, IfOk}
 use Rattle.ring.specs.Limits.{desk}
 use Rattle.ring.specs.LineSize.{IsFibres}
 use Rattle.ring.specs.Ring.{ring_of}
 use Rattle.ring.specs.declared.types.Ring.{Ring}
-use Rattle.ring.specs.declared.types.Row.{Row}
+use Rattle.ring.specs.declared.types.Demand.{Demand}
+use Rattle.table.specs.OnLine.{and_then}
 use Rattle.table.specs.Reasons.{number_of}
 use Rattle.table.specs.Table.{write_table, table_room}
 use Rattle.table.specs.ReadTable.{Result, accepted, refused, table_of}
@@ -19,12 +20,11 @@ use Rattle.table.specs.Says as table
 use Rattle.table.specs.declared.reason.Reason.{Reason}
 use Rattle.table.specs.declared.reason.Reason.TheVariants.{NoRoom}
 use Rattle.table.proofs.Judged.{Fibred, other as not-fibres, known as are-fibres, fibred}
-use Rattle.table.proofs.ReasonNumbers.{same-reason}
 use Rattle.table.proofs.ReasonsGiven as table-given
 use Rattle.table.proofs.Said.{not-15 as table-not-15}
 use Rattle.matrix.specs.Matrix.{write_matrix}
 use Rattle.matrix.specs.Demands.{rows_of_matrix, matrix_of_rows, Passes, OneEach}
-use Rattle.matrix.specs.Read.{Matrix, Verdict, matrix_of}
+use Rattle.matrix.specs.Read.{SquareRead, Found, matrix_of}
 use Rattle.matrix.specs.Room.{matrix_room}
 use Rattle.matrix.specs.Says.{Says, Accepted}
 use Rattle.matrix.proofs.MatrixText.{desk-possible, matrix-text}
@@ -33,14 +33,14 @@ use Rattle.matrix.proofs.RoundTrip.{matrix-back, table-back, table-room, rows-in
 use Rattle.matrix.proofs.Rooms.{room-for-matrix, matrix-in-range}
 use Rattle.matrix.proofs.SumsGiven.{SumsJudged, sums_pass, sums_fit, sums-judged, one-passing}
 use Rattle.matrix.proofs.OneEach.{one-each-fit}
-use Rattle.ringkit.specs.Outcome.{write, Fills}
-use Rattle.ringkit.specs.MatrixCalls.{table_of_matrix, matrix_read, unless_pass, of_rows, matrix_written}
-use Rattle.ringkit.specs.Says.{CallPromise, Only}
+use Rattle.ringkit.specs.Outcome.{Fills}
+use Rattle.ringkit.specs.TableCalls.{of_table}
+use Rattle.ringkit.specs.MatrixCalls.{table_of_matrix, matrix_read, matrix_of_table, matrix_written}
+use Rattle.ringkit.specs.Says.{Answer, CallPromise, Only}
 use Rattle.ringkit.specs.Back.{MatrixToTableToMatrix, TableToMatrixToTable}
 use Rattle.ringkit.specs.Texts.{TableOf, MatrixOf, SomeMatrix, MatrixDue, MatrixGiven, of_fibres, of_matrix, SumsDue, SumsFit, SumsGiven, of_the_table, of_sums}
 use Rattle.ringkit.specs.Promises.{ReadMatrixPromise, WriteMatrixPromise}
-use Rattle.ringkit.specs.declared.Reply.{Reply}
-use Rattle.ringkit.proofs.Calls.{Decided, is_due, is_given, One, call-promise, call-only, written-due, length-within}
+use Rattle.ringkit.proofs.Calls.{Decided, is_due, is_given, One, call-promise, call-only, written-due, length-within, written, if-ok}
 use Rattle.ringkit.proofs.TableCalls.{read_is, due-accepted, same-values}
 
 -- ---- reading
@@ -62,7 +62,7 @@ module _ (t : List ℕ) where
 
 -- the rows of a matrix on 2 or 4 fibres
 module _ (fibres : ℕ) (t : List ℕ) where
-  decided : IsFibres fibres → (x : Matrix) → matrix_of desk t ≡ x → Decided (MatrixDue fibres t) (MatrixGiven fibres t) (table_of_matrix fibres x)
+  decided : IsFibres fibres → (x : SquareRead) → matrix_of desk t ≡ x → Decided (MatrixDue fibres t) (MatrixGiven fibres t) (table_of_matrix fibres x)
   unfolding table_of_matrix
   decided f (Ok s) e = is_due (record { two_or_four = f; n = s.0; m = s.1; of = (matrix_is t s.0 s.1).0 e; is = refl })
   decided f (Err r) e = is_given (of_matrix f ((given desk t r).0 e))
@@ -78,9 +78,9 @@ module _ (fibres : ℕ) (t : List ℕ) where
   due-accepted-matrix : (text : List ℕ) → MatrixDue fibres t text → Accepted desk t
   due-accepted-matrix text d = (accepted-is desk t).0 (record { n = d.n; m = d.m; is = (matrix_is t d.n d.m).1 d.of })
 
-  not-15 : (reason : Reason) (line : ℕ) → Says desk t reason line → number_of reason ≡ number_of NoRoom → ⊥
+  not-15 : (reason : Reason) (line : ℕ) → Says desk t reason line → reason ≡ NoRoom → ⊥
   unfolding Says
-  not-15 reason line h e = subst (λ s. Says desk t s line) (same-reason reason NoRoom e) h
+  not-15 reason line h e = subst (λ s. Says desk t s line) e h
 
   one-given-matrix : {r s : Reason} {line other byte on : ℕ} → MatrixGiven fibres t r line byte → MatrixGiven fibres t s other on → (r ≡ s) × (line ≡ other) × (byte ≡ on)
   one-given-matrix (of_fibres f) (of_fibres g) = (refl, refl, refl)
@@ -92,15 +92,15 @@ module _ (fibres : ℕ) (t : List ℕ) where
   due-not-given d (of_fibres f) = f d.two_or_four
   due-not-given {text} d (of_matrix {reason} {line} {byte} f g) = due-accepted-matrix text d reason line g.holds
 
-  given-not-15 : {r : Reason} {line byte : ℕ} → MatrixGiven fibres t r line byte → number_of r ≡ number_of NoRoom → ⊥
-  given-not-15 (of_fibres f) e = omega arith
+  given-not-15 : {r : Reason} {line byte : ℕ} → MatrixGiven fibres t r line byte → r ≡ NoRoom → ⊥
+  given-not-15 (of_fibres f) e = absurd (omega (arith, ap number_of e))
   given-not-15 (of_matrix {reason} {line} {byte} f g) e = not-15 reason line g.holds e
 
   one-due : One (MatrixDue fibres t) (MatrixGiven fibres t)
   one-due =
       record {
         text = λ a b.
-            let e : ◌≡◌ {A = Matrix} (Ok (a.n, a.m)) (Ok (b.n, b.m)) = sym ((matrix_is t a.n a.m).1 a.of) ∙ (matrix_is t b.n b.m).1 b.of in
+            let e : ◌≡◌ {A = SquareRead} (Ok (a.n, a.m)) (Ok (b.n, b.m)) = sym ((matrix_is t a.n a.m).1 a.of) ∙ (matrix_is t b.n b.m).1 b.of in
             let same : (a.n, a.m) ≡ (b.n, b.m) = cc in
             a.is ∙ ap (λ (s : ℕ × List (List ℕ)). write_table (ring_of s.0 fibres) (rows_of_matrix s.0 s.1)) same ∙ sym b.is;
         refusal = λ f g. one-given-matrix f g;
@@ -109,10 +109,10 @@ module _ (fibres : ℕ) (t : List ℕ) where
       }
 
 -- the table of a matrix is written, with room for it; else 20, the matrix's first reason or 15
-pub read-matrix-promise : (fibres : ℕ) (t old new : List ℕ) (r : Reply) → Fills (matrix_read fibres t) old new r → CallPromise (MatrixDue fibres t) (MatrixGiven fibres t) old new r
+pub read-matrix-promise : (fibres : ℕ) (t old new : List ℕ) (r : Answer) → Fills (matrix_read fibres t) old new r → CallPromise (MatrixDue fibres t) (MatrixGiven fibres t) old new r
 read-matrix-promise fibres t old new r f = call-promise (one-due fibres t) (all-decided fibres t) f
 
-pub read-matrix-only : (fibres : ℕ) (t old new : List ℕ) (r : Reply) → Fills (matrix_read fibres t) old new r → Only (ReadMatrixPromise fibres t old) new r
+pub read-matrix-only : (fibres : ℕ) (t old new : List ℕ) (r : Answer) → Fills (matrix_read fibres t) old new r → Only (ReadMatrixPromise fibres t old) new r
 read-matrix-only fibres t old new r f = call-only (read-matrix-promise fibres t old new r f) (one-due fibres t)
 
 module _ (fibres : ℕ) (t text : List ℕ) (d : MatrixDue fibres t text) where
@@ -128,32 +128,32 @@ module _ (fibres : ℕ) (t text : List ℕ) (d : MatrixDue fibres t text) where
   matrix-table-short = omega (arith, ap length d.is, table-room d.n fibres d.m d.two_or_four d.of.range)
 
 -- what is written is an accepted table, and fits
-pub read-accepted : (fibres : ℕ) (t old new : List ℕ) (r : Reply) → Fills (matrix_read fibres t) old new r → r.reason ≡ 0 → table.Accepted desk (take r.length new)
-read-accepted fibres t old new r f e = matrix-table-accepted fibres t (take r.length new) (written-due (read-matrix-promise fibres t old new r f) e)
+pub read-accepted : (fibres : ℕ) (t old new : List ℕ) (r : Answer) → Fills (matrix_read fibres t) old new r → IfOk r (λ n. table.Accepted desk (take n new))
+read-accepted fibres t old new r f = if-ok r (λ n. matrix-table-accepted fibres t (take n new)) (written-due (read-matrix-promise fibres t old new r f))
 
-pub read-fits : (fibres : ℕ) (t old new : List ℕ) (r : Reply) → Fills (matrix_read fibres t) old new r → r.length ≤ table_room desk
+pub read-fits : (fibres : ℕ) (t old new : List ℕ) (r : Answer) → Fills (matrix_read fibres t) old new r → IfOk r (λ n. n ≤ table_room desk)
 read-fits fibres t old new r f = length-within (read-matrix-promise fibres t old new r f) (table_room desk) (matrix-table-short fibres t)
 
 -- so with that room every accepted matrix is read
-pub always-read : (fibres : ℕ) (t old new : List ℕ) (r : Reply) → Fills (matrix_read fibres t) old new r → IsFibres fibres → Accepted desk t → table_room desk ≤ length old → r.reason ≡ 0
+pub always-read : (fibres : ℕ) (t old new : List ℕ) (r : Answer) → Fills (matrix_read fibres t) old new r → IsFibres fibres → Accepted desk t → table_room desk ≤ length old → IsOk r
 always-read fibres t old new r call f a room =
     let h = (matrix-accepted t).0 a in
     let text = write_table (ring_of h.n fibres) (rows_of_matrix h.n h.m) in
     let d : MatrixDue fibres t text = record { two_or_four = f; n = h.n; m = h.m; of = h.of; is = refl } in
-    (((read-matrix-promise fibres t old new r call).succeeds text).1 (d, omega (arith, matrix-table-short fibres t text d))).reason
+    written (read-matrix-promise fibres t old new r call) d (omega (arith, matrix-table-short fibres t text d))
 
 -- ---- writing
 
 -- no reason is given to a text that is a table
-no-reason : {t : List ℕ} {ring : Ring} {rs : List Row} → TableOf t ring rs → {reason : Reason} {line byte : ℕ} → table.Given desk t reason line byte → ⊥
+no-reason : {t : List ℕ} {ring : Ring} {rs : List Demand} → TableOf t ring rs → {reason : Reason} {line byte : ℕ} → table.Given desk t reason line byte → ⊥
 no-reason {t} {ring} {rs} of {reason} {line} {byte} g = (due-accepted t write_table).1 (record { text = t; is = record { ring = ring; rs = rs; of = of; is = of.text } }) reason line g.holds
 
 module _ (t : List ℕ) where
-  sums-decided : (x : Result) → table_of desk t ≡ x → Decided (SumsDue t) (SumsGiven t) (of_rows x)
-  unfolding of_rows unless_pass
+  sums-decided : (x : Result) → table_of desk t ≡ x → Decided (SumsDue t) (SumsGiven t) (of_table matrix_of_table x)
+  unfolding of_table and_then
   sums-decided (accepted ring rs) e = go (sums-judged desk rs)
     where
-      go : {x : Verdict} → SumsJudged desk rs x → Decided (SumsDue t) (SumsGiven t) (unless_pass x (write (write_matrix (matrix_of_rows ring.nodes rs))))
+      go : {x : Found} → SumsJudged desk rs x → Decided (SumsDue t) (SumsGiven t) (and_then x λ u. Ok (write_matrix (matrix_of_rows ring.nodes rs)))
       go (sums_fit fit) = is_due (record { ring = ring; rs = rs; of = (read_is t ring rs).0 e; fit = fit; is = refl })
       go (sums_pass passes) = is_given (of_sums ((read_is t ring rs).0 e) passes)
   sums-decided (refused reason line byte) e = is_given (of_the_table ((table-given.given desk t reason line byte).0 e))
@@ -170,9 +170,9 @@ module _ (t : List ℕ) where
   due-or-given d (of_the_table a) = no-reason d.of a
   due-or-given d (of_sums of p) = let e = (same-values of d.of).1 in d.fit p.k (rw e at p.holds)
 
-  not_full : {r : Reason} {line byte : ℕ} → SumsGiven t r line byte → number_of r ≡ number_of NoRoom → ⊥
-  not_full (of_the_table {reason} {line} {byte} a) e = table-not-15 desk t line reason a.holds e
-  not_full (of_sums of p) e = omega arith
+  not_full : {r : Reason} {line byte : ℕ} → SumsGiven t r line byte → r ≡ NoRoom → ⊥
+  not_full (of_the_table {reason} {line} {byte} a) e = table-not-15 desk t line reason a.holds (ap number_of e)
+  not_full (of_sums of p) e = absurd (omega (arith, ap number_of e))
 
   one-sums : One (SumsDue t) (SumsGiven t)
   one-sums =
@@ -189,11 +189,10 @@ module _ (t : List ℕ) where
       }
 
 -- the matrix of a table is written, with room for it; else the table's first reason, 19 or 15
-pub write-matrix-promise : (t old new : List ℕ) (r : Reply) → Fills (matrix_written t) old new r → CallPromise (SumsDue t) (SumsGiven t) old new r
-unfolding matrix_written
+pub write-matrix-promise : (t old new : List ℕ) (r : Answer) → Fills (matrix_written t) old new r → CallPromise (SumsDue t) (SumsGiven t) old new r
 write-matrix-promise t old new r f = call-promise (one-sums t) (sums-decided t (table_of desk t) refl) f
 
-pub write-matrix-only : (t old new : List ℕ) (r : Reply) → Fills (matrix_written t) old new r → Only (WriteMatrixPromise t old) new r
+pub write-matrix-only : (t old new : List ℕ) (r : Answer) → Fills (matrix_written t) old new r → Only (WriteMatrixPromise t old) new r
 write-matrix-only t old new r f = call-only (write-matrix-promise t old new r f) (one-sums t)
 
 module _ (t text : List ℕ) (d : SumsDue t text) where
@@ -210,28 +209,28 @@ module _ (t text : List ℕ) (d : SumsDue t text) where
   written-matrix-short = omega (arith, ap length d.is, room-for-matrix d.ring d.rs d.of.range d.fit)
 
 -- what is written is an accepted matrix, and fits
-pub written-accepted : (t old new : List ℕ) (r : Reply) → Fills (matrix_written t) old new r → r.reason ≡ 0 → Accepted desk (take r.length new)
-written-accepted t old new r f e = written-matrix-accepted t (take r.length new) (written-due (write-matrix-promise t old new r f) e)
+pub written-accepted : (t old new : List ℕ) (r : Answer) → Fills (matrix_written t) old new r → IfOk r (λ n. Accepted desk (take n new))
+written-accepted t old new r f = if-ok r (λ n. written-matrix-accepted t (take n new)) (written-due (write-matrix-promise t old new r f))
 
-pub written-fits : (t old new : List ℕ) (r : Reply) → Fills (matrix_written t) old new r → r.length ≤ matrix_room desk
+pub written-fits : (t old new : List ℕ) (r : Answer) → Fills (matrix_written t) old new r → IfOk r (λ n. n ≤ matrix_room desk)
 written-fits t old new r f = length-within (write-matrix-promise t old new r f) (matrix_room desk) (written-matrix-short t)
 
 -- so with that room every accepted table of which no sum passes is written
-pub always-written : (t old new : List ℕ) (r : Reply) → Fills (matrix_written t) old new r → SumsFit t → matrix_room desk ≤ length old → r.reason ≡ 0
+pub always-written : (t old new : List ℕ) (r : Answer) → Fills (matrix_written t) old new r → SumsFit t → matrix_room desk ≤ length old → IsOk r
 always-written t old new r call s room =
     let text = write_matrix (matrix_of_rows s.ring.nodes s.rs) in
     let d : SumsDue t text = record { ring = s.ring; rs = s.rs; of = s.of; fit = s.fit; is = refl } in
-    (((write-matrix-promise t old new r call).succeeds text).1 (d, omega (arith, written-matrix-short t text d))).reason
+    written (write-matrix-promise t old new r call) d (omega (arith, written-matrix-short t text d))
 
 -- and none passes where there is at most one row for a pair
-pub one-each-written : (t : List ℕ) (ring : Ring) (rs : List Row) → TableOf t ring rs → OneEach rs → (k : ℕ) → Passes desk rs k → ⊥
+pub one-each-written : (t : List ℕ) (ring : Ring) (rs : List Demand) → TableOf t ring rs → OneEach rs → (k : ℕ) → Passes desk rs k → ⊥
 one-each-written t ring rs of each = one-each-fit ring rs of.range each
 
 -- ---- there and back
 
 -- the same bytes, for every accepted matrix, whatever the fibres
 pub matrix-there-and-back : MatrixToTableToMatrix
-matrix-there-and-back fibres t text old new r read done other after q written room =
+matrix-there-and-back fibres t text old new r read done other after q write room =
     let d = ((read.succeeds text).0 done).0 in
     let table = due-table fibres t text d in
     let due : SumsDue text t =
@@ -242,12 +241,12 @@ matrix-there-and-back fibres t text old new r read done other after q written ro
       fit = one-each-fit (ring_of d.n fibres) (rows_of_matrix d.n d.m) table.range (rows-one-each d.n d.m);
       is = d.of.text ∙ sym (ap write_matrix (matrix-back desk d.n d.m d.of.range));
     } in
-    (written.succeeds t).1 (due, room)
+    (write.succeeds t).1 (due, room)
 
 -- the same bytes, for every accepted table with at most one row for a pair and none of amount 0
 pub table-there-and-back : TableToMatrixToTable
-table-there-and-back t ring rs of each text old new r written done other after q read room =
-    let d = ((written.succeeds text).0 done).0 in
+table-there-and-back t ring rs of each text old new r write done other after q read room =
+    let d = ((write.succeeds text).0 done).0 in
     let same = same-values of d.of in
     let er = same.0 in
     let es = same.1 in

@@ -1,10 +1,10 @@
 -- The calls that read a sheet keep their promise (`Calls`), by the laws of checking a sheet; and what routing writes, the checker accepts and finds no
 -- parallel split pair in.
-use Prim.Native.Nat.{ℕ, ◌≤◌}
+use Prim.Native.Nat.{ℕ}
 use mathlib.Core.List.{List}
 use mathlib.Core.Logic.{◌↔◌}
 use mathlib.Core.Path.{◌≡◌, refl, ap, ◌∙◌, sym, subst}
-use native.Mathlib.Omega.{arith}
+use Rattle.std.specs.Prelude.{Result as Either, Ok, Err}
 use Rattle.ring.specs.Limits.{desk}
 use Rattle.ring.specs.Sheet.{Sheet, sents, plan}
 use Rattle.ring.proofs.OurPlan.{plan-true, plan-demands}
@@ -13,13 +13,14 @@ use Rattle.ring.proofs.NoLower.{no_lower}
 use Rattle.table.specs.Reasons.{number_of}
 use Rattle.table.specs.Says as table
 use Rattle.table.specs.declared.reason.Reason.{Reason}
-use Rattle.table.proofs.ReasonNumbers.{same-reason, no-reason-0}
+use Rattle.table.specs.declared.reason.Refusal.{Refusal}
 use Rattle.sheet.specs.Read.{Result, accepted, refused, read_sheet}
 use Rattle.sheet.specs.Says.{WellFormed}
 use Rattle.sheet.proofs.SheetReasons.{well-formed-is}
 use Rattle.checker.specs.Check.{check}
 use Rattle.checker.specs.Says.{ReadTo, Given, Accepted}
 use Rattle.checker.proofs.Reasons.{read-as, given, accepted-is, check-text, accepted-if-true, one-given, not-both, not-15}
+use Rattle.sheet.specs.WriteSheet.{write_sheet}
 use Rattle.sheet.proofs.Short.{plan-in-range}
 use Rattle.checker.specs.FindPair.{first_pair}
 use Rattle.checker.specs.declared.pair.Pair.{Pair}
@@ -28,15 +29,13 @@ use Rattle.checker.proofs.OurPair.{plan-no-pair}
 use Rattle.checker.proofs.PairLaws.{low, first-pair-is, no-pair-is}
 use Rattle.ringkit.specs.Outcome.{Fills}
 use Rattle.ringkit.specs.TableCalls.{table_routed}
-use Rattle.ringkit.specs.SheetCalls.{verdict_reply, sheet_checked, pair_reply, question_reply, sheet_parallel, of_sheet, sheet_afresh}
-use Rattle.ringkit.specs.Says.{CallPromise, Only}
+use Rattle.ringkit.specs.SheetCalls.{of_sheet, sheet_checked, sheet_parallel, sheet_afresh}
+use Rattle.ringkit.specs.Says.{Answer, CallPromise, Only}
 use Rattle.ringkit.specs.Texts.{SheetOf, SomeSheet, SomeForm, TableDue, sheet_due, Itself}
-use Rattle.ringkit.specs.Answers.{yes, no, CheckSays, says_yes, says_no, CheckPromise, paired, not_asked, PairOf, NoPairOf, PairSays, a_pair, no_pair, refused as pair-refused, PairPromise}
+use Rattle.ringkit.specs.Answers.{Checked, Asked, yes, CheckSays, says_yes, says_no, CheckPromise, paired, unpaired, not_asked, PairOf, NoPairOf, PairSays, a_pair, no_pair, refused as pair-refused, PairPromise}
 use Rattle.ringkit.specs.Promises.{RewriteSheetPromise}
 use Rattle.ringkit.specs.Sheets.{FormedSheet, BestSheet, RoutedWell}
-use Rattle.ringkit.specs.declared.Reply.{Reply}
-use Rattle.ringkit.specs.declared.PairReply.{PairReply}
-use Rattle.ringkit.proofs.Calls.{Decided, is_due, is_given, One, call-promise, call-only}
+use Rattle.ringkit.proofs.Calls.{Decided, is_due, is_given, One, call-promise, call-only, same-err}
 use Rattle.ringkit.proofs.TableCalls.{due-accepted, route-promise}
 
 -- ---- what a sheet is read to
@@ -54,7 +53,7 @@ module _ (t : List ℕ) where
 
 -- ---- rewriting
 
-afresh : (t : List ℕ) (x : Result) → check desk t ≡ x → Decided (Itself (Accepted desk t) t) (Given desk t) (of_sheet x)
+afresh : (t : List ℕ) (x : Result) → check desk t ≡ x → Decided (Itself (Accepted desk t) t) (Given desk t) (of_sheet write_sheet x)
 unfolding of_sheet
 afresh t (accepted x) e = is_due (record { accepted = accepted-as t x e; same = sym ((checked-is t x).0 e).text })
 afresh t (refused reason line byte) e = is_given ((given t reason line byte).0 e)
@@ -65,67 +64,62 @@ one-itself t =
       text = λ a b. a.same ∙ sym b.same;
       refusal = λ f g. one-given t f g;
       apart = λ d g. not-both t d.accepted g;
-      other = λ {r} g. not-15 t r g;
+      other = λ {r} g e. not-15 t r g (ap number_of e);
     }
 
 -- an accepted sheet is written as the same bytes, with room for them; else 15 or the sheet's first reason
-pub rewrite-sheet-promise : (t old new : List ℕ) (r : Reply) → Fills (sheet_afresh t) old new r → CallPromise (Itself (Accepted desk t) t) (Given desk t) old new r
-unfolding sheet_afresh
+pub rewrite-sheet-promise : (t old new : List ℕ) (r : Answer) → Fills (sheet_afresh t) old new r → CallPromise (Itself (Accepted desk t) t) (Given desk t) old new r
 rewrite-sheet-promise t old new r f = call-promise (one-itself t) (afresh t (check desk t) refl) f
 
-pub rewrite-sheet-only : (t old new : List ℕ) (r : Reply) → Fills (sheet_afresh t) old new r → Only (RewriteSheetPromise t old) new r
+pub rewrite-sheet-only : (t old new : List ℕ) (r : Answer) → Fills (sheet_afresh t) old new r → Only (RewriteSheetPromise t old) new r
 rewrite-sheet-only t old new r f = call-only (rewrite-sheet-promise t old new r f) (one-itself t)
 
 -- ---- checking
 
 checked : (t : List ℕ) → CheckSays t (sheet_checked t)
-unfolding sheet_checked verdict_reply
+unfolding of_sheet
 checked t = go (check desk t) refl
   where
-    go : (x : Result) → check desk t ≡ x → CheckSays t (verdict_reply x)
+    go : (x : Result) → check desk t ≡ x → CheckSays t (of_sheet (λ x. tt) x)
     go (accepted x) e = says_yes (accepted-as t x e)
     go (refused reason line byte) e = says_no ((given t reason line byte).0 e)
 
--- two refusals that reply alike are one, and none replies as yes does
-yes-not-no : (reason : Reason) (line byte : ℕ) → yes ≡ no reason line byte → ⊥
-yes-not-no reason line byte e = let z : 0 ≡ number_of reason = ap (λ (r : Reply). r.reason) e in omega (arith, no-reason-0 reason)
+-- yes is no refusal, and two refusals that are one answer name the same
+yes-not-no : {x : Refusal} → yes ≡ Err x → ⊥
+yes-not-no e = absurd (cc)
 
 module _ {t : List ℕ} where
-  same-no : (reason : Reason) (line byte : ℕ) {why : Reason} {at on : ℕ} → no why at on ≡ no reason line byte → Given desk t why at on → Given desk t reason line byte
-  same-no reason line byte {why} {at} {on} e g =
-      let ew : why ≡ reason = same-reason why reason (ap (λ (r : Reply). r.reason) e) in
-      let ea : at ≡ line = ap (λ (r : Reply). r.line) e in
-      let eb : on ≡ byte = ap (λ (r : Reply). r.byte) e in
-      rw (← ew, ← ea, ← eb) g
+  same-no : {A : Type 0} {x y : Refusal} → ◌≡◌ {A = Either A Refusal} (Err x) (Err y) → Given desk t x.reason x.line x.byte → Given desk t y.reason y.line y.byte
+  same-no e g = let f = same-err e in rw f at g
 
   some-sheet : Accepted desk t ↔ SomeSheet t
   some-sheet = (λ a. let r = (accepted-is t).1 a in record { x = r.x; of = (checked-is t r.x).0 r.is }, λ h. accepted-as t h.x ((checked-is t h.x).1 h.of))
 
-  check-laws : {r : Reply} → CheckSays t r → CheckPromise t r
+  check-laws : {r : Checked} → CheckSays t r → CheckPromise t r
   check-laws (says_yes a) =
       record {
         cases = says_yes a;
         accepts = (λ e. a, λ b. refl);
         sheet = (λ e. some-sheet.0 a, λ h. refl);
-        refuses = λ reason line byte. (λ e. absurd (yes-not-no reason line byte e), λ g. absurd (not-both t a g));
+        refuses = λ reason line byte. (λ e. absurd (yes-not-no e), λ g. absurd (not-both t a g));
       }
   check-laws (says_no {reason = why} {line = at} {byte = on} g) =
       record {
         cases = says_no g;
-        accepts = (λ e. absurd (yes-not-no why at on (sym e)), λ a. absurd (not-both t a g));
-        sheet = (λ e. absurd (yes-not-no why at on (sym e)), λ h. absurd (not-both t (some-sheet.1 h) g));
-        refuses = λ reason line byte. (λ e. same-no reason line byte e g, λ h. let o = one-given t g h in rw (o.0, o.1, o.2));
+        accepts = (λ e. absurd (yes-not-no (sym e)), λ a. absurd (not-both t a g));
+        sheet = (λ e. absurd (yes-not-no (sym e)), λ h. absurd (not-both t (some-sheet.1 h) g));
+        refuses = λ reason line byte. (λ e. same-no e g, λ h. let o = one-given t g h in rw (o.0, o.1, o.2));
       }
 
 -- yes exactly where no reason holds of the sheet, and a refusal exactly where it is the first that holds
-pub check-promise : (t : List ℕ) (r : Reply) → r ≡ sheet_checked t → CheckPromise t r
+pub check-promise : (t : List ℕ) (r : Checked) → r ≡ sheet_checked t → CheckPromise t r
 check-promise t r e = subst (CheckPromise t) (sym e) (check-laws (checked t))
 
--- and no other reply keeps the promise
-pub check-only : (t : List ℕ) (r : Reply) → r ≡ sheet_checked t → (other : Reply) → CheckPromise t other → other ≡ r
+-- and no other answer keeps the promise
+pub check-only : (t : List ℕ) (r : Checked) → r ≡ sheet_checked t → (other : Checked) → CheckPromise t other → other ≡ r
 check-only t r e other p = go (check-promise t r e).cases p
   where
-    go : {r : Reply} → CheckSays t r → CheckPromise t other → other ≡ r
+    go : {r : Checked} → CheckSays t r → CheckPromise t other → other ≡ r
     go (says_yes a) p = p.accepts.1 a
     go (says_no {reason} {line} {byte} g) p = (p.refuses reason line byte).1 g
 
@@ -138,13 +132,13 @@ well-formed-sheet t = (
   λ h. (well-formed-is desk t).0 (record { x = h.x; is = (read-as t h.x).1 (record { text = h.text; range = h.range }) }),
 )
 
-pub formed-checked : (t : List ℕ) (r : Reply) → r ≡ sheet_checked t → WellFormed desk t → FormedSheet t r
-unfolding sheet_checked verdict_reply
+pub formed-checked : (t : List ℕ) (r : Checked) → r ≡ sheet_checked t → WellFormed desk t → FormedSheet t r
+unfolding of_sheet
 formed-checked t r e w =
     let f = (well-formed-is desk t).1 w in
     let s = (read-as t f.x).0 f.is in
     let law = accepted-if-true t f.x s in
-    record { x = f.x; text = s.text; range = s.range; says_yes = (λ y. law.0 (same-x f.x s y), λ true_sheet. e ∙ ap verdict_reply (law.1 true_sheet)) }
+    record { x = f.x; text = s.text; range = s.range; says_yes = (λ y. law.0 (same-x f.x s y), λ true_sheet. e ∙ ap (of_sheet (λ x. tt)) (law.1 true_sheet)) }
   where
     same-x : (x : Sheet) → ReadTo desk t x → r ≡ yes → check desk t ≡ accepted x
     same-x x s y =
@@ -158,77 +152,64 @@ formed-checked t r e w =
 best_of : (t : List ℕ) (x : Sheet) → SheetOf t x → BestSheet t
 best_of t x of = record { x = x; of = of; figures = paper-figures x of.true_sheet; no_lower = no_lower x of.true_sheet }
 
-pub yes-best : (t : List ℕ) (r : Reply) → r ≡ sheet_checked t → r ≡ yes → BestSheet t
+pub yes-best : (t : List ℕ) (r : Checked) → r ≡ sheet_checked t → r ≡ yes → BestSheet t
 yes-best t r e y = let a = (accepted-is t).1 ((check-promise t r e).accepts.0 y) in best_of t a.x ((checked-is t a.x).0 a.is)
 
 -- ---- the question
 
 asked : (t : List ℕ) → PairSays t (sheet_parallel t)
-unfolding sheet_parallel question_reply pair_reply
+unfolding of_sheet
 asked t = go (check desk t) refl
   where
-    pair_of : (x : Sheet) → SheetOf t x → (f : Pair) → first_pair (sents x.rows) ≡ f → PairSays t (pair_reply f)
+    pair_of : (x : Sheet) → SheetOf t x → (f : Pair) → first_pair (sents x.rows) ≡ f → PairSays t (Ok f)
     pair_of x of (Are p r) e = let are = (first-pair-is (sents x.rows) p r).0 e in a_pair (record { x = x; of = of; pair = are }) (low are.are.first)
     pair_of x of None e = no_pair (record { x = x; of = of; none = (no-pair-is (sents x.rows)).0 e })
 
-    go : (y : Result) → check desk t ≡ y → PairSays t (question_reply y)
+    go : (y : Result) → check desk t ≡ y → PairSays t (of_sheet (λ x. first_pair (sents x.rows)) y)
     go (accepted x) q = pair_of x ((checked-is t x).0 q) (first_pair (sents x.rows)) refl
     go (refused reason line byte) q = pair-refused ((given t reason line byte).0 q)
 
 module _ (t : List ℕ) where
-  said-pair : (p q : ℕ) → PairOf t p q → sheet_parallel t ≡ paired p q
-  unfolding sheet_parallel question_reply pair_reply
-  said-pair p q h = ap question_reply ((checked-is t h.x).1 h.of) ∙ ap pair_reply ((first-pair-is (sents h.x.rows) p q).1 h.pair)
-
-  said-none : NoPairOf t → sheet_parallel t ≡ paired 0 0
-  unfolding sheet_parallel question_reply pair_reply
-  said-none h = ap question_reply ((checked-is t h.x).1 h.of) ∙ ap pair_reply ((no-pair-is (sents h.x.rows)).1 h.none)
+  said : (x : Sheet) → SheetOf t x → (f : Pair) → first_pair (sents x.rows) ≡ f → sheet_parallel t ≡ Ok f
+  unfolding of_sheet
+  said x of f e = ap (of_sheet (λ x. first_pair (sents x.rows))) ((checked-is t x).1 of) ∙ ap (λ (f : Pair). Ok f) e
 
   said-refusal : (reason : Reason) (line byte : ℕ) → Given desk t reason line byte → sheet_parallel t ≡ not_asked reason line byte
-  unfolding sheet_parallel question_reply
-  said-refusal reason line byte g = ap question_reply ((given t reason line byte).1 g)
+  unfolding of_sheet
+  said-refusal reason line byte g = ap (of_sheet (λ x. first_pair (sents x.rows))) ((given t reason line byte).1 g)
 
-  -- two places from 1 on
-  is-pair : (p q : ℕ) {r : PairReply} → PairSays t r → r ≡ paired p q → 1 ≤ p → PairOf t p q
-  is-pair p q (a_pair {p = a} {q = b} x l) e some =
-      let ea : a ≡ p = ap (λ (r : PairReply). r.first) e in
-      let eb : b ≡ q = ap (λ (r : PairReply). r.second) e in
-      rw (← ea, ← eb) x
-  is-pair p q (no_pair x) e some = let z : 0 ≡ p = ap (λ (r : PairReply). r.first) e in absurd (omega arith)
-  is-pair p q (pair-refused g) e some = let z : 0 ≡ p = ap (λ (r : PairReply). r.first) e in absurd (omega arith)
+  is-pair : (p q : ℕ) {r : Asked} → PairSays t r → r ≡ paired p q → PairOf t p q
+  is-pair p q (a_pair {p = a} {q = b} x l) e = let ea : a ≡ p = cc in let eb : b ≡ q = cc in rw (← ea, ← eb) x
+  is-pair p q (no_pair x) e = absurd (cc)
+  is-pair p q (pair-refused g) e = absurd (cc)
 
-  -- 0 and 0, without a reason
-  is_none : {r : PairReply} → PairSays t r → r ≡ paired 0 0 → NoPairOf t
-  is_none (a_pair {p = a} x l) e = let ea : a ≡ 0 = ap (λ (r : PairReply). r.first) e in absurd (omega arith)
+  is_none : {r : Asked} → PairSays t r → r ≡ unpaired → NoPairOf t
+  is_none (a_pair x l) e = absurd (cc)
   is_none (no_pair x) e = x
-  is_none (pair-refused {reason} g) e = let z : number_of reason ≡ 0 = ap (λ (r : PairReply). r.reason) e in absurd (omega (arith, no-reason-0 reason))
+  is_none (pair-refused g) e = absurd (cc)
 
-  is-refusal : (reason : Reason) (line byte : ℕ) {r : PairReply} → PairSays t r → r ≡ not_asked reason line byte → Given desk t reason line byte
-  is-refusal reason line byte (a_pair x l) e = let z : 0 ≡ number_of reason = ap (λ (r : PairReply). r.reason) e in absurd (omega (arith, no-reason-0 reason))
-  is-refusal reason line byte (no_pair x) e = let z : 0 ≡ number_of reason = ap (λ (r : PairReply). r.reason) e in absurd (omega (arith, no-reason-0 reason))
-  is-refusal reason line byte (pair-refused {reason = why} {line = at} {byte = on} g) e =
-      let ew : why ≡ reason = same-reason why reason (ap (λ (r : PairReply). r.reason) e) in
-      let ea : at ≡ line = ap (λ (r : PairReply). r.line) e in
-      let eb : on ≡ byte = ap (λ (r : PairReply). r.byte) e in
-      rw (← ew, ← ea, ← eb) g
+  is-refusal : (reason : Reason) (line byte : ℕ) {r : Asked} → PairSays t r → r ≡ not_asked reason line byte → Given desk t reason line byte
+  is-refusal reason line byte (a_pair x l) e = absurd (cc)
+  is-refusal reason line byte (no_pair x) e = absurd (cc)
+  is-refusal reason line byte (pair-refused g) e = same-no e g
 
--- two places exactly where they are the first pair of an accepted sheet, 0 and 0 exactly where it has none, and any other text gets the checker's refusal
-pub parallel-promise : (t : List ℕ) (r : PairReply) → r ≡ sheet_parallel t → PairPromise t r
+-- two places exactly where they are the first pair of an accepted sheet, none exactly where it has none, and any other text gets the checker's refusal
+pub parallel-promise : (t : List ℕ) (r : Asked) → r ≡ sheet_parallel t → PairPromise t r
 parallel-promise t r e =
     let says = subst (PairSays t) (sym e) (asked t) in
     record {
       cases = says;
-      pair = λ p q. (λ h. is-pair t p q says h.0 h.1, λ h. (e ∙ said-pair t p q h, low h.pair.are.first));
-      none = (λ y. is_none t says y, λ h. e ∙ said-none t h);
-      refuses = λ reason line byte. (λ y. is-refusal t reason line byte says y, λ g. e ∙ said-refusal t reason line byte g);
+      pair = λ p q. (is-pair t p q says, λ h. e ∙ said t h.x h.of (Are p q) ((first-pair-is (sents h.x.rows) p q).1 h.pair));
+      none = (is_none t says, λ h. e ∙ said t h.x h.of None ((no-pair-is (sents h.x.rows)).1 h.none));
+      refuses = λ reason line byte. (is-refusal t reason line byte says, λ g. e ∙ said-refusal t reason line byte g);
     }
 
--- and no other reply keeps the promise
-pub parallel-only : (t : List ℕ) (r : PairReply) → r ≡ sheet_parallel t → (other : PairReply) → PairPromise t other → other ≡ r
+-- and no other answer keeps the promise
+pub parallel-only : (t : List ℕ) (r : Asked) → r ≡ sheet_parallel t → (other : Asked) → PairPromise t other → other ≡ r
 parallel-only t r e other p = go (parallel-promise t r e).cases p
   where
-    go : {r : PairReply} → PairSays t r → PairPromise t other → other ≡ r
-    go (a_pair {p = a} {q = b} x l) p = ((p.pair a b).1 x).0
+    go : {r : Asked} → PairSays t r → PairPromise t other → other ≡ r
+    go (a_pair {p = a} {q = b} x l) p = (p.pair a b).1 x
     go (no_pair x) p = p.none.1 x
     go (pair-refused {reason} {line} {byte} g) p = (p.refuses reason line byte).1 g
 
@@ -259,7 +240,7 @@ module _ (t text : List ℕ) (due : TableDue sheet_due t text) where
       }
 
 -- an accepted table has a sheet, which is written where there is room, is the best, and is accepted
-pub routed-well : (t old new : List ℕ) (r : Reply) → Fills (table_routed t) old new r → table.Accepted desk t → RoutedWell t old new r
+pub routed-well : (t old new : List ℕ) (r : Answer) → Fills (table_routed t) old new r → table.Accepted desk t → RoutedWell t old new r
 unfolding best_of
 routed-well t old new r call a =
     let s = (due-accepted t sheet_due).0 a in

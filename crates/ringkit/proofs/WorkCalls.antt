@@ -1,16 +1,17 @@
 -- Writing a working table out keeps the promise of a call that fills a buffer, on every struct; of one made by calls the table is an accepted one, `table_room` is room for it, and routing it names
--- the cut that the last accepted reply named: by the rows that are written, and the promise of routing.
+-- the cut that the last accepted answer named: by the rows that are written, and the promise of routing.
 use Prim.Native.Nat.{ℕ, ◌≤◌}
 use mathlib.Core.List.{List}
 use mathlib.Core.Path.{◌≡◌, refl, sym, ◌∙◌, ap}
 use native.Mathlib.Omega.{arith}
 use lib.ListN.{length, take}
+use Rattle.std.specs.Prelude.{IsOk, IfOk}
 use Rattle.ring.specs.Limits.{desk}
+use Rattle.ring.specs.RuleA.{rule_a}
 use Rattle.ring.specs.Sheet.{plan}
 use Rattle.table.specs.Table.{write_table, table_room}
 use Rattle.table.specs.Says.{Accepted}
 use Rattle.sheet.proofs.Short.{plan-short}
-use Rattle.work.specs.Places.{ring_in}
 use Rattle.work.specs.Calls.{Call}
 use Rattle.work.specs.Made.{Made}
 use Rattle.work.specs.Keys.{sorted_rows, IsBytes}
@@ -21,40 +22,39 @@ use Rattle.work.proofs.OneOrder.{one-order}
 use Rattle.work.proofs.ByCalls.{made-keeps, made-writes-out, made-sized, made-bytes}
 use Rattle.work.proofs.Promised.{made-as-played}
 use Rattle.ringkit.specs.Outcome.{Fills}
-use Rattle.ringkit.specs.Says.{CallPromise, Only}
+use Rattle.ringkit.specs.Says.{Answer, CallPromise, Only}
 use Rattle.ringkit.specs.TableCalls.{work_written}
 use Rattle.ringkit.specs.Texts.{TableOf, TableDue, sheet_due}
 use Rattle.ringkit.specs.WorkCalls.{WorkDue, NoRefusal, RoutedAsNamed}
-use Rattle.ringkit.specs.declared.Reply.{Reply}
-use Rattle.ringkit.proofs.Calls.{is_due, One, call-promise, only-by, written-due}
+use Rattle.ringkit.proofs.Calls.{is_due, One, call-promise, only-by, written-due, written, if-ok}
 use Rattle.ringkit.proofs.TableCalls.{due-accepted}
 
 -- ---- every struct
 
 module _ (w : Work) (s : Sized w) (byte : HasBytes w) where
   -- a text is due, and one only
-  work-due : WorkDue w (write_table (ring_in w) (sorted_rows w))
+  work-due : WorkDue w (write_table w.ring (sorted_rows w))
   work-due = record { rs = sorted_rows w; sorted = rows-sorted w s byte; is = refl }
 
   one-due : One (WorkDue w) NoRefusal
   one-due =
       record {
-        text = λ a b. let e = one-order w s byte a.sorted b.sorted in a.is ∙ ap (write_table (ring_in w)) e ∙ sym b.is;
+        text = λ a b. let e = one-order w s byte a.sorted b.sorted in a.is ∙ ap (write_table w.ring) e ∙ sym b.is;
         refusal = λ f g. absurd f;
         apart = λ d g. g;
         other = λ g e. g;
       }
 
   -- it is written, with room for it; else 15
-  filled-promise : {old new : List ℕ} {r : Reply} → Fills (work_written w) old new r → CallPromise (WorkDue w) NoRefusal old new r
+  filled-promise : {old new : List ℕ} {r : Answer} → Fills (work_written w) old new r → CallPromise (WorkDue w) NoRefusal old new r
   filled-promise {old} {new} {r} f = call-promise one-due (is_due work-due) f
 
 -- the columns of every struct have a place each, and hold bytes
-pub work-write-promise : (w : Work) → Sized w → IsBytes w.second → {old new : List ℕ} {r : Reply} → Fills (work_written w) old new r
+pub work-write-promise : (w : Work) → Sized w → IsBytes w.second → {old new : List ℕ} {r : Answer} → Fills (work_written w) old new r
     → CallPromise (WorkDue w) NoRefusal old new r
 work-write-promise w s b f = filled-promise w s (bytes-of w s b) f
 
-pub work-write-only : {w : Work} {old new : List ℕ} {r : Reply} → CallPromise (WorkDue w) NoRefusal old new r → Only (CallPromise (WorkDue w) NoRefusal old) new r
+pub work-write-only : {w : Work} {old new : List ℕ} {r : Answer} → CallPromise (WorkDue w) NoRefusal old new r → Only (CallPromise (WorkDue w) NoRefusal old) new r
 work-write-only p = only-by p (λ reason line byte g e. g)
 
 -- ---- one made by calls
@@ -65,29 +65,30 @@ module _ {cs : List Call} {w : Work} (m : Made cs w) where
     same-rows = one-order w (made-sized m) (made-bytes m) d.sorted (made-writes-out m).sorted
 
     -- it is the table of its rows
-    work-table : TableOf text (ring_in w) d.rs
+    work-table : TableOf text w.ring d.rs
     work-table = record { text = d.is; range = rw same-rows (made-writes-out m).range }
 
     work-accepted : Accepted desk text
-    work-accepted = (due-accepted text write_table).1 (record { text = text; is = record { ring = ring_in w; rs = d.rs; of = work-table; is = d.is } })
+    work-accepted = (due-accepted text write_table).1 (record { text = text; is = record { ring = w.ring; rs = d.rs; of = work-table; is = d.is } })
 
-  module _ {old new : List ℕ} {r : Reply} where
-    pub writes-accepted : CallPromise (WorkDue w) NoRefusal old new r → r.reason ≡ 0 → Accepted desk (take r.length new)
-    writes-accepted p e = work-accepted (take r.length new) (written-due p e)
+  module _ {old new : List ℕ} {r : Answer} where
+    pub writes-accepted : CallPromise (WorkDue w) NoRefusal old new r → IfOk r (λ n. Accepted desk (take n new))
+    writes-accepted p = if-ok r (λ n. work-accepted (take n new)) (written-due p)
 
     -- with `table_room` bytes of room it is always written
-    pub always-work-written : CallPromise (WorkDue w) NoRefusal old new r → table_room desk ≤ length old → r.reason ≡ 0
+    pub always-work-written : CallPromise (WorkDue w) NoRefusal old new r → table_room desk ≤ length old → IsOk r
     always-work-written p room =
-        let due = work-due w (made-sized m) (made-bytes m) in
-        ((p.succeeds (write_table (ring_in w) (sorted_rows w))).1 (due, omega (arith, (made-writes-out m).short))).reason
+        written p (work-due w (made-sized m) (made-bytes m)) (omega (arith, (made-writes-out m).short))
 
--- with `longest` bytes of room it is always routed, and the C line of its sheet is the cut that the last accepted reply named
+-- with `longest` bytes of room it is always routed, and the C line of its sheet is the cut that the last accepted answer named
 pub routed-as-named : RoutedAsNamed
 unfolding plan
 routed-as-named cs w m text d old new r promise room =
-    let due : TableDue sheet_due text (sheet_due (ring_in w) d.rs) = record { ring = ring_in w; rs = d.rs; of = work-table m text d; is = refl } in
+    let due : TableDue sheet_due text (sheet_due w.ring d.rs) = record { ring = w.ring; rs = d.rs; of = work-table m text d; is = refl } in
     record {
-      x = plan (ring_in w) d.rs;
-      success = (promise.succeeds (sheet_due (ring_in w) d.rs)).1 (due, omega (arith, plan-short (ring_in w) d.rs (work-table m text d).range));
-      cut = (rw (same-rows m text d) (made-writes-out m).cut) ∙ sym (made-keeps m).largest ∙ (made-as-played m).cut;
+      x = plan w.ring d.rs;
+      success = (promise.succeeds (sheet_due w.ring d.rs)).1 (due, omega (arith, plan-short w.ring d.rs (work-table m text d).range));
+      cut =
+          let is : rule_a w.ring.nodes d.rs ≡ w.cut = (rw (same-rows m text d) (made-writes-out m).cut) ∙ sym (made-keeps m).largest in
+          rw is (made-as-played m).leads;
     }

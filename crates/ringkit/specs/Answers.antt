@@ -1,31 +1,35 @@
 -- To believe: what the two calls answer that read a sheet and fill no buffer (Rules, the calls).
-use Rattle.std.specs.Prelude.{ℕ, ◌≤◌, List, ◌↔◌, ◌≡◌}
+use Rattle.std.specs.Prelude.{ℕ, ◌≤◌, List, ◌↔◌, ◌≡◌, Result, Ok, Err}
 use Rattle.ring.specs.Limits.{desk}
 use Rattle.ring.specs.Sheet.{Sheet, sents}
-use Rattle.table.specs.Reasons.{number_of}
 use Rattle.table.specs.declared.reason.Reason.{Reason}
+use Rattle.table.specs.declared.reason.Refusal.{Refusal}
 use Rattle.checker.specs.Pair.{FirstPair, NoPair}
 use Rattle.checker.specs.Says.{Given, Accepted}
+use Rattle.checker.specs.declared.pair.Pair.{Pair}
+use Rattle.checker.specs.declared.pair.Pair.TheVariants.{Are, None}
+use Rattle.ringkit.specs.Says.{refusal}
 use Rattle.ringkit.specs.Texts.{SheetOf, SomeSheet}
-use Rattle.ringkit.specs.declared.Reply.{Reply}
-use Rattle.ringkit.specs.declared.PairReply.{PairReply}
 
 -- ---- checking
 
--- the reply where a sheet is accepted, and where it is refused
-abbrev pub yes : Reply
-yes = record { reason = 0; line = 0; byte = 0; length = 0 }
+-- the answer where a sheet is accepted, and where it is refused
+abbrev pub Checked : Type 0
+Checked = Result Unit Refusal
 
-abbrev pub no : Reason → ℕ → ℕ → Reply
-no reason line byte = record { reason = number_of reason; line = line; byte = byte; length = 0 }
+abbrev pub yes : Checked
+yes = Ok tt
+
+abbrev pub no : Reason → ℕ → ℕ → Checked
+no reason line byte = Err (refusal reason line byte)
 
 -- yes, or the reason that is given
-pub data CheckSays (t : List ℕ) : Reply → Type 0 where
+pub data CheckSays (t : List ℕ) : Checked → Type 0 where
   says_yes : Accepted desk t → CheckSays t yes
   says_no : {reason : Reason} {line byte : ℕ} → Given desk t reason line byte → CheckSays t (no reason line byte)
 
 -- all that checking promises
-pub record CheckPromise (t : List ℕ) (r : Reply) : Type 0 where
+pub record CheckPromise (t : List ℕ) (r : Checked) : Type 0 where
   pub cases : CheckSays t r
   pub accepts : (r ≡ yes) ↔ Accepted desk t
   pub sheet : (r ≡ yes) ↔ SomeSheet t
@@ -33,12 +37,18 @@ pub record CheckPromise (t : List ℕ) (r : Reply) : Type 0 where
 
 -- ---- the question: the first pair of split rows that are parallel
 
--- two places, counted from 1; 0 and 0 where there is none
-abbrev pub paired : ℕ → ℕ → PairReply
-paired p q = record { reason = 0; line = 0; byte = 0; first = p; second = q }
+-- two places, counted from 1, or none; or why the sheet is refused
+abbrev pub Asked : Type 0
+Asked = Result Pair Refusal
 
-abbrev pub not_asked : Reason → ℕ → ℕ → PairReply
-not_asked reason line byte = record { reason = number_of reason; line = line; byte = byte; first = 0; second = 0 }
+abbrev pub paired : ℕ → ℕ → Asked
+paired p q = Ok (Are p q)
+
+abbrev pub unpaired : Asked
+unpaired = Ok None
+
+abbrev pub not_asked : Reason → ℕ → ℕ → Asked
+not_asked reason line byte = Err (refusal reason line byte)
 
 -- the first pair of an accepted sheet
 pub record PairOf (t : List ℕ) (p q : ℕ) : Type 0 where
@@ -53,14 +63,14 @@ pub record NoPairOf (t : List ℕ) : Type 0 where
   pub none : NoPair (sents x.rows)
 
 -- a pair, none, or the reason that is given
-pub data PairSays (t : List ℕ) : PairReply → Type 0 where
+pub data PairSays (t : List ℕ) : Asked → Type 0 where
   a_pair : {p q : ℕ} → PairOf t p q → 1 ≤ p → PairSays t (paired p q)
-  no_pair : NoPairOf t → PairSays t (paired 0 0)
+  no_pair : NoPairOf t → PairSays t unpaired
   refused : {reason : Reason} {line byte : ℕ} → Given desk t reason line byte → PairSays t (not_asked reason line byte)
 
 -- all that the question promises
-pub record PairPromise (t : List ℕ) (r : PairReply) : Type 0 where
+pub record PairPromise (t : List ℕ) (r : Asked) : Type 0 where
   pub cases : PairSays t r
-  pub pair : (p q : ℕ) → ((r ≡ paired p q) × (1 ≤ p)) ↔ PairOf t p q
-  pub none : (r ≡ paired 0 0) ↔ NoPairOf t
+  pub pair : (p q : ℕ) → (r ≡ paired p q) ↔ PairOf t p q
+  pub none : (r ≡ unpaired) ↔ NoPairOf t
   pub refuses : (reason : Reason) (line byte : ℕ) → (r ≡ not_asked reason line byte) ↔ Given desk t reason line byte

@@ -2,18 +2,17 @@
 use Rattle.std.specs.Prelude.{ℕ, ◌≤◌, List, ◌≡◌, length}
 use Rattle.ring.specs.Limits.{desk}
 use Rattle.ring.specs.declared.types.Ring.{Ring}
-use Rattle.ring.specs.declared.types.Row.{Row}
+use Rattle.ring.specs.declared.types.Demand.{Demand}
 use Rattle.table.specs.Says.{Accepted}
 use Rattle.matrix.specs.Demands.{OneEach}
-use Rattle.ringkit.specs.Says.{Success}
+use Rattle.ringkit.specs.Says.{Answer, Success}
 use Rattle.ringkit.specs.Texts.{TableOf}
 use Rattle.ringkit.specs.Promises.{RewriteTablePromise, ReadMatrixPromise, WriteMatrixPromise}
-use Rattle.ringkit.specs.declared.Reply.{Reply}
 
 -- a text is the table of some values
 pub record SomeTable (t : List ℕ) : Type 0 where
   pub ring : Ring
-  pub rs : List Row
+  pub rs : List Demand
   pub of : TableOf t ring rs
 
 -- a table there and back
@@ -21,27 +20,27 @@ pub record TableThereAndBack : Type 0 where
   -- an accepted text is the table of some values: these, written again, are the same bytes;
   pub read : (t : List ℕ) → Accepted desk t → SomeTable t
   -- values in range, written, are an accepted text ..
-  pub written : (t : List ℕ) (ring : Ring) (rs : List Row) → TableOf t ring rs → Accepted desk t
+  pub written : (t : List ℕ) (ring : Ring) (rs : List Demand) → TableOf t ring rs → Accepted desk t
   -- .. that is read to no other values;
-  pub same_ring : (t : List ℕ) (ring other : Ring) (rs qs : List Row) → TableOf t ring rs → TableOf t other qs → ring ≡ other
-  pub same_rows : (t : List ℕ) (ring other : Ring) (rs qs : List Row) → TableOf t ring rs → TableOf t other qs → rs ≡ qs
+  pub same_ring : (t : List ℕ) (ring other : Ring) (rs qs : List Demand) → TableOf t ring rs → TableOf t other qs → ring ≡ other
+  pub same_rows : (t : List ℕ) (ring other : Ring) (rs qs : List Demand) → TableOf t ring rs → TableOf t other qs → rs ≡ qs
   -- the call that reads a table and writes its values afresh gives, with room, the same bytes
-  pub rewritten : (t old new : List ℕ) (r : Reply) → RewriteTablePromise t old new r
+  pub rewritten : (t old new : List ℕ) (r : Answer) → RewriteTablePromise t old new r
       → Accepted desk t → length t ≤ length old → Success t old new r
 
 -- matrix to table to matrix: reading a matrix wrote a table, whatever the fibres; writing the matrix of that table gives, with room, the bytes of the matrix that was read
 abbrev pub MatrixToTableToMatrix : Type 0
 MatrixToTableToMatrix =
-    (fibres : ℕ) (t text old new : List ℕ) (r : Reply) → ReadMatrixPromise fibres t old new r
+    (fibres : ℕ) (t text old new : List ℕ) (r : Answer) → ReadMatrixPromise fibres t old new r
     → Success text old new r
-    → (other after : List ℕ) (q : Reply) → WriteMatrixPromise text other after q
+    → (other after : List ℕ) (q : Answer) → WriteMatrixPromise text other after q
     → length t ≤ length other → Success t other after q
 
 -- table to matrix to table, of a table with at most one row for a pair and none of amount 0: writing its matrix wrote a text; reading that on the table's own fibres
 -- gives, with room, the bytes of the table
 abbrev pub TableToMatrixToTable : Type 0
 TableToMatrixToTable =
-    (t : List ℕ) (ring : Ring) (rs : List Row) → TableOf t ring rs → OneEach rs
-    → (text old new : List ℕ) (r : Reply) → WriteMatrixPromise t old new r → Success text old new r
-    → (other after : List ℕ) (q : Reply) → ReadMatrixPromise ring.fibres text other after q
+    (t : List ℕ) (ring : Ring) (rs : List Demand) → TableOf t ring rs → OneEach rs
+    → (text old new : List ℕ) (r : Answer) → WriteMatrixPromise t old new r → Success text old new r
+    → (other after : List ℕ) (q : Answer) → ReadMatrixPromise ring.fibres text other after q
     → length t ≤ length other → Success t other after q

@@ -1,31 +1,34 @@
--- Internal: what a call that fills a lent buffer does: its outcome, its reply, and the buffer after it.
-use Rattle.std.specs.Prelude.{ℕ, cond, List, ◌++◌, ◌≡◌, ltb, length, drop}
-use Rattle.table.specs.Reasons.{number_of}
-use Rattle.table.specs.declared.reason.Reason.{Reason}
+-- Internal: what a call that fills a lent buffer does: its outcome, its answer, and the buffer after it.
+use Rattle.std.specs.Prelude.{ℕ, cond, List, ◌++◌, ◌≡◌, ltb, length, drop, Result, Ok, Err}
 use Rattle.table.specs.declared.reason.Reason.TheVariants.{NoRoom}
-use Rattle.ringkit.specs.declared.Reply.{Reply}
+use Rattle.table.specs.declared.reason.Refusal.{Refusal}
+use Rattle.table.specs.OnLine.{and_then}
+use Rattle.ringkit.specs.Says.{Answer, refusal}
 
--- a text to be written; or a reason, a line and a byte of it
-pub data Outcome : Type 0 where
-  write : List ℕ → Outcome
-  refuse : Reason → ℕ → ℕ → Outcome
+-- a text to be written; or the refusal
+abbrev pub Outcome : Type 0
+Outcome = Result (List ℕ) Refusal
 
--- 15 comes after all other reasons, and is given exactly when the buffer is too short; its line and its byte are 0
+-- 15 is given exactly when the buffer is too short, with line and byte 0
+unfoldable pub room_for : ℕ → ℕ → Result Unit Refusal
+room_for room size = cond (ltb room size) (Err (refusal NoRoom 0 0)) (Ok tt)
+
+-- and comes after all other reasons
 unfoldable pub within : ℕ → Outcome → Outcome
-within room (write t) = cond (ltb room (length t)) (refuse NoRoom 0 0) (write t)
-within room (refuse reason line byte) = refuse reason line byte
+unfolding room_for and_then
+within room outcome = and_then outcome λ t. and_then (room_for room (length t)) λ u. Ok t
 
--- success returns the text's length; a refusal returns only reason, line and byte
-unfoldable pub reply_of : Outcome → Reply
-reply_of (write t) = record { reason = 0; line = 0; byte = 0; length = length t }
-reply_of (refuse reason line byte) = record { reason = number_of reason; line = line; byte = byte; length = 0 }
+-- success answers the text's length
+unfoldable pub answer_of : Outcome → Answer
+answer_of (Ok t) = Ok (length t)
+answer_of (Err r) = Err r
 
 -- success writes its text at the buffer's start and keeps the bytes after it; a refusal changes no byte
 unfoldable pub buffer_after : Outcome → List ℕ → List ℕ
-buffer_after (write t) old = t ++ drop (length t) old
-buffer_after (refuse reason line byte) old = old
+buffer_after (Ok t) old = t ++ drop (length t) old
+buffer_after (Err r) old = old
 
--- the contract of such a call: what it replies, and what the buffer holds after it
-pub record Fills (outcome : Outcome) (old new : List ℕ) (r : Reply) : Type 0 where
-  pub reply : r ≡ reply_of (within (length old) outcome)
+-- the contract of such a call: what it answers, and what the buffer holds after it
+pub record Fills (outcome : Outcome) (old new : List ℕ) (r : Answer) : Type 0 where
+  pub answer : r ≡ answer_of (within (length old) outcome)
   pub buffer : new ≡ buffer_after (within (length old) outcome) old

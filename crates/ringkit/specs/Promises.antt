@@ -3,26 +3,25 @@ use Rattle.std.specs.Prelude.{ℕ, List}
 use Rattle.ring.specs.Limits.{desk}
 use Rattle.checker.specs.Says as sheet
 use Rattle.table.specs.Says as table
-use Rattle.ringkit.specs.Says.{CallPromise}
+use Rattle.ringkit.specs.Says.{Answer, CallPromise}
 use Rattle.ringkit.specs.Texts.{Itself, TableDue, sheet_due, MatrixDue, MatrixGiven, SumsDue, SumsGiven}
-use Rattle.ringkit.specs.declared.Reply.{Reply}
 
 -- routing a table: the sheet that the four rules give, or the table's first reason
-abbrev pub RoutePromise : List ℕ → List ℕ → List ℕ → Reply → Type 0
+abbrev pub RoutePromise : List ℕ → List ℕ → List ℕ → Answer → Type 0
 RoutePromise t = CallPromise (TableDue sheet_due t) (table.Given desk t)
 
 -- reading a table and writing its values afresh: the same bytes, or the table's first reason
-abbrev pub RewriteTablePromise : List ℕ → List ℕ → List ℕ → Reply → Type 0
+abbrev pub RewriteTablePromise : List ℕ → List ℕ → List ℕ → Answer → Type 0
 RewriteTablePromise t = CallPromise (Itself (table.Accepted desk t) t) (table.Given desk t)
 
 -- reading a sheet and writing its values afresh: the same bytes, or the sheet's first reason
-abbrev pub RewriteSheetPromise : List ℕ → List ℕ → List ℕ → Reply → Type 0
+abbrev pub RewriteSheetPromise : List ℕ → List ℕ → List ℕ → Answer → Type 0
 RewriteSheetPromise t = CallPromise (Itself (sheet.Accepted desk t) t) (sheet.Given desk t)
 
 -- reading a matrix on a ring of so many fibres: its table, or 20, or the matrix's first reason
-abbrev pub ReadMatrixPromise : ℕ → List ℕ → List ℕ → List ℕ → Reply → Type 0
+abbrev pub ReadMatrixPromise : ℕ → List ℕ → List ℕ → List ℕ → Answer → Type 0
 ReadMatrixPromise fibres t = CallPromise (MatrixDue fibres t) (MatrixGiven fibres t)
 
 -- writing the matrix of a table: its sums, or the table's first reason, or 19
-abbrev pub WriteMatrixPromise : List ℕ → List ℕ → List ℕ → Reply → Type 0
+abbrev pub WriteMatrixPromise : List ℕ → List ℕ → List ℕ → Answer → Type 0
 WriteMatrixPromise t = CallPromise (SumsDue t) (SumsGiven t)

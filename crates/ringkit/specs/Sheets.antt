@@ -10,13 +10,12 @@ use Rattle.ring.specs.True.{TrueSheet}
 use Rattle.sheet.specs.Range as sheet_range
 use Rattle.sheet.specs.WriteSheet.{write_sheet}
 use Rattle.checker.specs.Says.{Accepted}
-use Rattle.ringkit.specs.Answers.{yes, NoPairOf}
-use Rattle.ringkit.specs.Says.{Success}
+use Rattle.ringkit.specs.Answers.{Checked, yes, NoPairOf}
+use Rattle.ringkit.specs.Says.{Answer, Success}
 use Rattle.ringkit.specs.Texts.{SheetOf, TableDue, sheet_due}
-use Rattle.ringkit.specs.declared.Reply.{Reply}
 
 -- the sheet that a well-formed text is; the checker says yes exactly when it is a true one
-pub record FormedSheet (t : List ℕ) (r : Reply) : Type 0 where
+pub record FormedSheet (t : List ℕ) (r : Checked) : Type 0 where
   pub x : Sheet
   pub text : t ≡ write_sheet x
   pub range : sheet_range.InRange desk x
@@ -27,11 +26,11 @@ pub record BestSheet (t : List ℕ) : Type 0 where
   pub x : Sheet
   pub of : SheetOf t x
   pub figures : PaperFigures x
-  pub no_lower : (q : ℕ) (ss : List Sent) → Divides q (demands (sents x.rows)) ss → q * x.cut.number ≤ 2 * peak (split_load ss) x.ring.nodes
+  pub no_lower : (q : ℕ) (ss : List Sent) → Divides q (demands (sents x.rows)) ss → q * x.cut.across ≤ 2 * peak (split_load ss) x.ring.nodes
 
 -- a table has a sheet; with room for it, it is written; its demands are the table's rows; the checker accepts it, it is the best, and it has no parallel
 -- split pair
-pub record RoutedWell (t old new : List ℕ) (r : Reply) : Type 0 where
+pub record RoutedWell (t old new : List ℕ) (r : Answer) : Type 0 where
   pub sheet : List ℕ
   pub due : TableDue sheet_due t sheet
   pub written : length sheet ≤ length old → Success sheet old new r

@@ -4,7 +4,7 @@ use Rattle.ring.specs.Limits.{desk}
 use Rattle.ring.specs.LineSize.{IsFibres}
 use Rattle.ring.specs.Ring.{ring_of}
 use Rattle.ring.specs.declared.types.Ring.{Ring}
-use Rattle.ring.specs.declared.types.Row.{Row}
+use Rattle.ring.specs.declared.types.Demand.{Demand}
 use Rattle.ring.specs.Sheet.{Sheet, plan}
 use Rattle.ring.specs.True.{TrueSheet}
 use Rattle.sheet.specs.Range as sheet_range
@@ -19,7 +19,7 @@ use Rattle.matrix.specs.Matrix.{write_matrix}
 use Rattle.matrix.specs.Demands.{rows_of_matrix, matrix_of_rows, Passes, PassesAt}
 
 -- t is the table of these values, and they are in the desk's range
-pub record TableOf (t : List ℕ) (ring : Ring) (rs : List Row) : Type 0 where
+pub record TableOf (t : List ℕ) (ring : Ring) (rs : List Demand) : Type 0 where
   pub text : t ≡ write_table ring rs
   pub range : InRange desk ring rs
 
@@ -54,19 +54,19 @@ pub record SomeMatrix (t : List ℕ) : Type 0 where
 -- ---- what is due
 
 -- the text that is due to a table
-pub record TableDue (due : Ring → List Row → List ℕ) (t text : List ℕ) : Type 0 where
+pub record TableDue (due : Ring → List Demand → List ℕ) (t text : List ℕ) : Type 0 where
   pub ring : Ring
-  pub rs : List Row
+  pub rs : List Demand
   pub of : TableOf t ring rs
   pub is : text ≡ due ring rs
 
 -- something is due
-pub record SomeDue (due : Ring → List Row → List ℕ) (t : List ℕ) : Type 0 where
+pub record SomeDue (due : Ring → List Demand → List ℕ) (t : List ℕ) : Type 0 where
   pub text : List ℕ
   pub is : TableDue due t text
 
 -- the sheet that the four rules give
-abbrev pub sheet_due : Ring → List Row → List ℕ
+abbrev pub sheet_due : Ring → List Demand → List ℕ
 sheet_due ring rs = write_sheet (plan ring rs)
 
 -- the text that is due where an accepted text is read and written again: the same bytes
@@ -90,7 +90,7 @@ pub data MatrixGiven (fibres : ℕ) (t : List ℕ) : Reason → ℕ → ℕ → 
 -- the text that is due to a table of which a matrix is written: rows of one pair add up, and no sum passes the limit
 pub record SumsDue (t text : List ℕ) : Type 0 where
   pub ring : Ring
-  pub rs : List Row
+  pub rs : List Demand
   pub of : TableOf t ring rs
   pub fit : (k : ℕ) → Passes desk rs k → ⊥
   pub is : text ≡ write_matrix (matrix_of_rows ring.nodes rs)
@@ -98,11 +98,11 @@ pub record SumsDue (t text : List ℕ) : Type 0 where
 -- t is a table of which a matrix is due: no sum passes the limit
 pub record SumsFit (t : List ℕ) : Type 0 where
   pub ring : Ring
-  pub rs : List Row
+  pub rs : List Demand
   pub of : TableOf t ring rs
   pub fit : (k : ℕ) → Passes desk rs k → ⊥
 
 -- what is given to a table of which a matrix is written: the table's own reasons; then 19, on the line of the first row at which a pair's sum passes 9,999, with byte 1
 pub data SumsGiven (t : List ℕ) : Reason → ℕ → ℕ → Type 0 where
   of_the_table : {reason : Reason} {line byte : ℕ} → Given desk t reason line byte → SumsGiven t reason line byte
-  of_sums : {ring : Ring} {rs : List Row} {line : ℕ} → TableOf t ring rs → PassesAt desk rs line → SumsGiven t SumTooMuch line 1
+  of_sums : {ring : Ring} {rs : List Demand} {line : ℕ} → TableOf t ring rs → PassesAt desk rs line → SumsGiven t SumTooMuch line 1

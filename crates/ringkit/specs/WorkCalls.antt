@@ -1,28 +1,27 @@
--- To believe: the text that is due to a working table, and what routing it gives: a sheet whose C line is the cut that the last accepted reply named.
+-- To believe: the text that is due to a working table, and what routing it gives: a sheet whose C line is the cut that the last accepted answer named.
 use Rattle.std.specs.Prelude.{ℕ, ◌≤◌, List, ◌≡◌, length}
 use Rattle.ring.specs.Limits.{desk}
-use Rattle.ring.specs.declared.types.Row.{Row}
+use Rattle.ring.specs.declared.types.Demand.{Demand}
 use Rattle.ring.specs.Sheet.{Sheet}
 use Rattle.table.specs.Table.{write_table}
 use Rattle.table.specs.Says.{Given}
 use Rattle.table.specs.declared.reason.Reason.{Reason}
 use Rattle.sheet.specs.Range.{longest}
 use Rattle.sheet.specs.WriteSheet.{write_sheet}
-use Rattle.work.specs.Places.{ring_in, plain_of}
+use Rattle.work.specs.Places.{plain_of}
 use Rattle.work.specs.Calls.{Call}
 use Rattle.work.specs.Sorted.{Sorted}
 use Rattle.work.specs.Made.{Made}
-use Rattle.work.specs.Played.{last_named}
+use Rattle.work.specs.Played.{Played}
 use Rattle.work.specs.declared.Work.{Work}
-use Rattle.ringkit.specs.Says.{Success, CallPromise}
+use Rattle.ringkit.specs.Says.{Answer, Success, CallPromise}
 use Rattle.ringkit.specs.Texts.{TableDue, sheet_due}
-use Rattle.ringkit.specs.declared.Reply.{Reply}
 
 -- the table of the rows held, by nodes, then by place
 pub record WorkDue (w : Work) (text : List ℕ) : Type 0 where
-  pub rs : List Row
+  pub rs : List Demand
   pub sorted : Sorted (plain_of w).places rs
-  pub is : text ≡ write_table (ring_in w) rs
+  pub is : text ≡ write_table w.ring rs
 
 -- but for 15, writing it has no refusal
 abbrev pub NoRefusal : Reason → ℕ → ℕ → Type 0
@@ -30,13 +29,13 @@ NoRefusal reason line byte = ⊥
 
 -- ---- routing what was written
 
-pub record RoutedCut (cs : List Call) (old new : List ℕ) (r : Reply) : Type 0 where
+pub record RoutedCut (cs : List Call) (w : Work) (old new : List ℕ) (r : Answer) : Type 0 where
   pub x : Sheet
   pub success : Success (write_sheet x) old new r
-  pub cut : x.cut ≡ last_named cs
+  pub cut : Played cs (plain_of w) x.cut
 
--- with room for the longest sheet, the table that is due to a struct made by calls is routed, and the cut is the one that the last accepted reply named
+-- with room for the longest sheet, the table that is due to a struct made by calls is routed, and the cut is the one that the last accepted answer named
 abbrev pub RoutedAsNamed : Type 0
 RoutedAsNamed =
-    (calls : List Call) (w : Work) → Made calls w → (text : List ℕ) → WorkDue w text → (old new : List ℕ) (r : Reply)
-    → CallPromise (TableDue sheet_due text) (Given desk text) old new r → longest desk ≤ length old → RoutedCut calls old new r
+    (calls : List Call) (w : Work) → Made calls w → (text : List ℕ) → WorkDue w text → (old new : List ℕ) (r : Answer)
+    → CallPromise (TableDue sheet_due text) (Given desk text) old new r → longest desk ≤ length old → RoutedCut calls w old new r

@@ -1,51 +1,24 @@
 // The call that judges a sheet by its values.
-ghost use Rattle.std.specs.Prelude.{◌≡◌};
-ghost use Rattle.ringkit.specs.Judging.{sheet_given, JudgePromise};
+ghost use Rattle.std.specs.Prelude.{◌≡◌, ◌≤◌, ◌+◌, IfErr};
+ghost use Rattle.ring.specs.Limits.{desk};
+ghost use Rattle.table.specs.Findings.{First};
+ghost use Rattle.judge.specs.Findings.{findings};
+ghost use Rattle.ringkit.specs.Judging.{sheet_given, Judged, JudgePromise};
 
 use judge::judge;
-use ring::{Cut, Link, Ring};
+use ring::{Figures, Link};
 use rows::SheetRow;
+use table::Finding;
 
-/// Reason 0 is success. `place` is that of the row that is at fault, or of the link, counted from 1; it is 0 where neither is, and on success.
-#[repr(C)]
-#[derive(Drop)]
-pub struct JudgeReply {
-    pub reason: u32,
-    pub place: u32,
-}
-
-/// Judges a sheet by its values, which may be any numbers: a ring of n nodes and so many fibres, its rows, the cut of links g and h with the across number that is
-/// said of it, its links, the unsplit peak and the size.
-pub fn ringkit_judge(
-    rows: &[SheetRow],
-    n: u32,
-    fibres: u32,
-    g: u32,
-    h: u32,
-    across: u32,
-    links: &[Link],
-    peak: u32,
-    size: u32,
-) -> JudgeReply
-    ensures promise { let x = sheet_given rows.now n fibres g h across links.now peak size in
-        JudgePromise x result }
-    ensures only { let x = sheet_given rows.now n fibres g h across links.now peak size in
-        (other : JudgeReply) → JudgePromise x other → other ≡ result }
+/// Judges a sheet by its values, which may be any numbers, and there may be any number of rows and links: accepted, or the first reason that holds, with its place, counted
+/// from 1: that of the row for 4 to 9 and 16, and that of the link for 11; 0 for all else, and for 11 where there are not as many links as the ring has.
+pub fn ringkit_judge(figures: Figures, rows: &[SheetRow], links: &[Link]) -> Result<(), Finding>
+    ensures promise { JudgePromise (sheet_given figures rows.now links.now) result }
+    ensures only { (other : Judged) → JudgePromise (sheet_given figures rows.now links.now) other →
+        other ≡ result }
+    // The place is at most that of the first row behind all that a sheet can have.
+    ensures place { IfErr result (λ f. f.place ≤ desk.rows + 1) }
+    ensures value { First (findings desk (sheet_given figures rows.now links.now)) result }
 {
-    let ring = Ring { nodes: n, fibres };
-    let cut = Cut {
-        g,
-        h,
-        number: across,
-    };
-    match judge(ring, &rows, cut, links, peak, size) {
-        Err(finding) => JudgeReply {
-            reason: finding.reason.number(),
-            place: finding.place as u32,
-        },
-        Ok(()) => JudgeReply {
-            reason: 0,
-            place: 0,
-        },
-    }
+    judge(figures, &rows, links)
 }

@@ -1,152 +1,154 @@
 // The calls of the working table: it is lent by `&mut`, and altered by functions by value.
-ghost use Rattle.std.specs.Prelude.{ℕ, ◌≡◌, ◌≤◌, List, [], ◌∷◌, length, take};
+ghost use Rattle.std.specs.Prelude.{ℕ, ◌≡◌, ◌≤◌, List, [], ◌∷◌, length, take, IsOk, IfOk};
 ghost use Rattle.ring.specs.Limits.{desk};
 ghost use Rattle.table.specs.Table.{table_room};
 ghost use Rattle.table.specs.Says.{Accepted};
 ghost use Rattle.work.specs.Calls.{Call, start, add, change, remove};
-ghost use Rattle.work.specs.Changes.{started_in, added_in, changed_in, removed_in, row_in};
+ghost use Rattle.work.specs.Changes.{placed_of, work_after, started_in, added_in, changed_in, removed_in, row_in};
 ghost use Rattle.work.specs.Kept.{Keeps, Answered};
 ghost use Rattle.work.specs.Promises.{WorkPromise, OnlyThis, RowPromise, OnlyRow};
 ghost use Rattle.work.specs.Made.{Made};
-ghost use Rattle.work.specs.Played.{AsPlayed, answer_after};
+ghost use Rattle.work.specs.Played.{AsPlayed, AnswerAfter};
 ghost use Rattle.ringkit.specs.Outcome.{Fills};
 ghost use Rattle.ringkit.specs.Says.{CallPromise, Only};
 ghost use Rattle.ringkit.specs.TableCalls.{work_written};
 ghost use Rattle.ringkit.specs.WorkCalls.{WorkDue, NoRefusal};
 
-use crate::{Reply, put_table};
-use ring::Ring;
+use crate::put_table;
+use ring::{Demand, Ring};
 use rows::Columns;
-use work::{RowReply, Work, WorkReply};
+use table::{Reason, Refusal};
+use work::{Changed, Placed, Work};
 
-pub fn ringkit_work_start(work: &mut Work, n: u32, fibres: u32) -> WorkReply
+// What a change answers, and the struct behind it: one that is refused leaves it as it was.
+#[tactic(auto, unfolding(work::specs::Changes::placed_of, work::specs::Changes::work_after))]
+fn settle(work: &mut Work, change: Result<Changed, Reason>) -> Result<Placed, Reason>
+    ensures value { result ≡ placed_of change }
+    ensures table { work.new ≡ work_after work.old change }
+{
+    let done = change?;
+    *work = done.work;
+    Ok(done.placed)
+}
+
+/// Makes the struct a table of this ring that holds no row, whatever bytes were in it. Answers place 0 and the cut of no rows. Refused with 3 where the nodes are outside 2 to 32, then with 20
+/// where the fibres are neither 2 nor 4; no byte of the struct is changed then.
+pub fn ringkit_work_start(work: &mut Work, ring: Ring) -> Result<Placed, Reason>
     // On every struct.
-    ensures promise { WorkPromise work.old (start n fibres) result work.new }
-    ensures only { OnlyThis work.old (start n fibres) result work.new }
-    ensures any { Answered work.old (start n fibres) result work.new }
-    ensures answered { result ≡ answer_after [] (start n fibres) }
-    ensures reply { result ≡ (started_in work.old n fibres).reply }
-    ensures table { work.new ≡ (started_in work.old n fibres).work }
+    ensures promise { WorkPromise work.old (start ring) result work.new }
+    ensures only { OnlyThis (WorkPromise work.old (start ring)) result work.new }
+    ensures any { Answered work.old (start ring) result work.new }
+    ensures answered { AnswerAfter [] (start ring) result }
+    ensures value { result ≡ placed_of (started_in ring) }
+    ensures table { work.new ≡ work_after work.old (started_in ring) }
 
     // Where it is accepted.
-    ensures made { result.reason ≡ 0 → Made (start n fibres ∷ []) work.new }
-    ensures kept { result.reason ≡ 0 → Keeps work.new }
-    ensures played { result.reason ≡ 0 → AsPlayed (start n fibres ∷ []) work.new }
+    ensures made { IfOk result (λ _. Made (start ring ∷ []) work.new) }
+    ensures kept { IfOk result (λ _. Keeps work.new) }
+    ensures played { IfOk result (λ _. AsPlayed (start ring ∷ []) work.new) }
 
     // On a struct made by calls, accepted or refused.
     ensures made_later { (calls : List Call) → Made calls work.old →
-        Made (start n fibres ∷ calls) work.new }
+        Made (start ring ∷ calls) work.new }
     ensures kept_later { (calls : List Call) → Made calls work.old → Keeps work.new }
     ensures played_later { (calls : List Call) → Made calls work.old →
-        AsPlayed (start n fibres ∷ calls) work.new }
+        AsPlayed (start ring ∷ calls) work.new }
 {
-    let done = work::started(*work, n, fibres);
-    *work = done.work;
-    done.reply
+    settle(work, work::started(ring))
 }
 
-pub fn ringkit_work_add(work: &mut Work, first: u32, second: u32, amount: u32) -> WorkReply
+/// Puts a row at the lowest free place; its amount is in units, at most 9,999. Answers that place, counted from 1 to 496, and the largest cut of the rows then held. Refused with the first that
+/// holds of 4, 5 and 7 against the row, and 21 where all places are taken; no byte of the struct is changed then.
+pub fn ringkit_work_add(work: &mut Work, row: Demand) -> Result<Placed, Reason>
     // On a struct made by calls.
     ensures promise { (calls : List Call) → Made calls work.old →
-        WorkPromise work.old (add first second amount) result work.new }
+        WorkPromise work.old (add row) result work.new }
     ensures only { (calls : List Call) → Made calls work.old →
-        OnlyThis work.old (add first second amount) result work.new }
-    ensures made { (calls : List Call) → Made calls work.old →
-        Made (add first second amount ∷ calls) work.new }
+        OnlyThis (WorkPromise work.old (add row)) result work.new }
+    ensures made { (calls : List Call) → Made calls work.old → Made (add row ∷ calls) work.new }
     ensures kept { (calls : List Call) → Made calls work.old → Keeps work.new }
     ensures played { (calls : List Call) → Made calls work.old →
-        AsPlayed (add first second amount ∷ calls) work.new }
+        AsPlayed (add row ∷ calls) work.new }
     ensures answered { (calls : List Call) → Made calls work.old →
-        result ≡ answer_after calls (add first second amount) }
+        AnswerAfter calls (add row) result }
 
     // On every struct.
-    ensures any { Answered work.old (add first second amount) result work.new }
-    ensures reply { result ≡ (added_in work.old first second amount).reply }
-    ensures table { work.new ≡ (added_in work.old first second amount).work }
+    ensures any { Answered work.old (add row) result work.new }
+    ensures value { result ≡ placed_of (added_in work.old row) }
+    ensures table { work.new ≡ work_after work.old (added_in work.old row) }
 {
-    let done = work::added(*work, first, second, amount);
-    *work = done.work;
-    done.reply
+    settle(work, work::added(*work, row))
 }
 
-pub fn ringkit_work_change(
-    work: &mut Work,
-    place: u32,
-    first: u32,
-    second: u32,
-    amount: u32,
-) -> WorkReply
+/// Puts a row in place of the one at a place, counted from 1; its amount is in units, at most 9,999. Answers the place and the largest cut of the rows then held. Refused with 22 where the place
+/// holds no row, then with the first that holds of 4, 5 and 7 against the row; no byte of the struct is changed then.
+pub fn ringkit_work_change(work: &mut Work, place: u32, row: Demand) -> Result<Placed, Reason>
     // On a struct made by calls.
     ensures promise { (calls : List Call) → Made calls work.old →
-        WorkPromise work.old (change place first second amount) result work.new }
+        WorkPromise work.old (change place row) result work.new }
     ensures only { (calls : List Call) → Made calls work.old →
-        OnlyThis work.old (change place first second amount) result work.new }
-    ensures made { (calls : List Call) → Made calls work.old →
-        Made (change place first second amount ∷ calls) work.new }
+        OnlyThis (WorkPromise work.old (change place row)) result work.new }
+    ensures made { (calls : List Call) → Made calls work.old → Made (change place row ∷ calls) work.new }
     ensures kept { (calls : List Call) → Made calls work.old → Keeps work.new }
     ensures played { (calls : List Call) → Made calls work.old →
-        AsPlayed (change place first second amount ∷ calls) work.new }
+        AsPlayed (change place row ∷ calls) work.new }
     ensures answered { (calls : List Call) → Made calls work.old →
-        result ≡ answer_after calls (change place first second amount) }
+        AnswerAfter calls (change place row) result }
 
     // On every struct.
-    ensures any { Answered work.old (change place first second amount) result work.new }
-    ensures reply { result ≡ (changed_in work.old place first second amount).reply }
-    ensures table { work.new ≡ (changed_in work.old place first second amount).work }
+    ensures any { Answered work.old (change place row) result work.new }
+    ensures value { result ≡ placed_of (changed_in work.old place row) }
+    ensures table { work.new ≡ work_after work.old (changed_in work.old place row) }
 {
-    let done = work::changed(*work, place, first, second, amount);
-    *work = done.work;
-    done.reply
+    settle(work, work::changed(*work, place, row))
 }
 
-pub fn ringkit_work_remove(work: &mut Work, place: u32) -> WorkReply
+/// Takes the row off a place, counted from 1, which is free from then on. Answers the place and the largest cut of the rows then held. Refused with 22 where the place holds no row; no byte of the
+/// struct is changed then.
+pub fn ringkit_work_remove(work: &mut Work, place: u32) -> Result<Placed, Reason>
     // On a struct made by calls.
     ensures promise { (calls : List Call) → Made calls work.old →
         WorkPromise work.old (remove place) result work.new }
     ensures only { (calls : List Call) → Made calls work.old →
-        OnlyThis work.old (remove place) result work.new }
-    ensures made { (calls : List Call) → Made calls work.old →
-        Made (remove place ∷ calls) work.new }
+        OnlyThis (WorkPromise work.old (remove place)) result work.new }
+    ensures made { (calls : List Call) → Made calls work.old → Made (remove place ∷ calls) work.new }
     ensures kept { (calls : List Call) → Made calls work.old → Keeps work.new }
     ensures played { (calls : List Call) → Made calls work.old →
         AsPlayed (remove place ∷ calls) work.new }
     ensures answered { (calls : List Call) → Made calls work.old →
-        result ≡ answer_after calls (remove place) }
+        AnswerAfter calls (remove place) result }
 
     // On every struct.
     ensures any { Answered work.old (remove place) result work.new }
-    ensures reply { result ≡ (removed_in work.old place).reply }
-    ensures table { work.new ≡ (removed_in work.old place).work }
+    ensures value { result ≡ placed_of (removed_in work.old place) }
+    ensures table { work.new ≡ work_after work.old (removed_in work.old place) }
 {
-    let done = work::removed(*work, place);
-    *work = done.work;
-    done.reply
+    settle(work, work::removed(*work, place))
 }
 
-pub fn ringkit_work_row(work: &Work, place: u32) -> RowReply
+/// The row at a place, counted from 1, its amount in units. Refused with 22 where the place holds none, as 0 and all above 496 do.
+pub fn ringkit_work_row(work: &Work, place: u32) -> Result<Demand, Reason>
     // On every struct.
     ensures promise { RowPromise work.now place result }
     ensures only { OnlyRow work.now place result }
     ensures value { result ≡ row_in work.now place }
 {
-    work::row_of(*work, place)
+    work::row_of(work, place)
 }
 
 // Writes the rows held, by nodes, then by place, at the start of a buffer that has room for them.
-fn written(work: &Work, buffer: &mut [u8]) -> Reply
+fn written(work: &Work, buffer: &mut [u8]) -> Result<usize, Refusal>
     ensures promise { CallPromise (WorkDue work.now) NoRefusal buffer.old buffer.new result }
     ensures value { Fills (work_written work.now) buffer.old buffer.new result }
 {
-    let ring = Ring {
-        nodes: work.n,
-        fibres: work.fibres,
-    };
     let mut rows = Columns::new();
     work::sorted(work, &mut rows);
-    put_table(buffer, ring, &rows)
+    put_table(buffer, work.ring, &rows)
 }
 
-pub fn ringkit_work_write(work: &Work, buffer: &mut [u8]) -> Reply
+/// Writes the table of the rows held, by nodes, then by place, at the start of the buffer. Answers its length, at most `TABLE_BYTES` of a table that calls made. Where the buffer
+/// is too short the refusal is 15, with line and byte 0, and the buffer stays as it was; there is no other.
+pub fn ringkit_work_write(work: &Work, buffer: &mut [u8]) -> Result<usize, Refusal>
     // On every struct.
     ensures promise { CallPromise (WorkDue work.now) NoRefusal buffer.old buffer.new result }
     ensures only { Only (CallPromise (WorkDue work.now) NoRefusal buffer.old) buffer.new result }
@@ -154,9 +156,9 @@ pub fn ringkit_work_write(work: &Work, buffer: &mut [u8]) -> Reply
 
     // On a struct made by calls.
     ensures accepted { (calls : List Call) → Made calls work.now →
-        result.reason ≡ 0 → Accepted desk (take result.length buffer.new) }
+        IfOk result (λ length. Accepted desk (take length buffer.new)) }
     ensures room { (calls : List Call) → Made calls work.now →
-        table_room desk ≤ length buffer.old → result.reason ≡ 0 }
+        table_room desk ≤ length buffer.old → IsOk result }
 {
     written(work, buffer)
 }

@@ -1,7 +1,7 @@
 #![tactic(auto)]
 // Reads a table on standard input and writes its sheet, or the line of its refusal.
 use ring::BYTES;
-use ringkit::{RefusalLine, SHEET_BYTES};
+use ringkit::SHEET_BYTES;
 use std::io::{self, Read, Write};
 
 // One byte more than a table can have, so that a longer text is seen to be longer.
@@ -9,13 +9,10 @@ const MOST: u64 = BYTES as u64 + 1;
 
 // Plans in memory that is lent, which has room for every sheet.
 fn plan(rt: &impl Print, table: &[u8], sheet: &mut [u8]) -> io::Result<()> {
-    let reply = ringkit::ringkit_route(table, sheet);
-    if reply.reason != 0 {
-        let refusal = RefusalLine::of(&reply);
-        return rt.println(format_args!("{refusal}"));
+    match ringkit::ringkit_route(table, sheet) {
+        Ok(length) => io::writer(rt).write_all(&sheet[..length]),
+        Err(refusal) => rt.println(format_args!("{refusal}")),
     }
-    let length = reply.length.min(sheet.len());
-    io::writer(rt).write_all(&sheet[..length])
 }
 
 fn main(rt: HostRuntime) -> io::Result<()> {

@@ -15,11 +15,12 @@ use Rattle.ring.specs.declared.types.Sent.{Sent}
 use Rattle.ring.specs.Sheet.{sents, demands}
 use Rattle.ring.proofs.Lists.{each, each-of-map}
 use Rattle.weight.proofs.Weighing.{each-at, total-snoc, total-few}
-use Rattle.ring.specs.declared.types.Row.{Row}
+use Rattle.ring.specs.declared.types.Demand.{Demand}
 use Rattle.ring.specs.Cut.{part, across}
 use Rattle.ring.proofs.Across.{one_link}
 use Rattle.ring.proofs.Totals.{part_small}
-use Rattle.across.specs.Triangle.{most_links, at}
+use Rattle.ring.specs.Limits.{desk}
+use Rattle.across.specs.Triangle.{at}
 use Rattle.across.specs.Step.{raised, lowered, step_row}
 use Rattle.across.specs.Lines.{Pairwise}
 use Rattle.across.proofs.Kept.{row-at, row-size}
@@ -27,7 +28,7 @@ use Rattle.weight.specs.Limits.{most_amount, most_rows, most_load}
 use Rattle.router.specs.Arrays.{pair_at, Triangle, DemandFits, DemandsFit}
 
 -- the number of every pair g <= h: that of a link with itself is 0
-pub pair_is : (n : ℕ) (rs : List Row) (triangle : List ℕ) → Triangle n rs triangle → (g h : ℕ) → 1 ≤ g → g ≤ h → h ≤ n → pair_at triangle g h ≡ across rs g h
+pub pair_is : (n : ℕ) (rs : List Demand) (triangle : List ℕ) → Triangle n rs triangle → (g h : ℕ) → 1 ≤ g → g ≤ h → h ≤ n → pair_at triangle g h ≡ across rs g h
 pair_is n rs triangle s g h a b c =
     elim (ℕ_discrete g h) [
       | yes q ↦ rw (eq-eqb g h q, q) (sym (one_link rs h))
@@ -36,7 +37,7 @@ pair_is n rs triangle s g h a b c =
 
 -- ---- one row
 
-module _ (n : ℕ) (r : Row) (rs : List Row) (old : List ℕ) (few : n ≤ most_links) where
+module _ (n : ℕ) (r : Demand) (rs : List Demand) (old : List ℕ) (few : n ≤ desk.nodes) where
   pub taken-off : Triangle n (r ∷ rs) old → Pairwise n (λ g h. at old g h ≤ most_load) → Triangle n rs (step_row lowered n r old)
   unfolding across
   taken-off s small =
@@ -53,22 +54,22 @@ pub record Filled (n : ℕ) (rs : List Routed) (triangle : List ℕ) (t : ℕ) :
   pub so_far : Triangle n (demands (sents (take t rs))) triangle
 
 -- a row behind others adds what it adds before them
-more-across : (n : ℕ) (rs : List Routed) (r : Routed) (g h : ℕ) → across (demands (sents (rs ++ r ∷ []))) g h ≡ across (demands (sents rs)) g h + part r.sent.row g h
+more-across : (n : ℕ) (rs : List Routed) (r : Routed) (g h : ℕ) → across (demands (sents (rs ++ r ∷ []))) g h ≡ across (demands (sents rs)) g h + part r.sent.demand g h
 unfolding across
-more-across n rs r g h = total-snoc {share = λ (r : Routed). part r.sent.row g h} {sum = λ (rs : List Routed). across (demands (sents rs)) g h} (record { none = refl; more = λ r rs. refl }) rs r
+more-across n rs r g h = total-snoc {share = λ (r : Routed). part r.sent.demand g h} {sum = λ (rs : List Routed). across (demands (sents rs)) g h} (record { none = refl; more = λ r rs. refl }) rs r
 
-across-most : (rs : List Routed) (t g h n : ℕ) → Each (λ (r : Routed). DemandFits n r.sent.row) rs → across (demands (sents (take t rs))) g h ≤ most_amount * t
+across-most : (rs : List Routed) (t g h n : ℕ) → Each (λ (r : Routed). DemandFits n r.sent.demand) rs → across (demands (sents (take t rs))) g h ≤ most_amount * t
 unfolding across
 across-most rs t g h n e =
-    total-few {share = λ (r : Routed). part r.sent.row g h} {sum = λ (rs : List Routed). across (demands (sents rs)) g h} (record { none = refl; more = λ r rs. refl })
-    (each (λ r f. omega (arith, part_small r.sent.row g h, f.small)) e) t
+    total-few {share = λ (r : Routed). part r.sent.demand g h} {sum = λ (rs : List Routed). across (demands (sents rs)) g h} (record { none = refl; more = λ r rs. refl })
+    (each (λ r f. omega (arith, part_small r.sent.demand g h, f.small)) e) t
 
 module _ (n : ℕ) (rs : List Routed) (fit : DemandsFit n (demands (sents rs))) where
-  fits-all : Each (λ (r : Routed). DemandFits n r.sent.row) rs
-  fits-all = each-of-map (λ (r : Routed). r.sent) rs (each-of-map (λ (s : Sent). s.row) (sents rs) fit.each)
+  fits-all : Each (λ (r : Routed). DemandFits n r.sent.demand) rs
+  fits-all = each-of-map (λ (r : Routed). r.sent) rs (each-of-map (λ (s : Sent). s.demand) (sents rs) fit.each)
 
   few : length rs ≤ most_rows
-  few = omega (arith, length-map (sents rs) (λ (s : Sent). s.row), length-map rs (λ (r : Routed). r.sent), fit.few)
+  few = omega (arith, length-map (sents rs) (λ (s : Sent). s.demand), length-map rs (λ (r : Routed). r.sent), fit.few)
 
   pub fill_start : (triangle : List ℕ) → Triangle n [] triangle → Filled n rs triangle 0
   fill_start triangle s = record { high = omega arith; so_far = s }
@@ -77,10 +78,10 @@ module _ (n : ℕ) (rs : List Routed) (fit : DemandsFit n (demands (sents rs))) 
     in-list : t < length rs
     in-list = slice_get_within rs t r g
 
-    pub fill-row : DemandFits n r.sent.row
+    pub fill-row : DemandFits n r.sent.demand
     fill-row = rw (get_or_from_slice_get rs t r r g) at (each-at fits-all t r in-list)
 
-    pub fill-turn : (new : List ℕ) → new ≡ step_row raised n r.sent.row triangle → Filled n rs new (t + 1)
+    pub fill-turn : (new : List ℕ) → new ≡ step_row raised n r.sent.demand triangle → Filled n rs new (t + 1)
     unfolding across
     fill-turn new e =
         record {
@@ -88,10 +89,10 @@ module _ (n : ℕ) (rs : List Routed) (fit : DemandsFit n (demands (sents rs))) 
           so_far =
               rw (take_more rs t r in-list, get_or_from_slice_get rs t r r g, e)
               (record {
-                size = row-size raised n r.sent.row triangle;
+                size = row-size raised n r.sent.demand triangle;
                 is = λ a b p q s.
                     omega
-                    (arith, row-at raised n r.sent.row triangle fit.links a b p q s, f.so_far.is a b p q s, more-across n (take t rs) r a b, part_small r.sent.row a b, fill-row.small, across-most rs t a b n fits-all, in-list, few);
+                    (arith, row-at raised n r.sent.demand triangle fit.links a b p q s, f.so_far.is a b p q s, more-across n (take t rs) r a b, part_small r.sent.demand a b, fill-row.small, across-most rs t a b n fits-all, in-list, few);
               });
         }
 

@@ -7,14 +7,14 @@ ghost use Rattle.router.specs.Arrays.{DemandsFit, Triangle};
 use across::{PAIRS, put_row};
 use rows::Rows;
 
-// The triangle of rows, from an empty one.
-pub(crate) fn fill<R: Rows>(triangle: &mut [u32; PAIRS], n: usize, rows: &R)
+/// The triangle of the across numbers of rows on a ring of n nodes, from an empty one.
+pub fn fill<R: Rows>(triangle: &mut [u32; PAIRS], n: usize, rows: &R)
     requires fit { DemandsFit n (demands (sents (R.rows rows.now))) }
     requires triangle { Triangle n [] triangle.old }
     ensures { Triangle n (demands (sents (R.rows rows.now))) triangle.new }
 {
     for k in 0..rows.count() {
-        let demand = rows.row(k).sent.row;
+        let demand = rows.row(k).sent.demand;
         put_row(triangle, n, demand);
     }
 }

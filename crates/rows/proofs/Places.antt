@@ -1,12 +1,13 @@
 -- Rows in columns, place by place: what a read gives, and what a write makes of them.
-use Rattle.std.proofs.Common.{◌≡◌, ℕ, zero, suc, ◌+◌, ◌<◌, [], ◌∷◌, ◌++◌, length, get_or, set, sym, ap, ◌∙◌, arith}
+use Rattle.std.proofs.Common.{◌≡◌, ℕ, zero, suc, ◌+◌, ◌<◌, ◌≤◌, [], ◌∷◌, ◌++◌, length, get_or, set, sym, ap, ◌∙◌, arith}
 use Rattle.std.proofs.lemmas.List.{same_lists, get_or-set_same, get_or-set_other, length-set}
 use native.Mathlib.Decide.{ℕ_discrete}
 use Rattle.ring.specs.declared.types.Routed.{Routed}
 use Rattle.ring.specs.Lists.{listed}
 use Rattle.ring.proofs.Listed.{listed-length, listed-snoc, listed_same}
 use Rattle.rows.specs.declared.columns.Columns.TheInside.{Inside}
-use Rattle.rows.specs.Columns.{row_of, rows_of, Sized}
+use Rattle.rows.specs.declared.columns.Arrays.{Arrays}
+use Rattle.rows.specs.Columns.{row_of, rows_of, Sized, row_written}
 use Rattle.ring.specs.Limits.{desk}
 use Rattle.ring.specs.declared.types.Way.TheVariants.{Front}
 
@@ -25,37 +26,42 @@ row-read c k d l = at-listed (row_of c) 0 c.count k d l ∙ (let e : 0 + k ≡ k
 -- ---- another row at a place
 
 abbrev pub with_row : Inside → ℕ → Routed → Inside
-with_row c k r =
-    record {
-      count = c.count;
-      first = set c.first k r.sent.row.first;
-      second = set c.second k r.sent.row.second;
-      amount = set c.amount k r.sent.row.amount;
-      front = set c.front k r.sent.front;
-      back = set c.back k r.sent.back;
-      way = set c.way k r.way;
-    }
+with_row c k r = record { count = c.count; arrays = row_written c.arrays k r }
 
 module _ (c : Inside) (k : ℕ) (r : Routed) (s : Sized c) (l : k < desk.rows) where
   here : row_of (with_row c k r) k ≡ r
   here =
-      let a = get_or-set_same c.first k r.sent.row.first 0 (omega (arith, s.firsts)) in
-      let b = get_or-set_same c.second k r.sent.row.second 0 (omega (arith, s.seconds)) in
-      let d = get_or-set_same c.amount k r.sent.row.amount 0 (omega (arith, s.amounts)) in
-      let e = get_or-set_same c.front k r.sent.front 0 (omega (arith, s.fronts)) in
-      let f = get_or-set_same c.back k r.sent.back 0 (omega (arith, s.backs)) in
-      let g = get_or-set_same c.way k r.way Front (omega (arith, s.ways)) in
-      λ i. record { sent = record { row = record { first = a i; second = b i; amount = d i }; front = e i; back = f i }; way = g i }
+      let a = get_or-set_same c.arrays.first k r.sent.demand.first 0 (omega (arith, s.firsts)) in
+      let b = get_or-set_same c.arrays.second k r.sent.demand.second 0 (omega (arith, s.seconds)) in
+      let d = get_or-set_same c.arrays.amount k r.sent.demand.amount 0 (omega (arith, s.amounts)) in
+      let e = get_or-set_same c.arrays.front k r.sent.front 0 (omega (arith, s.fronts)) in
+      let f = get_or-set_same c.arrays.back k r.sent.back 0 (omega (arith, s.backs)) in
+      let g = get_or-set_same c.arrays.way k r.way Front (omega (arith, s.ways)) in
+      λ i. record { sent = record { demand = record { first = a i; second = b i; amount = d i }; front = e i; back = f i }; way = g i }
 
   other : (x : ℕ) → (x ≡ k → ⊥) → row_of (with_row c k r) x ≡ row_of c x
   other x n =
-      let a = get_or-set_other c.first k x r.sent.row.first 0 n in
-      let b = get_or-set_other c.second k x r.sent.row.second 0 n in
-      let d = get_or-set_other c.amount k x r.sent.row.amount 0 n in
-      let e = get_or-set_other c.front k x r.sent.front 0 n in
-      let f = get_or-set_other c.back k x r.sent.back 0 n in
-      let g = get_or-set_other c.way k x r.way Front n in
-      λ i. record { sent = record { row = record { first = a i; second = b i; amount = d i }; front = e i; back = f i }; way = g i }
+      let a = get_or-set_other c.arrays.first k x r.sent.demand.first 0 n in
+      let b = get_or-set_other c.arrays.second k x r.sent.demand.second 0 n in
+      let d = get_or-set_other c.arrays.amount k x r.sent.demand.amount 0 n in
+      let e = get_or-set_other c.arrays.front k x r.sent.front 0 n in
+      let f = get_or-set_other c.arrays.back k x r.sent.back 0 n in
+      let g = get_or-set_other c.arrays.way k x r.way Front n in
+      λ i. record { sent = record { demand = record { first = a i; second = b i; amount = d i }; front = e i; back = f i }; way = g i }
+
+  -- as large as they were, however many rows are counted
+  pub row-sized : (n : ℕ) (new : Arrays) → n ≤ desk.rows → new ≡ row_written c.arrays k r → Sized (record { count = n; arrays = new })
+  row-sized n new few is =
+      rw is
+      record {
+        few = few;
+        firsts = length-set _ _ _ ∙ s.firsts;
+        seconds = length-set _ _ _ ∙ s.seconds;
+        amounts = length-set _ _ _ ∙ s.amounts;
+        fronts = length-set _ _ _ ∙ s.fronts;
+        backs = length-set _ _ _ ∙ s.backs;
+        ways = length-set _ _ _ ∙ s.ways;
+      }
 
   pub row-put : k < c.count → rows_of (with_row c k r) ≡ set (rows_of c) k r
   row-put m = same_lists (rows_of (with_row c k r)) (set (rows_of c) k r) (length_rows (with_row c k r) ∙ sym (length-set (rows_of c) k r ∙ length_rows c)) place
@@ -72,7 +78,7 @@ module _ (c : Inside) (k : ℕ) (r : Routed) (s : Sized c) (l : k < desk.rows) w
           ]
 
   -- one row more
-  pub row-more : k ≡ c.count → rows_of (record { count = k + 1; first = (with_row c k r).first; second = (with_row c k r).second; amount = (with_row c k r).amount; front = (with_row c k r).front; back = (with_row c k r).back; way = (with_row c k r).way }) ≡ rows_of c ++ r ∷ []
+  pub row-more : k ≡ c.count → rows_of (record { count = k + 1; arrays = row_written c.arrays k r }) ≡ rows_of c ++ r ∷ []
   row-more e =
       let z : 0 + k ≡ k = omega arith in
       listed-snoc (row_of (with_row c k r)) 0 k ∙

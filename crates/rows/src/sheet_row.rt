@@ -3,7 +3,7 @@ ghost use Rattle.std.specs.Prelude.{◌≡◌, map};
 ghost use Rattle.rows.specs.SheetRow.{routed_row};
 
 use crate::Rows;
-use ring::{Routed, Row, Sent, Way};
+use ring::{Demand, Routed, Sent, Way};
 
 /// A row as it is routed: its two nodes; its amount in units; what it sends over its front and over its back, in halves of a unit; and its way, which is F where the
 /// number is 0 and B where it is any other.
@@ -18,22 +18,22 @@ pub struct SheetRow {
     pub way: u32,
 }
 
-impl SheetRow {
-    /// The same row, with its way told by name.
-    pub fn routed(self) -> Routed
-        ensures { result ≡ routed_row self }
-    {
+/// The same row, with its way told by name.
+impl From<SheetRow> for Routed {
+    ghost from_gives = { λ row r. r ≡ routed_row row };
+
+    fn from(row: SheetRow) -> Routed {
         Routed {
             sent: Sent {
-                row: Row {
-                    first: self.first,
-                    second: self.second,
-                    amount: self.amount,
+                demand: Demand {
+                    first: row.first,
+                    second: row.second,
+                    amount: row.amount,
                 },
-                front: self.front,
-                back: self.back,
+                front: row.front,
+                back: row.back,
             },
-            way: Way::of(self.way),
+            way: Way::of(row.way),
         }
     }
 }
@@ -46,6 +46,6 @@ impl<'a> Rows for &'a [SheetRow] {
     }
 
     fn row(&self, k: usize) -> Routed {
-        self[k].routed()
+        Routed::from(self[k])
     }
 }

@@ -19,7 +19,7 @@ use Rattle.text.specs.ReadLine.{Reading}
 use Rattle.text.specs.Shapes.{ring_shape, sent_shape}
 use Rattle.text.specs.declared.field.Field.{Field}
 use Rattle.table.specs.Lines.{lines}
-use Rattle.table.specs.Judge.{judge_ring}
+use Rattle.table.specs.Judge.{ring_verdict}
 use Rattle.table.specs.Fields.{field_of, node_field}
 use Rattle.table.specs.Faults.{found, ring_found, row_found}
 use Rattle.table.specs.Says.{LineIs, RingIs, line_faulty}
@@ -60,7 +60,7 @@ module _ (limits : Limits) {t : List ℕ} {line : ℕ} where
 
 -- ---- R n fibres
 
-ring-first : (limits : Limits) (ring : Ring) → First (AgainstRing limits ring) (judge_ring limits ring)
+ring-first : (limits : Limits) (ring : Ring) → First (AgainstRing limits ring) (ring_verdict limits ring)
 ring-first limits ring = record { holds = go (ring-judged limits ring); least = λ s a. ring-least (ring-judged limits ring) a }
   where
     go : {v : Verdict} → RingJudged limits ring v → HoldsAs (AgainstRing limits ring) v
@@ -97,7 +97,7 @@ module _ (limits : Limits) {t l : List ℕ} where
         let is : CutIs t line (cut_in (0 ∷ g ∷ h ∷ m ∷ [])) = record { text = subst (LineIs (lines t) line) e here; pair = (u, v); number = w } in
         goes_on (λ s h. none-of-cut is (said_here at (said s h))) (behind_cut at is)
     cut-turned at none fault (no_cut none' fault') =
-        stops (unfit-first limits at (none, λ c k. none' c.g c.h c.number (line-one here k.text refl) k.pair.0 k.pair.1 k.number))
+        stops (unfit-first limits at (none, λ c k. none' c.g c.h c.across (line-one here k.text refl) k.pair.0 k.pair.1 k.number))
         (row_or_cut_due at (line_faulty here (neither fault fault')))
 
     -- D i j amount front back F-or-B, else C

@@ -24,7 +24,7 @@ use Rattle.sheet.proofs.SheetLines.{way_small, way_back, SentSpelled, sent-in-ra
 -- ---- one reading
 
 pub sent-spelled : {t : List ℕ} {line : ℕ} {r : Routed} → SentIs t line r
-    → SentSpelled r.sent.row.first r.sent.row.second r.sent.row.amount r.sent.front r.sent.back (way_number r.way)
+    → SentSpelled r.sent.demand.first r.sent.demand.second r.sent.demand.amount r.sent.front r.sent.back (way_number r.way)
 sent-spelled {r} s =
     record { first = s.nodes.0; second = s.nodes.1; amount = s.amount; front = s.halves.0; back = s.halves.1; way = way_small r.way }
 

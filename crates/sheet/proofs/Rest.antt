@@ -11,7 +11,7 @@ use Rattle.ring.specs.declared.types.Cut.{Cut}
 use Rattle.ring.specs.Limits.{Limits}
 use Rattle.ring.specs.Ring.{ring_of}
 use Rattle.ring.specs.declared.types.Ring.{Ring}
-use Rattle.ring.specs.Row.{row}
+use Rattle.ring.specs.Demand.{demand}
 use Rattle.ring.specs.Lists.{Each, none, more}
 use Rattle.ring.specs.declared.types.Routed.{Routed}
 use Rattle.ring.specs.Sheet.{Sheet}
@@ -26,7 +26,7 @@ use Rattle.text.specs.declared.field.Field.{Field}
 use Rattle.text.specs.declared.field.Field.TheVariants.{Letter, Number}
 use Rattle.text.proofs.Apart.{clash}
 use Rattle.table.specs.Lines.{lines}
-use Rattle.table.specs.Judge.{judge_ring}
+use Rattle.table.specs.Judge.{ring_verdict}
 use Rattle.table.specs.Faults.{found, ring_found, row_found}
 use Rattle.table.specs.declared.fault.Fault.{Fault}
 use Rattle.std.specs.Prelude.{Option, Some, None, Ok}
@@ -56,9 +56,9 @@ pub data Rest (limits : Limits) (x : Sheet) : State → List ℕ → Type 0 wher
       → Rest limits x (links ring rs c (ks ++ link_of k s u ∷ [])) text → Rest limits x (links ring rs c ks) (link_line k s u ++ text)
   rest_cut : {ring : Ring} {rs : List Routed} {g h m : ℕ} {text : List ℕ} → g < limit → h < limit → m < limit
       → Rest limits x (links ring rs (cut_of g h m) []) text → Rest limits x (rows ring rs) (cut_line g h m ++ text)
-  rest_row : {ring : Ring} {rs : List Routed} {i j d f k w : ℕ} {text : List ℕ} → SentSpelled i j d f k w → judge_next limits ring.nodes rs (row i j d) ≡ Ok tt
+  rest_row : {ring : Ring} {rs : List Routed} {i j d f k w : ℕ} {text : List ℕ} → SentSpelled i j d f k w → judge_next limits ring.nodes rs (demand i j d) ≡ Ok tt
       → Rest limits x (rows ring (rs ++ routed_of i j d f k w ∷ [])) text → Rest limits x (rows ring rs) (sent_line i j d f k w ++ text)
-  rest_ring : {ring : Ring} {text : List ℕ} → ring.nodes < limit → ring.fibres < limit → judge_ring limits ring ≡ Ok tt → Rest limits x (rows ring []) text
+  rest_ring : {ring : Ring} {text : List ℕ} → ring.nodes < limit → ring.fibres < limit → ring_verdict limits ring ≡ Ok tt → Rest limits x (rows ring []) text
       → Rest limits x start (ring_line ring.nodes ring.fibres ++ text)
 
 -- ---- a line that leads on
@@ -93,7 +93,7 @@ module _ (limits : Limits) (x : Sheet) where
     row-leads : (l : List ℕ) {y z : Reading} → SentRead l y → CutRead l z → Leads (rows ring rs) l (row_turn limits ring rs y z)
     unfolding row_turn row_found
     row-leads l (is_sent {i} {j} {d} {f} {b = k} {w} e spelled) other next t text rest =
-        let u = unless-on sent_shape (0 ∷ i ∷ j ∷ d ∷ f ∷ k ∷ w ∷ []) (row_found limits ring.nodes (length rs) (last_of rs) (row i j d)) (rows ring (rs ++ routed_of i j d f k w ∷ [])) next t in
+        let u = unless-on sent_shape (0 ∷ i ∷ j ∷ d ∷ f ∷ k ∷ w ∷ []) (row_found limits ring.nodes (length rs) (last_of rs) (demand i j d)) (rows ring (rs ++ routed_of i j d f k w ∷ [])) next t in
         rw e (rest_row spelled (found-none _ _ u.0) (subst (λ s. Rest limits x s text) (sym u.1) rest))
     row-leads l (no_sent {p} misread fault) other next t text rest = cut-leads l p other next t text rest
 

@@ -9,16 +9,16 @@ use Rattle.ring.specs.Limits.{Limits}
 use Rattle.ring.specs.declared.types.Ring.{Ring}
 use Rattle.ring.specs.LineSize.{IsFibres}
 use Rattle.ring.specs.Lists.{Each, none, more}
-use Rattle.ring.specs.Row.{row}
+use Rattle.ring.specs.Demand.{demand}
 use Rattle.ring.specs.declared.types.Routed.{Routed}
-use Rattle.ring.specs.Sheet.{Sheet, sents, demands}
+use Rattle.ring.specs.Sheet.{Sheet, sents, demands, figures_of}
 use Rattle.ring.specs.declared.types.Link.{Link}
 use Rattle.text.specs.Number.{limit}
 use Rattle.text.specs.Shapes.{ring_line, sent_line, cut_line, link_line, last_line}
-use Rattle.std.specs.Prelude.{Ok}
+use Rattle.std.specs.Prelude.{Ok, Some, None}
 use Rattle.table.proofs.Judged.{RingJudged, right_ring, ring-judged, RowJudged, row_fine, row-judged}
 use Rattle.table.proofs.FineRows.{FineRows, no_row, fine_row}
-use Rattle.sheet.specs.WriteSheet.{routed_line, load_line, lines_of, figures_of, end_text, write_sheet}
+use Rattle.sheet.specs.WriteSheet.{routed_line, load_line, lines_of, end_text, write_sheet}
 use Rattle.sheet.specs.Range.{RowSpelled, LinkSpelled, Spelled}
 use Rattle.sheet.specs.Read.{last_of}
 use Rattle.sheet.specs.Says.{start, rows, links, end}
@@ -88,9 +88,9 @@ module _ (x : Sheet) where
     later : List Routed
     same : x.rows ≡ rs ++ later
     is_text : text ≡ lines_of routed_line later ++ end_text (figures_of x) x.links
-    fine : FineRows limits ring.nodes (length rs) (last_of rs).first (last_of rs).second (demands (sents later))
+    fine : FineRows limits ring.nodes (length rs) (last_of rs) (demands (sents later))
     halves : Each RowSpelled later
-    cut : (x.cut.g < limit) × ((x.cut.h < limit) × (x.cut.number < limit))
+    cut : (x.cut.g < limit) × ((x.cut.h < limit) × (x.cut.across < limit))
     behind : FromLinks ring x.rows x.cut [] (lines_of load_line x.links ++ last_line x.peak x.size)
 
   cut-from : {limits : Limits} {ring : Ring} {rs : List Routed} {g h m : ℕ} {text : List ℕ} → g < limit → h < limit → m < limit
@@ -114,7 +114,7 @@ module _ (x : Sheet) where
       }
 
   -- what holds of a row that nothing is found against
-  row_from : {limits : Limits} {ring : Ring} {rs : List Routed} {i j d f k w : ℕ} {text : List ℕ} → SentSpelled i j d f k w → judge_next limits ring.nodes rs (row i j d) ≡ Ok tt
+  row_from : {limits : Limits} {ring : Ring} {rs : List Routed} {i j d f k w : ℕ} {text : List ℕ} → SentSpelled i j d f k w → judge_next limits ring.nodes rs (demand i j d) ≡ Ok tt
       → FromRows limits ring (rs ++ routed_of i j d f k w ∷ []) text → FromRows limits ring rs (sent_line i j d f k w ++ text)
   unfolding lines_of
   row_from {limits} {ring} {rs} {i} {j} {d} {f} {k} {w} {text} spelled v from =
@@ -124,7 +124,7 @@ module _ (x : Sheet) where
         is_text =
             ap (λ (t : List ℕ). sent_line i j d f k w ++ t) from.is_text ∙ ap (λ (t : List ℕ). t ++ (lines_of routed_line from.later ++ end_text (figures_of x) x.links)) (sym (way-spelled i j d f k w))
             ∙ sym (append_assoc (routed_line r) (lines_of routed_line from.later) (end_text (figures_of x) x.links));
-        fine = fine (rw v at (row-judged limits ring.nodes (length rs) (last_of rs).first (last_of rs).second i j d));
+        fine = fine (rw v at (row-judged limits ring.nodes (length rs) (last_of rs) (demand i j d)));
         halves = more (record { front = spelled.front; back = spelled.back }) from.halves;
         cut = from.cut;
         behind = from.behind;
@@ -133,9 +133,9 @@ module _ (x : Sheet) where
       r : Routed
       r = routed_of i j d f k w
 
-      fine : RowJudged limits ring.nodes (length rs) (last_of rs).first (last_of rs).second i j d (Ok tt) → FineRows limits ring.nodes (length rs) (last_of rs).first (last_of rs).second (demands (sents (r ∷ from.later)))
+      fine : RowJudged limits ring.nodes (length rs) (last_of rs) (demand i j d) (Ok tt) → FineRows limits ring.nodes (length rs) (last_of rs) (demands (sents (r ∷ from.later)))
       fine (row_fine on up room most) =
-          fine_row on up room most (subst (λ m. FineRows limits ring.nodes m i j (demands (sents from.later))) (length-append rs (r ∷ [])) (rw (last_more rs r) at from.fine))
+          fine_row on up room most (subst (λ m. FineRows limits ring.nodes m (Some (demand i j d)) (demands (sents from.later))) (length-append rs (r ∷ [])) (rw (last_more rs r) at from.fine))
 
   from-rows : {limits : Limits} {ring : Ring} {rs : List Routed} {text : List ℕ} → Rest limits x (rows ring rs) text → FromRows limits ring rs text
   from-rows (rest_cut p q r rest) = cut-from p q r (from-links (omega arith) rest)
@@ -149,7 +149,7 @@ pub record IsSheet (limits : Limits) (t : List ℕ) (x : Sheet) : Type 0 where
   pub few : limits.fewest ≤ x.ring.nodes
   pub many : x.ring.nodes ≤ limits.nodes
   pub fibres : IsFibres x.ring.fibres
-  pub fine : FineRows limits x.ring.nodes 0 0 0 (demands (sents x.rows))
+  pub fine : FineRows limits x.ring.nodes 0 None (demands (sents x.rows))
   pub spelled : Spelled x
   pub links : length x.links ≡ x.ring.nodes
 

@@ -9,6 +9,7 @@ use native.Mathlib.Decide.{dec_le}
 use lib.ListN.{length}
 use Rattle.ring.specs.Limits.{Limits}
 use Rattle.ring.specs.declared.types.Ring.{Ring}
+use Rattle.ring.specs.declared.types.Demand.{Demand}
 use Rattle.ring.specs.declared.types.Routed.{Routed}
 use Rattle.ring.specs.declared.types.Cut.{Cut}
 use Rattle.ring.specs.declared.types.Link.{Link}
@@ -22,7 +23,7 @@ use Rattle.table.specs.Says.{RingIs, NoNode}
 use Rattle.table.specs.declared.reason.Reason.{Reason}
 use Rattle.table.specs.declared.reason.Reason.TheVariants.{TooLong, Misshapen, RingSize, Fibres, NoRow, NoSuchNode, NotBelow, OutOfOrder, TooMany, TooMuch, Full, WrongSum, WrongWay, WrongCut, WrongLink, WrongLast, NotTight, OverBound, NotZero, NotSymmetric, SumTooMuch, NoRoom}
 use Rattle.table.specs.Verdict.{Verdict}
-use Rattle.std.specs.Prelude.{Ok, Err}
+use Rattle.std.specs.Prelude.{Ok, Err, Option}
 use Rattle.table.proofs.Against.{no-node-there}
 use Rattle.table.proofs.BytesGiven.{one-due as one-due-byte, one-shape-byte, one-ring-field}
 use Rattle.table.proofs.Judged.{RingJudged, size_wrong, wrong_fibres, right_ring, Node, no_node, has_node, node, RowJudged, no_such_node, not_below, out_of_order, too_many, too_much, row_fine, row-judged}
@@ -51,25 +52,25 @@ module _ {t : List ℕ} {line : ℕ} {ring : Ring} {rs : List Routed} {r : Route
   -- the way of a line stands behind every field that a reason is about, so its number does not count
   module _ (w : ℕ) where
     abbrev byte : Reason → ℕ
-    byte reason = sent_byte r.sent.row.first r.sent.row.second r.sent.row.amount r.sent.front r.sent.back w (field_of reason (node_field ring.nodes r.sent.row.first))
+    byte reason = sent_byte r.sent.demand.first r.sent.demand.second r.sent.demand.amount r.sent.front r.sent.back w (field_of reason (node_field ring.nodes r.sent.demand.first))
 
-    node-byte : Node ring.nodes r.sent.row.first → NoNode ring.nodes r.sent.row.first ⊎ NoNode ring.nodes r.sent.row.second → NodeByte t line (byte NoSuchNode)
+    node-byte : Node ring.nodes r.sent.demand.first → NoNode ring.nodes r.sent.demand.first ⊎ NoNode ring.nodes r.sent.demand.second → NodeByte t line (byte NoSuchNode)
     unfolding node_field field_byte write_line
     node-byte (no_node x e) out = first_node (row_at at is) x (rw e refl)
     node-byte (has_node h e) (inl x) = absurd (no-node-there h x)
     node-byte (has_node h e) (inr x) = second_node (row_at at is) (no-node-there h) x (rw e refl)
 
-    demand-byte : {limits : Limits} {k a b : ℕ} {v : Verdict} → RowJudged limits ring.nodes k a b r.sent.row.first r.sent.row.second r.sent.row.amount v → ByteOn t line byte v
+    demand-byte : {limits : Limits} {k : ℕ} {above : Option Demand} {v : Verdict} → RowJudged limits ring.nodes k above r.sent.demand v → ByteOn t line byte v
     unfolding ByteIs field_byte write_line
-    demand-byte (no_such_node x) = node-byte (node ring.nodes r.sent.row.first) x
+    demand-byte (no_such_node x) = node-byte (node ring.nodes r.sent.demand.first) x
     demand-byte (not_below h p l) = refl
     demand-byte (out_of_order h p l o) = refl
     demand-byte (too_many h p l o c) = refl
     demand-byte (too_much h p l o c m) = record { r = r; row = row_at at is; is = refl }
     demand-byte (row_fine o up c m) = tt
 
-    pub sent-row-bytes : (limits : Limits) → ByteOn t line byte (judge_next limits ring.nodes rs r.sent.row)
-    sent-row-bytes limits = demand-byte (row-judged limits ring.nodes (length rs) (last_of rs).first (last_of rs).second r.sent.row.first r.sent.row.second r.sent.row.amount)
+    pub sent-row-bytes : (limits : Limits) → ByteOn t line byte (judge_next limits ring.nodes rs r.sent.demand)
+    sent-row-bytes limits = demand-byte (row-judged limits ring.nodes (length rs) (last_of rs) r.sent.demand)
 
 -- ---- a line that is neither D nor C
 

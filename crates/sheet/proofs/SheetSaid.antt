@@ -10,7 +10,7 @@ use lib.ListN.{length}
 use Rattle.ring.specs.declared.types.Cut.{Cut}
 use Rattle.ring.specs.Limits.{Limits}
 use Rattle.ring.specs.declared.types.Ring.{Ring}
-use Rattle.ring.specs.declared.types.Row.{Row}
+use Rattle.ring.specs.declared.types.Demand.{Demand}
 use Rattle.ring.specs.declared.types.Routed.{Routed}
 use Rattle.ring.specs.declared.types.Link.{Link}
 use Rattle.table.specs.Lines.{lines}
@@ -44,13 +44,13 @@ unfit-wrong {state = links ring rs c ks} at (inr none) = no_last at none.0 none.
 unfit-wrong {state = end x} at left = left_over at left.1
 
 -- 4 to 7 and 16, of a demand behind the rows rs
-abbrev pub AgainstDemand : Limits → ℕ → List Routed → Row → Reason → Type 0
-AgainstDemand limits n rs q = AgainstRow limits n (length rs) (last_of rs).first (last_of rs).second q.first q.second q.amount
+abbrev pub AgainstDemand : Limits → ℕ → List Routed → Demand → Reason → Type 0
+AgainstDemand limits n rs q = AgainstRow limits n (length rs) (last_of rs) q
 
 pub data SaidAt (limits : Limits) (t : List ℕ) (line : ℕ) : State → Reason → Type 0 where
   of_shape : {state : State} → Unfit t line state → SaidAt limits t line state Misshapen
   of_ring : {ring : Ring} {s : Reason} → RingIs t ring → AgainstRing limits ring s → SaidAt limits t line start s
-  of_row : {ring : Ring} {rs : List Routed} {r : Routed} {s : Reason} → SentIs t line r → AgainstDemand limits ring.nodes rs r.sent.row s → SaidAt limits t line (rows ring rs) s
+  of_row : {ring : Ring} {rs : List Routed} {r : Routed} {s : Reason} → SentIs t line r → AgainstDemand limits ring.nodes rs r.sent.demand s → SaidAt limits t line (rows ring rs) s
 
 -- ---- all that is said
 
@@ -121,9 +121,9 @@ module _ {limits : Limits} {t : List ℕ} {line : ℕ} where
   said-of-ring {s} is (of_ring r o) = subst (λ m. AgainstRing limits m s) (ring-one r is) o
 
   module _ {ring : Ring} {rs : List Routed} where
-    pub said-of-row : {r : Routed} {s : Reason} → SentIs t line r → SaidAt limits t line (rows ring rs) s → AgainstDemand limits ring.nodes rs r.sent.row s
+    pub said-of-row : {r : Routed} {s : Reason} → SentIs t line r → SaidAt limits t line (rows ring rs) s → AgainstDemand limits ring.nodes rs r.sent.demand s
     said-of-row {r} is (of_shape none) = absurd (none.0 r is)
-    said-of-row {s} is (of_row q o) = subst (λ (r : Routed). AgainstDemand limits ring.nodes rs r.sent.row s) (sent-one q is) o
+    said-of-row {s} is (of_row q o) = subst (λ (r : Routed). AgainstDemand limits ring.nodes rs r.sent.demand s) (sent-one q is) o
 
     -- the other lines are right by their shape
     pub none-of-cut : {c : Cut} {s : Reason} → CutIs t line c → SaidAt limits t line (rows ring rs) s → ⊥

@@ -6,16 +6,17 @@ use mathlib.Core.Logic.{◌↔◌}
 use mathlib.Core.Path.{◌≡◌, refl, ap, ◌∙◌, sym, subst}
 use native.Mathlib.Omega.{arith}
 use lib.ListN.{length, length-append}
+use Rattle.std.specs.Prelude.{Option, None}
 use borrow.Author.Tests.{le-ltb, ltb-false}
-use Rattle.ring.proofs.Figures.{demands-length}
+use Rattle.ring.proofs.Small.{demands-length}
 use Rattle.ring.proofs.Side.{cond-elim}
 use Rattle.ring.specs.Routing.{way_number, way_of}
 use Rattle.ring.specs.declared.types.Routed.{Routed}
 use Rattle.ring.specs.Limits.{Limits}
-use Rattle.ring.specs.declared.types.Row.{Row}
+use Rattle.ring.specs.declared.types.Demand.{Demand}
 use Rattle.ring.specs.LineSize.{IsFibres}
 use Rattle.ring.specs.Lists.{Each, none, more}
-use Rattle.ring.specs.Sheet.{Sheet, sents, demands}
+use Rattle.ring.specs.Sheet.{Sheet, sents, demands, figures_of}
 use Rattle.ring.specs.declared.types.Link.{Link}
 use Rattle.text.specs.Shapes.{last_line}
 use Rattle.text.proofs.Apart.{clash}
@@ -25,7 +26,7 @@ use Rattle.table.proofs.FineRows.{FineRows, no_row, fine_row, fine-rows, table-r
 use Rattle.table.proofs.LinesOf.{join-lines}
 use Rattle.table.proofs.TableText.{ring-spelled}
 use Rattle.table.specs.Table.{LimitsSpelled}
-use Rattle.sheet.specs.WriteSheet.{routed_line, load_line, lines_of, figures_of, end_text, write_sheet}
+use Rattle.sheet.specs.WriteSheet.{routed_line, load_line, lines_of, end_text, write_sheet}
 use Rattle.sheet.specs.Range.{RowSpelled, LinkSpelled, Spelled, InRange}
 use Rattle.sheet.specs.Read.{Result, accepted, last_of, read_sheet}
 use Rattle.sheet.specs.Says.{start, rows, links}
@@ -52,7 +53,7 @@ module _ (limits : Limits) (x : Sheet) (spelled : Spelled x) (count : length x.l
       (rest_link few s.link s.split s.unsplit (to-links later (ks ++ l ∷ []) f ss))
 
   module _ (limited : LimitsSpelled limits) (many : x.ring.nodes ≤ limits.nodes) where
-    to-rows : (later rs : List Routed) → x.rows ≡ rs ++ later → FineRows limits x.ring.nodes (length rs) (last_of rs).first (last_of rs).second (demands (sents later)) → Each RowSpelled later
+    to-rows : (later rs : List Routed) → x.rows ≡ rs ++ later → FineRows limits x.ring.nodes (length rs) (last_of rs) (demands (sents later)) → Each RowSpelled later
         → Rest limits x (rows x.ring rs) (lines_of routed_line later ++ end_text (figures_of x) x.links)
     unfolding lines_of end_text
     to-rows [] rs e no_row none =
@@ -62,9 +63,9 @@ module _ (limits : Limits) (x : Sheet) (spelled : Spelled x) (count : length x.l
     to-rows (r ∷ later) rs e (fine_row on up room most fine) (more h hs) =
         let f : x.rows ≡ (rs ++ r ∷ []) ++ later = e ∙ sym (append_assoc rs (r ∷ []) later) in
         let one : length (rs ++ r ∷ []) ≡ length rs + 1 = length-append rs (r ∷ []) in
-        let behind = subst (λ (q : Row). FineRows limits x.ring.nodes (length (rs ++ r ∷ [])) q.first q.second (demands (sents later))) (sym (last_more rs r)) (rw one fine) in
+        let behind = subst (λ (q : Option Demand). FineRows limits x.ring.nodes (length (rs ++ r ∷ [])) q (demands (sents later))) (sym (last_more rs r)) (rw one fine) in
         let same : way_of (way_number r.way) ≡ r.way = way_back r.way in
-        let s : SentSpelled r.sent.row.first r.sent.row.second r.sent.row.amount r.sent.front r.sent.back (way_number r.way) =
+        let s : SentSpelled r.sent.demand.first r.sent.demand.second r.sent.demand.amount r.sent.front r.sent.back (way_number r.way) =
         record {
           first = omega (arith, on.order, on.high, limited.nodes);
           second = omega (arith, on.high, limited.nodes);
@@ -74,9 +75,9 @@ module _ (limits : Limits) (x : Sheet) (spelled : Spelled x) (count : length x.l
           way = way_small r.way;
         } in
         subst (λ t. Rest limits x (rows x.ring rs) t) (sym (append_assoc (routed_line r) (lines_of routed_line later) (end_text (figures_of x) x.links)))
-        (rest_row s (fine-row-judged limits x.ring.nodes (length rs) (last_of rs).first (last_of rs).second r.sent.row.first r.sent.row.second r.sent.row.amount on up room most) (rw same (to-rows later (rs ++ r ∷ []) f behind hs)))
+        (rest_row s (fine-row-judged limits x.ring.nodes (length rs) (last_of rs) r.sent.demand on up room most) (rw same (to-rows later (rs ++ r ∷ []) f behind hs)))
 
-    to_start : limits.fewest ≤ x.ring.nodes → IsFibres x.ring.fibres → FineRows limits x.ring.nodes 0 0 0 (demands (sents x.rows)) → Rest limits x start (write_sheet x)
+    to_start : limits.fewest ≤ x.ring.nodes → IsFibres x.ring.fibres → FineRows limits x.ring.nodes 0 None (demands (sents x.rows)) → Rest limits x start (write_sheet x)
     unfolding write_sheet
     to_start few fibres fine =
         let s = ring-spelled limits limited x.ring many fibres in

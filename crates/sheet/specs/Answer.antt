@@ -4,8 +4,8 @@ use Rattle.ring.specs.declared.types.Routed.{Routed}
 use Rattle.ring.specs.declared.types.Link.{Link}
 use Rattle.table.specs.declared.reason.Refusal.{Refusal}
 use Rattle.sheet.specs.Read.{Result as SheetResult, accepted, refused}
-use Rattle.sheet.specs.Values.{sheet_in}
-use Rattle.sheet.specs.declared.Figures.{Figures}
+use Rattle.ring.specs.Sheet.{sheet_in}
+use Rattle.ring.specs.declared.types.Figures.{Figures}
 
 -- the sheet of figures that were read and of the rows and the links that stand beside them, a link for each node; or the refusal
 abbrev pub with_values : List Routed → List Link → Result Figures Refusal → SheetResult

@@ -3,8 +3,8 @@ use Rattle.std.specs.Prelude.{ℕ, ◌+◌, ◌*◌, ◌≤◌, ◌<◌, ◌≡�
 use Rattle.ring.specs.Limits.{Limits}
 use Rattle.ring.specs.LineSize.{IsFibres}
 use Rattle.ring.specs.Lists.{Each}
-use Rattle.ring.specs.Row.{TableRows}
-use Rattle.ring.specs.declared.types.Row.{Row}
+use Rattle.ring.specs.Demand.{TableRows}
+use Rattle.ring.specs.declared.types.Demand.{Demand}
 use Rattle.ring.specs.declared.types.Routed.{Routed}
 use Rattle.ring.specs.Sheet.{Sheet, sents, demands}
 use Rattle.ring.specs.declared.types.Link.{Link}
@@ -26,7 +26,7 @@ pub record LinkSpelled (l : Link) : Type 0 where
 -- every figure that no other limit bounds has at most 7 digits
 pub record Spelled (x : Sheet) : Type 0 where
   pub halves : Each RowSpelled x.rows
-  pub cut : (x.cut.g < limit) × ((x.cut.h < limit) × (x.cut.number < limit))
+  pub cut : (x.cut.g < limit) × ((x.cut.h < limit) × (x.cut.across < limit))
   pub loads : Each LinkSpelled x.links
   pub last : (x.peak < limit) × (x.size < limit)
 
@@ -37,7 +37,7 @@ pub record InRange (limits : Limits) (x : Sheet) : Type 0 where
   pub fibres : IsFibres x.ring.fibres
   pub rows : TableRows x.ring.nodes (demands (sents x.rows))
   pub count : length x.rows ≤ limits.rows
-  pub amounts : Each (λ (r : Row). r.amount ≤ limits.amount) (demands (sents x.rows))
+  pub amounts : Each (λ (r : Demand). r.amount ≤ limits.amount) (demands (sents x.rows))
   pub spelled : Spelled x
   -- as many L lines as the ring has links
   pub links : length x.links ≡ x.ring.nodes

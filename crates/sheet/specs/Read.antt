@@ -4,9 +4,8 @@ use Rattle.ring.specs.Routing.{way_of, routed, sent}
 use Rattle.ring.specs.declared.types.Routed.{Routed}
 use Rattle.ring.specs.declared.types.Cut.{Cut}
 use Rattle.ring.specs.Limits.{Limits}
-use Rattle.ring.specs.Ring.{ring_of}
 use Rattle.ring.specs.declared.types.Ring.{Ring}
-use Rattle.ring.specs.declared.types.Row.{Row}
+use Rattle.ring.specs.declared.types.Demand.{Demand}
 use Rattle.ring.specs.Sheet.{Sheet, sents, demands}
 use Rattle.ring.specs.declared.types.Link.{Link}
 use Rattle.text.specs.FieldByte.{field_byte}
@@ -15,6 +14,7 @@ use Rattle.text.specs.Shapes.{ring_shape, sent_shape, cut_shape, link_shape, las
 use Rattle.text.specs.declared.field.Field.{Field}
 use Rattle.table.specs.Lines.{lines}
 use Rattle.table.specs.Faults.{ring_found, row_found, last_of as last_demand}
+use Rattle.table.specs.ReadTable.{ring_in}
 use Rattle.table.specs.declared.fault.Fault.{Fault}
 use Rattle.table.specs.declared.reason.Reason.{Reason}
 use Rattle.table.specs.declared.reason.Reason.TheVariants.{TooLong, Misshapen}
@@ -37,17 +37,13 @@ unless shape vs (Some f) next = stop f.reason (field_byte shape vs f.field)
 
 -- ---- the values of a line; that of the letter is the first
 
--- R n fibres
-abbrev pub ring_in : List ℕ → Ring
-ring_in vs = ring_of (get_or vs 1 0) (get_or vs 2 0)
-
 -- D i j amount front back F-or-B
 abbrev pub row_in : List ℕ → Routed
 row_in vs = routed (sent (get_or vs 1 0) (get_or vs 2 0) (get_or vs 3 0) (get_or vs 4 0) (get_or vs 5 0)) (way_of (get_or vs 6 0))
 
 -- C g h across
 abbrev pub cut_in : List ℕ → Cut
-cut_in vs = record { g = get_or vs 1 0; h = get_or vs 2 0; number = get_or vs 3 0 }
+cut_in vs = record { g = get_or vs 1 0; h = get_or vs 2 0; across = get_or vs 3 0 }
 
 -- L link split-load unsplit-load
 abbrev pub link_in : List ℕ → Link
@@ -57,8 +53,8 @@ link_in vs = record { link = get_or vs 1 0; split = get_or vs 2 0; unsplit = get
 abbrev pub sheet_with : Ring → List Routed → Cut → List Link → List ℕ → Sheet
 sheet_with ring rs c ks vs = record { ring = ring; rows = rs; cut = c; links = ks; peak = get_or vs 1 0; size = get_or vs 2 0 }
 
--- the demand of the last of some rows; its nodes are 0, 0 where there is none
-abbrev pub last_of : List Routed → Row
+-- the demand of the last of some rows
+abbrev pub last_of : List Routed → Option Demand
 last_of rs = last_demand (demands (sents rs))
 
 -- ---- one line: its shape, then what is found against its numbers
@@ -77,7 +73,7 @@ cut_turn ring rs q (Err p) = stop Misshapen (max q p + 1)
 -- D i j amount front back F-or-B, else C
 unfoldable pub row_turn : Limits → Ring → List Routed → Reading → Reading → Turn
 unfolding unless cut_turn row_found
-row_turn limits ring rs (Ok vs) other = unless sent_shape vs (row_found limits ring.nodes (length rs) (last_of rs) (row_in vs).sent.row) (rows ring (rs ++ row_in vs ∷ []))
+row_turn limits ring rs (Ok vs) other = unless sent_shape vs (row_found limits ring.nodes (length rs) (last_of rs) (row_in vs).sent.demand) (rows ring (rs ++ row_in vs ∷ []))
 row_turn limits ring rs (Err p) other = cut_turn ring rs p other
 
 -- L link split-load unsplit-load

@@ -3,7 +3,7 @@ use Rattle.std.specs.Prelude.{ℕ, ◌+◌, ◌≤◌, ◌<◌, List, [], ◌∷
 use Rattle.ring.specs.declared.types.Cut.{Cut}
 use Rattle.ring.specs.Limits.{Limits}
 use Rattle.ring.specs.declared.types.Ring.{Ring}
-use Rattle.ring.specs.Row.{PairBefore}
+use Rattle.ring.specs.Demand.{PairBefore}
 use Rattle.ring.specs.Routing.{way_number}
 use Rattle.ring.specs.declared.types.Routed.{Routed}
 use Rattle.ring.specs.Sheet.{Sheet}
@@ -15,7 +15,7 @@ use Rattle.text.specs.Shapes.{ring_shape, sent_shape, cut_shape, link_shape, las
 use Rattle.table.specs.Lines.{lines}
 use Rattle.table.specs.Says.{LineIs, RingIs, WrongRing, WrongFibres, NoNode, DueByte, ShapeByte, RingField, Earlier}
 use Rattle.table.specs.declared.reason.Reason.{Reason}
-use Rattle.table.specs.declared.reason.Reason.TheVariants.{TooLong, Misshapen, RingSize, Fibres, NoRow, NoSuchNode, NotBelow, OutOfOrder, TooMany, TooMuch, Full, WrongSum, WrongWay, WrongCut, WrongLink, WrongLast, NotTight, OverBound, NotZero, NotSymmetric, SumTooMuch, NoRoom}
+use Rattle.table.specs.declared.reason.Reason.TheVariants.{TooLong, Misshapen, RingSize, Fibres, NoSuchNode, NotBelow, OutOfOrder, TooMany, TooMuch}
 use Rattle.sheet.specs.WriteSheet.{routed_line, load_line}
 
 -- ---- lines
@@ -23,15 +23,15 @@ use Rattle.sheet.specs.WriteSheet.{routed_line, load_line}
 -- this line is D i j amount front back F-or-B
 pub record SentIs (t : List ℕ) (line : ℕ) (r : Routed) : Type 0 where
   pub text : LineIs (lines t) line (routed_line r)
-  pub nodes : (r.sent.row.first < limit) × (r.sent.row.second < limit)
-  pub amount : r.sent.row.amount < limit
+  pub nodes : (r.sent.demand.first < limit) × (r.sent.demand.second < limit)
+  pub amount : r.sent.demand.amount < limit
   pub halves : (r.sent.front < limit) × (r.sent.back < limit)
 
 -- this line is C g h across
 pub record CutIs (t : List ℕ) (line : ℕ) (c : Cut) : Type 0 where
-  pub text : LineIs (lines t) line (cut_line c.g c.h c.number)
+  pub text : LineIs (lines t) line (cut_line c.g c.h c.across)
   pub pair : (c.g < limit) × (c.h < limit)
-  pub number : c.number < limit
+  pub number : c.across < limit
 
 -- this line is L link split-load unsplit-load
 pub record LinkIs (t : List ℕ) (line : ℕ) (l : Link) : Type 0 where
@@ -89,13 +89,13 @@ pub data WrongLine (t : List ℕ) (line : ℕ) : Type 0 where
 pub record WrongNode (t : List ℕ) (line : ℕ) : Type 0 where
   pub r : Routed
   pub row : RowAt t line r
-  pub wrong : NoNode row.ring.nodes r.sent.row.first ⊎ NoNode row.ring.nodes r.sent.row.second
+  pub wrong : NoNode row.ring.nodes r.sent.demand.first ⊎ NoNode row.ring.nodes r.sent.demand.second
 
 -- 5: first node not below second
 pub record WrongPair (t : List ℕ) (line : ℕ) : Type 0 where
   pub r : Routed
   pub row : RowAt t line r
-  pub wrong : r.sent.row.second ≤ r.sent.row.first
+  pub wrong : r.sent.demand.second ≤ r.sent.demand.first
 
 -- 6: row's nodes below the row before, by first node, then second
 pub record WrongOrder (t : List ℕ) (line : ℕ) : Type 0 where
@@ -105,7 +105,7 @@ pub record WrongOrder (t : List ℕ) (line : ℕ) : Type 0 where
   pub above : RowAt t before q
   pub r : Routed
   pub row : RowAt t line r
-  pub wrong : PairBefore r.sent.row.first r.sent.row.second q.sent.row.first q.sent.row.second
+  pub wrong : PairBefore r.sent.demand.first r.sent.demand.second q.sent.demand.first q.sent.demand.second
 
 -- 16: more than 496 rows
 pub record WrongCount (limits : Limits) (t : List ℕ) (line : ℕ) : Type 0 where
@@ -117,7 +117,7 @@ pub record WrongCount (limits : Limits) (t : List ℕ) (line : ℕ) : Type 0 whe
 pub record WrongAmount (limits : Limits) (t : List ℕ) (line : ℕ) : Type 0 where
   pub r : Routed
   pub row : RowAt t line r
-  pub wrong : limits.amount < r.sent.row.amount
+  pub wrong : limits.amount < r.sent.demand.amount
 
 -- what a reason says, with its line
 unfoldable pub Says : Limits → List ℕ → Reason → ℕ → Type 0
@@ -130,21 +130,8 @@ Says limits t NotBelow line = WrongPair t line
 Says limits t OutOfOrder line = WrongOrder t line
 Says limits t TooMany line = WrongCount limits t line
 Says limits t TooMuch line = WrongAmount limits t line
--- a sheet that is read is judged by its values
-Says limits t WrongSum line = ⊥
-Says limits t WrongWay line = ⊥
-Says limits t WrongCut line = ⊥
-Says limits t WrongLink line = ⊥
-Says limits t WrongLast line = ⊥
-Says limits t NotTight line = ⊥
-Says limits t OverBound line = ⊥
--- the others judge no sheet
-Says limits t NotZero line = ⊥
-Says limits t NotSymmetric line = ⊥
-Says limits t SumTooMuch line = ⊥
-Says limits t NoRow line = ⊥
-Says limits t Full line = ⊥
-Says limits t NoRoom line = ⊥
+-- a sheet that is read is judged by its values; and the others judge no sheet
+Says limits t _ line = ⊥
 
 -- ---- the byte of the line that is given with a reason, counted from 1
 
@@ -164,12 +151,12 @@ pub data LineByte (t : List ℕ) (line byte : ℕ) : Type 0 where
 
 -- where field k of a D line starts: the nodes are fields 1 and 2, the amount is field 3
 abbrev pub routed_byte : Routed → ℕ → ℕ
-routed_byte r k = sent_byte r.sent.row.first r.sent.row.second r.sent.row.amount r.sent.front r.sent.back (way_number r.way) k
+routed_byte r k = sent_byte r.sent.demand.first r.sent.demand.second r.sent.demand.amount r.sent.front r.sent.back (way_number r.way) k
 
 -- 4: where the first of the two nodes that is outside starts
 pub data NodeByte (t : List ℕ) (line byte : ℕ) : Type 0 where
-  first_node : {r : Routed} (row : RowAt t line r) → NoNode row.ring.nodes r.sent.row.first → byte ≡ routed_byte r 1 → NodeByte t line byte
-  second_node : {r : Routed} (row : RowAt t line r) → (NoNode row.ring.nodes r.sent.row.first → ⊥) → NoNode row.ring.nodes r.sent.row.second → byte ≡ routed_byte r 2 → NodeByte t line byte
+  first_node : {r : Routed} (row : RowAt t line r) → NoNode row.ring.nodes r.sent.demand.first → byte ≡ routed_byte r 1 → NodeByte t line byte
+  second_node : {r : Routed} (row : RowAt t line r) → (NoNode row.ring.nodes r.sent.demand.first → ⊥) → NoNode row.ring.nodes r.sent.demand.second → byte ≡ routed_byte r 2 → NodeByte t line byte
 
 -- 7: where the amount starts
 pub record AmountByte (t : List ℕ) (line byte : ℕ) : Type 0 where
@@ -191,21 +178,8 @@ ByteIs t TooMuch line byte = AmountByte t line byte
 ByteIs t NotBelow line byte = byte ≡ 1
 ByteIs t OutOfOrder line byte = byte ≡ 1
 ByteIs t TooMany line byte = byte ≡ 1
--- a sheet that is read is judged by its values
-ByteIs t WrongSum line byte = ⊥
-ByteIs t WrongWay line byte = ⊥
-ByteIs t WrongCut line byte = ⊥
-ByteIs t WrongLink line byte = ⊥
-ByteIs t WrongLast line byte = ⊥
-ByteIs t NotTight line byte = ⊥
-ByteIs t OverBound line byte = ⊥
--- the others judge no sheet
-ByteIs t NotZero line byte = ⊥
-ByteIs t NotSymmetric line byte = ⊥
-ByteIs t SumTooMuch line byte = ⊥
-ByteIs t NoRow line byte = ⊥
-ByteIs t Full line byte = ⊥
-ByteIs t NoRoom line byte = ⊥
+-- a sheet that is read is judged by its values; and the others judge no sheet
+ByteIs t _ line byte = ⊥
 
 -- ---- which is given
 

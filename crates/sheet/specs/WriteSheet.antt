@@ -2,14 +2,14 @@
 use Rattle.std.specs.Prelude.{ℕ, List, [], ◌∷◌, ◌++◌}
 use Rattle.ring.specs.Routing.{way_number}
 use Rattle.ring.specs.declared.types.Routed.{Routed}
-use Rattle.ring.specs.Sheet.{Sheet}
+use Rattle.ring.specs.Sheet.{Sheet, figures_of}
 use Rattle.ring.specs.declared.types.Link.{Link}
+use Rattle.ring.specs.declared.types.Figures.{Figures}
 use Rattle.text.specs.Shapes.{ring_line, sent_line, cut_line, link_line, last_line}
-use Rattle.sheet.specs.declared.Figures.{Figures}
 
 -- D i j amount front back F-or-B
 abbrev pub routed_line : Routed → List ℕ
-routed_line r = sent_line r.sent.row.first r.sent.row.second r.sent.row.amount r.sent.front r.sent.back (way_number r.way)
+routed_line r = sent_line r.sent.demand.first r.sent.demand.second r.sent.demand.amount r.sent.front r.sent.back (way_number r.way)
 
 -- L link split-load unsplit-load
 abbrev pub load_line : Link → List ℕ
@@ -20,14 +20,10 @@ unfoldable pub lines_of : {A : Type 0} → (A → List ℕ) → List A → List 
 lines_of line [] = []
 lines_of line (x ∷ l) = line x ++ lines_of line l
 
--- the figures of a sheet that are not of a row or of a link
-abbrev pub figures_of : Sheet → Figures
-figures_of x = record { ring = x.ring; cut = x.cut; peak = x.peak; size = x.size }
-
 -- C g h across; L lines; Z unsplit-peak size
 unfoldable pub end_text : Figures → List Link → List ℕ
 unfolding lines_of
-end_text x links = cut_line x.cut.g x.cut.h x.cut.number ++ (lines_of load_line links ++ last_line x.peak x.size)
+end_text x links = cut_line x.cut.g x.cut.h x.cut.across ++ (lines_of load_line links ++ last_line x.peak x.size)
 
 unfoldable pub write_sheet : Sheet → List ℕ
 unfolding end_text

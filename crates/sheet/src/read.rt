@@ -1,191 +1,140 @@
 //! A text to a sheet: its R line, its D lines, its C line, its L lines and its Z line, in this order, and nothing behind them. Nothing is judged by its figures.
-ghost use Rattle.std.specs.Prelude.{◌≡◌, ◌+◌, ◌≤◌, ◌<◌, List, [], ◌∷◌, ◌++◌, length, take, drop, IfOk, IfErr, Ok};
+ghost use Rattle.std.specs.Prelude.{◌≡◌, ◌+◌, ◌≤◌, ◌<◌, List, [], ◌∷◌, ◌++◌, length, take, IfOk, IfErr, Ok};
 ghost use Rattle.ring.specs.Limits.{desk};
+ghost use Rattle.ring.specs.Sheet.{sheet_in};
 ghost use Rattle.ring.specs.declared.types.Ring.{Ring as RingOf};
 ghost use Rattle.ring.specs.declared.types.Routed.{Routed as RoutedOf};
 ghost use Rattle.ring.specs.declared.types.Cut.{Cut as CutOf};
 ghost use Rattle.ring.specs.declared.types.Link.{Link as LinkOf};
 ghost use Rattle.text.specs.ReadLine.{read_line, Reading};
-ghost use Rattle.text.specs.Shapes.{ring_shape, cut_shape};
-ghost use Rattle.table.specs.Lines.{lines};
-ghost use Rattle.sheet.specs.Values.{sheet_in};
+ghost use Rattle.text.specs.Shapes.{cut_shape};
 ghost use Rattle.sheet.specs.Says.{State, rows as behind_rows, links as behind_links};
-ghost use Rattle.sheet.specs.Read.{Result as SheetResult, accepted, ring_turn, cut_turn, row_turn, after, read_from, read_sheet};
+ghost use Rattle.sheet.specs.Read.{Result as SheetResult, accepted, cut_turn, row_turn, after, read_from, read_sheet};
 ghost use Rattle.sheet.specs.Answer.{with_values};
 ghost use Rattle.sheet.specs.Parts.{read_by};
 
-use crate::Figures;
-use crate::next::next_end;
-use ring::{BYTES, Cut, LINKS, Link, Ring, Routed, Row, Sent, Way, wide};
-use rows::Columns;
-use table::{Reason, Refusal, ring_fault, row_fault, values_on};
-use text::{CUT, LAST, LINK, RING, SENT};
+use ring::{Cut, Demand, Figures, LINKS, Link, Ring, Routed, Sent, Way, wide};
+use rows::{Columns, Rows};
+use table::{Line, Lines, Refusal, last_demand, ring_on, row_fault};
+use text::{CUT, LAST, LINK, SENT};
 
-// The ring of the first line.
-#[tactic(auto, using(crate::proofs::ReadSteps::ring_fits), unfolding(table::specs::OnLine::values_on, crate::specs::Read::ring_turn, crate::specs::Read::unless, crate::specs::Read::after))]
-fn ring_on(text: &[u8]) -> Result<Ring, Refusal>
-    requires { length text.now ≤ desk.bytes }
-    ensures leads { (next : State → SheetResult) →
-        read_by result (λ ring. next (behind_rows ring []))
-        ≡ after (ring_turn desk (read_line ring_shape text.now)) 1 next }
-    ensures size { IfOk result (λ ring. ring.nodes ≤ desk.nodes) }
-{
-    let values = values_on(1, text, &RING)?;
-    let [_, nodes, fibres] = values;
-    let ring = Ring { nodes, fibres };
-    match ring_fault(ring) {
-        None => Ok(ring),
-        Some(fault) => Err(fault.on(1, &RING, &values)),
-    }
-}
-
-// The row of a D line by its values, behind the rows before it.
+// The row of a D line by its values, behind the rows before it. Apart from `read_rows` for its proof: what is found against the row is known here alone.
 #[tactic(auto, unfolding(crate::specs::Read::row_turn, crate::specs::Read::unless, crate::specs::Read::after))]
-fn row_on(line: u32, values: &[u32; 7], ring: Ring, rows: &Columns) -> Result<Routed, Refusal>
+fn row_on(number: u32, values: &[u32; 7], ring: Ring, rows: &Columns) -> Result<Routed, Refusal>
     ensures leads { (other : Reading) (next : State → SheetResult) →
         read_by result (λ row. next (behind_rows ring (rows.now ++ row ∷ [])))
-        ≡ after (row_turn desk ring rows.now (Ok values.now) other) line next }
+        ≡ after (row_turn desk ring rows.now (Ok values.now) other) number next }
     ensures room { IfOk result (λ row. length rows.now < desk.rows) }
 {
     let [_, first, second, amount, front, back, way] = *values;
-    let row = Row {
+    let row = Demand {
         first,
         second,
         amount,
     };
-    match row_fault(ring.nodes, rows, row) {
+    match row_fault(ring.nodes, rows.count(), last_demand(rows), row) {
         None => Ok(Routed {
-            sent: Sent { row, front, back },
+            sent: Sent {
+                demand: row,
+                front,
+                back,
+            },
             way: Way::of(way),
         }),
-        Some(fault) => Err(fault.on(line, &SENT, values)),
+        Some(fault) => Err(fault.on(number, &SENT, values)),
     }
 }
 
 // The cut of a C line. It is no D line: at the place `no_row` of it no D line goes on, and its fault is the later of the two.
 #[tactic(auto, unfolding(crate::specs::Read::cut_turn, crate::specs::Read::after))]
-fn cut_on(line: u32, text: &[u8], no_row: usize) -> Result<Cut, Refusal>
-    requires text_fits { length text.now ≤ desk.bytes }
+fn cut_on(number: u32, line: &Line, no_row: usize) -> Result<Cut, Refusal>
     requires byte_fits { no_row ≤ desk.bytes }
     ensures { (ring : RingOf) (rs : List RoutedOf) (next : State → SheetResult) →
         read_by result (λ cut. next (behind_links ring rs cut []))
-        ≡ after (cut_turn ring rs no_row (read_line cut_shape text.now)) line next }
+        ≡ after (cut_turn ring rs no_row (read_line cut_shape line.now)) number next }
 {
-    match text::read_line(text, &CUT) {
+    match line.read(&CUT) {
         Ok(values) => {
-            let [_, g, h, number] = values;
-            Ok(Cut { g, h, number })
+            let [_, g, h, across] = values;
+            Ok(Cut { g, h, across })
         }
-        Err(no_cut) => Err(Refusal {
-            reason: Reason::Misshapen,
-            line,
-            byte: no_row.max(no_cut) as u32 + 1,
-        }),
+        Err(no_cut) => Err(Refusal::misshapen(number, no_row.max(no_cut))),
     }
 }
 
-// What stands behind the rows: the cut, the place behind its line, and the number of the next line.
-#[derive(Clone, Copy)]
-pub(crate) struct RowsEnd {
-    pub cut: Cut,
-    pub at: usize,
-    pub line: u32,
-}
-
-// The D lines, from the place `from` on, and the C line that ends them.
-fn read_rows(text: &[u8], from: usize, ring: Ring, rows: &mut Columns) -> Result<RowsEnd, Refusal>
-    requires begins_inside { from ≤ length text.now }
-    requires text_fits { length text.now ≤ desk.bytes }
-    ensures leads { read_by result (λ end.
-        read_from desk (behind_links ring rows.new end.cut []) end.line
-        (lines (drop end.at text.now)))
-        ≡ read_from desk (behind_rows ring []) 2 (lines (drop from text.now)) }
-    ensures place { IfOk result (λ end. end.at ≤ length text.now) }
-    ensures line { IfOk result (λ end. end.line ≤ desk.rows + 3) }
+// The D lines, from line 2 on, and the C line that ends them.
+fn read_rows(lines: &mut Lines, ring: Ring, rows: &mut Columns) -> Result<Cut, Refusal>
+    ensures { read_by result (λ cut.
+        read_from desk (behind_links ring rows.new cut []) (length rows.new + 3) lines.new)
+        ≡ read_from desk (behind_rows ring []) 2 lines.old }
 {
     rows.clear();
-    let mut at = from;
-    loop {
-        let end = next_end(text, at);
-        let line = rows.len() as u32 + 2;
-        match text::read_line(&text[at..end], &SENT) {
+    while let Some(line) = lines.next_line() {
+        let number = rows.count() as u32 + 2;
+        match line.read(&SENT) {
             Ok(values) => {
-                let row = row_on(line, &values, ring, rows)?;
+                let row = row_on(number, &values, ring, rows)?;
                 rows.push(row);
-                at = end;
             }
-            Err(no_row) => {
-                let cut = cut_on(line, &text[at..end], no_row)?;
-                return Ok(RowsEnd {
-                    cut,
-                    at: end,
-                    line: line + 1,
-                });
-            }
+            Err(no_row) => return cut_on(number, &line, no_row),
         }
     }
+    Err(Refusal::misshapen(rows.count() as u32 + 2, 0))
 }
 
-// The L lines, of which the first has this number, from the place `from` on; answers the place behind them.
+// The L lines, of which the first has this number: one for each link.
 fn read_links(
-    text: &[u8],
-    from: usize,
-    line: u32,
+    lines: &mut Lines,
+    first: u32,
     ring: Ring,
     links: &mut [Link; LINKS],
-) -> Result<usize, Refusal>
-    requires begins_inside { from ≤ length text.now }
-    requires text_fits { length text.now ≤ desk.bytes }
+) -> Result<(), Refusal>
     requires links_fit { ring.nodes ≤ desk.nodes }
-    requires line_fits { line ≤ desk.rows + 3 }
-    ensures leads { (rs : List RoutedOf) (c : CutOf) →
-        read_by result (λ at. read_from desk (behind_links ring rs c (take ring.nodes links.new))
-        (line + ring.nodes) (lines (drop at text.now)))
-        ≡ read_from desk (behind_links ring rs c []) line (lines (drop from text.now)) }
-    ensures place { IfOk result (λ at. at ≤ length text.now) }
+    requires line_fits { first ≤ desk.rows + 3 }
+    ensures { (rs : List RoutedOf) (c : CutOf) →
+        read_by result (λ _. read_from desk (behind_links ring rs c (take ring.nodes links.new))
+        (first + ring.nodes) lines.new)
+        ≡ read_from desk (behind_links ring rs c []) first lines.old }
 {
-    let mut at = from;
     for k in 0..wide(ring.nodes) {
-        let end = next_end(text, at);
-        let [_, link, split, unsplit] = values_on(line + k as u32, &text[at..end], &LINK)?;
+        let number = first + k as u32;
+        let Some(line) = lines.next_line() else {
+            return Err(Refusal::misshapen(number, 0));
+        };
+        let [_, link, split, unsplit] = line.values(number, &LINK)?;
         links[k] = Link {
             link,
             split,
             unsplit,
         };
-        at = end;
     }
-    Ok(at)
+    Ok(())
 }
 
 // The Z line, which has this number, behind the ring and the cut that were read; nothing may follow it.
-fn read_last(text: &[u8], at: usize, line: u32, ring: Ring, cut: Cut) -> Result<Figures, Refusal>
-    requires begins_inside { at ≤ length text.now }
-    requires text_fits { length text.now ≤ desk.bytes }
-    requires line_fits { line ≤ desk.bytes }
+fn read_last(lines: &mut Lines, number: u32, ring: Ring, cut: Cut) -> Result<Figures, Refusal>
+    requires line_fits { number ≤ desk.bytes }
     ensures leads { (rs : List RoutedOf) (ls : List LinkOf) → ring.nodes ≤ length ls →
         read_by result (λ x. accepted (sheet_in x rs ls))
-        ≡ read_from desk (behind_links ring rs cut ls) line (lines (drop at text.now)) }
+        ≡ read_from desk (behind_links ring rs cut ls) number lines.old }
     ensures ring { IfOk result (λ x. x.ring ≡ ring) }
 {
-    let end = next_end(text, at);
-    let [_, peak, size] = values_on(line, &text[at..end], &LAST)?;
-    if end < text.len() {
-        return Err(Refusal {
-            reason: Reason::Misshapen,
-            line: line + 1,
-            byte: 1,
-        });
+    let Some(line) = lines.next_line() else {
+        return Err(Refusal::misshapen(number, 0));
+    };
+    let [_, peak, size] = line.values(number, &LAST)?;
+    match lines.next_line() {
+        Some(_) => Err(Refusal::misshapen(number + 1, 0)),
+        None => Ok(Figures {
+            ring,
+            cut,
+            peak,
+            size,
+        }),
     }
-    Ok(Figures {
-        ring,
-        cut,
-        peak,
-        size,
-    })
 }
 
-// The figures, and beside them the rows and the links as far as they go.
+// The figures, and beside them the rows and the links as far as they go. Apart from `read_sheet` so that what a refusal leaves is cleared in one place.
 fn read_parts(
     text: &[u8],
     rows: &mut Columns,
@@ -193,18 +142,15 @@ fn read_parts(
 ) -> Result<Figures, Refusal>
     ensures { with_values rows.new links.new result ≡ read_sheet desk text.now }
 {
-    if BYTES < text.len() {
-        return Err(Refusal {
-            reason: Reason::TooLong,
-            line: 0,
-            byte: 0,
-        });
-    }
-    let end = next_end(text, 0);
-    let ring = ring_on(&text[..end])?;
-    let end = read_rows(text, end, ring, rows)?;
-    let at = read_links(text, end.at, end.line, ring, links)?;
-    read_last(text, at, end.line + ring.nodes, ring, end.cut)
+    let mut lines = Lines::of(text)?;
+    let Some(first) = lines.next_line() else {
+        return Err(Refusal::misshapen(1, 0));
+    };
+    let ring = ring_on(&first)?;
+    let cut = read_rows(&mut lines, ring, rows)?;
+    let number = rows.count() as u32 + 3;
+    read_links(&mut lines, number, ring, links)?;
+    read_last(&mut lines, number + ring.nodes, ring, cut)
 }
 
 /// Reads a sheet: its figures are answered; its rows are put into the columns that are lent, and what its k-th L line says, whatever number that gives its link,

@@ -2,7 +2,7 @@
 use mathlib.Core.List.{List}
 use mathlib.Core.Path.{◌≡◌, refl, ap, ◌∙◌, sym}
 use Rattle.ring.specs.declared.types.Ring.{Ring}
-use Rattle.ring.specs.declared.types.Row.{Row}
+use Rattle.ring.specs.declared.types.Demand.{Demand}
 use Rattle.ring.specs.Limits.{Limits}
 use Rattle.table.specs.Table.{write_table, LimitsSpelled, InRange}
 use Rattle.table.specs.ReadTable.{accepted, table_of}
@@ -10,11 +10,11 @@ use Rattle.table.proofs.TableText.{table-text}
 
 module _ (limits : Limits) (spelled : LimitsSpelled limits) where
   -- reading what was written gives the same values
-  pub read-written : (ring : Ring) (rs : List Row) → InRange limits ring rs → table_of limits (write_table ring rs) ≡ accepted ring rs
+  pub read-written : (ring : Ring) (rs : List Demand) → InRange limits ring rs → table_of limits (write_table ring rs) ≡ accepted ring rs
   read-written ring rs range = (table-text limits spelled (write_table ring rs) ring rs).1 (refl, range)
 
   -- two tables written the same are the same table
-  pub same-table : (ring other : Ring) (rs ss : List Row) → InRange limits ring rs → InRange limits other ss → write_table ring rs ≡ write_table other ss → (ring ≡ other) × (rs ≡ ss)
+  pub same-table : (ring other : Ring) (rs ss : List Demand) → InRange limits ring rs → InRange limits other ss → write_table ring rs ≡ write_table other ss → (ring ≡ other) × (rs ≡ ss)
   same-table ring other rs ss r s e =
       let f : accepted ring rs ≡ accepted other ss = sym (read-written ring rs r) ∙ ap (table_of limits) e ∙ read-written other ss s in
       (cc, cc)

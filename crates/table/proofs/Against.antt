@@ -3,18 +3,20 @@ use Prim.Native.Nat.{ℕ, ◌≤◌, ◌<◌}
 use mathlib.Core.Logic.{◌⊎◌, inl, inr, ⊎_elim}
 use mathlib.Core.Path.{◌≡◌, refl}
 use native.Mathlib.Omega.{arith}
-use Rattle.ring.specs.Row.{row, OnRing, PairBefore, PairUpTo}
+use Rattle.ring.specs.Demand.{OnRing}
 use Rattle.ring.specs.Limits.{Limits}
 use Rattle.ring.specs.declared.types.Ring.{Ring}
+use Rattle.ring.specs.declared.types.Demand.{Demand}
 use Rattle.ring.specs.LineSize.{IsFibres}
 use Rattle.table.specs.Reasons.{rank_of}
 use Rattle.table.specs.Says.{NoNode}
-use Rattle.table.specs.Judge.{judge_ring, judge_row}
+use Rattle.table.specs.Findings.{Falls}
+use Rattle.table.specs.Judge.{ring_verdict, row_verdict}
 use Rattle.table.specs.declared.reason.Reason.{Reason}
 use Rattle.table.specs.declared.reason.Reason.TheVariants.{RingSize, Fibres, NoSuchNode, NotBelow, OutOfOrder, TooMany, TooMuch}
 use Rattle.table.specs.Verdict.{Verdict}
-use Rattle.std.specs.Prelude.{Ok, Err}
-use Rattle.table.proofs.Judged.{RingJudged, size_wrong, wrong_fibres, right_ring, ring-judged, HasNode, RowJudged, no_such_node, not_below, out_of_order, too_many, too_much, row_fine, row-judged}
+use Rattle.std.specs.Prelude.{Option, Ok, Err}
+use Rattle.table.proofs.Judged.{RingJudged, size_wrong, wrong_fibres, right_ring, ring-judged, HasNode, InOrder, behind_none, behind_row, RowJudged, no_such_node, not_below, out_of_order, too_many, too_much, row_fine, row-judged}
 
 -- the verdict comes no later than the reason s, and where it is Ok there is no such reason
 abbrev pub NoLater : Verdict → Reason → Type 0
@@ -23,28 +25,29 @@ NoLater (Err r) s = rank_of r ≤ rank_of s
 
 -- ---- a row, behind k rows
 
-pub data AgainstRow (limits : Limits) (n k a b i j d : ℕ) : Reason → Type 0 where
-  by_nodes : NoNode n i ⊎ NoNode n j → AgainstRow limits n k a b i j d NoSuchNode
-  by_pair : j ≤ i → AgainstRow limits n k a b i j d NotBelow
-  by_order : PairBefore i j a b → AgainstRow limits n k a b i j d OutOfOrder
-  by_count : limits.rows ≤ k → AgainstRow limits n k a b i j d TooMany
-  by_amount : limits.amount < d → AgainstRow limits n k a b i j d TooMuch
+pub data AgainstRow (limits : Limits) (n k : ℕ) (above : Option Demand) (r : Demand) : Reason → Type 0 where
+  by_nodes : NoNode n r.first ⊎ NoNode n r.second → AgainstRow limits n k above r NoSuchNode
+  by_pair : r.second ≤ r.first → AgainstRow limits n k above r NotBelow
+  by_order : Falls above r → AgainstRow limits n k above r OutOfOrder
+  by_count : limits.rows ≤ k → AgainstRow limits n k above r TooMany
+  by_amount : limits.amount < r.amount → AgainstRow limits n k above r TooMuch
 
 pub no-node-there : {n i : ℕ} → HasNode n i → NoNode n i → ⊥
 no-node-there h (inl l) = omega (arith, h.0)
 no-node-there h (inr l) = omega (arith, h.1)
 
-has-nodes : {n i j : ℕ} → HasNode n i → HasNode n j → NoNode n i ⊎ NoNode n j → ⊥
+pub has-nodes : {n i j : ℕ} → HasNode n i → HasNode n j → NoNode n i ⊎ NoNode n j → ⊥
 has-nodes h k = ⊎_elim (no-node-there h) (no-node-there k)
 
-in_order : {a b i j : ℕ} → PairUpTo a b i j → PairBefore i j a b → ⊥
-in_order (inl l) (inl m) = omega arith
-in_order (inl l) (inr m) = omega (arith, m.0)
-in_order (inr l) (inl m) = omega (arith, l.0)
-in_order (inr l) (inr m) = omega (arith, l.1, m.1)
+pub in_order : {above : Option Demand} {r : Demand} → InOrder above r → Falls above r → ⊥
+in_order behind_none m = m
+in_order (behind_row (inl l)) (inl m) = omega arith
+in_order (behind_row (inl l)) (inr m) = omega (arith, m.0)
+in_order (behind_row (inr l)) (inl m) = omega (arith, l.0)
+in_order (behind_row (inr l)) (inr m) = omega (arith, l.1, m.1)
 
-module _ {limits : Limits} {n k a b i j d : ℕ} where
-  pub row-least : {v : Verdict} {s : Reason} → RowJudged limits n k a b i j d v → AgainstRow limits n k a b i j d s → NoLater v s
+module _ {limits : Limits} {n k : ℕ} {above : Option Demand} {r : Demand} where
+  pub row-least : {v : Verdict} {s : Reason} → RowJudged limits n k above r v → AgainstRow limits n k above r s → NoLater v s
   row-least (no_such_node u) (by_nodes w) = omega arith
   row-least (no_such_node u) (by_pair w) = omega arith
   row-least (no_such_node u) (by_order w) = omega arith
@@ -70,26 +73,26 @@ module _ {limits : Limits} {n k a b i j d : ℕ} where
   row-least (too_much h p l o c m) (by_order w) = absurd (in_order o w)
   row-least (too_much h p l o c m) (by_count w) = absurd (omega arith)
   row-least (too_much h p l o c m) (by_amount w) = omega arith
-  row-least (row_fine r o c m) (by_nodes w) = has-nodes (r.low, omega (arith, r.order, r.high)) (omega (arith, r.order), r.high) w
-  row-least (row_fine r o c m) (by_pair w) = omega (arith, r.order)
-  row-least (row_fine r o c m) (by_order w) = in_order o w
-  row-least (row_fine r o c m) (by_count w) = omega arith
-  row-least (row_fine r o c m) (by_amount w) = omega arith
+  row-least (row_fine on o c m) (by_nodes w) = has-nodes (on.low, omega (arith, on.order, on.high)) (omega (arith, on.order), on.high) w
+  row-least (row_fine on o c m) (by_pair w) = omega (arith, on.order)
+  row-least (row_fine on o c m) (by_order w) = in_order o w
+  row-least (row_fine on o c m) (by_count w) = omega arith
+  row-least (row_fine on o c m) (by_amount w) = omega arith
 
-pub fine-row-judged : (limits : Limits) (n k a b i j d : ℕ) → OnRing n (row i j d) → PairUpTo a b i j → k < limits.rows → d ≤ limits.amount
-    → judge_row limits n k a b i j d ≡ Ok tt
-fine-row-judged limits n k a b i j d r o c m = go (row-judged limits n k a b i j d)
+pub fine-row-judged : (limits : Limits) (n k : ℕ) (above : Option Demand) (r : Demand) → OnRing n r → InOrder above r → k < limits.rows → r.amount ≤ limits.amount
+    → row_verdict limits n k above r ≡ Ok tt
+fine-row-judged limits n k above r on o c m = go (row-judged limits n k above r)
   where
-    none : {s : Reason} → AgainstRow limits n k a b i j d s → ⊥
-    none = row-least (row_fine r o c m)
+    none : {s : Reason} → AgainstRow limits n k above r s → ⊥
+    none = row-least (row_fine on o c m)
 
-    go : {v : Verdict} → RowJudged limits n k a b i j d v → v ≡ Ok tt
+    go : {v : Verdict} → RowJudged limits n k above r v → v ≡ Ok tt
     go (no_such_node u) = absurd (none (by_nodes u))
     go (not_below h p l) = absurd (none (by_pair l))
     go (out_of_order h p l u) = absurd (none (by_order u))
     go (too_many h p l u x) = absurd (none (by_count x))
     go (too_much h p l u c x) = absurd (none (by_amount x))
-    go (row_fine r o c m) = refl
+    go (row_fine on o c m) = refl
 
 -- ---- a ring
 
@@ -97,7 +100,7 @@ pub data AgainstRing (limits : Limits) (ring : Ring) : Reason → Type 0 where
   by_size : (ring.nodes < limits.fewest) ⊎ (limits.nodes < ring.nodes) → AgainstRing limits ring RingSize
   by_fibres : (IsFibres ring.fibres → ⊥) → AgainstRing limits ring Fibres
 
-has-size : {least most n : ℕ} → least ≤ n → n ≤ most → (n < least) ⊎ (most < n) → ⊥
+pub has-size : {least most n : ℕ} → least ≤ n → n ≤ most → (n < least) ⊎ (most < n) → ⊥
 has-size few many (inl l) = omega arith
 has-size few many (inr l) = omega arith
 
@@ -110,7 +113,7 @@ module _ {limits : Limits} {ring : Ring} where
   ring-least (right_ring l m f) (by_size w) = has-size l m w
   ring-least (right_ring l m f) (by_fibres w) = w f
 
-pub fine-ring-judged : (limits : Limits) (ring : Ring) → limits.fewest ≤ ring.nodes → ring.nodes ≤ limits.nodes → IsFibres ring.fibres → judge_ring limits ring ≡ Ok tt
+pub fine-ring-judged : (limits : Limits) (ring : Ring) → limits.fewest ≤ ring.nodes → ring.nodes ≤ limits.nodes → IsFibres ring.fibres → ring_verdict limits ring ≡ Ok tt
 fine-ring-judged limits ring few many fibres = go (ring-judged limits ring)
   where
     go : {v : Verdict} → RingJudged limits ring v → v ≡ Ok tt

@@ -7,16 +7,18 @@ use mathlib.Core.Path.{◌≡◌, refl, ap, sym, ◌∙◌, subst}
 use native.Mathlib.Omega.{arith}
 use Rattle.ring.specs.Limits.{Limits}
 use Rattle.ring.specs.declared.types.Ring.{Ring}
+use Rattle.ring.specs.Demand.{demand}
+use Rattle.ring.specs.declared.types.Demand.{Demand}
 use Rattle.text.specs.declared.field.Field.{Field}
 use Rattle.text.specs.FieldByte.{field_byte, ring_byte}
 use Rattle.text.specs.WriteLine.{write_line}
 use Rattle.text.proofs.LineLaws.{one-fault}
-use Rattle.table.specs.Fields.{node_field, ring_fault, row_fault}
+use Rattle.table.specs.Fields.{node_field, ring_reason_byte, row_reason_byte}
 use Rattle.table.specs.Says.{RingIs, RowIs, NoNode, ShapeByte, DueByte, line_missing, line_faulty, LineByte, ring_due, row_due, RingField, NodeByte, first_node, second_node, AmountByte, at_amount, ByteIs}
 use Rattle.table.specs.declared.reason.Reason.{Reason}
 use Rattle.table.specs.declared.reason.Reason.TheVariants.{TooLong, Misshapen, RingSize, Fibres, NoRow, NoSuchNode, NotBelow, OutOfOrder, TooMany, TooMuch, Full, WrongSum, WrongWay, WrongCut, WrongLink, WrongLast, NotTight, OverBound, NotZero, NotSymmetric, SumTooMuch, NoRoom}
 use Rattle.table.specs.Verdict.{Verdict}
-use Rattle.std.specs.Prelude.{Ok, Err}
+use Rattle.std.specs.Prelude.{Option, Ok, Err}
 use Rattle.table.proofs.Judged.{RingJudged, size_wrong, wrong_fibres, right_ring, Node, no_node, has_node, node, RowJudged, no_such_node, not_below, out_of_order, too_many, too_much, row_fine}
 use Rattle.table.proofs.Against.{no-node-there}
 use Rattle.table.proofs.LineNumbers.{line-one, ring-one, row_one}
@@ -26,21 +28,21 @@ abbrev pub ByteOn : List ℕ → ℕ → (Reason → ℕ) → Verdict → Type 0
 ByteOn t line byte (Ok tt) = Unit {0}
 ByteOn t line byte (Err r) = ByteIs t r line (byte r)
 
-pub ring-byte : {limits : Limits} {t : List ℕ} {ring : Ring} {v : Verdict} → RingIs t ring → RingJudged limits ring v → ByteOn t 1 (ring_fault ring) v
-unfolding ByteIs ring_fault
+pub ring-byte : {limits : Limits} {t : List ℕ} {ring : Ring} {v : Verdict} → RingIs t ring → RingJudged limits ring v → ByteOn t 1 (ring_reason_byte ring) v
+unfolding ByteIs ring_reason_byte
 ring-byte {ring} here (size_wrong w) = record { ring = ring; said = here; is = refl }
 ring-byte {ring} here (wrong_fibres l m w) = record { ring = ring; said = here; is = refl }
 ring-byte here (right_ring l m f) = tt
 
 module _ {t : List ℕ} {ring : Ring} {line i j d : ℕ} (here : RingIs t ring) (row : RowIs t line i j d) where
-  node-byte : Node ring.nodes i → NoNode ring.nodes i ⊎ NoNode ring.nodes j → NodeByte t line (row_fault ring.nodes i j d NoSuchNode)
-  unfolding row_fault node_field
+  node-byte : Node ring.nodes i → NoNode ring.nodes i ⊎ NoNode ring.nodes j → NodeByte t line (row_reason_byte ring.nodes (demand i j d) NoSuchNode)
+  unfolding row_reason_byte node_field
   node-byte (no_node w e) out = rw e (first_node here row w)
   node-byte (has_node h e) (inl w) = absurd (no-node-there h w)
   node-byte (has_node h e) (inr w) = rw e (second_node here row (no-node-there h) w)
 
-  pub row-byte : {limits : Limits} {k a b : ℕ} {v : Verdict} → RowJudged limits ring.nodes k a b i j d v → ByteOn t line (row_fault ring.nodes i j d) v
-  unfolding ByteIs row_fault field_byte write_line
+  pub row-byte : {limits : Limits} {k : ℕ} {above : Option Demand} {v : Verdict} → RowJudged limits ring.nodes k above (demand i j d) v → ByteOn t line (row_reason_byte ring.nodes (demand i j d)) v
+  unfolding ByteIs row_reason_byte field_byte write_line
   row-byte (no_such_node w) = node-byte (node ring.nodes i) w
   row-byte (not_below h p l) = refl
   row-byte (out_of_order h p l o) = refl

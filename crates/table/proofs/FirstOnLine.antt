@@ -7,14 +7,16 @@ use mathlib.Core.Path.{◌≡◌, refl}
 use native.Mathlib.Omega.{arith}
 use Rattle.ring.specs.Limits.{Limits}
 use Rattle.ring.specs.declared.types.Ring.{Ring}
-use Rattle.ring.specs.Row.{PairBefore}
+use Rattle.ring.specs.Demand.{demand}
+use Rattle.ring.specs.declared.types.Demand.{Demand}
 use Rattle.table.specs.Lines.{lines}
 use Rattle.table.specs.Reasons.{rank_of}
+use Rattle.table.specs.Findings.{Falls}
 use Rattle.table.specs.Says.{LineIs, RingIs, RowIs, WrongOrder, Says}
 use Rattle.table.specs.declared.reason.Reason.{Reason}
 use Rattle.table.specs.declared.reason.Reason.TheVariants.{Misshapen}
 use Rattle.table.specs.Verdict.{Verdict}
-use Rattle.std.specs.Prelude.{Ok, Err}
+use Rattle.std.specs.Prelude.{Option, Some, None, Ok, Err}
 use Rattle.table.proofs.Judged.{RingJudged, size_wrong, wrong_fibres as other-fibres, right_ring, RowJudged, no_such_node, not_below, out_of_order, too_many, too_much, row_fine}
 use Rattle.table.proofs.Against.{NoLater, AgainstRow, by_nodes, by_pair, by_order, by_count, by_amount, row-least, AgainstRing, by_size, by_fibres, ring-least}
 use Rattle.table.proofs.LineNumbers.{ring-one, row_one}
@@ -77,28 +79,27 @@ module _ {limits : Limits} {t : List ℕ} {ring : Ring} (here : RingIs t ring) w
 
 -- ---- D i j d
 
--- the row before a line: none, or a, b
-pub data RowBefore (t : List ℕ) : ℕ → ℕ → ℕ → Type 0 where
-  no_row_before : RowBefore t 2 0 0
-  row_before : {line a b c : ℕ} → RowIs t line a b c → RowBefore t (line + 1) a b
+-- the row before a line, where there is one
+pub data RowBefore (t : List ℕ) : ℕ → Option Demand → Type 0 where
+  no_row_before : RowBefore t 2 None
+  row_before : {line a b c : ℕ} → RowIs t line a b c → RowBefore t (line + 1) (Some (demand a b c))
 
-order-against : {t : List ℕ} {line a b i j d : ℕ} → RowIs t line i j d → RowBefore t line a b → WrongOrder t line → PairBefore i j a b
+order-against : {t : List ℕ} {line i j d : ℕ} {above : Option Demand} → RowIs t line i j d → RowBefore t line above → WrongOrder t line → Falls above (demand i j d)
 order-against row no_row_before h = absurd (omega (arith, h.next, h.above.later))
 order-against row (row_before above) h =
     let q = row_one h.above above (omega (arith, h.next)) in
     let r = row_one h.row row refl in
     rw (q.same_i, q.same_j, r.same_i, r.same_j) at h.wrong
 
--- a row that has a first node is not below the pair 0, 0, so there is a row before
-order-holds : {t : List ℕ} {line a b i j d : ℕ} → RowIs t line i j d → RowBefore t line a b → 1 ≤ i → PairBefore i j a b → WrongOrder t line
-order-holds row no_row_before low (inl l) = absurd (omega arith)
-order-holds row no_row_before low (inr l) = absurd (omega (arith, l.0))
-order-holds {i} {j} {d} row (row_before {line} {a} {b} {c} above) low wrong =
+-- a row that falls has a row before it
+order-holds : {t : List ℕ} {line i j d : ℕ} {above : Option Demand} → RowIs t line i j d → RowBefore t line above → Falls above (demand i j d) → WrongOrder t line
+order-holds row no_row_before wrong = absurd wrong
+order-holds {i} {j} {d} row (row_before {line} {a} {b} {c} above) wrong =
     record { before = line; next = refl; a = a; b = b; c = c; above = above; first = i; second = j; amount = d; row = row; wrong = wrong }
 
 -- the row stands behind k rows
 module _ {limits : Limits} {t : List ℕ} {ring : Ring} {line k i j d : ℕ} (here : RingIs t ring) (row : RowIs t line i j d) (place : line ≡ k + 2) where
-  said-of-row : {a b : ℕ} {s : Reason} → RowBefore t line a b → Said limits t line s → AgainstRow limits ring.nodes k a b i j d s
+  said-of-row : {above : Option Demand} {s : Reason} → RowBefore t line above → Said limits t line s → AgainstRow limits ring.nodes k above (demand i j d) s
   said-of-row before (too_long e long) = absurd (omega (arith, row.later))
   said-of-row before (no_ring_line h) = absurd (omega (arith, h.at, row.later))
   said-of-row before (no_row_line h) = absurd (h.none i j d row)
@@ -113,14 +114,14 @@ module _ {limits : Limits} {t : List ℕ} {ring : Ring} {line k i j d : ℕ} (he
   said-of-row before (wrong_count h) = by_count (omega (arith, h.wrong))
   said-of-row before (wrong_amount h) = let r = row_one h.row row refl in by_amount (rw r.same_d at h.wrong)
 
-  pub row-judged-first : {a b : ℕ} {v : Verdict} → RowBefore t line a b → RowJudged limits ring.nodes k a b i j d v → FirstOnLine limits t line v
+  pub row-judged-first : {above : Option Demand} {v : Verdict} → RowBefore t line above → RowJudged limits ring.nodes k above (demand i j d) v → FirstOnLine limits t line v
   unfolding Says
-  row-judged-first {a} {b} before judged = record { holds = go judged; least = λ s h. row-least judged (said-of-row before (said s h)) }
+  row-judged-first {above} before judged = record { holds = go judged; least = λ s h. row-least judged (said-of-row before (said s h)) }
     where
-      go : {v : Verdict} → RowJudged limits ring.nodes k a b i j d v → Holds limits t line v
+      go : {v : Verdict} → RowJudged limits ring.nodes k above (demand i j d) v → Holds limits t line v
       go (no_such_node w) = record { ring = ring; said = here; first = i; second = j; amount = d; row = row; wrong = w }
       go (not_below h p w) = record { first = i; second = j; amount = d; row = row; wrong = w }
-      go (out_of_order h p l w) = order-holds row before h.0 w
+      go (out_of_order h p l w) = order-holds row before w
       go (too_many h p l o w) = record { first = i; second = j; amount = d; row = row; wrong = omega arith }
       go (too_much h p l o c w) = record { first = i; second = j; amount = d; row = row; wrong = w }
       go (row_fine o up c m) = tt

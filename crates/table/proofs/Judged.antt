@@ -7,15 +7,17 @@ use native.Mathlib.Omega.{arith}
 use native.Mathlib.Decide.{dec_lt, dec_le, ℕ_discrete}
 use lib.Dec.{ltb}
 use borrow.Author.Tests.{lt-ltb, le-ltb, le-leb, lt-leb, eq-eqb, ne_eqb}
-use Rattle.ring.specs.Row.{row, OnRing, PairBefore, PairUpTo}
+use Rattle.ring.specs.Demand.{OnRing, InTableOrder}
 use Rattle.ring.specs.Limits.{Limits}
 use Rattle.ring.specs.declared.types.Ring.{Ring}
+use Rattle.ring.specs.declared.types.Demand.{Demand}
 use Rattle.ring.specs.LineSize.{two_fibres, four_fibres, IsFibres}
 use Rattle.table.specs.Says.{NoNode}
-use Rattle.table.specs.Judge.{wrong_size, judge_size, other_fibres, judge_ring, outside, is_below, judge_row}
+use Rattle.table.specs.Findings.{Falls}
+use Rattle.table.specs.Judge.{wrong_size, judge_size, other_fibres, ring_verdict, outside, falls, row_verdict}
 use Rattle.table.specs.declared.reason.Reason.TheVariants.{RingSize, Fibres, NoSuchNode, NotBelow, OutOfOrder, TooMany, TooMuch}
 use Rattle.table.specs.Verdict.{Verdict}
-use Rattle.std.specs.Prelude.{Ok, Err}
+use Rattle.std.specs.Prelude.{Option, Some, None, Ok, Err}
 
 -- ---- a ring
 
@@ -74,11 +76,11 @@ pub data RingJudged (limits : Limits) (ring : Ring) : Verdict → Type 0 where
   wrong_fibres : limits.fewest ≤ ring.nodes → ring.nodes ≤ limits.nodes → (IsFibres ring.fibres → ⊥) → RingJudged limits ring (Err Fibres)
   right_ring : limits.fewest ≤ ring.nodes → ring.nodes ≤ limits.nodes → IsFibres ring.fibres → RingJudged limits ring (Ok tt)
 
-pub ring-judged : (limits : Limits) (ring : Ring) → RingJudged limits ring (judge_ring limits ring)
-unfolding judge_ring
+pub ring-judged : (limits : Limits) (ring : Ring) → RingJudged limits ring (ring_verdict limits ring)
+unfolding ring_verdict
 ring-judged limits ring = go (size limits ring.nodes) (fibred ring.fibres)
   where
-    go : Size limits ring.nodes → Fibred ring.fibres → RingJudged limits ring (judge_ring limits ring)
+    go : Size limits ring.nodes → Fibred ring.fibres → RingJudged limits ring (ring_verdict limits ring)
     go (wrong w e) f = rw e (size_wrong w)
     go (right l m e) (other o f) = rw (e, f) (wrong_fibres l m o)
     go (right l m e) (known o f) = rw (e, f) (right_ring l m o)
@@ -106,52 +108,61 @@ node n i =
 
 -- ---- two rows' nodes
 
-data Order (a b i j : ℕ) : Type 0 where
-  falls : PairBefore i j a b → is_below a b i j ≡ true → Order a b i j
-  keeps : PairUpTo a b i j → is_below a b i j ≡ false → Order a b i j
+-- a row that does not fall
+pub data InOrder : Option Demand → Demand → Type 0 where
+  behind_none : {r : Demand} → InOrder None r
+  behind_row : {q r : Demand} → InTableOrder q r → InOrder (Some q) r
 
-order : (a b i j : ℕ) → Order a b i j
-unfolding is_below
-order a b i j =
-    elim (dec_lt i a) [
-      | yes l ↦ falls (inl l) (rw (lt-ltb i a l))
-      | no l ↦ elim (ℕ_discrete i a) [
-        | yes e ↦ elim (dec_lt j b) [ yes m ↦ falls (inr (e, m)) (same (omega arith) e (lt-ltb j b m)) | no m ↦ keeps (inr (omega arith, omega arith)) (same (omega arith) e (le-ltb j b (omega arith))) ]
-        | no n ↦ keeps (inl (omega arith)) (let k : a ≤ i = omega arith in rw (le-ltb i a k, ne_eqb i a n))
+data Order (above : Option Demand) (r : Demand) : Type 0 where
+  does_fall : Falls above r → falls above r ≡ true → Order above r
+  keeps : InOrder above r → falls above r ≡ false → Order above r
+
+order : (above : Option Demand) (r : Demand) → Order above r
+unfolding falls
+order None r = keeps behind_none refl
+order (Some q) r =
+    elim (dec_lt r.first q.first) [
+      | yes l ↦ does_fall (inl l) (rw (lt-ltb r.first q.first l))
+      | no l ↦ elim (ℕ_discrete r.first q.first) [
+        | yes e ↦ elim (dec_lt r.second q.second) [
+          | yes m ↦ does_fall (inr (e, m)) (same (omega arith) e (lt-ltb r.second q.second m))
+          | no m ↦ keeps (behind_row (inr (omega arith, omega arith))) (same (omega arith) e (le-ltb r.second q.second (omega arith)))
+        ]
+        | no n ↦ keeps (behind_row (inl (omega arith))) (let k : q.first ≤ r.first = omega arith in rw (le-ltb r.first q.first k, ne_eqb r.first q.first n))
       ]
     ]
   where
-    same : {t : Bool} → a ≤ i → i ≡ a → ltb j b ≡ t → is_below a b i j ≡ t
-    same l e f = rw (le-ltb i a l, eq-eqb i a e) f
+    same : {t : Bool} → q.first ≤ r.first → r.first ≡ q.first → ltb r.second q.second ≡ t → falls (Some q) r ≡ t
+    same l e f = rw (le-ltb r.first q.first l, eq-eqb r.first q.first e) f
 
 -- ---- a row, behind k rows
 
-pub data RowJudged (limits : Limits) (n k a b i j d : ℕ) : Verdict → Type 0 where
-  no_such_node : NoNode n i ⊎ NoNode n j → RowJudged limits n k a b i j d (Err NoSuchNode)
-  not_below : HasNode n i → HasNode n j → j ≤ i → RowJudged limits n k a b i j d (Err NotBelow)
-  out_of_order : HasNode n i → HasNode n j → i < j → PairBefore i j a b → RowJudged limits n k a b i j d (Err OutOfOrder)
-  too_many : HasNode n i → HasNode n j → i < j → PairUpTo a b i j → limits.rows ≤ k → RowJudged limits n k a b i j d (Err TooMany)
-  too_much : HasNode n i → HasNode n j → i < j → PairUpTo a b i j → k < limits.rows → limits.amount < d → RowJudged limits n k a b i j d (Err TooMuch)
-  row_fine : OnRing n (row i j d) → PairUpTo a b i j → k < limits.rows → d ≤ limits.amount → RowJudged limits n k a b i j d (Ok tt)
+pub data RowJudged (limits : Limits) (n k : ℕ) (above : Option Demand) (r : Demand) : Verdict → Type 0 where
+  no_such_node : NoNode n r.first ⊎ NoNode n r.second → RowJudged limits n k above r (Err NoSuchNode)
+  not_below : HasNode n r.first → HasNode n r.second → r.second ≤ r.first → RowJudged limits n k above r (Err NotBelow)
+  out_of_order : HasNode n r.first → HasNode n r.second → r.first < r.second → Falls above r → RowJudged limits n k above r (Err OutOfOrder)
+  too_many : HasNode n r.first → HasNode n r.second → r.first < r.second → InOrder above r → limits.rows ≤ k → RowJudged limits n k above r (Err TooMany)
+  too_much : HasNode n r.first → HasNode n r.second → r.first < r.second → InOrder above r → k < limits.rows → limits.amount < r.amount → RowJudged limits n k above r (Err TooMuch)
+  row_fine : OnRing n r → InOrder above r → k < limits.rows → r.amount ≤ limits.amount → RowJudged limits n k above r (Ok tt)
 
-pub row-judged : (limits : Limits) (n k a b i j d : ℕ) → RowJudged limits n k a b i j d (judge_row limits n k a b i j d)
-unfolding judge_row
-row-judged limits n k a b i j d = go (node n i) (node n j) (dec_le j i) (order a b i j) (dec_le limits.rows k) (dec_lt limits.amount d)
+pub row-judged : (limits : Limits) (n k : ℕ) (above : Option Demand) (r : Demand) → RowJudged limits n k above r (row_verdict limits n k above r)
+unfolding row_verdict
+row-judged limits n k above r = go (node n r.first) (node n r.second) (dec_le r.second r.first) (order above r) (dec_le limits.rows k) (dec_lt limits.amount r.amount)
   where
-    go : Node n i → Node n j → Dec (j ≤ i) → Order a b i j → Dec (limits.rows ≤ k) → Dec (limits.amount < d)
-        → RowJudged limits n k a b i j d (judge_row limits n k a b i j d)
+    go : Node n r.first → Node n r.second → Dec (r.second ≤ r.first) → Order above r → Dec (limits.rows ≤ k) → Dec (limits.amount < r.amount)
+        → RowJudged limits n k above r (row_verdict limits n k above r)
     go (no_node u e) s t o c m = rw e (no_such_node (inl u))
     go (has_node u e) (no_node v f) t o c m = rw (e, f) (no_such_node (inr v))
-    go (has_node u e) (has_node v f) (yes l) o c m = rw (e, f, le-leb j i l) (not_below u v l)
-    go (has_node u e) (has_node v f) (no l) (falls w g) c m = let q : i < j = omega arith in rw (e, f, lt-leb j i q, g) (out_of_order u v q w)
+    go (has_node u e) (has_node v f) (yes l) o c m = rw (e, f, le-leb r.second r.first l) (not_below u v l)
+    go (has_node u e) (has_node v f) (no l) (does_fall w g) c m = let q : r.first < r.second = omega arith in rw (e, f, lt-leb r.second r.first q, g) (out_of_order u v q w)
     go (has_node u e) (has_node v f) (no l) (keeps w g) (yes c) m =
-        let q : i < j = omega arith in rw (e, f, lt-leb j i q, g, le-leb limits.rows k c) (too_many u v q w c)
+        let q : r.first < r.second = omega arith in rw (e, f, lt-leb r.second r.first q, g, le-leb limits.rows k c) (too_many u v q w c)
     go (has_node u e) (has_node v f) (no l) (keeps w g) (no c) (yes m) =
-        let q : i < j = omega arith in
-        let r : k < limits.rows = omega arith in
-        rw (e, f, lt-leb j i q, g, lt-leb limits.rows k r, lt-ltb limits.amount d m) (too_much u v q w r m)
+        let q : r.first < r.second = omega arith in
+        let room : k < limits.rows = omega arith in
+        rw (e, f, lt-leb r.second r.first q, g, lt-leb limits.rows k room, lt-ltb limits.amount r.amount m) (too_much u v q w room m)
     go (has_node u e) (has_node v f) (no l) (keeps w g) (no c) (no m) =
-        let q : i < j = omega arith in
-        let r : k < limits.rows = omega arith in
-        let h : d ≤ limits.amount = omega arith in
-        rw (e, f, lt-leb j i q, g, lt-leb limits.rows k r, le-ltb limits.amount d h) (row_fine (record { low = u.0; order = q; high = v.1 }) w r h)
+        let q : r.first < r.second = omega arith in
+        let room : k < limits.rows = omega arith in
+        let h : r.amount ≤ limits.amount = omega arith in
+        rw (e, f, lt-leb r.second r.first q, g, lt-leb limits.rows k room, le-ltb limits.amount r.amount h) (row_fine (record { low = u.0; order = q; high = v.1 }) w room h)

@@ -8,15 +8,15 @@ use native.Mathlib.Omega.{arith}
 use native.Mathlib.Decide.{dec_lt}
 use lib.ListN.{length, length-append}
 use borrow.Author.Tests.{ltb-true, ltb-false}
-use Rattle.ring.specs.Row.{row}
-use Rattle.ring.specs.declared.types.Row.{Row}
+use Rattle.ring.specs.Demand.{demand}
+use Rattle.ring.specs.declared.types.Demand.{Demand}
 use Rattle.ring.proofs.Side.{cond-elim}
 use Rattle.ring.specs.Limits.{Limits}
 use Rattle.ring.specs.Ring.{ring_of}
 use Rattle.ring.specs.declared.types.Ring.{Ring}
 use Rattle.table.specs.Lines.{lines}
 use Rattle.table.specs.Reasons.{rank_of}
-use Rattle.table.specs.Fields.{field_of, node_field, ring_fault, row_fault}
+use Rattle.table.specs.Fields.{field_of, node_field, ring_reason_byte, row_reason_byte}
 use Rattle.table.specs.Faults.{found, ring_found, row_found, last_of}
 use Rattle.table.specs.OnLine.{and_then, values_on, passed, judged}
 use Rattle.text.specs.FieldByte.{field_byte}
@@ -46,7 +46,7 @@ record Clean (limits : Limits) (t : List ℕ) (line : ℕ) : Type 0 where
 
 -- a result that is right by what the reasons say
 data Right (limits : Limits) (t : List ℕ) : Result → Type 0 where
-  none_holds : {ring : Ring} {rs : List Row} → Accepted limits t → Right limits t (accepted ring rs)
+  none_holds : {ring : Ring} {rs : List Demand} → Accepted limits t → Right limits t (accepted ring rs)
   first_holds : {r : Reason} {line byte : ℕ} → Given limits t r line byte → Right limits t (refused r line byte)
 
 module _ {limits : Limits} {t : List ℕ} where
@@ -90,29 +90,29 @@ module _ {limits : Limits} {t : List ℕ} where
       go (on_first e two) = clean.none s other (omega arith) h
       go (on_later m is two) = clean.none s other (no-line-left from is) h
 
-  rows_right : {ring : Ring} → RingIs t ring → (ls : List (List ℕ)) (rs : List Row) → LinesFrom (lines t) (length rs + 2) ls → Clean limits t (length rs + 2)
-      → RowBefore t (length rs + 2) (last_of rs).first (last_of rs).second → Right limits t (rows_of limits ring rs ls)
-  unfolding rows_of row_on judged and_then values_on unless_refused row_found row_fault ByteIs
+  rows_right : {ring : Ring} → RingIs t ring → (ls : List (List ℕ)) (rs : List Demand) → LinesFrom (lines t) (length rs + 2) ls → Clean limits t (length rs + 2)
+      → RowBefore t (length rs + 2) (last_of rs) → Right limits t (rows_of limits ring rs ls)
+  unfolding rows_of row_on judged and_then values_on unless_refused row_found row_reason_byte ByteIs
   rows_right here [] rs from clean before = none_holds (clean_end (omega arith) from clean)
   rows_right {ring} here (l ∷ ls) rs from clean before = go (as-row l) (λ r. rows_right here ls (rs ++ r ∷ []))
     where
       line : ℕ
       line = length rs + 2
 
-      next : Row → Result
+      next : Demand → Result
       next r = rows_of limits ring (rs ++ r ∷ []) ls
 
-      on-next : (r : Row) → length (rs ++ r ∷ []) + 2 ≡ line + 1
+      on-next : (r : Demand) → length (rs ++ r ∷ []) + 2 ≡ line + 1
       on-next r = omega (arith, length-append rs (r ∷ []))
 
       go : {x : Reading} → RowLine l x
-          → ((r : Row) → LinesFrom (lines t) (length (rs ++ r ∷ []) + 2) ls → Clean limits t (length (rs ++ r ∷ []) + 2)
-          → RowBefore t (length (rs ++ r ∷ []) + 2) (last_of (rs ++ r ∷ [])).first (last_of (rs ++ r ∷ [])).second → Right limits t (next r))
+          → ((r : Demand) → LinesFrom (lines t) (length (rs ++ r ∷ []) + 2) ls → Clean limits t (length (rs ++ r ∷ []) + 2)
+          → RowBefore t (length (rs ++ r ∷ []) + 2) (last_of (rs ++ r ∷ [])) → Right limits t (next r))
           → Right limits t (unless_refused (and_then (values_on line x) λ vs. passed line row_shape vs (row_found limits ring.nodes (length rs) (last_of rs) (row_in vs)) (row_in vs)) next)
       go (row_line_is {i} {j} {d} e w) rest =
-          let r = row i j d in
+          let r = demand i j d in
           let now : RowIs t line i j d = record { later = omega arith; text = rw e at (line-here from); spelled = w } in
-          let judged = row-judged limits ring.nodes (length rs) (last_of rs).first (last_of rs).second i j d in
+          let judged = row-judged limits ring.nodes (length rs) (last_of rs) r in
           let at = on-next r in
           let last = last-more rs r in
           judged-right row_shape (0 ∷ i ∷ j ∷ d ∷ []) (λ reason. field_of reason (node_field ring.nodes i)) r next _ clean (row-judged-first here now refl before judged) (row-byte here now judged)
@@ -122,7 +122,7 @@ module _ {limits : Limits} {t : List ℕ} where
           (row_due (omega arith) (line_faulty (line-here from) fault)))
 
   lines-right : length t ≤ limits.bytes → (ls : List (List ℕ)) → LinesFrom (lines t) 1 ls → Right limits t (table_lines limits ls)
-  unfolding table_lines ring_on judged and_then values_on unless_refused ring_found ring_fault ByteIs
+  unfolding table_lines ring_on judged and_then values_on unless_refused ring_found ring_reason_byte ByteIs
   lines-right short [] from = first_holds (given-here (clean-start short) (no-ring-first (λ n r. omega (arith, no-line-left from r.text))) (ring_due refl (line_missing (λ l is. omega (arith, no-line-left from is)))))
   lines-right short (l ∷ ls) from = go (as-ring l)
     where
@@ -182,13 +182,13 @@ given limits t r line byte = (λ e. there (subst (Right limits t) e (right limit
 -- the text is read to a table
 pub record Reads (limits : Limits) (t : List ℕ) : Type 0 where
   pub ring : Ring
-  pub rs : List Row
+  pub rs : List Demand
   pub is : table_of limits t ≡ accepted ring rs
 
 pub accepted-is : (limits : Limits) (t : List ℕ) → Reads limits t ↔ Accepted limits t
 accepted-is limits t = (λ h. there (subst (Right limits t) h.is (right limits t)), λ none. back none (table_of limits t) refl)
   where
-    there : {ring : Ring} {rs : List Row} → Right limits t (accepted ring rs) → Accepted limits t
+    there : {ring : Ring} {rs : List Demand} → Right limits t (accepted ring rs) → Accepted limits t
     there (none_holds none) = none
 
     back : Accepted limits t → (x : Result) → table_of limits t ≡ x → Reads limits t

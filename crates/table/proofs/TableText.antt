@@ -7,8 +7,8 @@ use mathlib.Core.Path.{◌≡◌, refl, ap, ◌∙◌, sym, subst}
 use native.Mathlib.Omega.{arith}
 use lib.ListN.{length, length-append}
 use borrow.Author.Tests.{le-ltb, ltb-false}
-use Rattle.ring.specs.Row.{row, OnRing, PairUpTo}
-use Rattle.ring.specs.declared.types.Row.{Row}
+use Rattle.ring.specs.Demand.{demand, OnRing}
+use Rattle.ring.specs.declared.types.Demand.{Demand}
 use Rattle.ring.proofs.Side.{cond-elim}
 use Rattle.text.specs.Number.{limit}
 use Rattle.text.specs.Shapes.{ring_shape, row_shape, ring_line, row_line}
@@ -25,9 +25,9 @@ use Rattle.table.specs.declared.fault.Fault.{Fault}
 use Rattle.table.proofs.Faults.{last-more}
 use Rattle.table.specs.declared.reason.Reason.{Reason}
 use Rattle.table.specs.Verdict.{Verdict}
-use Rattle.std.specs.Prelude.{Option, Ok, Err}
+use Rattle.std.specs.Prelude.{Option, Some, Ok, Err}
 use Rattle.text.specs.ReadLine.{Reading}
-use Rattle.table.proofs.Judged.{RingJudged, right_ring, ring-judged, RowJudged, row_fine, row-judged}
+use Rattle.table.proofs.Judged.{RingJudged, right_ring, ring-judged, InOrder, RowJudged, row_fine, row-judged}
 use Rattle.table.proofs.Against.{fine-ring-judged, fine-row-judged}
 use Rattle.table.proofs.FineRows.{FineRows, no_row, fine_row, fine-rows, table-rows, amounts-fine, count-fine}
 use Rattle.table.proofs.LineRead.{RingSpelled, ring-values, RingLine, ring_line_is, no_ring_line, as-ring, RowSpelled, row-values, RowLine, row_line_is, no_row_line, as-row}
@@ -39,46 +39,46 @@ desk-spelled = record { nodes = omega arith; amount = omega arith }
 -- ---- read, so written
 
 -- rows behind the rows rs, as the lines ls are read to them
-data RowsRead (limits : Limits) (ring : Ring) (rs : List Row) (ls : List (List ℕ)) : Result → Type 0 where
-  rows_are : {all : List Row} (more : List Row) → all ≡ rs ++ more → flatten ls ≡ write_rows more → FineRows limits ring.nodes (length rs) (last_of rs).first (last_of rs).second more
+data RowsRead (limits : Limits) (ring : Ring) (rs : List Demand) (ls : List (List ℕ)) : Result → Type 0 where
+  rows_are : {all : List Demand} (more : List Demand) → all ≡ rs ++ more → flatten ls ≡ write_rows more → FineRows limits ring.nodes (length rs) (last_of rs) more
       → RowsRead limits ring rs ls (accepted ring all)
   rows_refused : {r : Reason} {line byte : ℕ} → RowsRead limits ring rs ls (refused r line byte)
 
 module _ {limits : Limits} {ring : Ring} where
   -- one row more in front
-  row_more : {i j d : ℕ} {rs : List Row} {l : List ℕ} {ls : List (List ℕ)} {x : Result} → l ≡ row_line i j d
-      → RowJudged limits ring.nodes (length rs) (last_of rs).first (last_of rs).second i j d (Ok tt) → RowsRead limits ring (rs ++ row i j d ∷ []) ls x → RowsRead limits ring rs (l ∷ ls) x
+  row_more : {i j d : ℕ} {rs : List Demand} {l : List ℕ} {ls : List (List ℕ)} {x : Result} → l ≡ row_line i j d
+      → RowJudged limits ring.nodes (length rs) (last_of rs) (demand i j d) (Ok tt) → RowsRead limits ring (rs ++ demand i j d ∷ []) ls x → RowsRead limits ring rs (l ∷ ls) x
   unfolding write_rows flatten
   row_more {i} {j} {d} {rs} e (row_fine o up c m) (rows_are more whole text fine) =
-      let one = length-append rs (row i j d ∷ []) in
-      rows_are (row i j d ∷ more) (whole ∙ append_assoc rs (row i j d ∷ []) more) (rw (e, text))
-      (fine_row o up c m (subst (λ k. FineRows limits ring.nodes k i j more) one (rw (last-more rs (row i j d)) at fine)))
+      let one = length-append rs (demand i j d ∷ []) in
+      rows_are (demand i j d ∷ more) (whole ∙ append_assoc rs (demand i j d ∷ []) more) (rw (e, text))
+      (fine_row o up c m (subst (λ k. FineRows limits ring.nodes k (Some (demand i j d)) more) one (rw (last-more rs (demand i j d)) at fine)))
   row_more e w rows_refused = rows_refused
 
-  rows-read : (ls : List (List ℕ)) (rs : List Row) → RowsRead limits ring rs ls (rows_of limits ring rs ls)
+  rows-read : (ls : List (List ℕ)) (rs : List Demand) → RowsRead limits ring rs ls (rows_of limits ring rs ls)
   unfolding rows_of row_on judged values_on row_found write_rows flatten
   rows-read [] rs = rows_are [] (sym (append-nil rs)) refl no_row
   rows-read (l ∷ ls) rs = go (as-row l) (λ r. rows-read ls (rs ++ r ∷ []))
     where
-      next : Row → Result
+      next : Demand → Result
       next r = rows_of limits ring (rs ++ r ∷ []) ls
 
       against : List ℕ → Option Fault
       against vs = row_found limits ring.nodes (length rs) (last_of rs) (row_in vs)
 
-      judging : {i j d : ℕ} {v : Verdict} (vs : List ℕ) (field : Reason → ℕ) → l ≡ row_line i j d → RowJudged limits ring.nodes (length rs) (last_of rs).first (last_of rs).second i j d v
-          → RowsRead limits ring (rs ++ row i j d ∷ []) ls (next (row i j d)) → RowsRead limits ring rs (l ∷ ls) (unless_refused (passed (length rs + 2) row_shape vs (found v field) (row i j d)) next)
+      judging : {i j d : ℕ} {v : Verdict} (vs : List ℕ) (field : Reason → ℕ) → l ≡ row_line i j d → RowJudged limits ring.nodes (length rs) (last_of rs) (demand i j d) v
+          → RowsRead limits ring (rs ++ demand i j d ∷ []) ls (next (demand i j d)) → RowsRead limits ring rs (l ∷ ls) (unless_refused (passed (length rs + 2) row_shape vs (found v field) (demand i j d)) next)
       judging {v = Err r} vs field e w rest = rows_refused
       judging {v = Ok tt} vs field e w rest = row_more e w rest
 
-      go : {x : Reading} → RowLine l x → ((r : Row) → RowsRead limits ring (rs ++ r ∷ []) ls (next r))
+      go : {x : Reading} → RowLine l x → ((r : Demand) → RowsRead limits ring (rs ++ r ∷ []) ls (next r))
           → RowsRead limits ring rs (l ∷ ls) (unless_refused (and_then (values_on (length rs + 2) x) λ vs. passed (length rs + 2) row_shape vs (against vs) (row_in vs)) next)
-      go (row_line_is {i} {j} {d} e w) rest = judging _ _ e (row-judged limits ring.nodes (length rs) (last_of rs).first (last_of rs).second i j d) (rest (row i j d))
+      go (row_line_is {i} {j} {d} e w) rest = judging _ _ e (row-judged limits ring.nodes (length rs) (last_of rs) (demand i j d)) (rest (demand i j d))
       go (no_row_line none fault) rest = rows_refused
 
 -- what a text is read to
 data TableRead (limits : Limits) (t : List ℕ) : Result → Type 0 where
-  table_is : {ring : Ring} {rs : List Row} → t ≡ write_table ring rs → InRange limits ring rs → TableRead limits t (accepted ring rs)
+  table_is : {ring : Ring} {rs : List Demand} → t ≡ write_table ring rs → InRange limits ring rs → TableRead limits t (accepted ring rs)
   table_refused : {r : Reason} {line byte : ℕ} → TableRead limits t (refused r line byte)
 
 module _ {limits : Limits} {t : List ℕ} (short : length t ≤ limits.bytes) where
@@ -124,21 +124,20 @@ table-read limits t =
 
 module _ (limits : Limits) (spelled : LimitsSpelled limits) (ring : Ring) (many : ring.nodes ≤ limits.nodes) where
   -- against a fine row nothing is found
-  row-again : (rs : List Row) (r : Row) → RowSpelled r.first r.second r.amount → OnRing ring.nodes r → PairUpTo (last_of rs).first (last_of rs).second r.first r.second → length rs < limits.rows → r.amount ≤ limits.amount
+  row-again : (rs : List Demand) (r : Demand) → RowSpelled r.first r.second r.amount → OnRing ring.nodes r → InOrder (last_of rs) r → length rs < limits.rows → r.amount ≤ limits.amount
       → row_on limits ring rs (row_line r.first r.second r.amount) ≡ Ok r
   unfolding row_on judged and_then values_on passed row_found found
   row-again rs r w o up c m =
-      rw (row-values r.first r.second r.amount w, fine-row-judged limits ring.nodes (length rs) (last_of rs).first (last_of rs).second r.first r.second r.amount o up c m)
+      rw (row-values r.first r.second r.amount w, fine-row-judged limits ring.nodes (length rs) (last_of rs) r o up c m)
 
-  written-rows-read : (rs : List Row) {k a b : ℕ} {more : List Row} → length rs ≡ k → (last_of rs).first ≡ a → (last_of rs).second ≡ b → FineRows limits ring.nodes k a b more
+  written-rows-read : (rs : List Demand) {k : ℕ} {above : Option Demand} {more : List Demand} → length rs ≡ k → last_of rs ≡ above → FineRows limits ring.nodes k above more
       → rows_of limits ring rs (lines (write_rows more)) ≡ accepted ring (rs ++ more)
   unfolding rows_of unless_refused write_rows lines
-  written-rows-read rs e f g no_row = ap (accepted ring) (sym (append-nil rs))
-  written-rows-read rs {k} {a} {b} e f g (fine_row {r = r} {rs = more} o up c m fine) =
+  written-rows-read rs e f no_row = ap (accepted ring) (sym (append-nil rs))
+  written-rows-read rs {k} {above} e f (fine_row {r = r} {rs = more} o up c m fine) =
       let w : RowSpelled r.first r.second r.amount = (omega (arith, o.order, o.high), (omega (arith, o.high), omega arith)) in
-      let last = last-more rs r in
-      rw (row_first r.first r.second r.amount w (write_rows more), row-again rs r w o (rw (f, g) up) (omega arith) m)
-      (written-rows-read (rs ++ r ∷ []) (omega (arith, length-append rs (r ∷ []))) (ap (λ (r : Row). r.first) last) (ap (λ (r : Row). r.second) last) fine ∙ ap (accepted ring) (append_assoc rs (r ∷ []) more))
+      rw (row_first r.first r.second r.amount w (write_rows more), row-again rs r w o (rw f up) (omega arith) m)
+      (written-rows-read (rs ++ r ∷ []) (omega (arith, length-append rs (r ∷ []))) (last-more rs r) fine ∙ ap (accepted ring) (append_assoc rs (r ∷ []) more))
 
 -- fibres have one digit
 fibres-spelled : (fibres : ℕ) → IsFibres fibres → fibres < limit
@@ -153,7 +152,7 @@ ring-again : (limits : Limits) (ring : Ring) → RingSpelled ring.nodes ring.fib
 unfolding ring_on judged and_then values_on passed ring_found found
 ring-again limits ring w few many fibres = rw (ring-values ring.nodes ring.fibres w, fine-ring-judged limits ring few many fibres)
 
-written_read : (limits : Limits) → LimitsSpelled limits → (ring : Ring) (rs : List Row) → InRange limits ring rs → table_of limits (write_table ring rs) ≡ accepted ring rs
+written_read : (limits : Limits) → LimitsSpelled limits → (ring : Ring) (rs : List Demand) → InRange limits ring rs → table_of limits (write_table ring rs) ≡ accepted ring rs
 unfolding table_of table_lines unless_refused write_table
 written_read limits spelled ring rs range =
     let w : RingSpelled ring.nodes ring.fibres = ring-spelled limits spelled ring range.many range.fibres in
@@ -161,11 +160,11 @@ written_read limits spelled ring rs range =
       le-ltb limits.bytes (length (write_table ring rs)) range.short,
       ring-first ring.nodes ring.fibres w (write_rows rs),
       ring-again limits ring w range.few range.many range.fibres,
-    ) (written-rows-read limits spelled ring range.many [] refl refl refl (fine-rows range.rows range.count range.amounts))
+    ) (written-rows-read limits spelled ring range.many [] refl refl (fine-rows range.rows range.count range.amounts))
 
 -- ---- both
 
-pub table-text : (limits : Limits) → LimitsSpelled limits → (t : List ℕ) (ring : Ring) (rs : List Row)
+pub table-text : (limits : Limits) → LimitsSpelled limits → (t : List ℕ) (ring : Ring) (rs : List Demand)
     → (table_of limits t ≡ accepted ring rs) ↔ ((t ≡ write_table ring rs) × InRange limits ring rs)
 table-text limits spelled t ring rs = (λ e. go (subst (TableRead limits t) e (table-read limits t)), λ h. rw h.0 (written_read limits spelled ring rs h.1))
   where

@@ -7,13 +7,13 @@ use Rattle.ring.specs.Limits.{desk}
 use Rattle.table.specs.ReadTable.{accepted, refused, table_of}
 use Rattle.std.specs.Prelude.{Result as Outcome, Ok, Err}
 use Rattle.ring.specs.declared.types.Ring.{Ring}
-use Rattle.ring.specs.declared.types.Row.{Row}
+use Rattle.ring.specs.declared.types.Demand.{Demand}
 use Rattle.table.specs.Table.{InRange}
 use Rattle.table.specs.declared.reason.Refusal.{Refusal}
 use Rattle.table.specs.Answer.{with_rows}
 use Rattle.table.proofs.TableText.{desk-spelled, table-text}
 
-module _ (s : List ℕ) (rs : List Row) (answer : Outcome Ring Refusal) (e : with_rows rs answer ≡ table_of desk s) where
+module _ (s : List ℕ) (rs : List Demand) (answer : Outcome Ring Refusal) (e : with_rows rs answer ≡ table_of desk s) where
   pub read-refusal : (x : Refusal) → answer ≡ Err x → table_of desk s ≡ refused x.reason x.line x.byte
   read-refusal x a = sym e ∙ rw a
 

@@ -1,6 +1,7 @@
 -- Internal: which field of its line a reason is about; its byte is where that field starts.
 use Rattle.std.specs.Prelude.{ℕ, cond}
 use Rattle.ring.specs.declared.types.Ring.{Ring}
+use Rattle.ring.specs.declared.types.Demand.{Demand}
 use Rattle.text.specs.FieldByte.{ring_byte, row_byte}
 use Rattle.table.specs.Judge.{outside}
 use Rattle.table.specs.declared.reason.Reason.{Reason}
@@ -40,10 +41,10 @@ unfoldable pub node_field : ℕ → ℕ → ℕ
 node_field n i = cond (outside n i) 1 2
 
 -- the byte of a reason found against R n fibres ..
-unfoldable pub ring_fault : Ring → Reason → ℕ
-ring_fault ring reason = ring_byte ring.nodes ring.fibres (field_of reason 0)
+unfoldable pub ring_reason_byte : Ring → Reason → ℕ
+ring_reason_byte ring reason = ring_byte ring.nodes ring.fibres (field_of reason 0)
 
--- .. and against D i j d on a ring of n nodes
-unfoldable pub row_fault : ℕ → ℕ → ℕ → ℕ → Reason → ℕ
+-- .. and against D i j amount on a ring of n nodes
+unfoldable pub row_reason_byte : ℕ → Demand → Reason → ℕ
 unfolding node_field
-row_fault n i j d reason = row_byte i j d (field_of reason (node_field n i))
+row_reason_byte n r reason = row_byte r.first r.second r.amount (field_of reason (node_field n r.first))

@@ -1,11 +1,11 @@
 -- Internal: what is found against a ring and against a row, over any numbers: nothing, or the first reason that holds, in their order.
-use Rattle.std.specs.Prelude.{ℕ, Bool, cond, not, ◌&&◌, ◌||◌, ltb, leb, eqb}
+use Rattle.std.specs.Prelude.{ℕ, Bool, false, cond, not, ◌&&◌, ◌||◌, ltb, leb, eqb, Option, Some, None, Ok, Err}
 use Rattle.ring.specs.Limits.{Limits}
 use Rattle.ring.specs.declared.types.Ring.{Ring}
+use Rattle.ring.specs.declared.types.Demand.{Demand}
 use Rattle.ring.specs.LineSize.{two_fibres, four_fibres}
 use Rattle.table.specs.declared.reason.Reason.TheVariants.{RingSize, Fibres, NoSuchNode, NotBelow, OutOfOrder, TooMany, TooMuch}
 use Rattle.table.specs.Verdict.{Verdict}
-use Rattle.std.specs.Prelude.{Ok, Err}
 
 -- n outside 2..32
 unfoldable pub wrong_size : Limits → ℕ → Bool
@@ -21,24 +21,25 @@ unfoldable pub other_fibres : ℕ → Bool
 other_fibres fibres = not (eqb fibres two_fibres) && not (eqb fibres four_fibres)
 
 -- 3 and 20
-unfoldable pub judge_ring : Limits → Ring → Verdict
+unfoldable pub ring_verdict : Limits → Ring → Verdict
 unfolding wrong_size other_fibres
-judge_ring limits ring = cond (wrong_size limits ring.nodes) (Err RingSize) (cond (other_fibres ring.fibres) (Err Fibres) (Ok tt))
+ring_verdict limits ring = cond (wrong_size limits ring.nodes) (Err RingSize) (cond (other_fibres ring.fibres) (Err Fibres) (Ok tt))
 
 -- a node outside 1..n
 unfoldable pub outside : ℕ → ℕ → Bool
 outside n i = ltb i 1 || ltb n i
 
--- a row i, j whose nodes are below the row a, b, by first node, then second
-unfoldable pub is_below : ℕ → ℕ → ℕ → ℕ → Bool
-is_below a b i j = ltb i a || eqb i a && ltb j b
+-- a row whose nodes are below those of the row above it, by first node, then second; behind none it does not fall
+unfoldable pub falls : Option Demand → Demand → Bool
+falls None r = false
+falls (Some q) r = ltb r.first q.first || eqb r.first q.first && ltb r.second q.second
 
--- 4, 5, 6, 16 and 7, of the row i, j of d on a ring of n nodes, behind k rows of which the last is a, b (0, 0 where there is none)
-unfoldable pub judge_row : Limits → ℕ → ℕ → ℕ → ℕ → ℕ → ℕ → ℕ → Verdict
-judge_row limits n k a b i j d =
-    cond (outside n i || outside n j) (Err NoSuchNode)
-    (cond (leb j i) (Err NotBelow)
-    (cond (is_below a b i j) (Err OutOfOrder)
+-- 4, 5, 6, 16 and 7, of a row on a ring of n nodes, behind k rows of which the last is `above`
+unfoldable pub row_verdict : Limits → ℕ → ℕ → Option Demand → Demand → Verdict
+row_verdict limits n k above r =
+    cond (outside n r.first || outside n r.second) (Err NoSuchNode)
+    (cond (leb r.second r.first) (Err NotBelow)
+    (cond (falls above r) (Err OutOfOrder)
     (cond (leb limits.rows k) (Err TooMany)
-    (cond (ltb limits.amount d) (Err TooMuch)
+    (cond (ltb limits.amount r.amount) (Err TooMuch)
     (Ok tt)))))

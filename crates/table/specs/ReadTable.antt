@@ -1,7 +1,7 @@
 -- Internal: reading a table: reason 1 first, then lines in order, and in a line the reasons in their order.
 use Rattle.std.specs.Prelude.{ℕ, ◌+◌, cond, List, [], ◌∷◌, ◌++◌, length, ltb, get_or, Result as Outcome, Ok, Err}
-use Rattle.ring.specs.Row.{row}
-use Rattle.ring.specs.declared.types.Row.{Row}
+use Rattle.ring.specs.Demand.{demand}
+use Rattle.ring.specs.declared.types.Demand.{Demand}
 use Rattle.text.specs.Shapes.{ring_shape, row_shape}
 use Rattle.ring.specs.Limits.{Limits}
 use Rattle.ring.specs.Ring.{ring_of}
@@ -15,7 +15,7 @@ use Rattle.table.specs.declared.reason.Refusal.{Refusal}
 
 -- a ring and its rows; or a reason, a line and a byte of it
 pub data Result : Type 0 where
-  accepted : Ring → List Row → Result
+  accepted : Ring → List Demand → Result
   refused : Reason → ℕ → ℕ → Result
 
 -- ---- one line, by its values; that of the letter is the first
@@ -23,8 +23,8 @@ pub data Result : Type 0 where
 abbrev pub ring_in : List ℕ → Ring
 ring_in vs = ring_of (get_or vs 1 0) (get_or vs 2 0)
 
-abbrev pub row_in : List ℕ → Row
-row_in vs = row (get_or vs 1 0) (get_or vs 2 0) (get_or vs 3 0)
+abbrev pub row_in : List ℕ → Demand
+row_in vs = demand (get_or vs 1 0) (get_or vs 2 0) (get_or vs 3 0)
 
 -- R n fibres
 unfoldable pub ring_on : Limits → List ℕ → Outcome Ring Refusal
@@ -32,7 +32,7 @@ unfolding judged ring_found
 ring_on limits l = judged 1 ring_shape ring_in (ring_found limits) l
 
 -- D i j amount, behind the rows rs, of which the first stands on line 2
-unfoldable pub row_on : Limits → Ring → List Row → List ℕ → Outcome Row Refusal
+unfoldable pub row_on : Limits → Ring → List Demand → List ℕ → Outcome Demand Refusal
 unfolding judged row_found
 row_on limits ring rs l = judged (length rs + 2) row_shape row_in (row_found limits ring.nodes (length rs) (last_of rs)) l
 
@@ -44,7 +44,7 @@ unless_refused (Ok x) next = next x
 unless_refused (Err r) next = refused r.reason r.line r.byte
 
 -- the rows of the lines ls, behind the rows rs
-unfoldable pub rows_of : Limits → Ring → List Row → List (List ℕ) → Result
+unfoldable pub rows_of : Limits → Ring → List Demand → List (List ℕ) → Result
 unfolding row_on unless_refused
 rows_of limits ring rs [] = accepted ring rs
 rows_of limits ring rs (l ∷ ls) = unless_refused (row_on limits ring rs l) λ r. rows_of limits ring (rs ++ r ∷ []) ls

@@ -8,7 +8,7 @@ use Rattle.text.specs.Shapes.{ring_shape, row_shape, ring_line, row_line}
 use Rattle.ring.specs.Limits.{Limits}
 use Rattle.ring.specs.declared.types.Ring.{Ring}
 use Rattle.ring.specs.LineSize.{IsFibres}
-use Rattle.ring.specs.Row.{PairBefore}
+use Rattle.ring.specs.Demand.{PairBefore}
 use Rattle.table.specs.Lines.{lines}
 use Rattle.table.specs.Reasons.{rank_of}
 use Rattle.table.specs.declared.reason.Reason.{Reason}

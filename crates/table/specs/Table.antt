@@ -4,17 +4,17 @@ use Rattle.ring.specs.Limits.{Limits}
 use Rattle.ring.specs.declared.types.Ring.{Ring}
 use Rattle.ring.specs.LineSize.{IsFibres}
 use Rattle.ring.specs.Lists.{Each}
-use Rattle.ring.specs.Row.{TableRows}
-use Rattle.ring.specs.declared.types.Row.{Row}
+use Rattle.ring.specs.Demand.{TableRows}
+use Rattle.ring.specs.declared.types.Demand.{Demand}
 use Rattle.text.specs.Number.{limit, most_digits}
 use Rattle.text.specs.Shapes.{ring_shape, row_shape, ring_line, row_line}
 
 -- R n fibres, then D lines
-unfoldable pub write_rows : List Row → List ℕ
+unfoldable pub write_rows : List Demand → List ℕ
 write_rows [] = []
 write_rows (r ∷ rs) = row_line r.first r.second r.amount ++ write_rows rs
 
-unfoldable pub write_table : Ring → List Row → List ℕ
+unfoldable pub write_table : Ring → List Demand → List ℕ
 unfolding write_rows
 write_table ring rs = ring_line ring.nodes ring.fibres ++ write_rows rs
 
@@ -24,7 +24,7 @@ pub record LimitsSpelled (limits : Limits) : Type 0 where
   pub amount : limits.amount < limit
 
 -- what a table can hold, within limits
-pub record InRange (limits : Limits) (ring : Ring) (rs : List Row) : Type 0 where
+pub record InRange (limits : Limits) (ring : Ring) (rs : List Demand) : Type 0 where
   pub few : limits.fewest ≤ ring.nodes
   pub many : ring.nodes ≤ limits.nodes
   pub fibres : IsFibres ring.fibres

@@ -1,13 +1,13 @@
 //! What is found against the values of a line.
 ghost use Rattle.std.specs.Prelude.{◌≡◌, ◌≤◌, length};
-ghost use Rattle.text.specs.FieldByte.{field_byte};
+ghost use Rattle.text.specs.FieldByte.{most_fields, field_byte};
 ghost use Rattle.table.specs.OnLine.{refusal};
 
 use crate::reason::{Reason, Refusal};
 use text::Field;
 
 /// A reason, and the field of the line that it is about, which is counted from 0; a reason that judges the line as a whole is about its letter, field 0.
-#[derive(Clone, Copy)]
+#[derive(Clone, Copy, Debug, PartialEq, Eq)]
 pub struct Fault {
     pub reason: Reason,
     pub field: usize,
@@ -17,7 +17,7 @@ impl Fault {
     /// The refusal of the line with this number and these values: its byte is where the field starts.
     #[cold]
     pub fn on(self, line: u32, shape: &[Field], values: &[u32]) -> Refusal
-        requires short { length shape.now ≤ 1000 }
+        requires short { length shape.now ≤ most_fields }
         requires valued { length shape.now ≤ length values.now }
         requires there { self.field ≤ length shape.now }
         ensures { result ≡ refusal self.reason line

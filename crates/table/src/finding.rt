@@ -5,7 +5,7 @@ ghost use Rattle.table.specs.Findings.{found};
 use crate::reason::Reason;
 
 /// A reason, and the place of the row or of the link that it judges, counted from 1; 0 where it judges no row and no link.
-#[derive(Clone, Copy)]
+#[derive(Clone, Copy, Debug, PartialEq, Eq)]
 pub struct Finding {
     pub reason: Reason,
     pub place: usize,

@@ -4,12 +4,12 @@ ghost use Rattle.ring.specs.Limits.{desk};
 ghost use Rattle.text.specs.ReadLine.{read_line};
 ghost use Rattle.table.specs.OnLine.{values_on};
 
-use crate::reason::{Reason, Refusal};
+use crate::reason::Refusal;
 use text::Field;
 
 /// Reads the line with this number by its shape: a value for each field, of a letter 0; or its refusal, the byte of which is the first faulty one.
 #[tactic(auto, unfolding(crate::specs::OnLine::values_on))]
-pub fn values_on<const N: usize>(
+pub(crate) fn values_on<const N: usize>(
     line: u32,
     text: &[u8],
     shape: &[Field; N],
@@ -19,10 +19,6 @@ pub fn values_on<const N: usize>(
 {
     match text::read_line(text, shape) {
         Ok(values) => Ok(values),
-        Err(at) => Err(Refusal {
-            reason: Reason::Misshapen,
-            line,
-            byte: at as u32 + 1,
-        }),
+        Err(place) => Err(Refusal::misshapen(line, place)),
     }
 }

@@ -4,6 +4,10 @@ use Rattle.text.specs.Shapes.{ring_shape, row_shape, sent_shape}
 use Rattle.text.specs.WriteLine.{write_line}
 use Rattle.text.specs.declared.field.Field.{Field}
 
+-- a line whose bytes are counted in a u32 has at most so many fields: far more than any shape here, far fewer than would overflow
+abbrev pub most_fields : ℕ
+most_fields = 1000
+
 -- k fields stand before the field; each is written with the byte behind it
 unfoldable pub field_byte : List Field → List ℕ → ℕ → ℕ
 field_byte shape vs k = length (write_line (take k shape) vs) + 1

@@ -4,11 +4,12 @@ ghost use Rattle.text.specs.Field.{spell};
 ghost use Rattle.text.specs.ReadLine.{field_at};
 ghost use Rattle.text.specs.Written.{Passed};
 
-use crate::mark::{FRONT, read_mark};
+use crate::mark::read_mark;
 use crate::number::{read_number, write_number};
 use crate::pass::Pass;
+use ring::FRONT;
 
-/// What stands in a field: one certain letter, a number, or a way, F or B.
+/// What stands in a field: one certain letter, a number, or a way, F or B, whose value is the way's number.
 #[derive(Clone, Copy, Debug, PartialEq, Eq)]
 pub enum Field {
     Letter(u8),

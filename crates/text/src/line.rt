@@ -2,7 +2,7 @@
 ghost use Rattle.std.specs.Prelude.{◌≡◌, ◌+◌, ◌≤◌, length};
 ghost use Rattle.text.specs.WriteLine.{end_of, write_line};
 ghost use Rattle.text.specs.ReadLine.{read_line};
-ghost use Rattle.text.specs.FieldByte.{field_byte};
+ghost use Rattle.text.specs.FieldByte.{most_fields, field_byte};
 ghost use Rattle.text.specs.Written.{Passed};
 
 use crate::field::{Field, read_field, write_field};
@@ -56,7 +56,7 @@ pub fn write_line<P: Pass>(buffer: &mut [u8], at: usize, shape: &[Field], values
 
 /// How many bytes the line of a shape and its values has.
 pub fn line_length(shape: &[Field], values: &[u32]) -> usize
-    requires short { length shape.now ≤ 1000 }
+    requires short { length shape.now ≤ most_fields }
     requires valued { length shape.now ≤ length values.now }
     ensures { result ≡ length (write_line shape.now values.now) }
 {
@@ -67,7 +67,7 @@ pub fn line_length(shape: &[Field], values: &[u32]) -> usize
 #[tactic(auto, unfolding(crate::specs::FieldByte::field_byte))]
 #[cold]
 pub fn field_byte(shape: &[Field], values: &[u32], k: usize) -> u32
-    requires short { length shape.now ≤ 1000 }
+    requires short { length shape.now ≤ most_fields }
     requires valued { length shape.now ≤ length values.now }
     requires there { k ≤ length shape.now }
     ensures { result ≡ field_byte shape.now values.now k }

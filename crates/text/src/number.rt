@@ -1,6 +1,6 @@
 //! Numbers: 1 to 7 digits, with no leading zero but 0 itself.
-ghost use Rattle.std.specs.Prelude.{◌≡◌, ◌+◌, ◌≤◌, length};
-ghost use Rattle.text.specs.Number.{digits};
+ghost use Rattle.std.specs.Prelude.{◌≡◌, ◌+◌, ◌≤◌, ◌<◌, length, SomeIff};
+ghost use Rattle.text.specs.Number.{base, digits};
 ghost use Rattle.text.specs.ReadNumber.{digit_of, number_at};
 ghost use Rattle.text.specs.Written.{Passed};
 
@@ -9,7 +9,7 @@ use crate::pass::Pass;
 /// A digit is below this.
 const BASE: u32 = 10;
 
-/// From here on a number has more than one digit.
+/// From here on a number has more than one digit; a name apart from BASE, as each can be wrong alone.
 const MORE: u32 = BASE;
 
 /// A number has at most 7 digits: it is below this.
@@ -18,17 +18,17 @@ const LIMIT: u32 = 10000000;
 /// From here on a number has 7 digits, and no further digit may follow.
 const FULL: u32 = LIMIT / BASE;
 
-/// This number stands alone: no further digit may follow, so that no number has a leading zero.
+/// This number stands alone: no further digit may follow, so that no number has a leading zero. It has a name since no digit but 0 may be this.
 const ALONE: u32 = 0;
 
-/// The value of a digit, BASE for any other byte.
+/// The value of a digit.
 #[tactic(auto, unfolding(crate::specs::ReadNumber::digit_of))]
-fn digit_of(byte: u8) -> u32
-    ensures { result ≡ digit_of byte }
+fn digit_of(byte: u8) -> Option<u32>
+    ensures { SomeIff result (digit_of byte < base) (digit_of byte) }
 {
     match byte {
-        b'0'..=b'9' => (byte - b'0') as u32,
-        _ => BASE,
+        b'0'..=b'9' => Some(u32::from(byte - b'0')),
+        _ => None,
     }
 }
 
@@ -41,20 +41,18 @@ pub(crate) fn read_number(text: &[u8], at: usize, end: u8) -> Result<(u32, usize
     if at >= text.len() {
         return Err(at);
     }
-    let mut value = digit_of(text[at]);
-    if value >= BASE {
+    let Some(mut value) = digit_of(text[at]) else {
         return Err(at);
-    }
+    };
     for p in at + 1..text.len() {
         let byte = text[p];
-        let digit = digit_of(byte);
-        if digit >= BASE {
+        let Some(digit) = digit_of(byte) else {
             return if byte == end {
                 Ok((value, p + 1))
             } else {
                 Err(p)
             };
-        }
+        };
         if value == ALONE || value >= FULL {
             return Err(p);
         }

@@ -1,83 +1,141 @@
--- A loop that changes a run of places has changed those that it passed and no other; and three runs, over the links before a row's front, of it
--- and behind it, change every link by what the row sends over it.
-use Prim.Native.Nat.{ℕ, ◌+◌, ◌-◌, ◌≤◌, ◌<◌}
-use mathlib.Core.Path.{◌≡◌, ◌∙◌, ap}
-use mathlib.Core.List.{List}
-use native.Mathlib.Omega.{arith}
-use lib.ListN.{get_or}
-use Rattle.ring.specs.Row.{OnRing}
-use Rattle.ring.specs.Routing.{sent_over}
-use Rattle.ring.specs.declared.types.Sent.{Sent}
-use Rattle.ring.proofs.Side.{Side, before, within, after, side}
-use Rattle.ring.proofs.Sending.{over-front, over-back}
-use Rattle.weight.specs.Limits.{most_load}
-use Rattle.weight.specs.declared.spans.Step.{Step}
-use Rattle.weight.specs.Arrays.{stepped, Span, SpanFits, link_at, OverStep, OverFits}
+-- A loop that changes a run of figures has changed those that it passed and no other; and three runs, over the links before a demand's front, of it
+-- and behind it, change every link.
+use borrow.Rule.Slice.PartMut.{mid_of, put_mid, same_len_mid}
+use Rattle.std.proofs.lemmas.List.{get_or-take, get_or-drop, get_or-append_right, length-take, length-drop}
+use lib.ListN.{get_or-append}
+use Rattle.std.proofs.Common.{◌-◌, ap, drop, take, ◌≡◌, refl, sym, ◌∙◌, subst, ℕ, suc, ◌+◌, List, ◌<◌, ◌≤◌, ◌≢◌, length, set, get_or, get_or-set_other, get_or-set_same, [], ◌∷◌, ◌++◌, zero, arith}
+use native.Mathlib.Decide.{dec_lt}
+use Rattle.std.proofs.lemmas.List.{length-set}
+use Rattle.ring.specs.Demand.{OnRing}
+use Rattle.ring.specs.declared.types.Demand.{Demand}
+use Rattle.ring.proofs.Side.{front_ends, Outside, outside, ahead, behind}
+use Rattle.weight.specs.Arrays.{EachStep, EachFits, OverStep}
 
 -- ---- one run
 
--- where the loop stands: the places from .. k are changed
-pub record Spanning (op : ℕ → ℕ) (from to : ℕ) (old now : List ℕ) (k : ℕ) : Type 0 where
-  pub low : from ≤ k
-  pub high : k ≤ to
-  pub so_far : Span op from k old now
+-- those passed are changed, and those left are as they were
+pub record Spanning {T : Type 0} (step : T → T → Type 0) (old now : List T) (k : ℕ) : Type 0 where
+  pub size : length now ≡ length old
+  pub passed : (x : ℕ) (d : T) → x < k → step (get_or old x d) (get_or now x d)
+  pub left : (x : ℕ) (d : T) → k ≤ x → get_or now x d ≡ get_or old x d
 
--- ---- a row's three runs
+-- within a list the value in place of one that is missing does not matter
+same-at : {T : Type 0} (l : List T) (k : ℕ) (d e : T) → k < length l → get_or l k d ≡ get_or l k e
+same-at [] k d e h = absurd (omega arith)
+same-at (x ∷ l) zero d e h = refl
+same-at (x ∷ l) (suc k) d e h = same-at l k d e (omega arith)
 
-module _ (step : Step) (n : ℕ) (s : Sent) (i j : ℕ) (ei : i ≡ s.row.first) (ej : j ≡ s.row.second) (old : List ℕ) (fits : OverFits n s old) where
-  place-fits : (x : ℕ) → x < n → get_or old x 0 + (s.front + s.back) ≤ most_load
-  place-fits x l = let e : (x + 1) - 1 ≡ x = omega arith in rw e at (fits.sums (x + 1) (omega arith) (omega arith))
+module _ {T : Type 0} {step : T → T → Type 0} (old : List T) where
+  pub span_start : Spanning step old old 0
+  span_start = record { size = refl; passed = λ x d l. absurd (omega arith); left = λ x d l. refl }
 
-  abbrev on : OnRing n s.row
-  on = fits.on
+  module _ (now : List T) (k : ℕ) (s : Spanning step old now k) where
+    module _ (x : T) (l : k < length old) where
+      pub can_step : {can : T → Type 0} → EachFits can old → can (get_or now k x)
+      can_step {can} fits = subst can (sym (s.left k x (omega arith))) (fits.each k x l)
 
-  pub first_run : SpanFits 0 (i - 1) s.back old
-  first_run =
-      record {
-        order = omega arith;
-        room = omega arith;
-        sums = λ x a b. omega (arith, place-fits x (omega arith));
-      }
+      pub span_turn : (y : T) → step (get_or now k x) y → Spanning step old (set now k y) (k + 1)
+      span_turn y p = record { size = length-set now k y ∙ s.size; passed = passed; left = left }
+        where
+          here : {z : ℕ} (d : T) → z ≡ k → step (get_or old z d) (get_or (set now k y) z d)
+          here d e =
+              let same : get_or old k d ≡ get_or now k x = same-at old k d x l ∙ sym (s.left k x (omega arith)) in
+              rw (e, same, get_or-set_same now k y d (omega (arith, s.size))) p
 
-  module _ (one : List ℕ) (a : Span (λ y. stepped step y s.back) 0 (i - 1) old one) where
-    pub second_run : SpanFits (i - 1) (j - 1) s.front one
-    second_run =
+          passed : (z : ℕ) (d : T) → z < k + 1 → step (get_or old z d) (get_or (set now k y) z d)
+          passed z d l =
+              elim (dec_lt z k) [
+                | yes m ↦ (let ne : z ≢ k = omega arith in rw (get_or-set_other now k z y d ne) (s.passed z d m))
+                | no m ↦ here d (omega arith)
+              ]
+
+          left : (z : ℕ) (d : T) → k + 1 ≤ z → get_or (set now k y) z d ≡ get_or old z d
+          left z d l = let ne : z ≢ k = omega arith in get_or-set_other now k z y d ne ∙ s.left z d (omega arith)
+
+    pub span_done : length old ≤ k → EachStep step old now
+    span_done h = record { size = s.size; each = λ x d l. s.passed x d (omega arith) }
+
+-- ---- a run is a part of a list: its figures from place a on, k of them
+
+-- those of the part are changed, and no others
+pub record Span {T : Type 0} (step : T → T → Type 0) (from to : ℕ) (old new : List T) : Type 0 where
+  pub size : length new ≡ length old
+  pub within : (x : ℕ) (d : T) → from ≤ x → x < to → step (get_or old x d) (get_or new x d)
+  pub outside : (x : ℕ) (d : T) → ((from ≤ x) × (x < to) → ⊥) → get_or new x d ≡ get_or old x d
+
+module _ {T : Type 0} (a k : ℕ) (xs : List T) (fits : a + k ≤ length xs) where
+  part-at : (x : ℕ) (d : T) → a ≤ x → x < a + k → get_or (mid_of a k xs) (x - a) d ≡ get_or xs x d
+  part-at x d l m =
+      let e : a + (x - a) ≡ x = omega arith in
+      get_or-take k (drop a xs) (x - a) d (omega arith) ∙ get_or-drop a xs (x - a) d ∙ ap (λ y. get_or xs y d) e
+
+  module _ (ys : List T) {step : T → T → Type 0} (s : EachStep step (mid_of a k xs) ys) where
+    long : length ys ≡ k
+    long = omega (arith, s.size, length-take k (drop a xs), length-drop a xs)
+
+    pub part-step : Span step a (a + k) xs (put_mid a k xs ys)
+    part-step =
         record {
-          order = omega arith;
-          room = omega (arith, a.size, fits.size, fits.few, on.high);
-          sums = λ x p q. omega (arith, a.outside x (λ z. omega arith), place-fits x (omega arith));
+          size = same_len_mid a k xs ys s.size;
+          within = within;
+          outside = outside;
         }
+      where
+        tail : (x : ℕ) (d : T) → a ≤ x → get_or (put_mid a k xs ys) x d ≡ get_or (ys ++ drop k (drop a xs)) (x - a) d
+        tail x d l = get_or-append_right (take a xs) (ys ++ drop k (drop a xs)) a x d (omega (arith, length-take a xs)) l
 
-    module _ (two : List ℕ) (b : Span (λ y. stepped step y s.front) (i - 1) (j - 1) one two) where
-      pub third-run : SpanFits (j - 1) n s.back two
-      third-run =
-          record {
-            order = omega arith;
-            room = omega (arith, b.size, a.size, fits.size, fits.few);
-            sums = λ x p q. omega (arith, b.outside x (λ z. omega arith), a.outside x (λ z. omega arith), place-fits x q);
-          }
+        within : (x : ℕ) (d : T) → a ≤ x → x < a + k → step (get_or xs x d) (get_or (put_mid a k xs ys) x d)
+        within x d l m =
+            rw (tail x d l ∙ get_or-append ys (drop k (drop a xs)) d (x - a) (omega (arith, long)), ← part-at x d l m)
+            (s.each (x - a) d (omega (arith, length-take k (drop a xs), length-drop a xs)))
 
-      module _ (new : List ℕ) (c : Span (λ y. stepped step y s.back) (j - 1) n two new) where
-        each-link : (k : ℕ) → 1 ≤ k → k ≤ n → link_at new k ≡ stepped step (link_at old k) (sent_over s k)
-        each-link k low high = go (side s.row k)
-          where
-            go : Side s.row k → link_at new k ≡ stepped step (link_at old k) (sent_over s k)
-            go (before l e) =
-                rw (over-back s k e)
-                (c.outside (k - 1) (λ p. omega arith) ∙ b.outside (k - 1) (λ p. omega arith) ∙ a.within (k - 1) (omega arith) (omega arith))
-            go (within l m e) =
-                rw (over-front s k e)
-                (c.outside (k - 1) (λ p. omega arith) ∙ b.within (k - 1) (omega arith) (omega arith) ∙
-                ap (λ y. stepped step y s.front) (a.outside (k - 1) (λ p. omega arith)))
-            go (after l e) =
-                rw (over-back s k e)
-                (c.within (k - 1) (omega arith) (omega arith) ∙
-                ap (λ y. stepped step y s.back) (b.outside (k - 1) (λ p. omega arith) ∙ a.outside (k - 1) (λ p. omega arith)))
+        outside : (x : ℕ) (d : T) → ((a ≤ x) × (x < a + k) → ⊥) → get_or (put_mid a k xs ys) x d ≡ get_or xs x d
+        outside x d h =
+            elim (dec_lt x a) [
+              | yes l ↦ get_or-append (take a xs) (ys ++ drop k (drop a xs)) d x (omega (arith, length-take a xs)) ∙ get_or-take a xs x d l
+              | no l ↦
+                  elim (dec_lt x (a + k)) [
+                    | yes m ↦ absurd (h (omega arith, m))
+                    | no m ↦
+                        let e : a + (k + ((x - a) - k)) ≡ x = omega arith in
+                        tail x d (omega arith) ∙ get_or-append_right ys (drop k (drop a xs)) k (x - a) d long (omega arith) ∙ get_or-drop k (drop a xs) ((x - a) - k) d
+                        ∙ get_or-drop a xs (k + ((x - a) - k)) d ∙ ap (λ y. get_or xs y d) e
+                  ]
+            ]
 
-        pub over-step : OverStep step n s old new
-        over-step =
-            record {
-              size = c.size ∙ b.size ∙ a.size ∙ fits.size;
-              is = each-link;
-              behind = λ x l. c.outside x (λ p. omega arith) ∙ b.outside x (λ p. omega arith) ∙ a.outside x (λ p. omega arith);
-            }
+-- ---- a demand's three runs: before its front, over it and behind it
+
+module _ {T : Type 0} (front back : T → T → Type 0) (r : Demand) (i j : ℕ) (ei : i ≡ r.first) (ej : j ≡ r.second) (old : List T) (on : OnRing (length old) r) where
+  module _ {one two new : List T} (first : Span back 0 (0 + (i - 1)) old one) (second : Span front (i - 1) ((i - 1) + ((j - 1) - (i - 1))) one two)
+      (third : Span back (j - 1) ((j - 1) + (length old - (j - 1))) two new) where
+    runs : OverStep front back r old new
+    runs =
+        record {
+          size = third.size ∙ second.size ∙ first.size;
+          ahead =
+              λ x d l e.
+              let f = front_ends r (x + 1) e in
+              rw (third.outside x d (λ z. omega (arith, f.1, z.0)), ← first.outside x d (λ z. omega (arith, f.0, z.1)))
+              (second.within x d (omega (arith, f.0)) (omega (arith, f.1)));
+          behind = λ x d l e. go x d l (outside r (x + 1) e);
+        }
+      where
+        go : (x : ℕ) (d : T) → x < length old → Outside r (x + 1) → back (get_or old x d) (get_or new x d)
+        go x d l (ahead f) =
+            rw (third.outside x d (λ z. omega (arith, z.0)), second.outside x d (λ z. omega (arith, z.0))) (first.within x d (omega arith) (omega arith))
+        go x d l (behind f) =
+            rw (← first.outside x d (λ z. omega (arith, z.1)), ← second.outside x d (λ z. omega (arith, z.1))) (third.within x d (omega arith) (omega arith))
+
+  module _ (a b c : List T) where
+    abbrev pub one : List T
+    one = a ++ drop (i - 1) old
+
+    abbrev pub two : List T
+    two = put_mid (i - 1) ((j - 1) - (i - 1)) one b
+
+    pub over_step : EachStep back (take (i - 1) old) a → EachStep front (mid_of (i - 1) ((j - 1) - (i - 1)) one) b → EachStep back (mid_of (j - 1) (length old - (j - 1)) two) c →
+        OverStep front back r old (put_mid (j - 1) (length old - (j - 1)) two c)
+    over_step p q s =
+        let first : Span back 0 (0 + (i - 1)) old one = part-step 0 (i - 1) old (omega arith) a p in
+        let second = part-step (i - 1) ((j - 1) - (i - 1)) one (omega (arith, first.size)) b q in
+        runs first second (part-step (j - 1) (length old - (j - 1)) two (omega (arith, first.size, second.size)) c s)

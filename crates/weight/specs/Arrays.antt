@@ -1,48 +1,32 @@
--- Internal: an array with a figure for each link, and how a turn changes it.
-use Rattle.std.specs.Prelude.{ℕ, ◌+◌, ◌-◌, ◌≤◌, ◌<◌, List, ◌≡◌, length, get_or}
-use Rattle.ring.specs.Row.{OnRing}
-use Rattle.ring.specs.Routing.{sent_over}
-use Rattle.ring.specs.declared.types.Sent.{Sent}
-use Rattle.weight.specs.Limits.{most_links, most_load}
-use Rattle.weight.specs.declared.spans.Step.{Step}
-use Rattle.weight.specs.declared.spans.Step.TheVariants.{Raise, Lower}
-
--- a number raised by an amount, or lowered by it, as far as 0
-abbrev pub stepped : Step → ℕ → ℕ → ℕ
-stepped Raise number amount = number + amount
-stepped Lower number amount = number - amount
-
--- the places from .. to of an array changed by `op`, and no other
-pub record Span (op : ℕ → ℕ) (from to : ℕ) (old new : List ℕ) : Type 0 where
-  pub size : length new ≡ length old
-  pub within : (x : ℕ) → from ≤ x → x < to → get_or new x 0 ≡ op (get_or old x 0)
-  pub outside : (x : ℕ) → ((from ≤ x) × (x < to) → ⊥) → get_or new x 0 ≡ get_or old x 0
-
--- such a change can be made: the run lies in the array, and no sum grows too large
-pub record SpanFits (from to amount : ℕ) (line : List ℕ) : Type 0 where
-  pub order : from ≤ to
-  pub room : to ≤ length line
-  pub sums : (x : ℕ) → from ≤ x → x < to → get_or line x 0 + amount ≤ most_load
-
--- ---- figures of links: link k at place k-1
+-- Internal: figures of a ring's links in a list, link k's at place k-1, and how a demand changes them.
+use Rattle.std.specs.Prelude.{ℕ, ◌+◌, ◌-◌, ◌<◌, List, ◌≡◌, true, false, length, get_or}
+use Rattle.ring.specs.Demand.{OnRing, in_front}
+use Rattle.ring.specs.declared.types.Demand.{Demand}
+use Rattle.ring.specs.declared.types.Link.{Link}
 
 abbrev pub link_at : List ℕ → ℕ → ℕ
 link_at links k = get_or links (k - 1) 0
 
--- what a row sends over each link was added or taken
-pub record OverStep (step : Step) (n : ℕ) (s : Sent) (old new : List ℕ) : Type 0 where
-  pub size : length new ≡ most_links
-  pub is : (k : ℕ) → 1 ≤ k → k ≤ n → link_at new k ≡ stepped step (link_at old k) (sent_over s k)
-  pub behind : (x : ℕ) → n ≤ x → get_or new x 0 ≡ get_or old x 0
+-- each figure was changed as `step` says, and `can` says that it can be
+pub record EachStep {T : Type 0} (step : T → T → Type 0) (old new : List T) : Type 0 where
+  pub size : length new ≡ length old
+  pub each : (x : ℕ) (d : T) → x < length old → step (get_or old x d) (get_or new x d)
 
-pub record OverFits (n : ℕ) (s : Sent) (links : List ℕ) : Type 0 where
-  pub size : length links ≡ most_links
-  pub few : n ≤ most_links
-  pub on : OnRing n s.row
-  pub sums : (k : ℕ) → 1 ≤ k → k ≤ n → link_at links k + (s.front + s.back) ≤ most_load
+pub record EachFits {T : Type 0} (can : T → Type 0) (line : List T) : Type 0 where
+  pub each : (x : ℕ) (d : T) → x < length line → can (get_or line x d)
 
--- the loads of links 1 to n, and zeros behind them
-pub record Loads (n : ℕ) (load : ℕ → ℕ) (links : List ℕ) : Type 0 where
-  pub size : length links ≡ most_links
-  pub is : (k : ℕ) → 1 ≤ k → k ≤ n → link_at links k ≡ load k
-  pub behind : (x : ℕ) → n ≤ x → get_or links x 0 ≡ 0
+-- each link was changed: those of a demand's front by `front`, all others by `back`
+pub record OverStep {T : Type 0} (front back : T → T → Type 0) (r : Demand) (old new : List T) : Type 0 where
+  pub size : length new ≡ length old
+  pub ahead : (x : ℕ) (d : T) → x < length old → in_front r (x + 1) ≡ true → front (get_or old x d) (get_or new x d)
+  pub behind : (x : ℕ) (d : T) → x < length old → in_front r (x + 1) ≡ false → back (get_or old x d) (get_or new x d)
+
+-- and can be so changed
+pub record OverFits {T : Type 0} (front back : T → Type 0) (r : Demand) (line : List T) : Type 0 where
+  pub on : OnRing (length line) r
+  pub ahead : (x : ℕ) (d : T) → x < length line → in_front r (x + 1) ≡ true → front (get_or line x d)
+  pub behind : (x : ℕ) (d : T) → x < length line → in_front r (x + 1) ≡ false → back (get_or line x d)
+
+-- a link that carries so much more of each load
+abbrev pub loaded : Link → ℕ → ℕ → Link
+loaded l split unsplit = record { link = l.link; split = l.split + split; unsplit = l.unsplit + unsplit }

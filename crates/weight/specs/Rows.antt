@@ -2,7 +2,7 @@
 use Rattle.std.specs.Prelude.{ℕ, ◌+◌, ◌≤◌, max, cond, List, length}
 use Rattle.ring.specs.Limits.{desk}
 use Rattle.ring.specs.Lists.{Each}
-use Rattle.ring.specs.Row.{OnRing}
+use Rattle.ring.specs.Demand.{OnRing}
 use Rattle.ring.specs.Routing.{by_way, is_split}
 use Rattle.ring.specs.declared.types.Sent.{Sent}
 use Rattle.ring.specs.declared.types.Routed.{Routed}
@@ -10,8 +10,8 @@ use Rattle.weight.specs.Limits.{most_halves}
 
 -- a row on the ring, whose amount and halves are not too large
 pub record RowFits (n : ℕ) (r : Routed) : Type 0 where
-  pub on : OnRing n r.sent.row
-  pub amount : r.sent.row.amount ≤ desk.amount
+  pub on : OnRing n r.sent.demand
+  pub amount : r.sent.demand.amount ≤ desk.amount
   pub halves : r.sent.front + r.sent.back ≤ most_halves
 
 -- a ring that the arrays have room for, and rows on it
@@ -22,9 +22,9 @@ pub record Fit (n : ℕ) (rs : List Routed) : Type 0 where
 
 -- a row that goes whole sends all of its amount over its front or over its back
 abbrev pub whole : Routed → Sent
-whole r = record { row = r.sent.row; front = by_way r.way r.sent.row.amount 0; back = by_way r.way 0 r.sent.row.amount }
+whole r = record { demand = r.sent.demand; front = by_way r.way r.sent.demand.amount 0; back = by_way r.way 0 r.sent.demand.amount }
 
 -- the largest amount of a split row, with one row more
 unfoldable pub larger_split : ℕ → Sent → ℕ
 unfolding is_split
-larger_split most s = cond (is_split s) (max s.row.amount most) most
+larger_split most s = cond (is_split s) (max s.demand.amount most) most

@@ -1,46 +1,32 @@
-//! Runs of places that are raised or lowered together: the links of a row's front, or of its back, all change by the same amount.
-ghost use Rattle.std.specs.Prelude.{◌≡◌, ◌+◌, ◌≤◌};
-ghost use Rattle.weight.specs.Limits.{most_load};
-ghost use Rattle.weight.specs.Arrays.{stepped, Span, SpanFits, OverStep, OverFits};
+//! Links that a demand tells apart: those of its front change alike, and all others do.
+ghost use Rattle.weight.specs.Arrays.{EachStep, EachFits, OverStep, OverFits};
 
-use ring::{LINKS, Sent, wide};
+use ring::{Demand, wide};
 
-/// Whether a figure is raised by an amount, or lowered by it as far as 0.
-#[derive(Clone, Copy)]
-pub enum Step {
-    Raise,
-    Lower,
-}
-
-// The number raised by the amount, or lowered by it, as far as 0.
-fn stepped(number: u32, step: Step, amount: u32) -> u32
-    requires { number + amount ≤ most_load }
-    ensures { result ≡ stepped step number amount }
+// Each figure of a run of links is changed.
+fn step_span<T: Copy, F: Fn(T) -> T>(span: &mut [T], step: F)
+    requires { EachFits (F.pre step) span.old }
+    ensures { EachStep (F.post step) span.old span.new }
 {
-    match step {
-        Step::Raise => number + amount,
-        Step::Lower => number.saturating_sub(amount),
+    for x in span.iter_mut() {
+        *x = step(*x);
     }
 }
 
-// The places from `from` up to `to` are raised or lowered by the amount.
-fn step_span(line: &mut [u32], step: Step, from: usize, to: usize, amount: u32)
-    requires { SpanFits from to amount line.old }
-    ensures { Span (λ y. stepped step y amount) from to line.old line.new }
+/// The figures of a ring's links, link k's at place k-1, are changed: of the links i to j-1 of a demand's front by `front`, of all others by `back`.
+pub fn step_over<T: Copy, F: Fn(T) -> T, B: Fn(T) -> T>(
+    line: &mut [T],
+    demand: Demand,
+    front: F,
+    back: B,
+)
+    requires { OverFits (F.pre front) (B.pre back) demand line.old }
+    ensures { OverStep (F.post front) (B.post back) demand line.old line.new }
 {
-    for k in from..to {
-        line[k] = stepped(line[k], step, amount);
-    }
-}
-
-/// Each of links 1 to n is raised or lowered by what a row sends over it: `front` over links i to j-1, `back` over all others.
-pub fn step_over(links: &mut [u32; LINKS], step: Step, n: usize, sent: Sent)
-    requires { OverFits n sent links.old }
-    ensures { OverStep step n sent links.old links.new }
-{
-    let i = wide(sent.row.first);
-    let j = wide(sent.row.second);
-    step_span(links, step, 0, i - 1, sent.back);
-    step_span(links, step, i - 1, j - 1, sent.front);
-    step_span(links, step, j - 1, n, sent.back);
+    let i = wide(demand.first);
+    let j = wide(demand.second);
+    let n = line.len();
+    step_span(&mut line[..i - 1], &back);
+    step_span(&mut line[i - 1..j - 1], front);
+    step_span(&mut line[j - 1..n], &back);
 }

@@ -1,277 +1,254 @@
--- Each call of the working table does what is promised of it, and a whole list of calls what the list of places says when they are played over it: from what a call is in both (`ByCalls`) and the
--- reasons as facts (`Reasons`).
-use Prim.Native.Nat.{ℕ, ◌-◌, ◌≤◌}
+-- Each call of the working table does what is promised of it, and a whole list of calls what the list of places does when they are played over it: from what a call is in both (`ByCalls`) and since
+-- it does one thing (`Reasons`).
+use Prim.Native.Nat.{ℕ, ◌-◌}
 use mathlib.Core.List.{List, [], ◌∷◌}
 use mathlib.Core.Path.{◌≡◌, refl, sym, ◌∙◌, ap}
-use native.Mathlib.Omega.{arith}
-use native.Mathlib.Decide.{dec_lt}
-use lib.ListN.{get_or}
-use borrow.Author.Tests.{lt-ltb, le-ltb, ne_eqb}
+use Rattle.std.specs.Prelude.{Result, Ok, Err, IfOk}
 use Rattle.text.proofs.Apart.{clash}
 use Rattle.ring.specs.Cut.{across}
 use Rattle.ring.specs.declared.types.Cut.{Cut}
-use Rattle.ring.specs.Row.{row}
-use Rattle.ring.specs.declared.types.Row.{Row}
-use Rattle.ring.specs.RuleA.{rule_a}
-use Rattle.ring.proofs.LargestCut.{rule-A}
-use Rattle.across.specs.Triangle.{at}
-use Rattle.table.specs.Reasons.{number_of}
-use Rattle.table.specs.declared.reason.Reason.{Reason}
-use Rattle.table.proofs.ReasonNumbers.{same-reason}
-use Rattle.work.specs.Places.{Place, empty, holds, Plain, rows_held, plain_of}
-use Rattle.work.specs.Calls.{Call, start, Outcome, refuses, makes, fresh_plain, outcome, after, answer, refusal, acceptance, no_row, the_row, row_said, row_answer}
-use Rattle.work.specs.Changes.{kept_in, row_in, started_in, called_in}
-use Rattle.work.specs.Kept.{held, kept_cut, Keeps}
+use Rattle.ring.specs.declared.types.Ring.{Ring}
+use Rattle.ring.specs.declared.types.Demand.{Demand}
+use Rattle.ring.specs.Columns.{row_at}
 use Rattle.table.specs.Findings.{Given, NoneHolds}
-use Rattle.work.specs.Promises.{RowAt, NoRow, findings, Makes, WorkSays, refused, accepted, WorkPromise, SameKept, OnlyThis, RowSays, none_there, row_there, RowPromise, OnlyRow}
+use Rattle.table.specs.declared.reason.Reason.{Reason}
+use Rattle.work.specs.Places.{Plain, rows_held, RowAt, plain_of}
+use Rattle.work.specs.Calls.{Call, start, WorkAnswer, findings, Makes, starts, acceptance, Does, refused, accepted}
+use Rattle.work.specs.Changes.{placed_of, work_after, recut_in, index_in, from_row, row_in, started_in, called_in}
+use Rattle.work.specs.Kept.{held, Keeps}
+use Rattle.work.specs.Promises.{WorkPromise, SameKept, OnlyThis, RowSays, none_there, row_there, RowPromise, OnlyRow}
 use Rattle.work.specs.Made.{Made, begun, called}
-use Rattle.work.specs.Played.{played, answer_after, named_by, last_named, AsPlayed}
+use Rattle.work.specs.Played.{named_by, Played, at_first, then, AsPlayed, AnswerAfter}
 use Rattle.work.specs.declared.Work.{Work}
-use Rattle.work.specs.declared.held.WorkReply.{WorkReply}
-use Rattle.work.specs.declared.held.Changed.{Changed}
-use Rattle.work.specs.declared.place.RowReply.{RowReply}
-use Rattle.work.proofs.Right.{Right, Sized, cut-is}
-use Rattle.work.proofs.Reasons.{Ends, stops, goes, call_ends, one-given, none-given, one-made, number-above}
-use Rattle.work.proofs.ByCalls.{Step, both_refuse, both_make, start-step, call_step, stays-sound, accepted-sound, keeps-of, made-sound, row_is}
+use Rattle.work.specs.declared.answer.Placed.{Placed}
+use Rattle.work.specs.declared.answer.Changed.{Changed}
+use Rattle.work.proofs.Right.{Sized, cut-is}
+use Rattle.work.proofs.Reasons.{one-given, none-given, one-made, does-one}
+use Rattle.work.proofs.Views.{Indexed, none_there as is_none, row_there as is_row, indexed, held-at}
+use Rattle.work.proofs.ByCalls.{Step, both_refuse, both_make, recut-sound, start-step, call_step, keeps-of, made-sound}
 
 -- ---- one call
 
--- an accepted reply names a link, and so is no refusal
-names-a-link : (x : Work) → Right x → 1 ≤ (rule_a x.n (rows_held (plain_of x).places)).g
-names-a-link x s = (rule-A x.n (rows_held (plain_of x).places) s.two).among.low
+same-placed : {p q : Placed} → ◌≡◌ {A = WorkAnswer} (Ok p) (Ok q) → p ≡ q
+same-placed e = cc
 
-module _ (w : Work) (c : Call) (r : WorkReply) (x : Work) where
-  -- a refusal, or a table that is right
+-- the answer of a call, and the struct behind it
+record Left (w : Work) (c : Call) (a : WorkAnswer) (x : Work) : Type 0 where
+  answer : a ≡ placed_of (called_in w c)
+  table : x ≡ work_after w (called_in w c)
+
+module _ (w : Work) (c : Call) (a : WorkAnswer) (x : Work) where
+  -- a refusal changes no byte; of an accepted call the place and the table are what it makes
   data Case : Type 0 where
-    is_refused : (reason : Reason) → Given (findings (plain_of w) c) reason 0 → r ≡ refusal (number_of reason) → x ≡ w → Case
-    is_accepted : {p : ℕ} {u : Plain} → NoneHolds (findings (plain_of w) c) → Makes (plain_of w) c p u → r ≡ acceptance p u → plain_of x ≡ u → 1 ≤ (rule_a u.n (rows_held u.places)).g → Case
+    is_refused : (reason : Reason) → Given (findings (plain_of w) c) reason 0 → a ≡ Err reason → x ≡ w → Case
+    is_accepted : {p : ℕ} → NoneHolds (findings (plain_of w) c) → Makes (plain_of w) c p (plain_of x) → a ≡ acceptance p (plain_of x) → Case
 
-  module _ (er : r ≡ (called_in w c).reply) (ex : x ≡ (called_in w c).work) where
-    case-of : {o : Outcome} → Step w c → outcome (plain_of w) c ≡ o → Ends (findings (plain_of w) c) (Makes (plain_of w) c) o → Case
-    unfolding kept_in
-    case-of (both_refuse reason z e f) is (stops j {number = k} ek g) = let q : k ≡ reason = cc in is_refused j g (er ∙ (rw (e, ← ek, q))) (ex ∙ (rw e))
-    case-of (both_refuse reason z e f) is (goes n m) = clash (cc)
-    case-of (both_make p y s e f) is (stops j ek g) = clash (cc)
-    case-of (both_make p y s e f) is (goes {p = k} {u = u} n m) =
-        let q : k ≡ p = cc in
-        let v : u ≡ plain_of y = cc in
-        is_accepted n m (er ∙ (rw (e, q, v, cut-is y s))) (ap plain_of ex ∙ (rw (e, v))) (rw v (names-a-link y s))
+  case-of : Step w c → Left w c a x → Case
+  unfolding placed_of work_after recut_in
+  case-of (both_refuse reason e g) l = is_refused reason g (rw e at l.answer) (rw e at l.table)
+  case-of (both_make p y s e n m) l =
+      let answer : a ≡ acceptance p (plain_of y) = (rw e at l.answer) ∙ (rw (cut-is y s)) in
+      let table : x ≡ (recut_in y p).work = rw e at l.table in
+      rw table (is_accepted n m answer)
 
-  says : Case → WorkSays w c r x
-  says (is_refused k g er ex) = refused k g er ex
-  says (is_accepted n m er ex l) = accepted n m er ex
-
-  gives : (reason : Reason) → Case → r ≡ refusal (number_of reason) → Given (findings (plain_of w) c) reason 0
-  gives reason (is_refused k g er ex) e = let q : k ≡ reason = same-reason k reason (ap (λ (y : WorkReply). y.reason) (sym er ∙ e)) in rw (← q) g
-  gives reason (is_accepted n m er ex l) e = absurd (omega (arith, l, ap (λ (y : WorkReply). y.g) (sym er ∙ e)))
-
-  given : (reason : Reason) → Case → Given (findings (plain_of w) c) reason 0 → r ≡ refusal (number_of reason)
-  given reason (is_refused k g er ex) h = let q = one-given (findings (plain_of w) c) h g in rw q er
-  given reason (is_accepted n m er ex l) h = absurd (none-given (findings (plain_of w) c) reason h n)
-
-  stays : (reason : ℕ) → Case → r ≡ refusal reason → x ≡ w
-  stays reason (is_refused k g er ex) e = ex
-  stays reason (is_accepted n m er ex l) e = absurd (omega (arith, l, ap (λ (y : WorkReply). y.g) (sym er ∙ e)))
-
-  module _ (p : ℕ) (u : Plain) where
-    takes : Case → (r ≡ acceptance p u) × (plain_of x ≡ u) → NoneHolds (findings (plain_of w) c) × Makes (plain_of w) c p u
-    takes (is_refused k g er ex) h = absurd (number-above k (ap (λ (y : WorkReply). y.reason) (sym er ∙ h.0)))
-    takes (is_accepted {p = k} {u = v} n m er ex l) h =
-        let a : k ≡ p = ap (λ (y : WorkReply). y.place) (sym er ∙ h.0) in
-        let b : v ≡ u = sym ex ∙ h.1 in
-        rw (← a, ← b) (n, m)
-
-    taken : Case → NoneHolds (findings (plain_of w) c) × Makes (plain_of w) c p u → (r ≡ acceptance p u) × (plain_of x ≡ u)
-    taken (is_refused k g er ex) h = absurd (none-given (findings (plain_of w) c) k g h.0)
-    taken (is_accepted n m er ex l) h = let q = one-made h.1 m in rw (q.0, q.1) (er, ex)
-
-  promise : Step w c → (r ≡ (called_in w c).reply) × (x ≡ (called_in w c).work) → WorkPromise w c r x
-  promise step is =
-      let k = case-of is.0 is.1 step refl (call_ends (plain_of w) c) in
+  promise : Case → WorkPromise w c a x
+  promise (is_refused k g ea ex) =
       record {
-        cases = says k;
-        refuses = λ reason. (gives reason k, given reason k);
-        unchanged = λ reason. stays reason k;
-        accepts = λ p u. (takes p u k, taken p u k);
+        cases = refused k g ea (ap plain_of ex);
+        refuses = λ reason. ((λ e. let q : k ≡ reason = cc in rw (← q) g), (λ h. let q = one-given (findings (plain_of w) c) h g in rw q ea));
+        unchanged = λ reason e. ex;
+        accepts = λ p u. ((λ h. clash (cc (ea, h.0))), (λ h. absurd (none-given (findings (plain_of w) c) k g h.0)));
+      }
+  promise (is_accepted {p = q} n m ea) =
+      record {
+        cases = accepted n m ea;
+        refuses = λ reason. ((λ e. clash (cc)), (λ h. absurd (none-given (findings (plain_of w) c) reason h n)));
+        unchanged = λ reason e. clash (cc);
+        accepts = λ p u. (
+          (λ h. let e : q ≡ p = ap (λ (x : Placed). x.place) (same-placed (sym ea ∙ h.0)) in rw (← e, ← h.1) (n, m)),
+          (λ h. let e = one-made h.1 m in rw (e.0, e.1) (ea, refl)),
+        );
       }
 
--- ---- of the promise alone: no other reply and table keep it, and it is played over the list
+-- a call leaves a struct that keeps its numbers, where the one before it did or where it is accepted
+module _ {w : Work} {c : Call} {a : WorkAnswer} {x : Work} where
+  accepted-keeps : Step w c → Left w c a x → (p : Placed) → a ≡ Ok p → Keeps x
+  unfolding placed_of work_after
+  accepted-keeps (both_refuse reason e g) l p is = let no : a ≡ Err reason = rw e at l.answer in clash (cc)
+  accepted-keeps (both_make p y s e n m) l _ is = rw (rw e at l.table) (keeps-of (recut-sound p y s))
 
-module _ {w : Work} {c : Call} {r s : WorkReply} {x y : Work} where
-  same-says : WorkSays w c r x → WorkSays w c s y → (s ≡ r) × (plain_of y ≡ plain_of x)
-  same-says (refused j g er ex) (refused k h es ey) = let e = one-given (findings (plain_of w) c) h g in (es ∙ ap (λ a. refusal (number_of a)) e ∙ sym er, ap plain_of (ey ∙ sym ex))
-  same-says (refused k g er ex) (accepted n m es ey) = absurd (none-given (findings (plain_of w) c) k g n)
-  same-says (accepted n m er ex) (refused k h es ey) = absurd (none-given (findings (plain_of w) c) k h n)
-  same-says (accepted {p = p} {u = u} n m er ex) (accepted {p = q} {u = v} o l es ey) =
-      let e = one-made l m in
-      let f : acceptance q v ≡ acceptance p u = rw (e.0, e.1) in
-      (es ∙ f ∙ sym er, ey ∙ e.1 ∙ sym ex)
+  stays-keeping : Step w c → Left w c a x → Keeps w → Keeps x
+  unfolding placed_of work_after
+  stays-keeping (both_refuse reason e g) l k = rw (rw e at l.table) k
+  stays-keeping (both_make p y s e n m) l k = rw (rw e at l.table) (keeps-of (recut-sound p y s))
 
-  same-kept : WorkSays w c r x → (r.reason ≡ 0 → Keeps x) → WorkSays w c s y → Keeps y → SameKept y x
-  same-kept (refused i g er ex) k (refused j h es ey) l = rw (ex, ey) (record { cut = refl; numbers = λ g h a b c. refl })
-  same-kept (refused j g er ex) k (accepted n m es ey) l = absurd (none-given (findings (plain_of w) c) j g n)
-  same-kept (accepted n m er ex) k other l =
-      let kx = k (ap (λ (z : WorkReply). z.reason) er) in
-      let e = (same-says (accepted n m er ex) other).1 in
-      let size : y.n ≡ x.n = ap (λ (t : Plain). t.n) e in
-      let rows : held y ≡ held x = ap (λ (t : Plain). rows_held t.places) e in
-      record {
-        cut = l.largest ∙ (rw (size, rows)) ∙ sym kx.largest;
-        numbers = λ g h a b c. l.numbers g h a b (rw size c) ∙ ap (λ rs. across rs g h) rows ∙ sym (kx.numbers g h a b c);
-      }
+-- ---- of the promise alone: no other answer and table keep it
 
-pub only-this : {w : Work} {c : Call} {r : WorkReply} {x : Work} → WorkPromise w c r x → (r.reason ≡ 0 → Keeps x) → OnlyThis w c r x
-only-this p k =
-    record {
-      reply = λ s y q. (same-says p.cases q.cases).0;
-      table = λ s y q. (same-says p.cases q.cases).1;
-      kept = λ s y q l. same-kept p.cases k q.cases l;
-    }
+module _ {w : Work} {c : Call} {a b : WorkAnswer} {x y : Work} (p : WorkPromise w c a x) (q : WorkPromise w c b y) where
+  same-table : plain_of y ≡ plain_of x
+  same-table = (does-one p.cases q.cases).1
+
+  same-answer : b ≡ a
+  same-answer = (does-one p.cases q.cases).0
+
+  same-kept : ((placed : Placed) → a ≡ Ok placed → Keeps x) → Keeps y → SameKept y x
+  same-kept k l = go a refl
+    where
+      go : (r : WorkAnswer) → a ≡ r → SameKept y x
+      go (Err reason) e = rw (p.unchanged reason e, q.unchanged reason (same-answer ∙ e)) (record { cut = refl; numbers = λ g h a b c. refl })
+      go (Ok placed) e =
+          let kx = k placed e in
+          let size : y.ring.nodes ≡ x.ring.nodes = ap (λ (t : Plain). t.ring.nodes) same-table in
+          let rows : held y ≡ held x = ap (λ (t : Plain). rows_held t.places) same-table in
+          record {
+            cut = l.largest ∙ (rw (size, rows)) ∙ sym kx.largest;
+            numbers = λ g h a b c. l.numbers g h a b (rw size c) ∙ ap (λ rs. across rs g h) rows ∙ sym (kx.numbers g h a b c);
+          }
+
+pub only-this : {w : Work} {c : Call} {a : WorkAnswer} {x : Work} → WorkPromise w c a x → ((placed : Placed) → a ≡ Ok placed → Keeps x) → OnlyThis (WorkPromise w c) a x
+only-this p k = record { answer = λ b y q. same-answer p q; table = λ b y q. same-table p q; kept = λ b y q l. same-kept p q k l }
 
 -- ---- the row at a place
 
-module _ (t : Plain) (p : ℕ) (r : RowReply) where
-  said : r ≡ row_answer t p → RowSays t.places p r
-  unfolding row_answer row_said
-  said is =
-      elim (dec_lt 0 p) [
-        | yes l ↦ go l (get_or t.places (p - 1) empty) refl (is ∙ (rw (lt-ltb 0 p l)))
-        | no l ↦ none_there (λ y. omega (arith, y.there.from_1)) (is ∙ (rw (le-ltb 0 p (omega arith))))
-      ]
-    where
-      go : 1 ≤ p → (x : Place) → get_or t.places (p - 1) empty ≡ x → r ≡ row_said x → RowSays t.places p r
-      go l empty e q = none_there (λ y. let f = y.there.is in clash (cc)) q
-      go l (holds x) e q = row_there x (record { from_1 = l; is = e }) q
-
-module _ (ps : List Place) (p : ℕ) (r : RowReply) where
-  no-row-said : RowSays ps p r → r ≡ no_row → NoRow ps p
-  no-row-said (none_there n e) q = n
-  no-row-said (row_there x at e) q = absurd (omega (arith, ap (λ (y : RowReply). y.reason) (sym e ∙ q)))
-
-  says-no-row : RowSays ps p r → NoRow ps p → r ≡ no_row
-  says-no-row (none_there n e) h = e
-  says-no-row (row_there x at e) h = absurd (h (record { r = x; there = at }))
-
-  module _ (x : Row) where
-    row-said : RowSays ps p r → r ≡ the_row x → RowAt ps p x
-    row-said (none_there n e) q = absurd (omega (arith, ap (λ (y : RowReply). y.reason) (sym e ∙ q)))
-    row-said (row_there y at e) q = let same : y ≡ x = ap (λ (z : RowReply). row z.first z.second z.amount) (sym e ∙ q) in rw (← same) at
-
-    says_row : RowSays ps p r → RowAt ps p x → r ≡ the_row x
-    says_row (none_there n e) h = absurd (n (record { r = x; there = h }))
-    says_row (row_there y at e) h = let same : y ≡ x = cc (at.is, h.is) in rw (← same) e
-
 -- on every struct
-pub row-promise : (w : Work) → Sized w → (p : ℕ) {r : RowReply} → r ≡ row_in w p → RowPromise w p r
-row-promise w z p {r} is =
-    let s = said (plain_of w) p r (is ∙ row_is w z p) in
-    let ps = (plain_of w).places in
-    record { cases = s; refuses = (no-row-said ps p r s, says-no-row ps p r s); says = λ x. (row-said ps p r x s, says_row ps p r x s) }
-
--- no other reply keeps the promise
-pub only-row : {w : Work} {p : ℕ} {r : RowReply} → RowPromise w p r → OnlyRow w p r
-only-row {w} {p} {r} a s b = go b.cases
+pub row-promise : (w : Work) → Sized w → (p : ℕ) {a : Result Demand Reason} → a ≡ row_in w p → RowPromise w p a
+unfolding row_in from_row
+row-promise w z p {a} is = go (index_in w.first p) (indexed w z p) is
   where
-    go : RowSays (plain_of w).places p s → s ≡ r
-    go (none_there n e) = e ∙ sym (a.refuses.1 n)
-    go (row_there x at e) = e ∙ sym ((a.says x).1 at)
+    go : (i : Result ℕ Reason) → Indexed w z p i → a ≡ from_row i (λ k. Ok (row_at w.first w.second w.amount k)) → RowPromise w p a
+    go i (is_none n) e =
+        record {
+          cases = none_there n e;
+          refuses = ((λ _. n), (λ _. e));
+          says = λ r. ((λ f. clash (cc)), (λ at. absurd (n (record { r = r; there = at }))));
+        }
+    go i (is_row l _ m) e =
+        let there : RowAt (plain_of w).places p (row_at w.first w.second w.amount (p - 1)) = record { from_1 = l; is = held-at w z (p - 1) m } in
+        record {
+          cases = row_there _ there e;
+          refuses = ((λ f. clash (cc)), (λ n. absurd (n (record { r = _; there = there }))));
+          says = λ r. (
+            (λ f. let same : row_at w.first w.second w.amount (p - 1) ≡ r = cc in rw same at there),
+            (λ at. let same : row_at w.first w.second w.amount (p - 1) ≡ r = cc (there.is, at.is) in rw (← same) e),
+          );
+        }
+
+-- no other answer keeps the promise
+pub only-row : {w : Work} {p : ℕ} {a : Result Demand Reason} → RowPromise w p a → OnlyRow w p a
+only-row {w} {p} {a} q b r = go r.cases
+  where
+    go : RowSays (plain_of w).places p b → b ≡ a
+    go (none_there n e) = e ∙ sym (q.refuses.1 n)
+    go (row_there x at e) = e ∙ sym ((q.says x).1 at)
 
 -- ---- a whole list of calls
 
-above : {reason : ℕ} {r : WorkReply} → (reason ≡ 0 → ⊥) → r ≡ refusal reason → r.reason ≡ 0 → ⊥
-above z er e = z (sym (ap (λ (y : WorkReply). y.reason) er) ∙ e)
+-- they lead to one table and one cut
+one-played : {cs : List Call} {t u : Plain} {d e : Cut} → Played cs t d → Played cs u e → (u ≡ t) × (e ≡ d)
+one-played at_first at_first = (refl, refl)
+one-played (then {t = t} {d = d} {a = a} p k) (then {t = s} {d = e} {a = b} q l) =
+    let before = one-played p q in
+    let one = does-one k (rw before.0 at l) in
+    (one.1, rw (one.0, before.1))
 
--- what a call gave is what the list of places says of it
-data As (w : Work) (r : WorkReply) (x : Work) : Outcome → Type 0 where
-  as_refused : {reason : ℕ} → (reason ≡ 0 → ⊥) → r ≡ refusal reason → x ≡ w → As w r x (refuses reason)
-  as_made : {p : ℕ} {u : Plain} → r ≡ acceptance p u → plain_of x ≡ u → As w r x (makes p u)
+-- the cut that a struct keeps is the one named last
+cut-named : {w : Work} {c : Call} {a : WorkAnswer} {x : Work} → WorkPromise w c a x → Keeps x → x.cut ≡ named_by a w.cut
+cut-named {w} {c} {a} {x} q k = go q.cases
+  where
+    go : Does (plain_of w) c a (plain_of x) → x.cut ≡ named_by a w.cut
+    go (refused reason g e eu) = rw e (ap (λ (y : Work). y.cut) (q.unchanged reason e))
+    go (accepted n m e) = rw e k.largest
 
-module _ {w : Work} {r : WorkReply} {x : Work} where
-  ends-as : {c : Call} {o : Outcome} → Ends (findings (plain_of w) c) (Makes (plain_of w) c) o → WorkSays w c r x → As w r x o
-  ends-as {c} (stops k ek g) (refused j h er ex) =
-      let e = one-given (findings (plain_of w) c) h g in
-      as_refused (λ z. number-above k (sym ek ∙ z)) (er ∙ ap refusal (ap number_of e ∙ sym ek)) ex
-  ends-as {c} (stops k ek g) (accepted n m er ex) = absurd (none-given (findings (plain_of w) c) k g n)
-  ends-as {c} (goes n m) (refused k h er ex) = absurd (none-given (findings (plain_of w) c) k h n)
-  ends-as {c} (goes {p = p} {u = u} n m) (accepted {p = q} {u = v} o l er ex) =
-      let e = one-made l m in
-      let f : acceptance q v ≡ acceptance p u = rw (e.0, e.1) in
-      as_made (er ∙ f) (ex ∙ e.1)
+-- a start that is accepted does the same on every table
+start-does : {t s u : Plain} {ring : Ring} {p : Placed} → Does t (start ring) (Ok p) u → Does s (start ring) (Ok p) u
+unfolding findings
+start-does (refused reason g e eu) = clash (cc)
+start-does (accepted n starts e) = accepted n starts e
 
-  as-is : {c : Call} → WorkSays w c r x → As w r x (outcome (plain_of w) c)
-  as-is {c} says = ends-as (call_ends (plain_of w) c) says
-
-  reply-as : {o : Outcome} → As w r x o → r ≡ answer o
-  unfolding answer
-  reply-as (as_refused z er ex) = er
-  reply-as (as_made er ex) = er
-
-  -- from the table t with the cut d; of the two nothing need be known where the call is accepted
-  module _ (t : Plain) (d : Cut) (was : (r.reason ≡ 0 → ⊥) → (plain_of w ≡ t) × (kept_cut w ≡ d)) where
-    table-as : {o : Outcome} → As w r x o → plain_of x ≡ after t o
-    unfolding after
-    table-as (as_refused z er ex) = ap plain_of ex ∙ (was (above z er)).0
-    table-as (as_made er ex) = ex
-
-    cut-as : {o : Outcome} → Keeps x → As w r x o → kept_cut x ≡ named_by (answer o) d
-    unfolding answer named_by
-    cut-as k (as_refused {reason = reason} z er ex) = rw (ne_eqb reason 0 z) (ap kept_cut ex ∙ (was (above z er)).1)
-    cut-as k (as_made {u = u} er ex) = k.largest ∙ ap (λ (v : Plain). rule_a v.n (rows_held v.places)) ex
-
-behind : {cs : List Call} {w : Work} → Made cs w → (plain_of w ≡ played cs) × (kept_cut w ≡ last_named cs)
-unfolding played last_named outcome
-behind (begun {any = any} {n = n} {fibres = fibres} p a k) =
-    let t = fresh_plain 0 0 in
-    let none : Cut = record { g = 0; h = 0; number = 0 } in
-    let is = as-is p.cases in
-    (table-as t none (λ z. absurd (z a)) is, cut-as t none (λ z. absurd (z a)) k is)
-behind (called {cs = cs} {w = w} {x = x} {c = c} {r = r} m p k) =
-    let b = behind m in
-    let is : As w r x (outcome (played cs) c) = rw (← b.0) (as-is p.cases) in
-    (table-as (played cs) (last_named cs) (λ z. b) is, cut-as (played cs) (last_named cs) (λ z. b) k is)
+behind : {cs : List Call} {w : Work} → Made cs w → Played cs (plain_of w) w.cut
+behind (begun q k) = rw (cut-named q k) (then at_first (start-does q.cases))
+behind (called m q k) = rw (cut-named q k) (then (behind m) q.cases)
 
 pub made-as-played : {cs : List Call} {w : Work} → Made cs w → AsPlayed cs w
-made-as-played m = let b = behind m in record { table = b.0; cut = b.1 }
+made-as-played m = let b = behind m in record { leads = b; table = λ t d p. (one-played b p).0; cut = λ t d p. (one-played b p).1 }
+
+answer-after : {cs : List Call} {t u : Plain} {d : Cut} {c : Call} {a : WorkAnswer} → Played cs t d → Does t c a u → AnswerAfter cs c a
+answer-after {t} {u} {d} p k =
+    record {
+      t = t;
+      u = u;
+      d = d;
+      leads = p;
+      does = k;
+      only = λ s v e b q l. (does-one k (rw (one-played p q).0 at l)).0;
+    }
+
+-- and a start answers the same on every table
+start-after : {t u : Plain} {ring : Ring} {a : WorkAnswer} → Does t (start ring) a u → AnswerAfter [] (start ring) a
+unfolding findings
+start-after (refused reason g e eu) = answer-after at_first (refused reason g e refl)
+start-after (accepted n starts e) = answer-after at_first (accepted n starts e)
 
 -- ---- a start, on whatever bytes
 
-module _ (any : Work) (n fibres : ℕ) {done : Changed} (is : done ≡ started_in any n fibres) where
-  pub started-promise : WorkPromise any (start n fibres) done.reply done.work
-  started-promise = promise any (start n fibres) done.reply done.work (start-step any n fibres) (ap (λ x. x.reply) is, ap (λ x. x.work) is)
+module _ (any : Work) (ring : Ring) {done : Result Changed Reason} {a : WorkAnswer} {x : Work} (is : done ≡ started_in ring) (value : a ≡ placed_of done) (table : x ≡ work_after any done) where
+  left : Left any (start ring) a x
+  left = record { answer = rw is at value; table = rw is at table }
 
-  pub started-keeps : done.reply.reason ≡ 0 → Keeps done.work
-  started-keeps a = rw is (keeps-of (accepted-sound (start-step any n fibres) (ap (λ x. x.reply.reason) (sym is) ∙ a)))
+  pub started-promise : WorkPromise any (start ring) a x
+  started-promise = promise any (start ring) a x (case-of any (start ring) a x (start-step any ring) left)
 
-  pub started-made : done.reply.reason ≡ 0 → Made (start n fibres ∷ []) done.work
-  started-made a = begun started-promise a (started-keeps a)
+  pub started-only : OnlyThis (WorkPromise any (start ring)) a x
+  started-only = only-this started-promise (accepted-keeps (start-step any ring) left)
 
-  pub started-played : done.reply.reason ≡ 0 → AsPlayed (start n fibres ∷ []) done.work
-  started-played a = made-as-played (started-made a)
+  pub started-answer : AnswerAfter [] (start ring) a
+  started-answer = start-after started-promise.cases
 
-  pub started-answer : done.reply ≡ answer_after [] (start n fibres)
-  unfolding played outcome
-  started-answer = reply-as (as-is started-promise.cases)
+  if-accepted : {P : Type 0} → ((placed : Placed) → a ≡ Ok placed → P) → IfOk a (λ _. P)
+  if-accepted {P} f = go a refl
+    where
+      go : (b : WorkAnswer) → a ≡ b → IfOk b (λ _. P)
+      go (Ok placed) e = f placed e
+      go (Err reason) e = tt
 
-  pub started-only : OnlyThis any (start n fibres) done.reply done.work
-  started-only = only-this started-promise started-keeps
+  keeps : (placed : Placed) → a ≡ Ok placed → Keeps x
+  keeps = accepted-keeps (start-step any ring) left
+
+  made : (placed : Placed) → a ≡ Ok placed → Made (start ring ∷ []) x
+  made placed e = begun (rw e at started-promise) (keeps placed e)
+
+  pub started-keeps : IfOk a (λ _. Keeps x)
+  started-keeps = if-accepted keeps
+
+  pub started-made : IfOk a (λ _. Made (start ring ∷ []) x)
+  started-made = if-accepted made
+
+  pub started-played : IfOk a (λ _. AsPlayed (start ring ∷ []) x)
+  started-played = if-accepted (λ placed e. made-as-played (made placed e))
 
 -- ---- a call on a table made by calls
 
-module _ {cs : List Call} {w : Work} (m : Made cs w) (c : Call) {done : Changed} (is : done ≡ called_in w c) where
-  pub called-promise : WorkPromise w c done.reply done.work
-  called-promise = promise w c done.reply done.work (call_step w (made-sound m).right c) (ap (λ x. x.reply) is, ap (λ x. x.work) is)
+module _ {cs : List Call} {w : Work} (m : Made cs w) (c : Call) {done : Result Changed Reason} {a : WorkAnswer} {x : Work} (is : done ≡ called_in w c) (value : a ≡ placed_of done) (table : x ≡ work_after w done) where
+  leaves : Left w c a x
+  leaves = record { answer = rw is at value; table = rw is at table }
 
-  pub called-keeps : Keeps done.work
-  called-keeps = rw is (keeps-of (stays-sound (call_step w (made-sound m).right c) (made-sound m)))
+  step : Step w c
+  step = call_step w (made-sound m).right c
 
-  pub called-made : Made (c ∷ cs) done.work
+  pub called-promise : WorkPromise w c a x
+  called-promise = promise w c a x (case-of w c a x step leaves)
+
+  pub called-keeps : Keeps x
+  called-keeps = stays-keeping step leaves (keeps-of (made-sound m))
+
+  pub called-made : Made (c ∷ cs) x
   called-made = called m called-promise called-keeps
 
-  pub called-played : AsPlayed (c ∷ cs) done.work
+  pub called-played : AsPlayed (c ∷ cs) x
   called-played = made-as-played called-made
 
-  pub called-answer : done.reply ≡ answer_after cs c
-  called-answer = let t = (made-as-played m).table in rw (← t) (reply-as (as-is called-promise.cases))
+  pub called-answer : AnswerAfter cs c a
+  called-answer = answer-after (behind m) called-promise.cases
 
-  pub called-only : OnlyThis w c done.reply done.work
-  called-only = only-this called-promise (λ z. called-keeps)
+  pub called-only : OnlyThis (WorkPromise w c) a x
+  called-only = only-this called-promise (λ _ _. called-keeps)

@@ -8,8 +8,9 @@ use Rattle.text.proofs.Apart.{clash}
 use Rattle.ring.specs.Limits.{desk}
 use Rattle.ring.specs.LineSize.{IsFibres}
 use Rattle.ring.specs.Lists.{Each, none}
-use Rattle.ring.specs.Row.{row, OnRing}
-use Rattle.ring.specs.declared.types.Row.{Row}
+use Rattle.ring.specs.Demand.{demand, OnRing}
+use Rattle.ring.specs.declared.types.Ring.{Ring}
+use Rattle.ring.specs.declared.types.Demand.{Demand}
 use Rattle.ring.specs.Cut.{part, across}
 use Rattle.ring.specs.RuleA.{rule_a}
 use Rattle.ring.specs.Columns.{row_at}
@@ -21,27 +22,26 @@ use Rattle.across.specs.Lines.{Pairwise}
 use Rattle.across.specs.Step.{raised, lowered}
 use Rattle.across.proofs.Kept.{row-at}
 use Rattle.across.proofs.CutSteps.{same-cut}
-use Rattle.work.specs.Places.{empty, holds, place_in, plain_of}
+use Rattle.work.specs.Places.{empty, holds, HoldsAt, place_in, plain_of}
 use Rattle.work.specs.Kept.{held}
-use Rattle.work.specs.Sorted.{HoldsAt}
 use Rattle.work.specs.Changes.{ring_size, cut_of, put_in, cleared_in, fresh_in}
 use Rattle.work.specs.declared.Work.{Work}
 use Rattle.work.proofs.RowsHeld.{across-set, held-few, each_set, each_at, held-fresh, places-set, places-length, places-at, places-fresh}
 
 -- a row that a call can put into a table
-pub record Good (n : ℕ) (r : Row) : Type 0 where
+pub record Good (n : ℕ) (r : Demand) : Type 0 where
   pub on : OnRing n r
   pub small : r.amount ≤ desk.amount
 
 pub record Right (w : Work) : Type 0 where
-  pub two : desk.fewest ≤ w.n
-  pub few : w.n ≤ desk.nodes
-  pub fibres : IsFibres w.fibres
+  pub two : desk.fewest ≤ w.ring.nodes
+  pub few : w.ring.nodes ≤ desk.nodes
+  pub fibres : IsFibres w.ring.fibres
   pub firsts : length w.first ≡ desk.rows
   pub seconds : length w.second ≡ desk.rows
   pub amounts : length w.amount ≡ desk.rows
-  pub rows : Each (Good w.n) (held w)
-  pub kept : Pairwise w.n (λ g h. at w.triangle g h ≡ across (held w) g h)
+  pub rows : Each (Good w.ring.nodes) (held w)
+  pub kept : Pairwise w.ring.nodes (λ g h. at w.triangle g h ≡ across (held w) g h)
 
 -- its columns have a place each: every struct of the type is so
 pub record Sized (w : Work) : Type 0 where
@@ -51,7 +51,7 @@ pub record Sized (w : Work) : Type 0 where
 
 -- a second node is a byte
 abbrev pub HasBytes : Work → Type 0
-HasBytes w = (k : ℕ) (r : Row) → HoldsAt (plain_of w).places k r → r.second < 256
+HasBytes w = (k : ℕ) (r : Demand) → HoldsAt (plain_of w).places k r → r.second < 256
 
 pub sized : {w : Work} → Right w → Sized w
 sized s = record { firsts = s.firsts; seconds = s.seconds; amounts = s.amounts }
@@ -69,19 +69,19 @@ module _ (w : Work) (s : Sized w) where
   pub place_is : (k : ℕ) → get_or (plain_of w).places k empty ≡ place_in (get_or w.first k 0) (get_or w.second k 0) (get_or w.amount k 0)
   place_is k = places-at w.first w.second w.amount k same-firsts same-seconds
 
-  second_of : (i j d : ℕ) (r : Row) → place_in i j d ≡ holds r → r.second ≡ j
+  second_of : (i j d : ℕ) (r : Demand) → place_in i j d ≡ holds r → r.second ≡ j
   second_of zero j d r e = clash (cc)
-  second_of (suc i) j d r e = let f : row (suc i) j d ≡ r = cc in ap (λ (x : Row). x.second) (sym f)
+  second_of (suc i) j d r e = let f : demand (suc i) j d ≡ r = cc in ap (λ (x : Demand). x.second) (sym f)
 
   pub bytes-of : ((k : ℕ) → get_or w.second k 0 < 256) → HasBytes w
   bytes-of f k r h = omega (arith, f k, second_of (get_or w.first k 0) (get_or w.second k 0) (get_or w.amount k 0) r (sym (place_is k) ∙ h))
 
 module _ (w : Work) (s : Right w) where
-  pub size_is : ring_size w.n ≡ w.n
+  pub size_is : ring_size w.ring.nodes ≡ w.ring.nodes
   size_is = omega (arith, s.two, s.few)
 
   pub right-bytes : HasBytes w
-  right-bytes k r h = omega (arith, (each_at {P = Good w.n} (plain_of w).places k r s.rows h).on.high, s.few)
+  right-bytes k r h = omega (arith, (each_at {P = Good w.ring.nodes} (plain_of w).places k r s.rows h).on.high, s.few)
 
   -- no kept number comes near the type's end
   pub number_small : (g h : ℕ) → across (held w) g h ≤ desk.amount * desk.rows
@@ -91,43 +91,43 @@ module _ (w : Work) (s : Right w) where
 
 -- ---- a row is put at a free place
 
-pub place-holds : (i j d : ℕ) → 1 ≤ i → place_in i j d ≡ holds (row i j d)
+pub place-holds : (i j d : ℕ) → 1 ≤ i → place_in i j d ≡ holds (demand i j d)
 place-holds zero j d l = absurd (omega arith)
 place-holds (suc i) j d l = refl
 
 module _ (w : Work) (s : Right w) (k : ℕ) (in_table : k < desk.rows) where
-  module _ (i j d : ℕ) (free : get_or w.first k 0 ≡ 0) (good : Good w.n (row i j d)) where
-    pub put-places : (plain_of (put_in w k (row i j d))).places ≡ set (plain_of w).places k (holds (row i j d))
+  module _ (r : Demand) (free : get_or w.first k 0 ≡ 0) (good : Good w.ring.nodes r) where
+    pub put-places : (plain_of (put_in w k r)).places ≡ set (plain_of w).places k (holds r)
     unfolding put_in
-    put-places = places-set w.first w.second w.amount k i j d ∙ ap (λ x. set (plain_of w).places k x) (place-holds i j d good.on.low)
+    put-places = places-set w.first w.second w.amount k r.first r.second r.amount ∙ ap (λ x. set (plain_of w).places k x) (place-holds r.first r.second r.amount good.on.low)
 
-    put-across : (g h : ℕ) → across (held (put_in w k (row i j d))) g h ≡ part (row i j d) g h + across (held w) g h
+    put-across : (g h : ℕ) → across (held (put_in w k r)) g h ≡ part r g h + across (held w) g h
     put-across g h =
         let was : get_or (plain_of w).places k empty ≡ empty = place_is w (sized s) k ∙ (rw free) in
-        let sum = rw was at (across-set (plain_of w).places k (holds (row i j d)) g h (omega (arith, count w (sized s)))) in
+        let sum = rw was at (across-set (plain_of w).places k (holds r) g h (omega (arith, count w (sized s)))) in
         rw put-places (omega arith)
 
-    pub put_right : Right (put_in w k (row i j d))
+    pub put_right : Right (put_in w k r)
     unfolding put_in
     put_right =
         record {
           two = s.two;
           few = s.few;
           fibres = s.fibres;
-          firsts = length-set w.first k i ∙ s.firsts;
-          seconds = length-set w.second k j ∙ s.seconds;
-          amounts = length-set w.amount k d ∙ s.amounts;
-          rows = rw put-places (each_set (plain_of w).places k (holds (row i j d)) s.rows good);
+          firsts = length-set w.first k r.first ∙ s.firsts;
+          seconds = length-set w.second k r.second ∙ s.seconds;
+          amounts = length-set w.amount k r.amount ∙ s.amounts;
+          rows = rw put-places (each_set (plain_of w).places k (holds r) s.rows good);
           kept = λ g h a b c.
               rw (size_is w s)
               (omega
-              (arith, row-at raised w.n (row i j d) w.triangle s.few g h a b c, s.kept g h a b c, put-across g h, number_small w s g h, part_small (row i j d) g h, good.small));
+              (arith, row-at raised w.ring.nodes r w.triangle s.few g h a b c, s.kept g h a b c, put-across g h, number_small w s g h, part_small r g h, good.small));
         }
 
   -- ---- a row is taken off its place
 
   module _ (taken : 1 ≤ get_or w.first k 0) where
-    abbrev gone : Row
+    abbrev gone : Demand
     gone = row_at w.first w.second w.amount k
 
     pub clear-places : (plain_of (cleared_in w k)).places ≡ set (plain_of w).places k empty
@@ -152,19 +152,19 @@ module _ (w : Work) (s : Right w) (k : ℕ) (in_table : k < desk.rows) where
           amounts = length-set w.amount k 0 ∙ s.amounts;
           rows = rw clear-places (each_set (plain_of w).places k empty s.rows tt);
           kept = λ g h a b c.
-              rw (size_is w s) (omega (arith, row-at lowered w.n gone w.triangle s.few g h a b c, s.kept g h a b c, clear-across g h, number_small w s g h));
+              rw (size_is w s) (omega (arith, row-at lowered w.ring.nodes gone w.triangle s.few g h a b c, s.kept g h a b c, clear-across g h, number_small w s g h));
         }
 
 -- ---- an empty table
 
-pub fresh-places : (n fibres : ℕ) → (plain_of (fresh_in n fibres)).places ≡ replicate desk.rows empty
+pub fresh-places : (ring : Ring) → (plain_of (fresh_in ring)).places ≡ replicate desk.rows empty
 unfolding fresh_in
-fresh-places n fibres = places-fresh desk.rows
+fresh-places ring = places-fresh desk.rows
 
-pub fresh-right : (n fibres : ℕ) → desk.fewest ≤ n → n ≤ desk.nodes → IsFibres fibres → Right (fresh_in n fibres)
+pub fresh-right : (ring : Ring) → desk.fewest ≤ ring.nodes → ring.nodes ≤ desk.nodes → IsFibres ring.fibres → Right (fresh_in ring)
 unfolding fresh_in across
-fresh-right n fibres a b c =
-    let no_row : held (fresh_in n fibres) ≡ [] = rw (fresh-places n fibres) (held-fresh desk.rows) in
+fresh-right ring a b c =
+    let no_row : held (fresh_in ring) ≡ [] = rw (fresh-places ring) (held-fresh desk.rows) in
     record {
       two = a;
       few = b;
@@ -178,6 +178,6 @@ fresh-right n fibres a b c =
 
 -- ---- the largest cut
 
-pub cut-is : (w : Work) → Right w → cut_of w ≡ rule_a w.n (held w)
+pub cut-is : (w : Work) → Right w → cut_of w ≡ rule_a w.ring.nodes (held w)
 unfolding rule_a
-cut-is w s = rw (size_is w s) (same-cut w.n (at w.triangle) (across (held w)) s.kept s.two)
+cut-is w s = rw (size_is w s) (same-cut w.ring.nodes (at w.triangle) (across (held w)) s.kept s.two)

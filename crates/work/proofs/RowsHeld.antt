@@ -1,17 +1,14 @@
 -- Lists of places: what putting a row at a place, or taking it off, does to the rows held and to every sum over them; by recursion over the places.
 use Prim.Native.Nat.{ℕ, zero, suc, ◌+◌, ◌≤◌, ◌<◌}
 use mathlib.Core.List.{List, [], ◌∷◌}
-use mathlib.Core.Path.{◌≡◌, refl, sym, ◌∙◌, ap}
+use mathlib.Core.Path.{◌≡◌, refl, ap}
 use native.Mathlib.Omega.{arith}
-use native.Mathlib.Decide.{ℕ_discrete}
-use borrow.Author.Tests.{eq-eqb, ne_eqb}
 use lib.ListN.{length, get_or, set, replicate}
 use Rattle.text.proofs.Apart.{clash}
 use Rattle.ring.specs.Lists.{Each, more}
-use Rattle.ring.specs.declared.types.Row.{Row}
+use Rattle.ring.specs.declared.types.Demand.{Demand}
 use Rattle.ring.specs.Cut.{part, across}
-use Rattle.work.specs.Places.{Place, empty, holds, rows_held, lowest_free, place_in, places_in}
-use Rattle.work.specs.Changes.{free_from}
+use Rattle.work.specs.Places.{Place, empty, holds, rows_held, place_in, places_in}
 
 -- what a place adds to an across number
 abbrev pub share : Place → ℕ → ℕ → ℕ
@@ -35,11 +32,11 @@ held-few (empty ∷ ps) = omega (arith, held-few ps)
 held-few (holds r ∷ ps) = omega (arith, held-few ps)
 
 -- what holds of each row held, and of a place's row if it has one
-abbrev pub Of : (Row → Type 0) → Place → Type 0
+abbrev pub Of : (Demand → Type 0) → Place → Type 0
 Of P empty = Unit {0}
 Of P (holds r) = P r
 
-pub each_set : {P : Row → Type 0} (ps : List Place) (k : ℕ) (x : Place) → Each P (rows_held ps) → Of P x → Each P (rows_held (set ps k x))
+pub each_set : {P : Demand → Type 0} (ps : List Place) (k : ℕ) (x : Place) → Each P (rows_held ps) → Of P x → Each P (rows_held (set ps k x))
 unfolding rows_held
 each_set [] k x e o = e
 each_set (empty ∷ ps) zero empty e o = e
@@ -49,7 +46,7 @@ each_set (holds r ∷ ps) zero (holds s) (more q e) o = more o e
 each_set (empty ∷ ps) (suc k) x e o = each_set ps k x e o
 each_set (holds r ∷ ps) (suc k) x (more q e) o = more q (each_set ps k x e o)
 
-pub each_at : {P : Row → Type 0} (ps : List Place) (k : ℕ) (r : Row) → Each P (rows_held ps) → get_or ps k empty ≡ holds r → P r
+pub each_at : {P : Demand → Type 0} (ps : List Place) (k : ℕ) (r : Demand) → Each P (rows_held ps) → get_or ps k empty ≡ holds r → P r
 unfolding rows_held
 each_at [] k r e q = clash (cc)
 each_at {P} (empty ∷ ps) zero r e q = clash (cc)
@@ -88,25 +85,6 @@ places-at (x ∷ is) [] ds k a b = absurd (omega arith)
 places-at (x ∷ is) (y ∷ js) [] k a b = absurd (omega arith)
 places-at (x ∷ is) (y ∷ js) (z ∷ ds) zero a b = refl
 places-at (x ∷ is) (y ∷ js) (z ∷ ds) (suc k) a b = places-at is js ds k (omega arith) (omega arith)
-
--- the lowest free place, by the column of first nodes
-free-shift : (x : ℕ) (is : List ℕ) (k m : ℕ) → free_from (x ∷ is) (suc k) m ≡ suc (free_from is k m)
-unfolding free_from
-free-shift x is k zero = refl
-free-shift x is k (suc m) =
-    elim (ℕ_discrete (get_or is k 0) 0) [
-      | yes e ↦ rw (eq-eqb (get_or is k 0) 0 e)
-      | no e ↦ rw (ne_eqb (get_or is k 0) 0 e) (free-shift x is (suc k) m)
-    ]
-
-pub places-free : (is js ds : List ℕ) → length is ≡ length js → length js ≡ length ds → lowest_free (places_in is js ds) ≡ free_from is 0 (length is)
-unfolding places_in lowest_free free_from
-places-free [] js ds a b = refl
-places-free (x ∷ is) [] ds a b = absurd (omega arith)
-places-free (x ∷ is) (y ∷ js) [] a b = absurd (omega arith)
-places-free (zero ∷ is) (y ∷ js) (z ∷ ds) a b = refl
-places-free (suc x ∷ is) (y ∷ js) (z ∷ ds) a b =
-    rw (ne_eqb (suc x) 0 (λ e. omega arith)) (ap suc (places-free is js ds (omega arith) (omega arith)) ∙ sym (free-shift (suc x) is 0 (length is)))
 
 pub places-fresh : (m : ℕ) → places_in (replicate m 0) (replicate m 0) (replicate m 0) ≡ replicate m empty
 unfolding places_in

@@ -1,31 +1,31 @@
--- To believe: a whole list of calls, played over the list of places: the table behind it, and the cut that its last accepted reply named.
-use Rattle.std.specs.Prelude.{cond, List, [], ◌∷◌, ◌≡◌, eqb}
+-- To believe: a whole list of calls, played over the list of places: the table behind it, and the cut that its last accepted answer named.
+use Rattle.std.specs.Prelude.{Ok, Err, List, [], ◌∷◌, ◌≡◌}
 use Rattle.ring.specs.declared.types.Cut.{Cut}
 use Rattle.work.specs.Places.{Plain, plain_of}
-use Rattle.work.specs.Calls.{Call, fresh_plain, outcome, after, answer}
-use Rattle.work.specs.Kept.{kept_cut}
+use Rattle.work.specs.Calls.{Call, WorkAnswer, fresh_plain, Does}
 use Rattle.work.specs.declared.Work.{Work}
-use Rattle.work.specs.declared.held.WorkReply.{WorkReply}
 
--- the last call is the first of the list; before any call there is no ring and no row
-unfoldable pub played : List Call → Plain
-played [] = fresh_plain 0 0
-played (c ∷ cs) = after (played cs) (outcome (played cs) c)
+-- an accepted answer names a cut; a refusal leaves the one named before
+abbrev pub named_by : WorkAnswer → Cut → Cut
+named_by (Ok placed) c = placed.cut
+named_by (Err reason) c = c
 
--- what the list of places answers to a call behind those played
-abbrev pub answer_after : List Call → Call → WorkReply
-answer_after cs c = answer (outcome (played cs) c)
+-- the table and the cut behind a list of calls, the last of them first; before any call there is no ring, no row and no cut
+pub data Played : List Call → Plain → Cut → Type 0 where
+  at_first : Played [] (fresh_plain (record { nodes = 0; fibres = 0 })) (record { g = 0; h = 0; across = 0 })
+  then : {cs : List Call} {t u : Plain} {d : Cut} {c : Call} {a : WorkAnswer} → Played cs t d → Does t c a u → Played (c ∷ cs) u (named_by a d)
 
--- an accepted reply names a cut; a refusal leaves the one named before
-unfoldable pub named_by : WorkReply → Cut → Cut
-named_by r c = cond (eqb r.reason 0) (record { g = r.g; h = r.h; number = r.across }) c
-
-unfoldable pub last_named : List Call → Cut
-unfolding named_by
-last_named [] = record { g = 0; h = 0; number = 0 }
-last_named (c ∷ cs) = named_by (answer_after cs c) (last_named cs)
-
--- a struct is as the calls played: its table and its cut
+-- a struct is as the calls played, which lead to its table and its cut, and to no other
 pub record AsPlayed (cs : List Call) (w : Work) : Type 0 where
-  pub table : plain_of w ≡ played cs
-  pub cut : kept_cut w ≡ last_named cs
+  pub leads : Played cs (plain_of w) w.cut
+  pub table : (t : Plain) (d : Cut) → Played cs t d → t ≡ plain_of w
+  pub cut : (t : Plain) (d : Cut) → Played cs t d → d ≡ w.cut
+
+-- the list of places gives the answer a to a call behind those played, and no other
+pub record AnswerAfter (cs : List Call) (c : Call) (a : WorkAnswer) : Type 0 where
+  pub t : Plain
+  pub u : Plain
+  pub d : Cut
+  pub leads : Played cs t d
+  pub does : Does t c a u
+  pub only : (t u : Plain) (d : Cut) (b : WorkAnswer) → Played cs t d → Does t c b u → b ≡ a

@@ -2,36 +2,35 @@
 ghost use Rattle.std.specs.Prelude.{◌≡◌};
 ghost use Rattle.work.specs.Changes.{fresh_in, started_in};
 
-use crate::held::{kept, refused};
+use crate::answer::recut;
 use crate::{Changed, Work};
 use across::PAIRS;
-use ring::{ROWS, Ring};
-use table::ring_fault;
+use ring::{Cut, ROWS, Ring};
+use table::{Reason, ring_fault};
 
-fn fresh(n: u32, fibres: u32) -> Work
-    ensures { result ≡ fresh_in n fibres }
+fn fresh(ring: Ring) -> Work
+    ensures { result ≡ fresh_in ring }
 {
     Work {
         triangle: [0u32; PAIRS],
-        n,
-        fibres,
-        g: 0,
-        h: 0,
-        across: 0,
+        ring,
+        cut: Cut {
+            g: 0,
+            h: 0,
+            across: 0,
+        },
         amount: [0u16; ROWS],
         first: [0u8; ROWS],
         second: [0u8; ROWS],
     }
 }
 
-/// A ring of n nodes and so many fibres with no row, in place of whatever the table was. Refused with 3 where n is outside 2 to 32, then with 20 where the fibres
-/// are neither 2 nor 4.
-pub fn started(work: Work, n: u32, fibres: u32) -> Changed
-    ensures { result ≡ started_in work n fibres }
+/// A table of a ring with no row. Refused with 3 where the nodes are outside 2 to 32, then with 20 where the fibres are neither 2 nor 4.
+pub fn started(ring: Ring) -> Result<Changed, Reason>
+    ensures { result ≡ started_in ring }
 {
-    let fault = ring_fault(Ring { nodes: n, fibres });
-    match fault {
-        Some(found) => refused(work, found.reason),
-        None => kept(fresh(n, fibres), 0),
+    match ring_fault(ring) {
+        Some(found) => Err(found.reason),
+        None => Ok(recut(fresh(ring), 0)),
     }
 }

@@ -4,7 +4,7 @@ use crate::kit::Kit;
 use crate::twin::{self, Answer, Call, Said};
 
 /// Bytes on both sides of the lent buffer that no call may change.
-const GUARD: usize = 32;
+pub const GUARD: usize = 32;
 
 /// The length of the lent buffer.
 #[derive(Clone, Copy, Debug)]

@@ -262,7 +262,7 @@ pub const NUMBERS: [&str; 42] = [
     "R|4|3\nx\n",
 ];
 
-fn stated(_: &mut Rng, case: u64) -> Option<Case> {
+pub fn stated(_: &mut Rng, case: u64) -> Option<Case> {
     let text = NUMBERS.get(case as usize)?;
     of_text(text, all_trials())
 }
@@ -302,7 +302,7 @@ const SMALL: [(i64, &[&[i64]]); 7] = [
     (4, &[&[], &[1], &[1, 1], &[2, 1]]),
 ];
 
-fn all_small(_: &mut Rng, case: u64) -> Option<Case> {
+pub fn all_small(_: &mut Rng, case: u64) -> Option<Case> {
     let mut code = case;
     for (n, lists) in SMALL {
         let pairs = gen::pairs(n);
@@ -330,7 +330,7 @@ fn all_small(_: &mut Rng, case: u64) -> Option<Case> {
 
 /// Tables of 3 offices that end with one, two or three rows of every kind, the
 /// first of which is the 496th row.
-fn about_496(_: &mut Rng, case: u64) -> Option<Case> {
+pub fn about_496(_: &mut Rng, case: u64) -> Option<Case> {
     let ends = [
         "D|2|3|1\n",
         "D|2|3|10000\n",
@@ -348,7 +348,7 @@ fn about_496(_: &mut Rng, case: u64) -> Option<Case> {
 
 /// The square with each byte given each value, then with bytes put in before
 /// it, then with it dropped or the text cut short there.
-fn every_byte(_: &mut Rng, case: u64) -> Option<Case> {
+pub fn every_byte(_: &mut Rng, case: u64) -> Option<Case> {
     let square = NUMBERS[0].replace('|', "\t").into_bytes();
     Some(Case {
         offices: 4,
@@ -459,7 +459,7 @@ fn most_rows(rng: &mut Rng, _: u64) -> Option<Case> {
 
 /// 497 rows and more; two times out of three a row has another reason, or
 /// several.
-fn too_many_rows(rng: &mut Rng, case: u64) -> Option<Case> {
+pub fn too_many_rows(rng: &mut Rng, case: u64) -> Option<Case> {
     let n = rng.between(2, 32);
     let count = rng.pick(&[497, 497, 498, 500, 700, 2_000]);
     let mut table = gen::circuits(rng, n, count);
@@ -546,7 +546,7 @@ fn damaged_often(rng: &mut Rng, _: u64) -> Option<Case> {
 }
 
 /// Texts of 32,768 bytes, one more, and lengths about as large.
-fn padded(rng: &mut Rng, _: u64) -> Option<Case> {
+pub fn padded(rng: &mut Rng, _: u64) -> Option<Case> {
     let mut case = damaged(rng, 0, gen::damage_bytes)?;
     if rng.chance(1, 2) {
         gen::damage_fields(rng, &mut case.text);

@@ -5,7 +5,8 @@
 use crate::check::Finding;
 use crate::mutant::Mutant;
 #[cfg(remote)]
-use crate::remote::{library, library_judge, library_work};
+use crate::remote::{library, library_judge, library_turn, library_work};
+use crate::turns::TurnReply;
 use crate::twin::{Call, Said};
 #[cfg(not(any(mock, remote)))]
 use crate::twin::{Pair, Reply};
@@ -45,6 +46,14 @@ impl Kit {
         match self {
             Kit::Library => library_work(ask, words, area, lent),
             Kit::Mutant(mutant) => mutant.work(ask, words, &mut area[lent]),
+        }
+    }
+
+    /// Circuits sent one turn at a time; the lent ways are the part `lent` of `area`.
+    pub fn turn(self, text: &mut [u8], area: &mut [u8], lent: Range<usize>) -> TurnReply {
+        match self {
+            Kit::Library => library_turn(text, area, lent),
+            Kit::Mutant(mutant) => mutant.turn(text, &mut area[lent]),
         }
     }
 
@@ -96,6 +105,7 @@ extern "C" {
         buffer_ptr: *mut u8,
         buffer_len: usize,
     ) -> Reply;
+    fn ringkit_turn(table_ptr: *const u8, table_len: usize, ways_ptr: *mut u8) -> TurnReply;
     fn ringkit_judge(
         rows_ptr: *const HeldRow,
         rows_len: usize,
@@ -169,6 +179,16 @@ fn library_work(ask: &Ask, words: &mut [u32], area: &mut [u8], lent: Range<usize
 }
 
 #[cfg(not(any(mock, remote)))]
+fn library_turn(text: &mut [u8], area: &mut [u8], lent: Range<usize>) -> TurnReply {
+    let ways = &mut area[lent];
+    let (text_ptr, text_len) = (text.as_mut_ptr().cast_const(), text.len());
+    // SAFETY: the text's pointer comes from a slice of the length given, that of the
+    // ways from one of as many bytes as rows may be; both live through the call and
+    // do not overlap.
+    unsafe { ringkit_turn(text_ptr, text_len, ways.as_mut_ptr()) }
+}
+
+#[cfg(not(any(mock, remote)))]
 fn library_judge(values: &mut Values) -> Finding {
     let (rows, links) = (&mut values.rows, &mut values.links);
     // SAFETY: both pointers come from slices of the lengths given, which live
@@ -188,6 +208,11 @@ fn library_judge(values: &mut Values) -> Finding {
             values.size,
         )
     }
+}
+
+#[cfg(mock)]
+fn library_turn(text: &mut [u8], area: &mut [u8], lent: Range<usize>) -> TurnReply {
+    crate::turns::turn(text, &mut area[lent])
 }
 
 #[cfg(mock)]

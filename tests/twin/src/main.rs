@@ -16,11 +16,13 @@
 //! --byte-mutants` does so of the faults of the byte that goes with a refusal.
 //!
 //! `twin --judging [SEED [COUNT]]` compares the judging of values alone, and `twin
-//! --judging-mutants [SEED [COUNT]]` lists which of its faults are caught.
+//! --judging-mutants [SEED [COUNT]]` lists which of its faults are caught; `twin
+//! --turning` and `twin --turning-mutants` do so of sending circuits one turn at a time.
 //!
 //! `twin --cases` answers the stored cases given on standard input by itself,
 //! without the library, so that its reading is compared with the one that wrote
-//! their answers; `twin --judged` judges the stored values given there.
+//! their answers; `twin --judged` judges the stored values given there, and `twin
+//! --turned` sends the circuits of the stored tables.
 
 mod byte_faults;
 mod byte_groups;
@@ -55,6 +57,11 @@ mod sheets;
 mod stored;
 mod table;
 mod text_faults;
+mod turning_faults;
+mod turning_groups;
+mod turning_run;
+mod turning_selfcheck;
+mod turns;
 mod twin;
 mod values;
 mod working;
@@ -72,12 +79,14 @@ use groups::{Group, GROUPS, SHARES};
 use judging_groups::JUDGING_GROUPS;
 use judging_run::JudgingTally;
 use kit::Kit;
-use mutant::{faults, Mutant, SAME};
+use mutant::{faults, same, Mutant};
 use rng::Rng;
 use selfcheck::Outcome;
 use std::process::ExitCode;
 use std::time::Instant;
 use table::Table;
+use turning_groups::TURNING_GROUPS;
+use turning_run::TurningTally;
 use twin::{Answer, Call, Said, CALLS};
 use working_compare::WorkTally;
 use working_groups::WORKING_GROUPS;
@@ -291,6 +300,14 @@ fn self_checks(seed: u64) -> (u64, u64) {
         ("self-check: working table", working_selfcheck::square()),
         ("self-check: full working table", working_selfcheck::full()),
         ("self-check: theorems", selfcheck::random_theorems(seed)),
+        (
+            "self-check: one turn at a time",
+            turning_selfcheck::by_hand(),
+        ),
+        (
+            "self-check: theorems of one turn at a time",
+            turning_selfcheck::random_theorems(seed),
+        ),
     ])
 }
 
@@ -431,6 +448,14 @@ fn judging(kit: Kit, seed: u64, count: u64) -> (u64, u64) {
     (passed + seen, failed + unseen)
 }
 
+/// The groups of one turn at a time and their counts: how many passed and failed.
+fn turning(kit: Kit, seed: u64, count: u64) -> (u64, u64) {
+    let mut tally = TurningTally::default();
+    let (passed, failed) = turning_run::all_groups(kit, (seed, count), &mut tally);
+    let (seen, unseen) = turning_run::print_counts(&tally);
+    (passed + seen, failed + unseen)
+}
+
 /// The groups that catch a mutant: in how many places.
 fn places(mutant: &'static Mutant, seed: u64, count: u64) -> usize {
     if mutant.of_working() {
@@ -438,6 +463,9 @@ fn places(mutant: &'static Mutant, seed: u64, count: u64) -> usize {
     }
     if mutant.of_judging() {
         return judging_places(mutant, seed, count);
+    }
+    if mutant.of_turning() {
+        return turning_places(mutant, seed, count);
     }
     let mut places = 0;
     for (at, group) in GROUPS.iter().enumerate() {
@@ -482,6 +510,19 @@ fn judging_places(mutant: &'static Mutant, seed: u64, count: u64) -> usize {
     places
 }
 
+/// The same of a fault of one turn at a time.
+fn turning_places(mutant: &'static Mutant, seed: u64, count: u64) -> usize {
+    let mut places = 0;
+    for (at, group) in TURNING_GROUPS.iter().enumerate() {
+        let (kit, tally) = (Kit::Mutant(mutant), &mut TurningTally::default());
+        if let Some((number, _)) = turning_run::group(kit, (seed, count), at, false, tally) {
+            println!("    caught by {}, case {number}", group.name);
+            places += 1;
+        }
+    }
+    places
+}
+
 /// How many of the faults asked for are caught, and where.
 fn caught(seed: u64, count: u64, asked: fn(&Mutant) -> bool) -> usize {
     let mut caught = 0;
@@ -496,6 +537,8 @@ fn caught(seed: u64, count: u64, asked: fn(&Mutant) -> bool) -> usize {
             WORKING_GROUPS.len()
         } else if mutant.of_judging() {
             JUDGING_GROUPS.len()
+        } else if mutant.of_turning() {
+            TURNING_GROUPS.len()
         } else {
             GROUPS.len()
         };
@@ -505,20 +548,10 @@ fn caught(seed: u64, count: u64, asked: fn(&Mutant) -> bool) -> usize {
     caught
 }
 
-/// Those of one kind alone. True when all are caught.
-fn some_mutants(seed: u64, count: u64, kind: &str, asked: fn(&Mutant) -> bool) -> bool {
-    let all = faults().iter().filter(|fault| asked(fault)).count();
-    let caught = caught(seed, count, asked);
-    println!("{caught} of {all} faults of the {kind} caught");
-    caught == all
-}
-
-/// Which faults are caught, and where. True when all are, and when what comes
-/// to the same never differs.
-fn mutants(seed: u64, count: u64) -> bool {
+/// How many of the changes asked for come to the same: no group tells them apart.
+fn never_different(seed: u64, count: u64, asked: fn(&Mutant) -> bool) -> usize {
     let mut equal = 0;
-    let caught = caught(seed, count, |_| true);
-    for mutant in &SAME {
+    for mutant in same().into_iter().filter(|mutant| asked(mutant)) {
         println!("comes to the same: {}", mutant.name);
         let places = places(mutant, seed, count);
         let word = if places == 0 {
@@ -529,7 +562,28 @@ fn mutants(seed: u64, count: u64) -> bool {
         println!("    {word}");
         equal += usize::from(places == 0);
     }
-    let (faults, same) = (faults().len(), SAME.len());
+    equal
+}
+
+/// Those of one kind alone. True when all are caught, and when what comes to the
+/// same never differs.
+fn some_mutants(seed: u64, count: u64, kind: &str, asked: fn(&Mutant) -> bool) -> bool {
+    let all = faults().iter().filter(|fault| asked(fault)).count();
+    let all_same = same().iter().filter(|mutant| asked(mutant)).count();
+    let caught = caught(seed, count, asked);
+    let equal = never_different(seed, count, asked);
+    println!(
+        "{caught} of {all} faults of the {kind} caught, {equal} of {all_same} come to the same"
+    );
+    caught == all && equal == all_same
+}
+
+/// Which faults are caught, and where. True when all are, and when what comes
+/// to the same never differs.
+fn mutants(seed: u64, count: u64) -> bool {
+    let caught = caught(seed, count, |_| true);
+    let equal = never_different(seed, count, |_| true);
+    let (faults, same) = (faults().len(), same().len());
     println!("{caught} of {faults} faults caught, {equal} of {same} come to the same");
     caught == faults && equal == same
 }
@@ -538,9 +592,11 @@ fn mutants(seed: u64, count: u64) -> bool {
 struct Asked {
     cases: bool,
     judged: bool,
+    turned: bool,
     mutants: bool,
     working: bool,
     judging: bool,
+    turning: bool,
     bytes: bool,
     kit: Kit,
     seed: u64,
@@ -551,8 +607,9 @@ fn asked() -> Option<Asked> {
     let words: Vec<String> = std::env::args().skip(1).collect();
     let mode = words.first().map_or("", |word| word.as_str());
     let taken = match mode {
-        "--cases" | "--judged" | "--mutants" | "--byte-mutants" => 1,
+        "--cases" | "--judged" | "--turned" | "--mutants" | "--byte-mutants" => 1,
         "--working" | "--working-mutants" | "--judging" | "--judging-mutants" => 1,
+        "--turning" | "--turning-mutants" => 1,
         "--mutant" => 2,
         _ => 0,
     };
@@ -566,9 +623,11 @@ fn asked() -> Option<Asked> {
     (numbers.len() <= 2).then_some(Asked {
         cases: mode == "--cases",
         judged: mode == "--judged",
+        turned: mode == "--turned",
         mutants: mode.ends_with("mutants"),
         working: mode.starts_with("--working"),
         judging: mode.starts_with("--judging"),
+        turning: mode.starts_with("--turning"),
         bytes: mode.starts_with("--byte"),
         kit,
         seed: numbers.first().copied().unwrap_or(SEED),
@@ -578,7 +637,7 @@ fn asked() -> Option<Asked> {
 
 fn main() -> ExitCode {
     let Some(asked) = asked() else {
-        eprintln!("usage: twin --cases | twin --judged | twin [--working | --judging | --mutants | --working-mutants | --judging-mutants | --byte-mutants | --mutant K] [SEED [COUNT]]");
+        eprintln!("usage: twin --cases | twin --judged | twin --turned | twin [--working | --judging | --turning | --mutants | --working-mutants | --judging-mutants | --turning-mutants | --byte-mutants | --mutant K] [SEED [COUNT]]");
         return ExitCode::from(2);
     };
     if asked.cases {
@@ -587,6 +646,9 @@ fn main() -> ExitCode {
     if asked.judged {
         return ExitCode::from(u8::from(!stored::judge_all()));
     }
+    if asked.turned {
+        return ExitCode::from(u8::from(!stored::turn_all()));
+    }
     let seed = asked.seed;
     if asked.mutants {
         let count = asked.count.unwrap_or(MUTANT_COUNT);
@@ -594,6 +656,8 @@ fn main() -> ExitCode {
             some_mutants(seed, count, "working table", Mutant::of_working)
         } else if asked.judging {
             some_mutants(seed, count, "judging of values", Mutant::of_judging)
+        } else if asked.turning {
+            some_mutants(seed, count, "turning of circuits", Mutant::of_turning)
         } else if asked.bytes {
             some_mutants(seed, count, "byte", Mutant::of_bytes)
         } else {
@@ -612,6 +676,11 @@ fn main() -> ExitCode {
         println!("{passed} passed, {failed} failed");
         return ExitCode::from(u8::from(failed > 0));
     }
+    if asked.turning {
+        let (passed, failed) = turning(asked.kit, seed, count);
+        println!("{passed} passed, {failed} failed");
+        return ExitCode::from(u8::from(failed > 0));
+    }
     println!("seed {seed}, {count} random comparisons and the lists");
     let mut tally = Tally::default();
     let (own_passed, own_failed) = self_checks(seed);
@@ -620,8 +689,9 @@ fn main() -> ExitCode {
     let (seen, unseen) = print_counts(&tally);
     let (judged, not_judged) = judging(asked.kit, seed, count);
     let (worked, not_worked) = working_table(asked.kit, seed, count);
-    let passed = own_passed + back + passed + seen + judged + worked;
-    let failed = own_failed + not_back + failed + unseen + not_judged + not_worked;
+    let (turned, not_turned) = turning(asked.kit, seed, count);
+    let passed = own_passed + back + passed + seen + judged + worked + turned;
+    let failed = own_failed + not_back + failed + unseen + not_judged + not_worked + not_turned;
     println!("{passed} passed, {failed} failed");
     ExitCode::from(u8::from(failed > 0))
 }

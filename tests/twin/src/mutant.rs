@@ -13,6 +13,8 @@ use crate::rules::{self, Cut, Plan, Sent, Way};
 use crate::sheet;
 use crate::table::{self, refuse, Refusal, Row, RowReason, Table};
 use crate::text_faults::*;
+use crate::turning_faults::{TURNING_FAULTS, TURNING_SAME};
+use crate::turns::{self, Sentences, TurnReply, SENTENCES};
 use crate::twin::{self, Answer, Call, Reply, Said};
 use crate::values::{self, Values};
 use crate::working::{Ask, Told};
@@ -49,6 +51,10 @@ enum How {
     /// What is found against values.
     Judge(fn(&Values) -> Finding),
     Working(Habits),
+    /// Another reading of a sentence of one turn at a time.
+    Turn(Sentences),
+    /// Another reply to it, or other ways.
+    Ways(fn(TurnReply, &mut [u8]) -> TurnReply),
 }
 
 impl Mutant {
@@ -85,6 +91,21 @@ impl Mutant {
         }
     }
 
+    /// The circuits of a table sent one turn at a time.
+    pub fn turn(&self, text: &[u8], ways: &mut [u8]) -> TurnReply {
+        let sentences = match &self.how {
+            How::Turn(sentences) => sentences,
+            _ => &SENTENCES,
+        };
+        let table = self.read_table(text);
+        let answer = table.map(|table| turns::answer_read(&table, sentences));
+        let reply = turns::reply(&answer, ways);
+        match self.how {
+            How::Ways(change) => change(reply, ways),
+            _ => reply,
+        }
+    }
+
     /// The refusal with the byte that the fault gives it.
     fn point(&self, call: Call, text: &[u8], refusal: Refusal) -> Refusal {
         let How::Point(point) = self.how else {
@@ -107,6 +128,11 @@ impl Mutant {
     /// Whether the fault lies in judging values.
     pub fn of_judging(&self) -> bool {
         matches!(self.how, How::Judge(_))
+    }
+
+    /// Whether the fault lies in sending circuits one turn at a time.
+    pub fn of_turning(&self) -> bool {
+        matches!(self.how, How::Turn(_) | How::Ways(_))
     }
 
     /// Whether the fault lies in the working table.
@@ -181,17 +207,36 @@ impl Mutant {
 }
 
 /// All faults, those of a matrix behind the others, then those of the byte, those of
-/// judging values, and those of the working table last.
+/// judging values, those of one turn at a time, and those of the working table last.
 pub fn faults() -> Vec<&'static Mutant> {
     let texts = FAULTS.iter().chain(&MATRIX_FAULTS).chain(&BYTE_FAULTS);
     texts
         .chain(&JUDGING_FAULTS)
+        .chain(&TURNING_FAULTS)
         .chain(&WORKING_FAULTS)
         .collect()
 }
 
+/// All changes that come to the same, those of one turn at a time last.
+pub fn same() -> Vec<&'static Mutant> {
+    SAME.iter().chain(&TURNING_SAME).collect()
+}
+
 pub const fn judging(name: &'static str, judge: fn(&Values) -> Finding) -> Mutant {
     let how = How::Judge(judge);
+    Mutant { name, how }
+}
+
+pub const fn turning(name: &'static str, sentences: Sentences) -> Mutant {
+    let how = How::Turn(sentences);
+    Mutant { name, how }
+}
+
+pub const fn answering(
+    name: &'static str,
+    change: fn(TurnReply, &mut [u8]) -> TurnReply,
+) -> Mutant {
+    let how = How::Ways(change);
     Mutant { name, how }
 }
 

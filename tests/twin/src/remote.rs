@@ -3,6 +3,7 @@
 //! says what goes over the pipes) makes the calls; it is started by the first.
 
 use crate::check::Finding;
+use crate::turns::TurnReply;
 use crate::twin::{Call, Pair, Reply, Said};
 use crate::values::{HeldLink, HeldRow, Values};
 use crate::working::{Ask, RowReply, Told, WorkReply, ASK_NAMES};
@@ -38,6 +39,26 @@ pub fn library_work(ask: &Ask, words: &mut [u32], area: &mut [u8], lent: Range<u
     match server.ask_work(ask, words, area, lent) {
         Ok(told) => told,
         Err(error) => give_up(&format!("was lost in the call {ask:?}"), &error),
+    }
+}
+
+/// Circuits sent one turn at a time; text and area come back as the library left them.
+pub fn library_turn(text: &mut [u8], area: &mut [u8], lent: Range<usize>) -> TurnReply {
+    let mut server = SERVER.lock().expect("the twin has one thread");
+    match server.made("Turn", [0; 4], (text, 0), area, lent) {
+        Ok(said) => {
+            let [reason, line, byte, peak, link, turns, _] = said.map(|number| number as u32);
+            TurnReply {
+                reason,
+                line,
+                byte,
+                peak,
+                link,
+                turns,
+                rows: said[6] as usize,
+            }
+        }
+        Err(error) => give_up("was lost in turning circuits", &error),
     }
 }
 

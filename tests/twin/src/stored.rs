@@ -2,8 +2,11 @@
 //! letter of the call, the text's length and the buffer's in five digits each,
 //! LF) and the text. Each is answered by a line. And stored values, which are judged
 //! by the twin alone: lines that say how the values change, and what is then found.
+//! And stored tables whose circuits are sent one turn at a time: lines that say how long
+//! a table is, what is answered and the ways, each with its table behind it.
 
 use crate::check::Finding;
+use crate::turns::{turn, TurnReply, WAYS};
 use crate::twin::{self, Call, Pair, Reply, Said};
 use crate::values::{self, HeldLink, HeldRow, Values};
 use std::io::{Read, Write};
@@ -165,4 +168,57 @@ fn change(values: &mut Values, line: &str) -> Option<()> {
         _ => return None,
     }
     Some(())
+}
+
+/// Sends the circuits of the tables of standard input, and says where the answer or
+/// the ways are another than what is stored. False where that is so, or where a case
+/// is not spelled as it should be.
+pub fn turn_all() -> bool {
+    let mut cases = Vec::new();
+    if std::io::stdin().read_to_end(&mut cases).is_err() {
+        return false;
+    }
+    let (mut rest, mut passed, mut failed) = (cases.as_slice(), 0, 0);
+    while let Some((due, ways, text, after)) = next_table(rest) {
+        let mut lent = [PATTERN; WAYS];
+        let reply = turn(text, &mut lent);
+        if reply == due && lent == ways {
+            passed += 1;
+        } else {
+            println!(
+                "error: {}: {reply:?}, not {due:?}",
+                String::from_utf8_lossy(text)
+            );
+            failed += 1;
+        }
+        rest = after;
+    }
+    println!(
+        "{passed} passed, {failed} failed, {} bytes left",
+        rest.len()
+    );
+    rest.is_empty() && failed == 0 && passed > 0
+}
+
+/// The next table: the answer and the ways that are due, its text, and what follows.
+fn next_table(cases: &[u8]) -> Option<(TurnReply, [u8; WAYS], &[u8], &[u8])> {
+    let end = cases.iter().position(|byte| *byte == b'\n')?;
+    let line = std::str::from_utf8(&cases[..end]).ok()?;
+    let (numbers, letters) = line.strip_prefix("turn ")?.rsplit_once(' ')?;
+    let [length, reason, line, byte, peak, link, turns, rows] = numbers_of(numbers)?;
+    let (text, after) = cases[end + 1..].split_at_checked(length as usize)?;
+    let mut ways = [PATTERN; WAYS];
+    for (way, letter) in ways.iter_mut().zip(letters.trim_matches('-').bytes()) {
+        *way = u8::from(letter == b'B');
+    }
+    let due = TurnReply {
+        reason,
+        line,
+        byte,
+        peak,
+        link,
+        turns,
+        rows: rows as usize,
+    };
+    Some((due, ways, text, after))
 }

@@ -1,10 +1,15 @@
 -- A sheet is written where it has room, else refused (`FillSteps`).
-use Rattle.std.proofs.Common.{rules}
-use Rattle.ringkit.proofs.FillSteps.{text-too-short, text-fills}
+use Rattle.std.proofs.lemmas.Result.{err_from_is_err_and}
+use Rattle.ringkit.proofs.FillSteps.{text-refused, text-fills, text-has-room}
 use Rattle.ringkit.proofs.put_sheet.Goals as goal
 
-pub returns-then-buffer-need : goal.returns-then-buffer-need
-returns-then-buffer-need g c = text-too-short _ _ _ (search rules) (search rules)
+pub returns-in_err-ask_room : goal.returns-in_err-ask_room
+returns-in_err-ask_room g c =
+    let p = err_from_is_err_and c.from_residual.result c.from_residual.ensures.1 in
+    rw (p.1, p.2) (text-refused _ _ _ c.sheet_length.ensures _ c.ask_room.ensures _ c.in_err-ask_room.was)
+
+pub write_sheet-requires : goal.write_sheet-requires
+write_sheet-requires g c = text-has-room _ _ _ c.sheet_length.ensures _ c.ask_room.ensures c.in_ok-ask_room.was
 
 pub returns : goal.returns
-returns g c = search text-fills
+returns g c = text-fills _ _ _ c.sheet_length.ensures _ c.ask_room.ensures c.in_ok-ask_room.was _ _ c.write_sheet.ensures

@@ -1,13 +1,16 @@
--- Routing a table: what reading leaves is what the router takes, and its plan is the outcome's (`RouteSteps`).
+-- Routing a table: what reading answers is what the router takes, and gives the outcome each way out (`TableSteps`).
+use Rattle.std.proofs.lemmas.Result.{err_from_is_err_and}
 use Rattle.table.proofs.Told.{read-range}
-use Rattle.ringkit.proofs.RouteSteps.{route-refused, route-fills}
+use Rattle.ringkit.proofs.TableSteps.{table-refused, table-fills}
 use Rattle.ringkit.proofs.route.Goals as goal
 
+pub returns-in_err-ring : goal.returns-in_err-ring
+returns-in_err-ring c =
+    let p = err_from_is_err_and c.from_residual.result c.from_residual.ensures.1 in
+    rw (p.1, p.2) (table-refused c.args.table.now _ _ c.read_table.ensures.value _ _ _ c.in_err-ring.was)
+
 pub put_route-requires : goal.put_route-requires
-put_route-requires c = search read-range
+put_route-requires c = read-range c.args.table.now _ _ c.read_table.ensures.value _ c.in_ok-ring.was
 
-pub returns-in-Err : goal.returns-in-Err
-returns-in-Err c = search route-refused
-
-pub returns-in-Ok : goal.returns-in-Ok
-returns-in-Ok c = search route-fills
+pub returns : goal.returns
+returns c = table-fills c.args.table.now _ _ c.read_table.ensures.value _ _ c.in_ok-ring.was _ _ _ c.put_route.ensures

@@ -1,20 +1,29 @@
--- Writing a table's matrix: what reading answers is what the sums and the writer take, and gives the outcome each way out (`MatrixSteps`).
+-- Writing a table's matrix: what reading answers is what the sums and the writer take, and gives the outcome each way out (`TableSteps`, `MatrixSteps`).
+use Rattle.std.proofs.Common.{rules}
+use Rattle.std.proofs.lemmas.Result.{err_from_is_err_and}
 use Rattle.table.proofs.Told.{read-range}
-use Rattle.ringkit.proofs.RewriteSteps.{rows-have-room}
-use Rattle.ringkit.proofs.MatrixSteps.{written-refused, sums-refused, written-fills}
+use Rattle.ringkit.proofs.TableSteps.{table-refused, rows-have-room, table-fills}
+use Rattle.ringkit.proofs.MatrixSteps.{sums-refused, written-fills}
 use Rattle.ringkit.proofs.write_matrix.Goals as goal
 
-pub returns-in-Err : goal.returns-in-Err
-returns-in-Err c = search written-refused
+pub returns-in_err-ring : goal.returns-in_err-ring
+returns-in_err-ring c =
+    let p = err_from_is_err_and c.from_residual.result c.from_residual.ensures.1 in
+    rw (p.1, p.2) (table-refused c.args.table.now _ _ c.read_table.ensures.value _ _ _ c.in_err-ring.was)
 
 pub judge_sums-requires : goal.judge_sums-requires
-judge_sums-requires c = search rows-have-room
+judge_sums-requires c = let few = rows-have-room c.args.table.now _ _ c.read_table.ensures.value _ c.in_ok-ring.was in search rules
 
-pub returns-in-Err-judge_sums : goal.returns-in-Err-judge_sums
-returns-in-Err-judge_sums c = search sums-refused
+pub returns-in_err-judge_sums : goal.returns-in_err-judge_sums
+returns-in_err-judge_sums c =
+    let r = c.from_residual-in_err-judge_sums in
+    let p = err_from_is_err_and r.result r.ensures.1 in
+    rw (p.1, p.2) (table-fills c.args.table.now _ _ c.read_table.ensures.value _ _ c.in_ok-ring.was _ _ _ (sums-refused c.in_ok-ring.ring _ _ c.judge_sums.ensures _ _ c.in_err-judge_sums.was))
 
 pub put_matrix-requires : goal.put_matrix-requires
-put_matrix-requires c = search read-range
+put_matrix-requires c = read-range c.args.table.now _ _ c.read_table.ensures.value _ c.in_ok-ring.was
 
-pub returns-in-Ok-judge_sums : goal.returns-in-Ok-judge_sums
-returns-in-Ok-judge_sums c = search written-fills
+pub returns : goal.returns
+returns c =
+    table-fills c.args.table.now _ _ c.read_table.ensures.value _ _ c.in_ok-ring.was _ _ _
+    (written-fills c.in_ok-ring.ring _ _ c.judge_sums.ensures c.in_ok-judge_sums.was _ _ _ c.put_matrix.ensures)

@@ -19,4 +19,4 @@ returns-in-Ok-clause-value c =
 pub returns-in-Err-clause-value : goal.returns-in-Err-clause-value
 returns-in-Err-clause-value c =
     found-so c.args.text.now _ _ _ c.read_sheet.ensures.value _ c.in_ok-x.was _ c.wide.ensures _ c.judge.ensures.first _ c.in-Err.is _ _ _
-    c.len.ensures.is c.line_of-line.ensures c.min.ensures
+    c.count.ensures.is c.line_of-line.ensures c.min.ensures

@@ -1,31 +1,32 @@
--- The lines before this one are read, and the next begins at `at` (`ReadingLines`).
+-- The lines before this one are read, and the others are left (`ReadingLines`).
 use Rattle.std.proofs.Common.{arith, rules, sym, ◌∙◌}
 use Rattle.std.proofs.lemmas.Result.{err_from_is_err_and}
 use Rattle.matrix.proofs.LineSteps.{read-not, read-all}
 use Rattle.matrix.proofs.ReadSteps.{missing, line-refused, amounts-wide, amounts-within, line-kept, left-over, all-read}
 use Rattle.matrix.proofs.read.read_lines.Goals as goal
 
-pub returns-then-text-at : goal.returns-then-text-at
-returns-then-text-at c = search (missing, rules)
+pub returns-in_default : goal.returns-in_default
+returns-in_default c =
+    rw c.nodes-nodes.ensures.is at (missing _ _ _ _ _ c.loop-number.invariant (omega arith) c.loop-number-test.true c.in_default.ensures _ c.misshapen.ensures)
 
 pub returns-in_err-amounts_on : goal.returns-in_err-amounts_on
 returns-in_err-amounts_on c =
     let p = err_from_is_err_and c.from_residual.result c.from_residual.ensures.1 in
     rw (p.1, p.2)
-    (rw c.nodes-nodes.ensures.is at (line-refused _ _ _ _ _ c.loop-line.invariant (omega arith) c.loop-line-test.true (omega arith) _ c.line_end-end.ensures _ (rw c.wide.ensures at c.amounts_on.ensures) _ (read-not _ _ _ c.in_err-amounts_on.was)))
+    (rw c.nodes-nodes.ensures.is at (line-refused _ _ _ _ _ c.loop-number.invariant (omega arith) c.loop-number-test.true _ _ c.in-Some.ensures _ (rw c.wide.ensures at c.amounts_on.ensures) _ (read-not _ _ _ c.in_err-amounts_on.was)))
 
 pub put-requires-clause-width : goal.put-requires-clause-width
-put-requires-clause-width c = amounts-wide _ _ _ _ c.amounts_on.ensures _ (read-all c.amounts_on.result c.amounts_on.new.read c.in_ok-amounts_on.was) ∙ c.wide.ensures ∙ sym c.loop-line.invariant.tall
+put-requires-clause-width c = amounts-wide _ _ _ _ c.amounts_on.ensures _ (read-all c.amounts_on.result c.amounts_on.new.read c.in_ok-amounts_on.was) ∙ c.wide.ensures ∙ sym c.loop-number.invariant.tall
 
 pub put-requires-clause-amounts : goal.put-requires-clause-amounts
 put-requires-clause-amounts c = amounts-within _ _ _ _ c.amounts_on.ensures _ (read-all c.amounts_on.result c.amounts_on.new.read c.in_ok-amounts_on.was)
 
-pub loop-line-preserved : goal.loop-line-preserved
-loop-line-preserved c =
-    line-kept _ _ _ _ _ c.loop-line.invariant (omega arith) c.loop-line-test.true (omega arith) _ c.line_end-end.ensures _ (rw c.wide.ensures at c.amounts_on.ensures) _ (read-all c.amounts_on.result c.amounts_on.new.read c.in_ok-amounts_on.was) _ c.put.ensures
+pub loop-number-preserved : goal.loop-number-preserved
+loop-number-preserved c =
+    line-kept _ _ _ _ _ c.loop-number.invariant (omega arith) c.loop-number-test.true _ _ c.in-Some.ensures _ (rw c.wide.ensures at c.amounts_on.ensures) _ (read-all c.amounts_on.result c.amounts_on.new.read c.in_ok-amounts_on.was) _ c.put.ensures
 
-pub returns-then-at-text : goal.returns-then-at-text
-returns-then-at-text c = search (left-over, rules)
+pub returns-in-Some-next_line : goal.returns-in-Some-next_line
+returns-in-Some-next_line c = search (left-over, rules)
 
-pub returns : goal.returns
-returns c = search (all-read, rules)
+pub returns-in-None : goal.returns-in-None
+returns-in-None c = rw c.nodes-nodes.ensures.is at (all-read _ _ _ _ _ c.loop-number.invariant (omega arith) (omega arith) c.in-None.ensures)

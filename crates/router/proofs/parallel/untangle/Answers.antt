@@ -9,8 +9,8 @@ loop-a-init g c = search firsts-start
 pub loop-b-init : goal.loop-b-init
 loop-b-init g c = search seconds-start
 
-pub moved-m-requires : goal.moved-m-requires
-moved-m-requires g c =
+pub moved-requires : goal.moved-requires
+moved-requires g c =
     let f = move-fits _ _ _ _ _ _ c.loop-b.invariant _ _ c.row-one.ensures c.row-two.ensures in
     record { first_in_order = f.0; second_in_order = f.1; first_small = f.2; second_small = f.3 }
 

@@ -1,5 +1,5 @@
 -- `send_all` is rule B: what is sent so far, and what the rule sends from the rooms and rows that are left, is what it sends of all.
-use Rattle.std.proofs.Common.{◌≤◌, length, arith}
+use Rattle.std.proofs.Common.{◌≤◌, length, arith, rules}
 use Rattle.router.proofs.SendSteps.{here, send-front, send-over, send-turn, send-done}
 use Rattle.router.proofs.sending.send_all.Goals as goal
 
@@ -17,10 +17,13 @@ take_row-requires g c = let h = here _ _ _ c.requires.fit _ _ _ _ _ c.row-row.en
 
 pub step_over-requires : goal.step_over-requires
 step_over-requires g c =
-    send-over _ _ _ c.requires.fit _ _ _ _ _ c.row-row.ensures c.loop-t.invariant _ _ c.wide-i.ensures c.wide-j.ensures _ (omega arith)
+    send-over _ _ _ c.requires.fit _ _ _ _ _ c.row-row.ensures c.loop-t.invariant _ _ c.wide-i.ensures c.wide-j.ensures (λ x. search rules) (λ x. search rules)
 
 pub loop-t-preserved : goal.loop-t-preserved
-loop-t-preserved g c = rw c.put.ensures (search send-turn)
+loop-t-preserved g c =
+    rw c.put.ensures
+    (send-turn _ _ _ c.requires.fit _ _ _ _ _ c.row-row.ensures c.loop-t.invariant _ _ c.wide-i.ensures c.wide-j.ensures _ _ c.least_slack.ensures c.min-ahead.ensures
+    (λ x y p. search rules) (λ x y p. search rules) _ c.step_over.ensures _ _ (search rules) c.take_row.ensures)
 
 pub returns : goal.returns
 returns g c =

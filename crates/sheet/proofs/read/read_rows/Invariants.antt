@@ -1,10 +1,10 @@
--- The D lines: the rows read so far stand in the columns, and reading the rest behind them is reading from the first on (`RowsReading`).
-use Rattle.std.proofs.Common.{length, ◌-◌}
+-- The D lines: the rows read so far stand in the columns, and reading the lines left behind them is reading from the first on (`RowsReading`).
+use Rattle.std.proofs.Common.{length}
 use Rattle.sheet.proofs.ReadSteps.{RowsReading}
 use Rattle.sheet.proofs.read.read_rows.Given as goal
 
-abbrev pub invariant-loop-values : goal.invariant-loop-values
-invariant-loop-values l = RowsReading l.text l.ring l.from l.at l.rows
+abbrev pub invariant-loop-line : goal.invariant-loop-line
+invariant-loop-line l = RowsReading l.ring l.initial.lines l.rows l.lines
 
-abbrev pub decreases-loop-values : goal.decreases-loop-values
-decreases-loop-values l = length l.text - l.at
+abbrev pub decreases-loop-line : goal.decreases-loop-line
+decreases-loop-line l = length l.lines

@@ -1,36 +1,44 @@
 -- Each way on and each way out is one law of `ReadSteps`.
-use Rattle.std.proofs.Common.{List, ap, arith, ◌∙◌, rules}
+use Rattle.std.proofs.Common.{List, ap, arith, sym, ◌∙◌, rules}
+use Rattle.std.proofs.lemmas.Result.{err_from_is_err_and}
 use Rattle.ring.specs.declared.types.Routed.{Routed}
 use Rattle.ring.specs.Sheet.{sents, demands}
-use Rattle.ring.proofs.Figures.{demands-length}
+use Rattle.ring.proofs.Small.{demands-length}
 use Rattle.rows.proofs.Demands.{demands-more}
 use Rattle.table.proofs.ReadSteps.{too_long, no_line, ring-refused, ring-read, row-refused, room, row-read, all_read}
 use Rattle.table.proofs.read.read_lines.Goals as goal
 
-pub returns-then-text-gt-BYTES : goal.returns-then-text-gt-BYTES
-returns-then-text-gt-BYTES c = search too_long
+pub returns-in_err-lines : goal.returns-in_err-lines
+returns-in_err-lines c =
+    let p = err_from_is_err_and c.from_residual.result c.from_residual.ensures.1 in
+    rw (p.1, p.2, c.in_err-lines.ensures.refused.0) (too_long _ c.in_err-lines.ensures.refused.1)
 
-pub returns-then-is_empty : goal.returns-then-is_empty
-returns-then-is_empty c = search (no_line, rules)
+pub returns-in_default : goal.returns-in_default
+returns-in_default c = rw c.misshapen.ensures (no_line _ c.in_ok-lines.ensures.read.1 (sym c.in_ok-lines.ensures.read.0 ∙ c.in_default.ensures))
 
 pub returns-in_err-ring : goal.returns-in_err-ring
-returns-in_err-ring c = search (ring-refused, rules)
+returns-in_err-ring c =
+    let p = err_from_is_err_and c.from_residual-in_err-ring.result c.from_residual-in_err-ring.ensures.1 in
+    ring-refused _ c.in_ok-lines.ensures.read.1 _ _ (sym c.in_ok-lines.ensures.read.0 ∙ c.in-Some.ensures) _ c.ring_on.ensures.value _ _ _ c.in_err-ring.was (rw (p.1, p.2))
 
-pub loop-end-init : goal.loop-end-init
-loop-end-init c = search (ring-read, rules)
+pub loop-line-init : goal.loop-line-init
+loop-line-init c =
+    ring-read _ c.in_ok-lines.ensures.read.1 _ _ (sym c.in_ok-lines.ensures.read.0 ∙ c.in-Some.ensures) _ c.ring_on.ensures.value _ c.in_ok-ring.was _ (search rules)
 
 pub returns-in_err-row : goal.returns-in_err-row
-returns-in_err-row c = search (row-refused, rules)
+returns-in_err-row c =
+    let p = err_from_is_err_and c.from_residual-in_err-row.result c.from_residual-in_err-row.ensures.1 in
+    row-refused _ _ _ _ c.loop-line.invariant _ _ c.in-Some-next_line.ensures _ c.row_on.ensures _ _ _ c.in_err-row.was (rw (p.1, p.2))
 
 pub push_unsent-requires : goal.push_unsent-requires
 push_unsent-requires c =
-    let l = demands-length c.loop-end.rows in
-    omega (arith, room _ _ _ _ c.loop-end.invariant c.loop-end-test.true _ c.line_end-end-in-loop-end.ensures _ c.row_on.ensures _ c.in_ok-row.was)
+    let l = demands-length c.loop-line.rows in
+    omega (arith, room _ _ _ _ c.loop-line.invariant _ _ c.in-Some-next_line.ensures _ c.row_on.ensures _ c.in_ok-row.was)
 
-pub loop-end-preserved : goal.loop-end-preserved
-loop-end-preserved c =
-    row-read _ _ _ _ c.loop-end.invariant c.loop-end-test.true _ c.line_end-end-in-loop-end.ensures _ c.row_on.ensures _ _ c.in_ok-row.was
+pub loop-line-preserved : goal.loop-line-preserved
+loop-line-preserved c =
+    row-read _ _ _ _ c.loop-line.invariant _ _ c.in-Some-next_line.ensures _ c.row_on.ensures _ _ c.in_ok-row.was
     (ap (λ (l : List Routed). demands (sents l)) c.push_unsent.ensures ∙ demands-more _ _)
 
 pub returns : goal.returns
-returns c = search all_read
+returns c = all_read _ _ _ _ c.loop-line.invariant c.in_default-next_line.ensures

@@ -1,9 +1,12 @@
 -- One law of `ChangeSteps` for each way out.
+use Rattle.std.proofs.lemmas.Result.{err_from_is_err_and}
 use Rattle.work.proofs.ChangeSteps.{remove-done, remove-none}
 use Rattle.work.proofs.change.removed.Goals as goal
 
-pub returns-in-Some : goal.returns-in-Some
-returns-in-Some c = let placed = rw c.in-Some.is at c.index_of.ensures.held in search remove-done
+pub returns-in_err-gone : goal.returns-in_err-gone
+returns-in_err-gone c =
+    let p = err_from_is_err_and c.from_residual.result c.from_residual.ensures.1 in
+    rw (p.1, p.2) (remove-none _ _ _ c.in_err-gone.ensures.value)
 
-pub returns-in-None : goal.returns-in-None
-returns-in-None c = let free = rw c.in-None.is at c.index_of.ensures.free in search remove-none
+pub returns : goal.returns
+returns c = remove-done _ _ _ c.in_ok-gone.ensures.value _ _ c.cleared-w.ensures c.recut.ensures

@@ -1,0 +1,2 @@
+pub mod Told
+pub mod ToldWork

@@ -1,0 +1,43 @@
+-- What a call answers, told of the reply: by the answer's two cases, and since no reason's number is 0.
+use Prim.Native.Nat.{ℕ, ◌≤◌}
+use mathlib.Core.List.{List}
+use mathlib.Core.Path.{◌≡◌, ap, ◌∙◌, sym, subst}
+use native.Mathlib.Omega.{arith}
+use Rattle.std.specs.Prelude.{Ok, Err, IsOk, IfOk}
+use Rattle.table.proofs.ReasonNumbers.{no-reason-0}
+use Rattle.ringkit.specs.Says.{Answer, Only}
+use Rattle.ringkit.specs.Answers.{Checked, yes}
+use Rattle.ringkit_c.specs.Replies.{reply_of, checked_reply, Told}
+use Rattle.ringkit_c.specs.declared.replies.Reply.{Reply}
+
+-- no other buffer and no other reply is told
+pub told-only : {A R : Type 0} {reply : A → R} {P : List ℕ → A → Type 0} {new : List ℕ} (a : A) (r : R) → r ≡ reply a → Only P new a → Only (λ buffer. Told reply (P buffer)) new r
+told-only {reply = reply} a r is only =
+    record {
+      buffer = λ other q t. only.buffer other t.answer t.kept;
+      answer = λ other q t. t.is ∙ ap reply (only.answer other t.answer t.kept) ∙ sym is;
+    }
+
+-- reason 0 is a success
+pub told-success : (P : ℕ → Type 0) (a : Answer) (r : Reply) → r ≡ reply_of a → IfOk a P → r.reason ≡ 0 → P r.length
+unfolding reply_of
+told-success P (Ok n) r is h e = subst P (sym (ap (λ (r : Reply). r.length) is)) h
+told-success P (Err x) r is h e = absurd (omega (arith, e, ap (λ (r : Reply). r.reason) is, no-reason-0 x.reason))
+
+-- and a refusal has length 0
+pub told-length : {most : ℕ} (a : Answer) (r : Reply) → r ≡ reply_of a → IfOk a (λ n. n ≤ most) → r.length ≤ most
+unfolding reply_of
+told-length (Ok n) r is h = omega (arith, ap (λ (r : Reply). r.length) is, h)
+told-length (Err x) r is h = omega (arith, ap (λ (r : Reply). r.length) is)
+
+-- a success has reason 0
+pub told-reason : (a : Answer) (r : Reply) → r ≡ reply_of a → IsOk a → r.reason ≡ 0
+unfolding reply_of
+told-reason (Ok n) r is h = ap (λ (r : Reply). r.reason) is
+told-reason (Err x) r is h = absurd (cc)
+
+-- of checking, reason 0 is yes
+pub told-yes : (a : Checked) (r : Reply) → r ≡ checked_reply a → r.reason ≡ 0 → a ≡ yes
+unfolding checked_reply reply_of
+told-yes (Ok tt) r is e = λ i. yes
+told-yes (Err x) r is e = absurd (omega (arith, e, ap (λ (r : Reply). r.reason) is, no-reason-0 x.reason))

@@ -1,0 +1,6 @@
+-- What the call of `ringkit` promises, told of the reply (`Told`).
+use Rattle.ringkit_c.proofs.Told.{told-only}
+use Rattle.ringkit_c.proofs.texts.ringkit_turn.Goals as goal
+
+pub returns-clause-only : goal.returns-clause-only
+returns-clause-only c = told-only _ _ c.of.ensures c.ringkit_turn.ensures.only

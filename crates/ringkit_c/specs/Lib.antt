@@ -1,0 +1,2 @@
+pub mod Replies
+pub mod Working

@@ -1,0 +1,58 @@
+-- To believe: what C's structs say of the answers of the calls: reason 0 is success; else the reason's number, with its line and byte or its place, and every other field is 0.
+use Rattle.std.specs.Prelude.{ℕ, List, ◌≡◌, Ok, Err}
+use Rattle.ring.specs.Ring.{ring_of}
+use Rattle.ring.specs.Sheet.{Sheet}
+use Rattle.ring.specs.declared.types.Link.{Link}
+use Rattle.rows.specs.declared.sheet_row.SheetRow.{SheetRow}
+use Rattle.table.specs.Reasons.{number_of}
+use Rattle.checker.specs.declared.pair.Pair.TheVariants.{Are, None}
+use Rattle.ringkit.specs.Says.{Answer}
+use Rattle.ringkit.specs.Answers.{Checked, Asked}
+use Rattle.ringkit.specs.Judging.{Judged, sheet_given}
+use Rattle.ringkit.specs.Turning.{TurnAnswer}
+use Rattle.ringkit_c.specs.declared.replies.Reply.{Reply}
+use Rattle.ringkit_c.specs.declared.replies.PairReply.{PairReply}
+use Rattle.ringkit_c.specs.declared.replies.JudgeReply.{JudgeReply}
+use Rattle.ringkit_c.specs.declared.replies.TurnReply.{TurnReply}
+
+-- of a call that fills a buffer
+unfoldable pub reply_of : Answer → Reply
+reply_of (Ok size) = record { reason = 0; line = 0; byte = 0; length = size }
+reply_of (Err r) = record { reason = number_of r.reason; line = r.line; byte = r.byte; length = 0 }
+
+-- of checking, which writes nothing
+unfoldable pub checked_reply : Checked → Reply
+unfolding reply_of
+checked_reply (Ok tt) = reply_of (Ok 0)
+checked_reply (Err r) = reply_of (Err r)
+
+-- of the question: the two places, which are counted from 1; 0 and 0 where there is no pair
+unfoldable pub pair_reply : Asked → PairReply
+pair_reply (Ok (Are p q)) = record { reason = 0; line = 0; byte = 0; first = p; second = q }
+pair_reply (Ok None) = record { reason = 0; line = 0; byte = 0; first = 0; second = 0 }
+pair_reply (Err r) = record { reason = number_of r.reason; line = r.line; byte = r.byte; first = 0; second = 0 }
+
+-- of judging
+unfoldable pub judge_reply : Judged → JudgeReply
+judge_reply (Ok tt) = record { reason = 0; place = 0 }
+judge_reply (Err f) = record { reason = number_of f.reason; place = f.place }
+
+-- of turning a table's rows
+unfoldable pub turn_reply : TurnAnswer → TurnReply
+turn_reply (Ok x) = record { reason = 0; line = 0; byte = 0; peak = x.turned.peak; link = x.turned.link; turns = x.turned.turns; rows = x.rows }
+turn_reply (Err r) = record { reason = number_of r.reason; line = r.line; byte = r.byte; peak = 0; link = 0; turns = 0; rows = 0 }
+
+-- the values that C lends to be judged, as a sheet: R n fibres, its rows, C g h across, its links, Z peak size
+abbrev pub sheet_lent : List SheetRow → ℕ → ℕ → ℕ → ℕ → ℕ → List Link → ℕ → ℕ → Sheet
+sheet_lent rows n fibres g h across links peak size =
+    sheet_given (record { ring = ring_of n fibres; cut = record { g = g; h = h; across = across }; peak = peak; size = size }) rows links
+
+-- C is told of an answer: there is one that keeps the promise, and this reply says it
+pub record Told {A R : Type 0} (reply : A → R) (Promise : A → Type 0) (r : R) : Type 0 where
+  pub answer : A
+  pub kept : Promise answer
+  pub is : r ≡ reply answer
+
+-- the same, of an answer and a buffer
+abbrev pub Replies : (List ℕ → Answer → Type 0) → List ℕ → Reply → Type 0
+Replies Promise new = Told reply_of (Promise new)

@@ -1,0 +1,39 @@
+// The call that judges a sheet by its values.
+ghost use Rattle.std.specs.Prelude.{◌≡◌};
+ghost use Rattle.ring.specs.Limits.{desk};
+ghost use Rattle.table.specs.Findings.{First};
+ghost use Rattle.judge.specs.Findings.{findings};
+ghost use Rattle.ringkit.specs.Judging.{JudgePromise};
+ghost use Rattle.ringkit_c.specs.Replies.{sheet_lent, judge_reply, Told};
+
+use crate::replies::JudgeReply;
+use ring::{Cut, Figures, Link, Ring};
+use rows::SheetRow;
+
+#[unsafe(no_mangle)]
+pub extern "C" fn ringkit_judge(
+    rows: &[SheetRow],
+    n: u32,
+    fibres: u32,
+    g: u32,
+    h: u32,
+    across: u32,
+    links: &[Link],
+    peak: u32,
+    size: u32,
+) -> JudgeReply
+    ensures promise { let x = sheet_lent rows.now n fibres g h across links.now peak size in
+        Told judge_reply (JudgePromise x) result }
+    ensures only { let x = sheet_lent rows.now n fibres g h across links.now peak size in
+        (other : JudgeReply) → Told judge_reply (JudgePromise x) other → other ≡ result }
+    ensures value { let x = sheet_lent rows.now n fibres g h across links.now peak size in
+        Told judge_reply (First (findings desk x)) result }
+{
+    let figures = Figures {
+        ring: Ring { nodes: n, fibres },
+        cut: Cut { g, h, across },
+        peak,
+        size,
+    };
+    JudgeReply::of(ringkit::ringkit_judge(figures, rows, links))
+}

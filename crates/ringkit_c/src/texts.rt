@@ -1,0 +1,117 @@
+// The calls that read a text.
+ghost use Rattle.std.specs.Prelude.{◌≡◌, ◌≤◌, length, take};
+ghost use Rattle.ring.specs.Limits.{desk};
+ghost use Rattle.ring.specs.LineSize.{IsFibres};
+ghost use Rattle.table.specs.Table.{table_room};
+ghost use Rattle.table.specs.Says.{Accepted as AcceptedTable};
+ghost use Rattle.matrix.specs.Room.{matrix_room};
+ghost use Rattle.matrix.specs.Says.{Accepted as AcceptedMatrix};
+ghost use Rattle.sheet.specs.Range.{longest};
+ghost use Rattle.sheet.specs.Says.{WellFormed};
+ghost use Rattle.ringkit.specs.Says.{Only};
+ghost use Rattle.ringkit.specs.Texts.{SumsFit};
+ghost use Rattle.ringkit.specs.Promises.{RoutePromise, RewriteTablePromise, RewriteSheetPromise, ReadMatrixPromise, WriteMatrixPromise};
+ghost use Rattle.ringkit.specs.Answers.{CheckPromise, PairPromise};
+ghost use Rattle.ringkit.specs.Sheets.{FormedSheet, BestSheet, RoutedWell};
+ghost use Rattle.ringkit.specs.Outcome.{Fills};
+ghost use Rattle.ringkit.specs.TableCalls.{table_afresh, table_routed};
+ghost use Rattle.ringkit.specs.MatrixCalls.{matrix_read, matrix_written};
+ghost use Rattle.ringkit.specs.SheetCalls.{sheet_checked, sheet_parallel, sheet_afresh};
+ghost use Rattle.table.specs.ReadTable.{table_of};
+ghost use Rattle.ringkit.specs.Turning.{TurnPromise, TurnedWell};
+ghost use Rattle.ringkit.specs.TurnCalls.{TurnsTable};
+ghost use Rattle.ringkit_c.specs.Replies.{checked_reply, pair_reply, turn_reply, Told, Replies};
+
+use crate::replies::{PairReply, Reply, TurnReply};
+use ring::ROWS;
+
+#[unsafe(no_mangle)]
+pub extern "C" fn ringkit_rewrite_table(table: &[u8], buffer: &mut [u8]) -> Reply
+    ensures promise { Replies (RewriteTablePromise table.now buffer.old) buffer.new result }
+    ensures only { Only (Replies (RewriteTablePromise table.now buffer.old)) buffer.new result }
+    ensures value { Replies (Fills (table_afresh table.now) buffer.old) buffer.new result }
+{
+    Reply::of(ringkit::ringkit_rewrite_table(table, buffer))
+}
+
+#[unsafe(no_mangle)]
+pub extern "C" fn ringkit_read_matrix(matrix: &[u8], fibres: u32, buffer: &mut [u8]) -> Reply
+    ensures promise { Replies (ReadMatrixPromise fibres matrix.now buffer.old) buffer.new result }
+    ensures only { Only (Replies (ReadMatrixPromise fibres matrix.now buffer.old)) buffer.new result }
+    ensures accepted { result.reason ≡ 0 → AcceptedTable desk (take result.length buffer.new) }
+    ensures fits { result.length ≤ table_room desk }
+    ensures room { IsFibres fibres → AcceptedMatrix desk matrix.now →
+        table_room desk ≤ length buffer.old →
+        result.reason ≡ 0 }
+    ensures value { Replies (Fills (matrix_read fibres matrix.now) buffer.old) buffer.new result }
+{
+    Reply::of(ringkit::ringkit_read_matrix(matrix, fibres, buffer))
+}
+
+#[unsafe(no_mangle)]
+pub extern "C" fn ringkit_write_matrix(table: &[u8], buffer: &mut [u8]) -> Reply
+    ensures promise { Replies (WriteMatrixPromise table.now buffer.old) buffer.new result }
+    ensures only { Only (Replies (WriteMatrixPromise table.now buffer.old)) buffer.new result }
+    ensures accepted { result.reason ≡ 0 → AcceptedMatrix desk (take result.length buffer.new) }
+    ensures fits { result.length ≤ matrix_room desk }
+    ensures room { SumsFit table.now → matrix_room desk ≤ length buffer.old → result.reason ≡ 0 }
+    ensures value { Replies (Fills (matrix_written table.now) buffer.old) buffer.new result }
+{
+    Reply::of(ringkit::ringkit_write_matrix(table, buffer))
+}
+
+#[unsafe(no_mangle)]
+pub extern "C" fn ringkit_route(table: &[u8], buffer: &mut [u8]) -> Reply
+    ensures promise { Replies (RoutePromise table.now buffer.old) buffer.new result }
+    ensures only { Only (Replies (RoutePromise table.now buffer.old)) buffer.new result }
+    ensures best { AcceptedTable desk table.now →
+        Replies (RoutedWell table.now buffer.old) buffer.new result }
+    ensures fits { result.length ≤ longest desk }
+    ensures room { AcceptedTable desk table.now → longest desk ≤ length buffer.old →
+        result.reason ≡ 0 }
+    ensures value { Replies (Fills (table_routed table.now) buffer.old) buffer.new result }
+{
+    Reply::of(ringkit::ringkit_route(table, buffer))
+}
+
+#[unsafe(no_mangle)]
+pub extern "C" fn ringkit_check(sheet: &[u8]) -> Reply
+    ensures promise { Told checked_reply (CheckPromise sheet.now) result }
+    ensures only { (other : Reply) → Told checked_reply (CheckPromise sheet.now) other →
+        other ≡ result }
+    ensures formed { WellFormed desk sheet.now →
+        Told checked_reply (FormedSheet sheet.now) result }
+    ensures best { result.reason ≡ 0 → BestSheet sheet.now }
+    ensures value { result ≡ checked_reply (sheet_checked sheet.now) }
+{
+    Reply::of_check(ringkit::ringkit_check(sheet))
+}
+
+#[unsafe(no_mangle)]
+pub extern "C" fn ringkit_parallel(sheet: &[u8]) -> PairReply
+    ensures promise { Told pair_reply (PairPromise sheet.now) result }
+    ensures only { (other : PairReply) → Told pair_reply (PairPromise sheet.now) other →
+        other ≡ result }
+    ensures value { result ≡ pair_reply (sheet_parallel sheet.now) }
+{
+    PairReply::of(ringkit::ringkit_parallel(sheet))
+}
+
+#[unsafe(no_mangle)]
+pub extern "C" fn ringkit_rewrite_sheet(sheet: &[u8], buffer: &mut [u8]) -> Reply
+    ensures promise { Replies (RewriteSheetPromise sheet.now buffer.old) buffer.new result }
+    ensures only { Only (Replies (RewriteSheetPromise sheet.now buffer.old)) buffer.new result }
+    ensures value { Replies (Fills (sheet_afresh sheet.now) buffer.old) buffer.new result }
+{
+    Reply::of(ringkit::ringkit_rewrite_sheet(sheet, buffer))
+}
+
+#[unsafe(no_mangle)]
+pub extern "C" fn ringkit_turn(table: &[u8], ways: &mut [u8; ROWS]) -> TurnReply
+    ensures promise { Told turn_reply (TurnPromise table.now ways.old ways.new) result }
+    ensures only { Only (λ new. Told turn_reply (TurnPromise table.now ways.old new)) ways.new result }
+    ensures best { AcceptedTable desk table.now → Told turn_reply (TurnedWell table.now ways.new) result }
+    ensures value { Told turn_reply (TurnsTable (table_of desk table.now) ways.old ways.new) result }
+{
+    TurnReply::of(ringkit::ringkit_turn(table, ways))
+}

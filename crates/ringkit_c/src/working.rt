@@ -1,0 +1,257 @@
+// The calls of the working table.
+ghost use Rattle.std.specs.Prelude.{◌≡◌, ◌≤◌, List, [], ◌∷◌, length, take};
+ghost use Rattle.ring.specs.Limits.{desk};
+ghost use Rattle.ring.specs.Ring.{ring_of};
+ghost use Rattle.ring.specs.Demand.{demand};
+ghost use Rattle.table.specs.Table.{table_room};
+ghost use Rattle.table.specs.Says.{Accepted};
+ghost use Rattle.work.specs.Changes.{placed_of, work_after, started_in, added_in, changed_in, removed_in, row_in};
+ghost use Rattle.work.specs.Calls.{Call, start, add, change, remove};
+ghost use Rattle.work.specs.Kept.{Keeps, Answered};
+ghost use Rattle.work.specs.Promises.{OnlyThis, RowPromise};
+ghost use Rattle.work.specs.Made.{Made};
+ghost use Rattle.work.specs.Played.{AsPlayed, AnswerAfter};
+ghost use Rattle.ringkit.specs.Says.{CallPromise, Only};
+ghost use Rattle.ringkit.specs.WorkCalls.{WorkDue, NoRefusal};
+ghost use Rattle.ringkit.specs.Outcome.{Fills};
+ghost use Rattle.ringkit.specs.TableCalls.{work_written};
+ghost use Rattle.ringkit_c.specs.Replies.{Told, Replies};
+ghost use Rattle.ringkit_c.specs.Working.{work_reply, row_reply, ToldWork};
+
+use crate::replies::Reply;
+use ring::{Demand, Ring};
+use table::Reason;
+use work::{Placed, Work};
+
+/// The answer of a call that alters a working table. Reason 0 is success: the place that the call names, counted from 1 (0 of a start), and the largest cut from then on, its across
+/// number in units. On a refusal all but the reason is 0. The line is always 0.
+#[repr(C)]
+#[derive(Drop)]
+pub struct WorkReply {
+    pub reason: u32,
+    pub line: u32,
+    pub place: u32,
+    pub g: u32,
+    pub h: u32,
+    pub across: u32,
+}
+
+impl WorkReply {
+    /// The reply of a call: what it placed, or why it is refused.
+    #[tactic(auto, unfolding(crate::specs::Working::work_reply))]
+    pub fn of(answer: Result<Placed, Reason>) -> Self
+        ensures { result ≡ work_reply answer }
+    {
+        match answer {
+            Ok(placed) => WorkReply {
+                reason: 0,
+                line: 0,
+                place: placed.place,
+                g: placed.cut.g,
+                h: placed.cut.h,
+                across: placed.cut.across,
+            },
+            Err(reason) => WorkReply {
+                reason: reason.number(),
+                line: 0,
+                place: 0,
+                g: 0,
+                h: 0,
+                across: 0,
+            },
+        }
+    }
+}
+
+/// The row at a place, its amount in units. Reason 0 is success; else all but the reason is 0. The line is always 0.
+#[repr(C)]
+#[derive(Drop)]
+pub struct RowReply {
+    pub reason: u32,
+    pub line: u32,
+    pub first: u32,
+    pub second: u32,
+    pub amount: u32,
+}
+
+impl RowReply {
+    /// The reply of the call that reads a row.
+    #[tactic(auto, unfolding(crate::specs::Working::row_reply))]
+    pub fn of(answer: Result<Demand, Reason>) -> Self
+        ensures { result ≡ row_reply answer }
+    {
+        match answer {
+            Ok(row) => RowReply {
+                reason: 0,
+                line: 0,
+                first: row.first,
+                second: row.second,
+                amount: row.amount,
+            },
+            Err(reason) => RowReply {
+                reason: reason.number(),
+                line: 0,
+                first: 0,
+                second: 0,
+                amount: 0,
+            },
+        }
+    }
+}
+
+#[unsafe(no_mangle)]
+pub extern "C" fn ringkit_work_start(work: &mut Work, n: u32, fibres: u32) -> WorkReply
+    // On every struct.
+    ensures promise { ToldWork work.old (start (ring_of n fibres)) result work.new }
+    ensures only { OnlyThis (ToldWork work.old (start (ring_of n fibres))) result work.new }
+    ensures any { let call = start (ring_of n fibres) in
+        Told work_reply (λ a. Answered work.old call a work.new) result }
+    ensures answered { Told work_reply (AnswerAfter [] (start (ring_of n fibres))) result }
+    ensures value { result ≡ work_reply (placed_of (started_in (ring_of n fibres))) }
+    ensures table { work.new ≡ work_after work.old (started_in (ring_of n fibres)) }
+
+    // Where it is accepted.
+    ensures made { result.reason ≡ 0 → Made (start (ring_of n fibres) ∷ []) work.new }
+    ensures kept { result.reason ≡ 0 → Keeps work.new }
+    ensures played { result.reason ≡ 0 → AsPlayed (start (ring_of n fibres) ∷ []) work.new }
+
+    // On a struct made by calls, accepted or refused.
+    ensures made_later { (calls : List Call) → Made calls work.old →
+        Made (start (ring_of n fibres) ∷ calls) work.new }
+    ensures kept_later { (calls : List Call) → Made calls work.old → Keeps work.new }
+    ensures played_later { (calls : List Call) → Made calls work.old →
+        AsPlayed (start (ring_of n fibres) ∷ calls) work.new }
+{
+    WorkReply::of(ringkit::ringkit_work_start(work, Ring { nodes: n, fibres }))
+}
+
+#[unsafe(no_mangle)]
+pub extern "C" fn ringkit_work_add(
+    work: &mut Work,
+    first: u32,
+    second: u32,
+    amount: u32,
+) -> WorkReply
+    // On a struct made by calls.
+    ensures promise { let call = add (demand first second amount) in
+        (calls : List Call) → Made calls work.old →
+        ToldWork work.old call result work.new }
+    ensures only { let call = add (demand first second amount) in
+        (calls : List Call) → Made calls work.old →
+        OnlyThis (ToldWork work.old call) result work.new }
+    ensures made { let call = add (demand first second amount) in
+        (calls : List Call) → Made calls work.old →
+        Made (call ∷ calls) work.new }
+    ensures kept { (calls : List Call) → Made calls work.old → Keeps work.new }
+    ensures played { let call = add (demand first second amount) in
+        (calls : List Call) → Made calls work.old →
+        AsPlayed (call ∷ calls) work.new }
+    ensures answered { let call = add (demand first second amount) in
+        (calls : List Call) → Made calls work.old →
+        Told work_reply (AnswerAfter calls call) result }
+
+    // On every struct.
+    ensures any { let call = add (demand first second amount) in
+        Told work_reply (λ a. Answered work.old call a work.new) result }
+    ensures value { result ≡ work_reply (placed_of (added_in work.old (demand first second amount))) }
+    ensures table { work.new ≡ work_after work.old (added_in work.old (demand first second amount)) }
+{
+    let row = Demand {
+        first,
+        second,
+        amount,
+    };
+    WorkReply::of(ringkit::ringkit_work_add(work, row))
+}
+
+#[unsafe(no_mangle)]
+pub extern "C" fn ringkit_work_change(
+    work: &mut Work,
+    place: u32,
+    first: u32,
+    second: u32,
+    amount: u32,
+) -> WorkReply
+    // On a struct made by calls.
+    ensures promise { let call = change place (demand first second amount) in
+        (calls : List Call) → Made calls work.old →
+        ToldWork work.old call result work.new }
+    ensures only { let call = change place (demand first second amount) in
+        (calls : List Call) → Made calls work.old →
+        OnlyThis (ToldWork work.old call) result work.new }
+    ensures made { let call = change place (demand first second amount) in
+        (calls : List Call) → Made calls work.old →
+        Made (call ∷ calls) work.new }
+    ensures kept { (calls : List Call) → Made calls work.old → Keeps work.new }
+    ensures played { let call = change place (demand first second amount) in
+        (calls : List Call) → Made calls work.old →
+        AsPlayed (call ∷ calls) work.new }
+    ensures answered { let call = change place (demand first second amount) in
+        (calls : List Call) → Made calls work.old →
+        Told work_reply (AnswerAfter calls call) result }
+
+    // On every struct.
+    ensures any { let call = change place (demand first second amount) in
+        Told work_reply (λ a. Answered work.old call a work.new) result }
+    ensures value { result ≡ work_reply (placed_of (changed_in work.old place (demand first second amount))) }
+    ensures table { work.new ≡ work_after work.old (changed_in work.old place (demand first second amount)) }
+{
+    let row = Demand {
+        first,
+        second,
+        amount,
+    };
+    WorkReply::of(ringkit::ringkit_work_change(work, place, row))
+}
+
+#[unsafe(no_mangle)]
+pub extern "C" fn ringkit_work_remove(work: &mut Work, place: u32) -> WorkReply
+    // On a struct made by calls.
+    ensures promise { let call = remove place in (calls : List Call) → Made calls work.old →
+        ToldWork work.old call result work.new }
+    ensures only { let call = remove place in (calls : List Call) → Made calls work.old →
+        OnlyThis (ToldWork work.old call) result work.new }
+    ensures made { let call = remove place in (calls : List Call) → Made calls work.old →
+        Made (call ∷ calls) work.new }
+    ensures kept { (calls : List Call) → Made calls work.old → Keeps work.new }
+    ensures played { let call = remove place in (calls : List Call) → Made calls work.old →
+        AsPlayed (call ∷ calls) work.new }
+    ensures answered { let call = remove place in (calls : List Call) → Made calls work.old →
+        Told work_reply (AnswerAfter calls call) result }
+
+    // On every struct.
+    ensures any { let call = remove place in Told work_reply (λ a. Answered work.old call a work.new) result }
+    ensures value { result ≡ work_reply (placed_of (removed_in work.old place)) }
+    ensures table { work.new ≡ work_after work.old (removed_in work.old place) }
+{
+    WorkReply::of(ringkit::ringkit_work_remove(work, place))
+}
+
+#[unsafe(no_mangle)]
+pub extern "C" fn ringkit_work_row(work: &Work, place: u32) -> RowReply
+    // On every struct.
+    ensures promise { Told row_reply (RowPromise work.now place) result }
+    ensures only { (other : RowReply) → Told row_reply (RowPromise work.now place) other →
+        other ≡ result }
+    ensures value { result ≡ row_reply (row_in work.now place) }
+{
+    RowReply::of(ringkit::ringkit_work_row(work, place))
+}
+
+#[unsafe(no_mangle)]
+pub extern "C" fn ringkit_work_write(work: &Work, buffer: &mut [u8]) -> Reply
+    // On every struct.
+    ensures promise { Replies (CallPromise (WorkDue work.now) NoRefusal buffer.old) buffer.new
+        result }
+    ensures only { Only (Replies (CallPromise (WorkDue work.now) NoRefusal buffer.old))
+        buffer.new result }
+    ensures value { Replies (Fills (work_written work.now) buffer.old) buffer.new result }
+
+    // On a struct made by calls.
+    ensures accepted { (calls : List Call) → Made calls work.now →
+        result.reason ≡ 0 → Accepted desk (take result.length buffer.new) }
+    ensures room { (calls : List Call) → Made calls work.now →
+        table_room desk ≤ length buffer.old → result.reason ≡ 0 }
+{
+    Reply::of(ringkit::ringkit_work_write(work, buffer))
+}

@@ -1,0 +1,14 @@
+pub mod InOrder
+pub mod Smaller
+pub mod Starts
+pub mod Ends
+pub mod Lowering
+pub mod Weights
+pub mod KeySteps
+pub mod TopSteps
+pub mod RowsFit
+pub mod PickSteps
+pub mod TurnSteps
+pub mod SettleSteps
+pub mod StartSteps
+pub mod CasesHold

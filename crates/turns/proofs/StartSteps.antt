@@ -1,0 +1,264 @@
+-- A start's rows avoid its link, and each link carries what lies across the two; what it leads to is answered; and the loop over the starts keeps the best so far,
+-- from which the starts that are left give the answer.
+use Rattle.std.proofs.Common.{◌≡◌, ℕ, suc, ◌+◌, ◌-◌, ◌*◌, ◌≤◌, ◌<◌, Bool, true, false, cond, List, [], ◌∷◌, ◌++◌, Some, slice_get, length, take, get_or, set, replicate, refl, sym, ap, subst, ◌∙◌, arith, ltb, length-set, get_or-set_same, get_or-set_other}
+use Rattle.std.proofs.lemmas.List.{length-replicate, take_all, take_more, drop_more, map-append}
+use native.Mathlib.Decide.{dec_lt, ℕ_discrete}
+use borrow.Author.Tests.{lt-ltb, le-ltb}
+use Rattle.std.specs.Int.{div_ceil}
+use Rattle.std.proofs.lemmas.Grind.{div_ceil_times}
+use Rattle.ring.specs.declared.types.Cut.{Cut}
+use Rattle.ring.specs.declared.types.Demand.{Demand}
+use Rattle.ring.specs.declared.types.Sent.{Sent}
+use Rattle.ring.specs.declared.types.Routed.{Routed}
+use Rattle.ring.specs.declared.types.Way.{Way}
+use Rattle.ring.specs.declared.types.Way.TheVariants.{Front, Back}
+use Rattle.ring.specs.Demand.{in_front}
+use Rattle.ring.specs.Cut.{across}
+use Rattle.ring.specs.RuleA.{largest_cut, rule_a}
+use Rattle.ring.specs.Routing.{unsplit_load, peak}
+use Rattle.ring.specs.Sheet.{sents, demands}
+use Rattle.ring.proofs.Lists.{each, each-of-map}
+use Rattle.rows.proofs.Demands.{demands-more}
+use Rattle.ring.proofs.Across.{either_order, one_link}
+use Rattle.across.specs.Triangle.{at}
+use Rattle.across.proofs.CutSteps.{same-cut}
+use Rattle.weight.specs.Limits.{most_links, most_amount}
+use Rattle.weight.specs.Arrays.{link_at}
+use Rattle.weight.proofs.Weighing.{each-at}
+use Rattle.router.specs.Arrays.{Triangle, DemandsFit}
+use Rattle.router.proofs.Zip.{Passed, passed-none, within, next-old, put-passed, put-taken}
+use Rattle.turns.specs.declared.figures.Figures.{Figures}
+use Rattle.turns.specs.declared.Turned.{Turned}
+use Rattle.turns.specs.Turns.{whole, avoiding, start, peak_of, settle, Answer, from_start, lower, best_from, least_start}
+use Rattle.turns.specs.Promised.{largest_across, LeastOfStarts, NoTurnLowers, TurnsLower, StartLoads, StartsEnd, StartsWithinM, WaysFloor}
+use Rattle.turns.specs.Settles.{SettlesTo, lower_of}
+use Rattle.turns.specs.Arrays.{SmallAmounts, Carries, number_at}
+use Rattle.turns.proofs.PickSteps.{top_peak}
+use Rattle.turns.proofs.Starts.{start-loads, start-peak, ways-floor}
+use Rattle.turns.proofs.Ends.{start-demands, FromStart, each-start, starts-end, no-lower, Least, least-is}
+
+-- ---- the rows of a start
+
+pub small_amounts : (n : ℕ) (rs : List Demand) → DemandsFit n rs → SmallAmounts rs
+small_amounts n rs fit = record { each = each (λ r f. f.small) fit.each }
+
+-- where the loop stands: the first t rows are routed
+pub record Avoiding (link : ℕ) (old now : List Routed) (t : ℕ) : Type 0 where
+  pub passed : Passed old now t
+  pub so_far : take t now ≡ start link (demands (sents (take t old)))
+
+avoid-more : (link : ℕ) (rs : List Demand) (r : Demand) → start link (rs ++ r ∷ []) ≡ start link rs ++ avoiding link r ∷ []
+unfolding start
+avoid-more link rs r = map-append (avoiding link) rs (r ∷ [])
+
+module _ (link : ℕ) (old : List Routed) where
+  pub avoid_start : Avoiding link old old 0
+  unfolding start
+  avoid_start = record { passed = passed-none old; so_far = refl }
+
+  module _ (now : List Routed) (t : ℕ) (r : Routed) (at : slice_get now t ≡ Some r) (o : Avoiding link old now t) where
+    few : t < length old
+    few = omega (arith, within old now t r at o.passed, o.passed.size)
+
+    old-here : get_or old t r ≡ r
+    old-here = ap (λ l. get_or l 0 r) (sym (drop_more old t r few) ∙ next-old old now t r at o.passed)
+
+    pub avoid_small : SmallAmounts (demands (sents old)) → r.sent.demand.amount ≤ most_amount
+    avoid_small small =
+        rw old-here at (each-at (each-of-map (λ (r : Routed). r.sent) old (each-of-map (λ (s : Sent). s.demand) (sents old) small.each)) t r few)
+
+    pub avoid_turn : (w : Way) (q : Routed) (new : List Routed) → w ≡ cond (in_front r.sent.demand link) Back Front → q ≡ whole r.sent.demand w → new ≡ set now t q → Avoiding link old new (t + 1)
+    unfolding avoiding
+    avoid_turn w q new a b e =
+        let avoids : q ≡ avoiding link r.sent.demand = b ∙ ap (whole r.sent.demand) a in
+        rw e
+        (record {
+          passed = put-passed old now t r at o.passed q;
+          so_far =
+              rw (take_more old t r few, old-here, demands-more, avoid-more)
+              (put-taken old now t r at o.passed q ∙ (rw (o.so_far, avoids)));
+        })
+
+  pub avoid_done : (now : List Routed) (t : ℕ) → length old ≤ t → Avoiding link old now t → now ≡ start link (demands (sents old))
+  avoid_done now t l o =
+      let a = take_all t now (omega (arith, o.passed.size)) in
+      let b = take_all t old l in
+      rw (a, b) at o.so_far
+
+-- ---- its loads
+
+-- where the loop stands: the first k links have their loads
+pub record Loading (triangle : List ℕ) (link : ℕ) (loads : List ℕ) (k : ℕ) : Type 0 where
+  pub size : length loads ≡ most_links
+  pub is : (h : ℕ) → 1 ≤ h → h ≤ k → link_at loads h ≡ number_at triangle link h
+
+module _ (triangle : List ℕ) (link : ℕ) where
+  pub load_start : Loading triangle link (replicate {A = ℕ} most_links 0) 0
+  load_start = record { size = length-replicate {A = ℕ} most_links 0; is = λ k a b. absurd (omega arith) }
+
+  pub load_turn : (loads : List ℕ) (n k z : ℕ) → n ≤ most_links → k < n → z ≡ number_at triangle link (k + 1) → Loading triangle link loads k → Loading triangle link (set loads k z) (k + 1)
+  load_turn loads n k z few l e o =
+      record {
+        size = length-set loads k z ∙ o.size;
+        is = λ x a b. elim (ℕ_discrete x (k + 1)) [
+          | yes s ↦ let i : (k + 1) - 1 ≡ k = omega arith in rw s (ap (λ y. get_or (set loads k z) y 0) i ∙ (get_or-set_same loads k z 0 (omega (arith, o.size)) ∙ e))
+          | no s ↦ get_or-set_other loads k (x - 1) z 0 (λ t. omega arith) ∙ o.is x a (omega arith)
+        ];
+      }
+
+  pub load_done : (loads : List ℕ) (n k : ℕ) → n ≤ k → Loading triangle link loads k → Carries n (λ h. number_at triangle link h) loads
+  load_done loads n k l o = record { is = λ x a b. o.is x a (omega arith) }
+
+module _ (n : ℕ) (rs : List Demand) (triangle : List ℕ) (s : Triangle n rs triangle) (link : ℕ) (low : 1 ≤ link) (high : link ≤ n) where
+  number-is : (h : ℕ) → 1 ≤ h → h ≤ n → number_at triangle link h ≡ across rs link h
+  number-is h a b =
+      elim (dec_lt link h) [
+        | yes l ↦ rw (lt-ltb link h l) (s.is link h low l b)
+        | no l ↦ elim (dec_lt h link) [
+          | yes m ↦ rw (le-ltb link h (omega arith), lt-ltb h link m) (s.is h link a m high ∙ either_order rs h link)
+          | no m ↦ let e : link ≡ h = omega arith in rw (le-ltb link h (omega arith), le-ltb h link (omega arith), e) (sym (one_link rs h))
+        ]
+      ]
+
+  pub start_carries : (rows : List Routed) (at : ℕ) (loads : List ℕ) → rows ≡ start link rs → at ≡ link → Carries n (λ h. number_at triangle at h) loads → Carries n (unsplit_load rows) loads
+  start_carries rows at loads e q c = record { is = λ k a b. (rw q at (c.is k a b)) ∙ (number-is k a b ∙ (sym (start-loads link k rs) ∙ (rw e))) }
+
+-- ---- where it leads
+
+module _ (n : ℕ) (rs : List Demand) (link : ℕ) where
+  pub start_fits : (rows : List Routed) → rows ≡ start link rs → DemandsFit n rs → DemandsFit n (demands (sents rows))
+  start_fits rows e fit = rw (e, start-demands) fit
+
+  module _ (rows new : List Routed) (e : rows ≡ start link rs) (figures : Figures) (turns : ℕ) (o : SettlesTo n rows new figures turns) where
+    settled : settle n (peak_of n (start link rs)) 0 (start link rs) ≡ record { rows = new; turns = turns }
+    settled = rw e at o.is
+
+    pub start_rows : new ≡ (from_start n rs link).rows
+    unfolding from_start
+    start_rows = rw settled
+
+    pub start_figures : (top : ℕ) → top ≡ peak (link_at figures.loads) n → ◌≡◌ {A = Turned} (record { peak = top; link = link; turns = turns }) (from_start n rs link).figures
+    unfolding from_start
+    start_figures top e = rw (settled, top_peak n new figures.loads top o.carries e)
+
+  pub start_keeps : (new : List Routed) → new ≡ (from_start n rs link).rows → demands (sents new) ≡ rs
+  start_keeps new e = rw e (each-start n rs link).demands
+
+-- ---- all starts
+
+lower-figures : (x y : Answer) → (lower x y).figures ≡ lower_of x.figures y.figures
+unfolding lower
+lower-figures x y = go (ltb y.figures.peak x.figures.peak)
+  where
+    go : (b : Bool) → (cond b y x).figures ≡ cond b y.figures x.figures
+    go true = refl
+    go false = refl
+
+module _ (n : ℕ) (rs : List Demand) where
+  -- where the loop stands: the starts before `link` are done, and those that are left give the answer
+  pub record Starting (now : List Routed) (best : Turned) (link : ℕ) : Type 0 where
+    pub demands : demands (sents now) ≡ rs
+    pub answer : Answer
+    pub is : best ≡ answer.figures
+    pub left : best_from n rs link ((n + 1) - link) answer ≡ least_start n rs
+
+  pub starts_start : (now : List Routed) (best : Turned) → 2 ≤ n → now ≡ (from_start n rs 1).rows → best ≡ (from_start n rs 1).figures → Starting now best 2
+  unfolding least_start
+  starts_start now best two r f =
+      let z : (n + 1) - 2 ≡ n - 1 = omega arith in
+      record { demands = start_keeps n rs 1 now r; answer = from_start n rs 1; is = f; left = rw z }
+
+  module _ (now : List Routed) (best : Turned) (link : ℕ) (o : Starting now best link) where
+    pub starts_turn : (new : List Routed) (next z : Turned) → link < n + 1 → new ≡ (from_start n (demands (sents now)) link).rows → next ≡ (from_start n (demands (sents now)) link).figures →
+        z ≡ lower_of best next → Starting new z (link + 1)
+    starts_turn new next z l r f g =
+        record {
+          demands = start_keeps n rs link new (rw o.demands at r);
+          answer = lower o.answer (from_start n rs link);
+          is = g ∙ ((rw (o.is, f, o.demands)) ∙ sym (lower-figures o.answer (from_start n rs link)));
+          left = one_more ∙ o.left;
+        }
+      where
+        one_more : best_from n rs (link + 1) ((n + 1) - (link + 1)) (lower o.answer (from_start n rs link)) ≡ best_from n rs link ((n + 1) - link) o.answer
+        one_more =
+            let p : (n + 1) - link ≡ suc ((n + 1) - (link + 1)) = omega arith in
+            let q : link + 1 ≡ suc link = omega arith in
+            rw (p, q) (unfold best_from in refl)
+
+    pub starts_done : n + 1 ≤ link → best ≡ (least_start n rs).figures
+    starts_done l = o.is ∙ ap (λ (x : Answer). x.figures) (none_left ∙ o.left)
+      where
+        none_left : o.answer ≡ best_from n rs link ((n + 1) - link) o.answer
+        none_left = let p : (n + 1) - link ≡ 0 = omega arith in rw p (unfold best_from in refl)
+
+    -- no start that is left ends lower than M/2, rounded up
+    pub starts_end : 2 ≤ n → (triangle : List ℕ) (cut : Cut) (floor : ℕ) → Triangle n rs triangle → cut ≡ largest_cut (at triangle) n → floor ≡ div_ceil cut.across 2 → best.peak ≤ floor → best ≡ (least_start n rs).figures
+    unfolding rule_a
+    starts_end two triangle cut floor s c f l =
+        let across-is : cut.across ≡ largest_across n rs = ap (λ (c : Cut). c.across) (c ∙ same-cut n (at triangle) (across rs) s.is two) in
+        let up = div_ceil_times cut.across 2 (omega arith) in
+        let low : 2 * best.peak ≤ largest_across n rs + 1 = omega (arith, f, l, up.1, across-is) in
+        o.is ∙ ap (λ (x : Answer). x.figures) (sym (no-lower n rs link ((n + 1) - link) o.answer two (rw o.is at low)) ∙ o.left)
+
+-- ---- the answer
+
+-- all that is promised of an answer
+pub record Promised (n : ℕ) (rs : List Demand) (new : List Routed) (x : Turned) : Type 0 where
+  pub rows : new ≡ (least_start n rs).rows
+  pub figures : x ≡ (least_start n rs).figures
+  pub demands : demands (sents new) ≡ rs
+  pub peak : x.peak ≡ peak_of n new
+  pub least : LeastOfStarts n rs x
+  pub still : NoTurnLowers n new
+  pub turns : TurnsLower n rs x
+  pub start : new ≡ (from_start n rs x.link).rows
+  pub loads : StartLoads rs
+  pub ends : StartsEnd n rs
+  pub starts : StartsWithinM n rs
+  pub most : x.peak ≤ largest_across n rs
+  pub floor : WaysFloor n rs
+
+module _ (n : ℕ) (rs : List Demand) (two : 2 ≤ n) where
+  least : Least n rs (n + 1) (least_start n rs)
+  least = least-is n rs two
+
+  pub promised : Promised n rs (least_start n rs).rows (least_start n rs).figures
+  promised = go (least_start n rs) least refl
+    where
+      go : (x : Answer) → Least n rs (n + 1) x → x ≡ least_start n rs → Promised n rs x.rows x.figures
+      go x o e =
+          let f : FromStart n rs x.figures.link x = subst (λ y. FromStart n rs x.figures.link y) (sym o.is) (each-start n rs x.figures.link) in
+          record {
+            rows = ap (λ (x : Answer). x.rows) e;
+            figures = ap (λ (x : Answer). x.figures) e;
+            demands = f.demands;
+            peak = f.peak;
+            least = record { low = o.low; high = omega (arith, o.high); is = ap (λ (x : Answer). x.figures) o.is; least = λ a l h. o.least a l (omega arith); first = o.first };
+            still = f.still;
+            turns = f.turns;
+            start = ap (λ (x : Answer). x.rows) o.is;
+            loads = λ a h. start-loads a h rs;
+            ends = λ a. starts-end n rs a;
+            starts = start-peak n rs two;
+            most = omega (arith, f.turns, start-peak n rs two x.figures.link o.low (omega (arith, o.high)));
+            floor = ways-floor n rs two;
+          }
+
+  module _ (best : Turned) (e : best ≡ (least_start n rs).figures) where
+    pub best_low : 1 ≤ best.link
+    best_low = rw e least.low
+
+    pub best_high : best.link ≤ n
+    best_high = rw e (omega (arith, least.high))
+
+    -- the best start made again gives the answer
+    pub again : (ds : List Demand) (new : List Routed) (x : Turned) → ds ≡ rs → new ≡ (from_start n ds best.link).rows → x ≡ (from_start n ds best.link).figures → Promised n rs new x
+    again ds new x d r f =
+        let same : from_start n ds best.link ≡ least_start n rs = rw (d, e) (sym least.is) in
+        rw (r, f, same) promised
+
+-- ---- the laws of each function
+
+pub ruleset avoid_laws = (avoid_start, avoid_done)
+
+pub ruleset load_laws = (load_start, load_done)

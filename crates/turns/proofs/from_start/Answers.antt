@@ -1,0 +1,22 @@
+-- What the start that avoids a link leads to.
+use Rattle.turns.proofs.StartSteps.{small_amounts, start_fits, start_carries, start_rows, start_figures, start_keeps}
+use Rattle.turns.proofs.from_start.Goals as goal
+
+pub route_avoiding-requires : goal.route_avoiding-requires
+route_avoiding-requires g c = search small_amounts
+
+pub settle-turns-requires-clause-fit : goal.settle-turns-requires-clause-fit
+settle-turns-requires-clause-fit g c = search start_fits
+
+pub settle-turns-requires-clause-carries : goal.settle-turns-requires-clause-carries
+settle-turns-requires-clause-carries g c =
+    start_carries _ _ _ c.requires.triangle _ c.requires.low c.requires.high _ _ _ c.route_avoiding.ensures c.wide.ensures c.loads_avoiding.ensures
+
+pub returns-clause-demands : goal.returns-clause-demands
+returns-clause-demands g c = start_keeps _ _ _ _ (start_rows _ _ _ _ _ c.route_avoiding.ensures _ _ c.settle-turns.ensures)
+
+pub returns-clause-rows : goal.returns-clause-rows
+returns-clause-rows g c = search start_rows
+
+pub returns-clause-figures : goal.returns-clause-figures
+returns-clause-figures g c = search start_figures

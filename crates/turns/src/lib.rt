@@ -1,0 +1,123 @@
+#![tactic(auto)]
+//! One turn at a time: from each start, at which every row avoids one link, the row of the largest loads whose turn lowers the peak is turned, until no turn lowers it.
+mod figures; // what a row is chosen by
+mod keys; // sums of weights, by which lists of loads are compared
+mod pick; // the row to turn
+mod settle; // all turns of a start
+mod start; // the start that avoids a link
+mod tops; // largest loads
+mod whole; // rows that go whole
+
+ghost use Rattle.std.specs.Prelude.{◌≡◌, ◌≤◌, ◌<◌};
+ghost use Rattle.ring.specs.Limits.{desk};
+ghost use Rattle.ring.specs.Sheet.{sents, demands};
+ghost use Rattle.router.specs.Arrays.{DemandsFit, Triangle};
+ghost use Rattle.turns.specs.Turns.{peak_of, from_start, least_start};
+ghost use Rattle.turns.specs.Promised.{
+  largest_across,
+  LeastOfStarts,
+  NoTurnLowers,
+  TurnsLower,
+  StartLoads,
+  StartsEnd,
+  StartsWithinM,
+  WaysFloor,
+};
+ghost use Rattle.turns.specs.Settles.{lower_of};
+
+use across::{PAIRS, largest_cut};
+use figures::{Figures, MARKS, RUNS};
+use ring::{LINKS, wide};
+use router::fill;
+use rows::RowsMut;
+use settle::settle;
+use start::{loads_avoiding, route_avoiding};
+
+/// The figures of an answer: its peak in units, the link that its start avoided, and how many rows were turned from there.
+#[derive(Clone, Copy)]
+pub struct Turned {
+    pub peak: u32,
+    pub link: u32,
+    pub turns: u32,
+}
+
+// What the start that avoids a link leads to.
+fn from_start<R: RowsMut>(triangle: &[u32; PAIRS], n: usize, link: u32, rows: &mut R) -> Turned
+    requires fit { DemandsFit n (demands (sents (R.rows rows.old))) }
+    requires triangle { Triangle n (demands (sents (R.rows rows.old))) triangle.now }
+    requires low { 1 ≤ link }
+    requires high { link ≤ n }
+    ensures demands { demands (sents (R.rows rows.new)) ≡ demands (sents (R.rows rows.old)) }
+    ensures rows { R.rows rows.new ≡ (from_start n (demands (sents (R.rows rows.old))) link).rows }
+    ensures figures { result ≡ (from_start n (demands (sents (R.rows rows.old))) link).figures }
+{
+    route_avoiding(rows, link);
+    let mut figures = Figures {
+        loads: loads_avoiding(triangle, n, wide(link)),
+        tops: [0; RUNS],
+        keys: [0; MARKS],
+    };
+    let turns = settle(rows, n, &mut figures);
+    Turned {
+        peak: figures.peak(n),
+        link,
+        turns,
+    }
+}
+
+// A later start takes the place of an earlier one only where its peak is less.
+fn lower(earlier: Turned, later: Turned) -> Turned
+    ensures { result ≡ lower_of earlier later }
+{
+    if later.peak < earlier.peak {
+        later
+    } else {
+        earlier
+    }
+}
+
+// The best of all starts. No peak is below M/2: where one reaches that, rounded up, no later start takes its place.
+fn best_start<R: RowsMut>(triangle: &[u32; PAIRS], n: usize, rows: &mut R) -> Turned
+    requires two { desk.fewest ≤ n }
+    requires fit { DemandsFit n (demands (sents (R.rows rows.old))) }
+    requires triangle { Triangle n (demands (sents (R.rows rows.old))) triangle.now }
+    ensures best { result ≡ (least_start n (demands (sents (R.rows rows.old)))).figures }
+    ensures demands { demands (sents (R.rows rows.new)) ≡ demands (sents (R.rows rows.old)) }
+{
+    let floor = largest_cut(triangle, n).across.div_ceil(2);
+    let mut best = from_start(triangle, n, 1, rows);
+    for link in 2..n + 1 {
+        if best.peak <= floor {
+            return best;
+        }
+        best = lower(best, from_start(triangle, n, link as u32, rows));
+    }
+    best
+}
+
+/// One turn at a time on a ring of 2 to 32 nodes: the rows go whole as the best of all starts ends, and its figures are answered. There are at most 496 rows, each on
+/// the ring, with an amount of at most 9,999; how they were sent before does not matter. The best start is made twice, so that no directions are kept aside.
+pub fn turn_rows<R: RowsMut>(nodes: u32, rows: &mut R) -> Turned
+    requires two { desk.fewest ≤ nodes }
+    requires fit { DemandsFit nodes (demands (sents (R.rows rows.old))) }
+    ensures rows { R.rows rows.new ≡ (least_start nodes (demands (sents (R.rows rows.old)))).rows }
+    ensures figures { result ≡ (least_start nodes (demands (sents (R.rows rows.old)))).figures }
+    ensures demands { demands (sents (R.rows rows.new)) ≡ demands (sents (R.rows rows.old)) }
+    ensures peak { result.peak ≡ peak_of nodes (R.rows rows.new) }
+    ensures least { LeastOfStarts nodes (demands (sents (R.rows rows.old))) result }
+    ensures still { NoTurnLowers nodes (R.rows rows.new) }
+    ensures turns { TurnsLower nodes (demands (sents (R.rows rows.old))) result }
+    ensures start { R.rows rows.new
+        ≡ (from_start nodes (demands (sents (R.rows rows.old))) result.link).rows }
+    ensures loads { StartLoads (demands (sents (R.rows rows.old))) }
+    ensures ends { StartsEnd nodes (demands (sents (R.rows rows.old))) }
+    ensures starts { StartsWithinM nodes (demands (sents (R.rows rows.old))) }
+    ensures most { result.peak ≤ largest_across nodes (demands (sents (R.rows rows.old))) }
+    ensures floor { WaysFloor nodes (demands (sents (R.rows rows.old))) }
+{
+    let n = wide(nodes);
+    let mut triangle: [u32; PAIRS] = [0; PAIRS];
+    fill(&mut triangle, n, rows);
+    let best = best_start(&triangle, n, rows);
+    from_start(&triangle, n, best.link, rows)
+}

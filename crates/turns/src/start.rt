@@ -1,0 +1,65 @@
+//! The start that avoids a link: the rows' ways, and the loads that they make.
+ghost use Rattle.std.specs.Prelude.{◌≡◌, ◌≤◌, cond};
+ghost use Rattle.ring.specs.Demand.{in_front};
+ghost use Rattle.ring.specs.declared.types.Way.TheVariants.{Front, Back};
+ghost use Rattle.ring.specs.Sheet.{sents, demands};
+ghost use Rattle.weight.specs.Limits.{most_links, most_amount};
+ghost use Rattle.turns.specs.Turns.{start};
+ghost use Rattle.turns.specs.Arrays.{SmallAmounts, Carries, number_at};
+
+use crate::whole::whole;
+use across::{PAIRS, get};
+use ring::{Demand, LINKS, Routed, Way};
+use rows::RowsMut;
+
+// The way of a demand that avoids a link.
+fn way_avoiding(demand: Demand, link: u32) -> Way
+    ensures { result ≡ cond (in_front demand link) Back Front }
+{
+    if demand.first <= link && link < demand.second {
+        Way::Back
+    } else {
+        Way::Front
+    }
+}
+
+// Every row is routed to avoid the link.
+#[tactic(auto, using(crate::proofs::StartSteps::avoid_laws))]
+pub(crate) fn route_avoiding<R: RowsMut>(rows: &mut R, link: u32)
+    requires { SmallAmounts (demands (sents (R.rows rows.old))) }
+    ensures { R.rows rows.new ≡ start link (demands (sents (R.rows rows.old))) }
+{
+    for k in 0..rows.count() {
+        let demand = rows.row(k).sent.demand;
+        rows.put(k, whole(demand, way_avoiding(demand, link)));
+    }
+}
+
+// The across number of two links, in either order.
+fn number(triangle: &[u32; PAIRS], g: usize, h: usize) -> u32
+    requires { (1 ≤ g) × (g ≤ most_links) × (1 ≤ h) × (h ≤ most_links) }
+    ensures { result ≡ number_at triangle.now g h }
+{
+    if g < h {
+        get(triangle, g, h)
+    } else if h < g {
+        get(triangle, h, g)
+    } else {
+        0
+    }
+}
+
+// Where every row avoids a link, each link carries what lies across the two.
+#[tactic(auto, using(crate::proofs::StartSteps::load_laws))]
+pub(crate) fn loads_avoiding(triangle: &[u32; PAIRS], n: usize, link: usize) -> [u32; LINKS]
+    requires few { n ≤ most_links }
+    requires low { 1 ≤ link }
+    requires high { link ≤ n }
+    ensures { Carries n (λ h. number_at triangle.now link h) result }
+{
+    let mut loads: [u32; LINKS] = [0; LINKS];
+    for k in 0..n {
+        loads[k] = number(triangle, link, k + 1);
+    }
+    loads
+}

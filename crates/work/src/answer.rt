@@ -1,0 +1,40 @@
+//! What an accepted change answers, and the table behind it.
+ghost use Rattle.std.specs.Prelude.{◌≡◌};
+ghost use Rattle.work.specs.Changes.{ring_size, recut_in};
+
+use crate::Work;
+use across::largest_cut;
+use ring::{Cut, FEWEST, NODES, wide};
+
+/// The place that a change names, counted from 1 (0 of a start, which names none), and the largest cut from then on, its across number in units.
+#[derive(Clone, Copy)]
+pub struct Placed {
+    pub place: u32,
+    pub cut: Cut,
+}
+
+/// What an accepted change answers, and the table behind it.
+#[derive(Clone, Copy)]
+pub struct Changed {
+    pub placed: Placed,
+    pub work: Work,
+}
+
+// A ring size that the triangle has room for.
+pub(crate) fn ring_size(nodes: u32) -> u32
+    ensures { result ≡ ring_size nodes }
+{
+    nodes.clamp(FEWEST, NODES)
+}
+
+// The rows have changed: the largest cut is looked for among the kept numbers.
+pub(crate) fn recut(work: Work, place: u32) -> Changed
+    ensures { result ≡ recut_in work place }
+{
+    let mut w = work;
+    w.cut = largest_cut(&w.triangle, wide(ring_size(w.ring.nodes)));
+    Changed {
+        placed: Placed { place, cut: w.cut },
+        work: w,
+    }
+}

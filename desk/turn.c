@@ -1,0 +1,94 @@
+#include "turn.h"
+
+#include "plan.h"
+#include "refusal.h"
+
+/* Whether a circuit's front holds the link. */
+static bool front_holds(const struct circuit *c, unsigned link)
+{
+    return c->first <= link && link < c->second;
+}
+
+static unsigned load_of(const struct plan *plan, const uint8_t *ways, unsigned link)
+{
+    unsigned load = 0;
+    for (unsigned k = 0; k < plan->circuits; k++) {
+        load += front_holds(&plan->circuit[k], link) == (ways[k] == RINGKIT_F) ? plan->circuit[k].amount : 0;
+    }
+    return load;
+}
+
+static void tell_ways(const struct plan *plan, const uint8_t *ways)
+{
+    printf("\nCircuit   offices  amount  it goes\n");
+    for (unsigned k = 0; k < plan->circuits; k++) {
+        const struct circuit *c = &plan->circuit[k];
+        printf("%7u   %2u - %2u  %6u  ", k + 1, c->first, c->second, c->amount);
+        tell_way(stdout, c, ways[k] != RINGKIT_F);
+    }
+}
+
+static void tell_loads(const struct plan *plan, const uint8_t *ways, unsigned peak)
+{
+    printf("\n   Link   offices     load\n");
+    for (unsigned k = 1; k <= plan->offices; k++) {
+        printf("%7u   %2u - %2u  %7u\n", k, k, k % plan->offices + 1, load_of(plan, ways, k));
+    }
+    printf("   Peak            %7u\n", peak);
+}
+
+static void tell_beside(const char *what, unsigned peak, unsigned size)
+{
+    printf("%-20s%7u", what, peak);
+    if (size > 0) {
+        printf("%15u\n", size);
+    } else {
+        printf("%15s\n", "none");
+    }
+}
+
+static void tell_turns(ringkit_turn_reply reply)
+{
+    if (reply.turns == 0) {
+        printf("\nEach circuit goes the way that avoids link %u; no single turn lowers the peak.\n", (unsigned)reply.link);
+    } else {
+        printf("\nEach circuit began on the way that avoids link %u; %u turn%s lowered the peak to this, and no single turn lowers it further.\n", (unsigned)reply.link, (unsigned)reply.turns,
+               reply.turns == 1 ? "" : "s");
+    }
+}
+
+/* The peak and the line size, beside those of the plan. */
+static void tell_peaks(const struct plan *plan, ringkit_turn_reply reply)
+{
+    printf("\n%-20s%7s%15s\n", "", "peak", "line to buy");
+    tell_beside("One turn at a time", reply.peak, line_size(reply.peak, plan->fibres));
+    tell_beside("By rule D (plan)", plan->peak, plan->size);
+    if (plan->fibres == RINGKIT_TWO_FIBRES) {
+        printf("On a ring of two fibres half of each line is kept for protection, so the line has room for twice the peak.\n");
+    }
+    putchar('\n');
+    tell_floor(stdout, plan, reply.peak);
+}
+
+enum status turn_table(const struct text *table)
+{
+    uint8_t ways[RINGKIT_MAX_ROWS];
+    struct plan plan;
+    ringkit_turn_reply reply = ringkit_turn(table->bytes, table->length, ways);
+    if (reply.reason != RINGKIT_OK) {
+        tell_refusal(table, (struct refusal){reply.reason, reply.line, reply.byte}, true);
+        return REFUSED;
+    }
+    enum status status = make_plan(&plan, table);
+    if (status != FINE) {
+        return status;
+    }
+    tell_ring(stdout, &plan);
+    if (plan.circuits > 0) {
+        tell_ways(&plan, ways);
+    }
+    tell_loads(&plan, ways, reply.peak);
+    tell_turns(reply);
+    tell_peaks(&plan, reply);
+    return FINE;
+}

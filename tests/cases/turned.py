@@ -1,0 +1,140 @@
+#!/usr/bin/env python3
+"""Writes tests/cases/turning.calls: stored tables whose circuits are sent one turn at a time, each with what the rules answer (Rules, one turn at a time), by turning.py.
+
+A case is a line `turn LENGTH REASON LINE BYTE PEAK LINK TURNS ROWS WAYS`, the ways as letters F and B or - where there are none, and behind it the table's text, LENGTH bytes. No source of
+the project is used. Run it by hand after adding a case and look at the difference; tests/desk/turning.c makes the calls, and the twin answers the same tables by itself."""
+import itertools
+import random
+
+import circuits
+import turning
+from matrix import table_values
+from pointing import byte_of
+from reading import first_reason, holding, lines_of
+from sheets import damaged, pairs, t, write_table
+
+FIVE = (5, ((1, 2, 2), (1, 4, 5), (2, 3, 9), (2, 4, 11), (3, 4, 4), (3, 5, 3)))
+EIGHT = (8, ((1, 4, 1), (2, 3, 1), (5, 8, 2), (6, 7, 2)))
+
+
+def by_hand():
+    """Answers that papers print, or that were found by hand."""
+    yield (16, 1, 4, "BFFBFF"), FIVE
+    yield (3, 5, 1, "BFBF"), EIGHT
+    yield (2, 1, 0, "BF"), (4, ((1, 3, 1), (2, 4, 1)))
+    yield (0, 1, 0, ""), (2, ())
+    yield (5, 1, 0, "B"), (2, ((1, 2, 5),))
+    yield (3, 1, 1, "FB"), (2, ((1, 2, 3), (1, 2, 3)))
+    yield (5, 1, 1, "FB"), (2, ((1, 2, 5), (1, 2, 3)))
+    yield (5, 1, 1, "FB"), (2, ((1, 2, 3), (1, 2, 5)))
+    yield (0, 1, 0, "B"), (4, ((1, 2, 0),))
+    yield (4, 1, 1, "BF"), (4, ((2, 3, 4), (2, 3, 4)))
+    yield (4, 1, 2, "FBF"), (3, ((1, 2, 2), (1, 3, 3), (1, 3, 2)))
+    yield (2, 1, 1, "FB"), (4, ((1, 2, 1), (1, 4, 2)))
+    yield (3, 1, 1, "BFBB"), (2, ((1, 2, 0), (1, 2, 3), (1, 2, 0), (1, 2, 3)))
+    yield (1, 1, 1, "FBF"), (3, ((1, 2, 1), (1, 3, 1), (2, 3, 1)))
+
+
+def small():
+    """Tables of few rows, the smallest first."""
+    for count in range(1, 5):
+        for n in range(2, 7):
+            for nodes in itertools.combinations_with_replacement(pairs(n), count):
+                yield from ((n, tuple((i, j, d) for (i, j), d in zip(nodes, amounts))) for amounts in itertools.product((1, 2, 3), repeat=count))
+
+
+def deciding():
+    """For each other reading of a sentence five small tables that it answers otherwise, and the ring of five where it does."""
+    rng = random.Random(8)
+    tables = list(itertools.islice(small(), 0, 60000, 7)) + [drawn(rng, rng.randint(3, 8), rng.randint(4, 9), 4) for _ in range(3000)]
+    for other in turning.OTHERS:
+        told = (table for table in [FIVE, EIGHT, *tables] if other().answer(*table) != turning.answer(*table))
+        found = list(itertools.islice(told, 5))
+        assert len(found) == 5, other
+        yield from found
+
+
+def drawn(rng, n, count, most):
+    """Some of the rows between the same two offices."""
+    few = rng.choices(pairs(n), k=count)
+    return n, tuple((i, j, rng.randint(0, most)) for i, j in sorted(few))
+
+
+def random_tables():
+    rng = random.Random(496)
+    for _ in range(500):
+        yield drawn(rng, rng.choice([2, 3, 4, 5, 6, 9, 12, 16]), rng.randint(1, 24), rng.choice([0, 1, 2, 3, 20, 9999]))
+    for n in (20, 32, 32, 32):
+        yield drawn(rng, n, 40, 9999)
+
+
+def amounts_0():
+    """A row of amount 0 goes as the answer's start has it, whatever stands before and behind it."""
+    for n, rows in [FIVE, EIGHT, drawn(random.Random(9), 9, 12, 9)]:
+        for at in range(len(rows)):
+            yield n, rows[:at] + (rows[at][:2] + (0,),) + rows[at:]
+        yield n, tuple((*row[:2], 0) for row in rows)
+
+
+def full():
+    """All pairs of 8, 16, 20 and 32 offices; and 496 rows of one pair, of two that lie opposite, and of neighbours."""
+    rng = random.Random(32)
+    for n in (8, 8, 8, 16, 16, 20, 32):
+        amounts = rng.choice([range(10000), (0, 1, 9999)])
+        yield n, tuple(p + (rng.choice(amounts),) for p in pairs(n))
+    yield 8, tuple(p + (9999,) for p in pairs(8))
+    yield 20, tuple(p + (1,) for p in pairs(20))
+    yield 2, ((1, 2, 9999),) * 496
+    yield 3, tuple(sorted(((1, 2, 7), (1, 3, 5), (2, 3, 9), (2, 3, 9)) * 124))
+    yield 4, tuple(sorted(((1, 3, 9999), (2, 4, 9998)) * 248))
+
+
+def accepted():
+    tables = [*(table for _, table in by_hand()), *deciding(), *amounts_0(), *random_tables(), *full()]
+    yield from (write_table(n, rows) for n, rows in dict.fromkeys(tables))
+    yield from (write_table(*FIVE, 2), write_table(*EIGHT, 2))
+
+
+def refused():
+    """Each reason of a table, on first, middle and last lines; the ways stay."""
+    yield from (b"", b"\n", b"R", t("R|4|4", end=""), t("R|1|4"), t("R|33|3"), t("R|4|3"), t("R|4|0", "D|5|2|1"), t("R|4"), t("R|4|4", "D|5|2|10000"), t("R|4|4", "D|1|2|1", end="\n\n"))
+    good = ["R|9|4", "D|1|2|3", "D|1|4|0", "D|2|3|9999", "D|3|9|17", "D|8|9|1"]
+    bad = ["D|1|2", "D|1|2|3 ", "D|01|2|3", "D|1|2|12345678", "x", "D|0|2|3", "D|1|10|3", "D|9|9|1", "D|4|3|1", "D|1|2|10000", "D|8|8|10000", "C|1|2|3"]
+    for line, at in itertools.product(bad, (1, 3, 6)):
+        yield t(*good[:at], line, *good[at:])
+    yield t(*good[:2], *good[:0:-1])
+    yield b"R\t2\t4\n" + b"D\t1\t2\t1\n" * 497
+    yield b"R\t2\t4\n" + b"D\t1\t2\t1\n" * 496 + b"D\t1\t2\t10000\n"
+    rows = b"R\t2\t4\n" + b"D\t1\t2\t1\n" * 400
+    yield from (rows.ljust(length, b"x") for length in (32768, 32769))
+    rng = random.Random(11)
+    for _ in range(150):
+        yield damaged(rng, write_table(*drawn(rng, rng.randint(2, 32), rng.randint(1, 12), 9999)))
+    yield from itertools.islice(circuits.in_order(), 0, None, 3)
+
+
+def answered(text):
+    """Reason, line, byte, peak, link, turns, rows and ways."""
+    given = first_reason(text)
+    if given:
+        return (*given, byte_of("T", text, given), 0, 0, 0, 0, "-")
+    n, rows, _ = table_values(text)
+    peak, link, turns, ways = turning.answer(n, rows)
+    assert 2 * peak >= 2 * turning.floor(n, rows) - 1
+    return 0, 0, 0, peak, link, turns, len(rows), ways or "-"
+
+
+def main():
+    for due, (n, rows) in by_hand():
+        assert turning.answer(n, rows) == due, (n, rows, turning.answer(n, rows))
+    seen, out = [], []
+    for text in dict.fromkeys([*accepted(), *refused()]):
+        answer = answered(text)
+        seen.append(answer[0])
+        out.append(("turn %d %s\n" % (len(text), " ".join(map(str, answer)))).encode() + text)
+    assert set(seen) == {0, 1, 2, 3, 4, 5, 6, 7, 16, 20}, sorted(set(seen))
+    open("tests/cases/turning.calls", "wb").write(b"".join(out))
+    print({reason: seen.count(reason) for reason in sorted(set(seen))})
+
+
+main()
