@@ -32,7 +32,7 @@
  *     the text, and nobody else reads or writes them during the call.
  *   - A pointer to a working table names a whole struct ringkit_work, whatever bytes are in it. It does not overlap the buffer, and nobody else
  *     writes to it during the call, nor reads it while a call alters it.
- *   - RINGKIT_STACK_BYTES of stack are free, for ringkit_turn RINGKIT_TURN_STACK_BYTES. These figures are measured and not proved.
+ *   - RINGKIT_STACK_BYTES of stack are free. That figure is measured and not proved.
  *
  * No call keeps anything from one call to the next but in the working table that it is lent, allocates, touches a file or errno, or changes the
  * text, the rows or the links. Calls may run in any number of threads at the same time.
@@ -76,9 +76,8 @@ extern "C" {
 #define RINGKIT_TABLE_BYTES 15896
 #define RINGKIT_MATRIX_BYTES 5120
 
-/* Enough stack for each call but ringkit_turn, and for that, with some to spare for binding memcpy and memset when they are first called. */
+/* Enough stack for each call, with some to spare for binding memcpy and memset when they are first called. */
 #define RINGKIT_STACK_BYTES 28672
-#define RINGKIT_TURN_STACK_BYTES 36864
 
 /* Why a text is refused. Each is given exactly when it holds and nothing before it in this order does: the fibres that a matrix is read with; RINGKIT_TOO_LONG; then line by line,
  * and in a line by rising number, 2 to 7, RINGKIT_FIBRES behind 3 and RINGKIT_TOO_MANY_ROWS between 6 and 7; then, when all lines have been read, of a sheet 8 to 12 line by line,

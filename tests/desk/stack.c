@@ -11,7 +11,7 @@
 
 enum { PAGE = 4096, PAINT = 0xa5, MOST = RINGKIT_MAX_TEXT_BYTES + 1 };
 
-_Static_assert(RINGKIT_STACK_BYTES % PAGE == 0 && RINGKIT_TURN_STACK_BYTES % PAGE == 0, "whole pages, so that the one below the stack can be closed");
+_Static_assert(RINGKIT_STACK_BYTES % PAGE == 0, "whole pages, so that the one below the stack can be closed");
 
 static const char TABLE[] = "R\t2\t4\nD\t1\t2\t5\n";
 static const char SHEET[] = "R\t2\t4\nD\t1\t2\t5\t5\t5\tF\nC\t1\t2\t5\nL\t1\t5\t5\nL\t2\t5\t0\nZ\t5\t12\n";
@@ -118,12 +118,6 @@ static const struct named {
     {"ringkit_work_row", work_row, ""},
     {"ringkit_work_write", work_write, ""},
 };
-
-/* As much as the header promises to be enough. */
-static size_t stack_for(const struct named *named)
-{
-    return named->call == turn ? RINGKIT_TURN_STACK_BYTES : RINGKIT_STACK_BYTES;
-}
 
 struct dive {
     const struct named *named;
