@@ -146,7 +146,7 @@ static size_t touched(struct dive *d)
 {
     pthread_t thread;
     pthread_attr_t attributes;
-    size_t size = stack_for(d->named);
+    size_t size = RINGKIT_STACK_BYTES;
     uint8_t *closed = mmap(NULL, PAGE + size, PROT_NONE, MAP_PRIVATE | MAP_ANONYMOUS, -1, 0);
     uint8_t *stack = closed + PAGE;
     if (closed == MAP_FAILED || mprotect(stack, size, PROT_READ | PROT_WRITE) != 0 || pthread_attr_init(&attributes) != 0
