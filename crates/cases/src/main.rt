@@ -7,8 +7,8 @@ ghost use Rattle.std.specs.Prelude.{◌≤◌, ◌<◌};
 
 use checker::Pair;
 use std::alloc::Global;
-use table::Refusal;
 use std::io::{self, BufReader, BufWriter, Read, Write};
+use table::Refusal;
 
 const ROOM: usize = 40000;
 
