@@ -6,6 +6,9 @@ from typing import NamedTuple
 # Schrijver, Seymour and Winkler, table 8.1: ring sizes, all pairs. Amounts are "uniformly random data"; section 3 has 0 to 100 typically adequate.
 PAIRS_SIZES = (8, 12, 16, 20, 24, 28, 32)
 PAIRS_AMOUNTS = (0, 100)
+# Rings that neither paper has: all pairs, or of more as many as a table may have rows, drawn evenly.
+LARGER_SIZES = (40, 48, 56, 64)
+MOST_ROWS = 1024
 # Lee and Chang, section 4: its ring sizes, the chance in percent that a pair has a demand, and its amounts.
 LEE_SIZES = (5, 10, 15, 20, 25, 30)
 LEE_SHARES = (25, 50, 100)
@@ -36,11 +39,17 @@ def drawn(seed, family, n, share, number, amounts):
     source = random.Random(f"{seed} {family} {n} {share} {number}")
     pairs = [(i, j) for i in range(1, n) for j in range(i + 1, n + 1)]
     kept = [pair for pair in pairs if source.random() * 100 < share]
+    if len(kept) > MOST_ROWS:
+        kept = sorted(source.sample(kept, MOST_ROWS))
     return Table(family, n, share, number, tuple((i, j, source.randint(*amounts)) for i, j in kept))
 
 
 def all_pairs(seed, count, amounts):
     return [drawn(seed, "pairs", n, 100, number, amounts) for n in PAIRS_SIZES for number in range(1, count + 1)]
+
+
+def larger(seed, count, amounts):
+    return [drawn(seed, "larger", n, 100, number, amounts) for n in LARGER_SIZES for number in range(1, count + 1)]
 
 
 def lee_and_chang(seed, count):

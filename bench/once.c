@@ -2,8 +2,8 @@
  *   once route TABLE, once check SHEET           what a call writes goes to standard output
  *   once turn TABLE                              peak, link and turns, and the ways as letters, go there
  *   once judge SHEET                             the values that the sheet says
- *   once add|change|remove|write [FIRST SECOND]  of a full working table of 32 offices, at its last place, a row of these nodes or else the dearest
- *   once kept, once afresh                       496 rows are added and removed again, with the largest cut behind each: kept by the library, or summed
+ *   once add|change|remove|write [FIRST SECOND]  of a full working table of 64 offices, at its last place, a row of these nodes or else the dearest
+ *   once kept, once afresh                       1,024 rows are added and removed again, with the largest cut behind each: kept by the library, or summed
  *                                                afresh here; all the cuts are said as one number, so that the two can be compared */
 #include <stdbool.h>
 #include <stdio.h>
@@ -20,7 +20,7 @@ static uint8_t ways[ROWS];
 static ringkit_turn_reply turned;
 static ringkit_work work;
 /* the row that is added, changed to or removed: the dearest for all three, by trying all pairs */
-static uint32_t first = 8, second = 23;
+static uint32_t first = 16, second = 47;
 static uint32_t told;
 
 /* ---- a text */
@@ -53,7 +53,7 @@ static uint32_t judge(void)
     return judge_held().reason;
 }
 
-/* ---- a full working table: all pairs, from the last to the first, so that writing has the most to sort; and the row in question at the last place */
+/* ---- a full working table: as many pairs as there may be rows, from the last to the first, so that writing has the most to sort; and the row in question at the last place */
 
 static uint32_t add(void)
 {
@@ -94,7 +94,7 @@ static void all(void)
     add();
 }
 
-/* ---- 496 rows added and removed again */
+/* ---- 1,024 rows added and removed again */
 
 static struct row {
     uint32_t first, second, amount;

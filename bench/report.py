@@ -241,9 +241,37 @@ def turned_above(some):
     return above([r.turned for r in some], [r.best for r in some])
 
 
+def larger(results):
+    head = (
+        *("offices", "rows", "split peak = LP", "one turn over best", "at most", "= best", "proved best by the floor", "rule D over best", "at most", "best proved"),
+        *("glpsol / ours, time", "instructions", "cbc / ours, time", "at most"),
+    )
+    return grid(head, *(larger_row(n, some) for n, some in by_size(results, "larger").items()))
+
+
+def larger_row(n, some):
+    counted = some[0]
+    return (
+        n,
+        counted.rows,
+        f"all {len(some)}",
+        percent(mean(r.turned_over for r in some), 3),
+        percent(max(r.turned_over for r in some), 3),
+        share_of(some, lambda r: r.turned == r.best),
+        share_of(some, lambda r: r.turned == r.least),
+        percent(mean(r.over for r in some)),
+        percent(max(r.over for r in some)),
+        f"{sum(r.proved for r in some)} of {len(some)}",
+        f"{median(r.glpsol_time / r.ours_time for r in some):.1f}",
+        f"{counted.glpsol_count / counted.ours_count:.1f}",
+        f"{median(r.cbc_time / r.ours_time for r in some):.0f}",
+        f"{max(r.cbc_time / r.ours_time for r in some):.0f}",
+    )
+
+
 def printed(results):
     head = "ring", "split peak", "best", "rule D", "one turn at a time"
-    return grid(head, *((r.family, f"{r.across / 2:g}", r.best, r.ours, r.turned) for r in results if r.family not in ("pairs", "lee")))
+    return grid(head, *((r.family, f"{r.across / 2:g}", r.best, r.ours, r.turned) for r in results if r.family not in ("pairs", "larger", "lee")))
 
 
 def all_together(results):
@@ -276,6 +304,7 @@ def text(results):
         "One turn at a time, all pairs": turned_peaks,
         "Rule D, all pairs": peaks,
         "Times, all pairs": times,
+        "Rings of 40 offices and more": larger,
         "Beside table 8.1 of Schrijver, Seymour and Winkler": beside_8_1,
         "Beside tables 6 to 8 of Lee and Chang": beside_6_to_8,
         "Rings that the papers print": printed,

@@ -1,5 +1,6 @@
-//! `twin make N` writes the table of all pairs of N offices with amounts drawn
-//! from a fixed seed; `twin route FILE` routes a table once by the twin, to be
+//! `twin make N [ROWS]` writes the table of all pairs of N offices, or of as many as there
+//! may be rows, with amounts drawn from a fixed seed, or of so many rows, some of the pairs
+//! or more circuits of them; `twin route FILE` routes a table once by the twin, to be
 //! counted from outside, and writes the sheet; `twin turn FILE` sends its circuits
 //! one turn at a time, and writes peak, link and turns, and the ways as letters.
 
@@ -9,6 +10,8 @@
 mod check;
 #[path = "../tests/twin/src/gen.rs"]
 mod gen;
+#[path = "../tests/twin/src/limits.rs"]
+mod limits;
 #[path = "../tests/twin/src/matrix.rs"]
 mod matrix;
 #[path = "../tests/twin/src/rng.rs"]
@@ -50,6 +53,15 @@ fn counted(what: &str, table: &[u8], buffer: &mut [u8]) -> Said {
     Said::Routed(twin::reply(&twin::answer(Call::Route, table), buffer))
 }
 
+/// Rows left out, or circuits put in.
+fn resize(rng: &mut rng::Rng, table: &mut table::Table, rows: usize) {
+    while table.rows.len() > rows {
+        let at = rng.below(table.rows.len());
+        table.rows.remove(at);
+    }
+    gen::more_circuits(rng, table, rows);
+}
+
 fn main() {
     let words: Vec<String> = std::env::args().skip(1).collect();
     let (what, word) = (words[0].as_str(), words[1].as_str());
@@ -57,7 +69,10 @@ fn main() {
     if what == "make" {
         let n = word.parse().expect("a number of offices");
         let mut rng = rng::Rng::new(SEED);
-        let table = gen::full(&mut rng, n, gen::Amounts::UpTo(9_999));
+        let mut table = gen::full(&mut rng, n, gen::Amounts::UpTo(9_999));
+        if let Some(rows) = words.get(2) {
+            resize(&mut rng, &mut table, rows.parse().expect("a number of rows"));
+        }
         out.write_all(&sheet::table_text(&table)).expect("output");
         return;
     }

@@ -1,6 +1,6 @@
 /* ringkit: plans a ring of offices, checks plans, as texts and as values, sends whole circuits with a low peak, and keeps a table at work. For C11 and C++11, x86-64 Linux.
  *
- * A text is read as a table, as a sheet or as a matrix. Fields are parted by one tab, every line ends with LF, numbers are 1 to 7 digits with no leading
+ * A text is read as a table, as a sheet or as a matrix. Fields are parted by one tab, every line ends with LF, numbers are 1 to 8 digits with no leading
  * zero but 0 itself.
  *
  *   table:  R n fibres      n offices, 1 to n; link k joins k and k+1, link n joins n and 1. The fibres are 2 or 4: with 2, half of a
@@ -50,13 +50,13 @@ extern "C" {
 #endif
 
 /* Grows by 1 whenever a call, an answer or a limit changes. */
-#define RINGKIT_VERSION 7
+#define RINGKIT_VERSION 8
 
 /* The limits of what is accepted. */
 #define RINGKIT_MAX_TEXT_BYTES 32768
 #define RINGKIT_MIN_OFFICES 2
-#define RINGKIT_MAX_OFFICES 32
-#define RINGKIT_MAX_ROWS 496
+#define RINGKIT_MAX_OFFICES 64
+#define RINGKIT_MAX_ROWS 1024
 #define RINGKIT_MAX_AMOUNT 9999
 #define RINGKIT_TWO_FIBRES 2
 #define RINGKIT_FOUR_FIBRES 4
@@ -69,20 +69,21 @@ extern "C" {
 #define RINGKIT_UNIT "STS-1"
 
 /* A buffer of so many bytes suffices for every sheet that ringkit_route writes; this is proved. For rewriting, the text's own length suffices. */
-#define RINGKIT_SHEET_BYTES 28880
+#define RINGKIT_SHEET_BYTES 29164
 
 /* The same for every table that ringkit_read_matrix writes, and ringkit_work_write of a working table that calls made; and for every matrix that
  * ringkit_write_matrix writes. */
-#define RINGKIT_TABLE_BYTES 15896
-#define RINGKIT_MATRIX_BYTES 5120
+#define RINGKIT_TABLE_BYTES 13319
+#define RINGKIT_MATRIX_BYTES 20480
 
-/* Enough stack for each call, with some to spare for binding memcpy and memset when they are first called. */
-#define RINGKIT_STACK_BYTES 28672
+/* Enough stack for each call, with some to spare for binding memcpy and memset when they are first called: the deepest, turning, takes some 43,300 bytes. */
+#define RINGKIT_STACK_BYTES 57344
 
 /* Why a text is refused. Each is given exactly when it holds and nothing before it in this order does: the fibres that a matrix is read with; RINGKIT_TOO_LONG; then line by line,
  * and in a line by rising number, 2 to 7, RINGKIT_FIBRES behind 3 and RINGKIT_TOO_MANY_ROWS between 6 and 7; then, when all lines have been read, of a sheet 8 to 12 line by line,
- * and 13 and 14; of a matrix the first entry in reading order that is 17 or 18; of a table to be written as a matrix the first row that is 19; then 15. So a fault of form (2 to
- * 7, 16) is told before a false figure (8 to 14), on whichever lines the two are: 4 on line 3 before 8 on line 2.
+ * and 13 and 14; of a matrix the first entry in reading order that is 17 or 18, and then RINGKIT_TOO_MANY_ROWS, with no line, where it makes too many rows; of a table to be
+ * written as a matrix the first row that is 19; then 15. So a fault of form (2 to 7, 16) is told before a false figure (8 to 14), on whichever lines the two are: 4 on line 3
+ * before 8 on line 2.
  * Of values the order is 3, 20; then row by row 4, 5, 6, 16, 7, 8, 9; then 10; then 11, of the count of links and then link by link; then 12, 13, 14.
  * The calls of a working table have no text. Starting one tries 3, then 20, and writing it 15; the others try 22 of the place that is named, then 4, 5 and 7 of the row that
  * is given, and for adding 21. */
@@ -90,7 +91,7 @@ enum ringkit_reason {
     RINGKIT_OK = 0,             /* accepted */
     RINGKIT_TOO_LONG = 1,       /* text over 32,768 bytes */
     RINGKIT_MISSHAPEN = 2,      /* line of the wrong shape, missing, or left over; a badly spelled number; no final LF */
-    RINGKIT_RING_SIZE = 3,      /* n outside 2..32; of a matrix, on its first line */
+    RINGKIT_RING_SIZE = 3,      /* n outside 2..64; of a matrix, on its first line */
     RINGKIT_NO_SUCH_NODE = 4,   /* a node outside 1..n */
     RINGKIT_NOT_BELOW = 5,      /* first node not below second */
     RINGKIT_OUT_OF_ORDER = 6,   /* row's nodes below the row before, by first node, then second */
@@ -103,23 +104,23 @@ enum ringkit_reason {
     RINGKIT_NOT_TIGHT = 13,     /* split peak (halves) is not the across number */
     RINGKIT_OVER_BOUND = 14,    /* the bound of rule D broken: twice the unsplit peak over split peak (halves) + 3 x largest split amount */
     RINGKIT_NO_ROOM = 15,       /* lent buffer shorter than the text to be written */
-    RINGKIT_TOO_MANY_ROWS = 16, /* more than 496 rows */
+    RINGKIT_TOO_MANY_ROWS = 16, /* more than 1,024 rows; of a matrix, more pairs of offices whose entry is above 0 */
     RINGKIT_DIAGONAL = 17,      /* an entry on the diagonal of a matrix is not 0 */
     RINGKIT_NOT_SYMMETRIC = 18, /* an entry (i,j) of a matrix is not equal to (j,i); the line is that of the entry which is read first */
     RINGKIT_SUM_TOO_MUCH = 19,  /* with this row, the sum of the rows of its two nodes passes 9,999, and no entry of a matrix can say it */
     RINGKIT_FIBRES = 20,        /* fibres neither 2 nor 4 */
-    RINGKIT_FULL = 21,          /* all 496 places of a working table are taken */
-    RINGKIT_NO_ROW = 22         /* the place named holds no row of the working table, as 0 and 497 never do */
+    RINGKIT_FULL = 21,          /* all 1,024 places of a working table are taken */
+    RINGKIT_NO_ROW = 22         /* the place named holds no row of the working table, as 0 and 1,025 never do */
 };
 
-/* The answer of a call. The line counts from 1, a missing line being the one after the last; it is 0 for reasons 1, 13, 14 and 15, and for 20 of a matrix.
+/* The answer of a call. The line counts from 1, a missing line being the one after the last; it is 0 for reasons 1, 13, 14 and 15, and for 16 and 20 of a matrix.
  *
  * The byte counts from 1 in that line. Of a line of the wrong shape (2) it is the first at which no line of the shape that is due goes on like this, and
  * so the place of a tab, a digit or LF that is missing, which may be one behind the line's last byte. Where a sheet may have a D line or the C line, it is the
  * first byte at which neither goes on; a line of a matrix below the first has as many fields as that. For reasons about one field it is where that field
  * starts: n (3), the fibres (20), the first of the two nodes that is outside (4), the amount (7), and of a matrix the entry (17, 18, and 7, the first over
  * 9,999). For a line that is missing or left over, and for reasons that judge a line as a whole (5, 6, 8 to 12, 16, 19, and 3 of a matrix), it is 1; with
- * line 0 it is 0. */
+ * line 0, as 16 of a matrix has it, it is 0. */
 typedef struct ringkit_reply {
     uint32_t reason; /* an enum ringkit_reason */
     uint32_t line;   /* 0 when accepted */
@@ -170,7 +171,7 @@ typedef struct ringkit_turn_reply {
     size_t rows;     /* the rows of the table, and so many bytes of the ways are written */
 } ringkit_turn_reply;
 
-/* A table at work, lent by the caller, who makes it by ringkit_work_start: rows at places 1 to 496, and kept beside them the largest cut. Its fields
+/* A table at work, lent by the caller, who makes it by ringkit_work_start: rows at places 1 to 1,024, and kept beside them the largest cut. Its fields
  * are the library's. They are unsigned integers and arrays of them with no padding, so any bytes are a value: copies may be kept and put back, and a call
  * on bytes that no call made still ends, with an answer that the bytes alone decide. A pointer to it is to a whole struct, aligned as C aligns it. */
 typedef struct ringkit_work {

@@ -2,8 +2,9 @@
 import random
 
 import rules
+from judging import MOST_OFFICES, MOST_ROWS
 from reading import Sheet, first_reason, first_reason_of_sheet, holding, lines_of
-from sheets import asserted, damaged, foreign, pairs, shown, t, write_table
+from sheets import asserted, damaged, foreign, pairs, shown, spread, t, write_table
 
 
 def routed_by_hand():
@@ -58,40 +59,41 @@ def in_order():
         yield t(*circuits, "D|" + row, "D|1|3|7")
 
 
-# 496 rows on 3 offices
-LAST = [(1, 2, 1)] * 100 + [(1, 3, 0)] * 100 + [(2, 3, 1)] * 296
+# as many rows as there may be, on 3 offices; the line of one row more, which is the first that is refused for their number
+LAST = [(1, 2, 1)] * 100 + [(1, 3, 0)] * 100 + [(2, 3, 1)] * (MOST_ROWS - 200)
+BEHIND = MOST_ROWS + 2
 
 
 def one_more(lines, rows, held, first):
     """Lines that begin with LAST's, and a row more behind these: with reasons that hold there, the first of them being given."""
     for row, reasons in rows:
-        text = t(*lines[:497], row, *lines[497:])
-        assert held(text) == set(reasons) and first(text) == (reasons[0], 498), row
+        text = t(*lines[:BEHIND - 1], row, *lines[BEHIND - 1:])
+        assert held(text) == set(reasons) and first(text) == (reasons[0], BEHIND), row
         yield text
 
 
-def tables_of_497():
-    """16 on line 498, after 2, 4, 5 and 6 and before 7; what stands on other lines comes before it or after it by line."""
+def tables_of_more():
+    """16 on the line of a row too many, after 2, 4, 5 and 6 and before 7; what stands on other lines comes before it or after it by line."""
     lines = shown(write_table(3, LAST))
     rows = [
-        ("D|2|3|1", [16]), ("D|2|3|0", [16]), ("D|2|3|10000", [16, 7]), ("D|2|3|9999999", [16, 7]), ("D|1|3|1", [6, 16]), ("D|1|3|10000", [6, 16, 7]),
+        ("D|2|3|1", [16]), ("D|2|3|0", [16]), ("D|2|3|10000", [16, 7]), ("D|2|3|99999999", [16, 7]), ("D|2|3|100000000", [2]), ("D|1|3|1", [6, 16]), ("D|1|3|10000", [6, 16, 7]),
         ("D|3|3|1", [5, 16]), ("D|2|2|1", [5, 6, 16]), ("D|3|2|10000", [5, 16, 7]), ("D|2|4|1", [4, 16]), ("D|0|3|10000", [4, 6, 16, 7]),
         ("D|4|4|1", [4, 5, 16]), ("D|2|3", [2]), ("D|2|3|01", [2]), ("", [2]), ("R|3|4", [2]),
     ]
-    yield from one_more(lines, rows, lambda text: holding(lines_of(text), 498), first_reason)
+    yield from one_more(lines, rows, lambda text: holding(lines_of(text), BEHIND), first_reason)
     last = lines[-1]
     others = [
-        ((2, 498), t(*lines, last, end="")),
-        ((16, 498), t(*lines, last, "x")), ((16, 498), t(*lines, last, "D|1|2|1")), ((16, 498), t(*lines, *[last] * 9)),
-        ((7, 497), t(*lines[:-1], "D|2|3|10000", last)), ((6, 497), t(*lines[:-1], "D|1|3|1", last)), ((2, 497), t(*lines[:-1], "D|2|3|", last)),
-        ((7, 2), t("R|3|4", "D|1|2|10000", *lines[2:], last)), ((3, 1), t("R|33|4", *lines[1:], last)), ((2, 1), t("R|03|4", *lines[1:], last)),
+        ((2, BEHIND), t(*lines, last, end="")),
+        ((16, BEHIND), t(*lines, last, "x")), ((16, BEHIND), t(*lines, last, "D|1|2|1")), ((16, BEHIND), t(*lines, *[last] * 9)),
+        ((7, BEHIND - 1), t(*lines[:-1], "D|2|3|10000", last)), ((6, BEHIND - 1), t(*lines[:-1], "D|1|3|1", last)), ((2, BEHIND - 1), t(*lines[:-1], "D|2|3|", last)),
+        ((7, 2), t("R|3|4", "D|1|2|10000", *lines[2:], last)), ((3, 1), t("R|65|4", *lines[1:], last)), ((2, 1), t("R|03|4", *lines[1:], last)),
     ]
     for reply, text in others:
         assert first_reason(text) == reply, text[-40:]
         yield text
 
 
-def sheets_of_497():
+def sheets_of_more():
     """16 in a sheet, which comes before 7, and before 8 and 9 of any line; on lines before it the reasons of a table come first."""
     lines = shown(rules.sheet(3, tuple(LAST)))
     rows = [
@@ -99,51 +101,69 @@ def sheets_of_497():
         ("D|2|3|10000|20000|0|F", [16, 7]), ("D|2|3|10000|0|1|F", [16, 7, 8, 9]), ("D|1|3|1|2|1|F", [6, 16, 8]), ("D|3|3|1|2|0|F", [5, 16]),
         ("D|2|4|1|2|0|F", [4, 16]), ("D|2|3|1|2|0", [2]), ("D|2|3|1", [2]),
     ]
-    yield from one_more(lines, rows, lambda text: Sheet(text).holding(498), first_reason_of_sheet)
-    last = lines[496]
+    yield from one_more(lines, rows, lambda text: Sheet(text).holding(BEHIND), first_reason_of_sheet)
+    rows, behind = lines[:MOST_ROWS + 1], lines[MOST_ROWS + 1:]
+    last = rows[-1]
     others = [
-        ((2, 498), t(*lines[:497])), ((2, 498), t(*lines[:497], last, end="")), ((2, 498), t(*lines[:497], *lines[498:])),
-        ((16, 498), t(*lines[:497], last)),
-        ((16, 498), t(*lines[:496], "D|2|3|1|2|1|F", last, *lines[497:])), ((16, 498), t(lines[0], "D|1|2|1|2|0|B", *lines[2:497], last, *lines[497:])),
+        ((2, BEHIND), t(*rows)), ((2, BEHIND), t(*rows, last, end="")), ((2, BEHIND), t(*rows, *behind[1:])),
+        ((16, BEHIND), t(*rows, last)),
+        ((16, BEHIND), t(*rows[:-1], "D|2|3|1|2|1|F", last, *behind)), ((16, BEHIND), t(rows[0], "D|1|2|1|2|0|B", *rows[2:], last, *behind)),
     ]
     for reply, text in others:
         assert first_reason_of_sheet(text) == reply, text[-40:]
         yield text
-    for count in (497, 498, 500):
-        text = rules.sheet(2, ((1, 2, 3),) * count)
-        assert first_reason_of_sheet(text) == (16, 498)
+    for more in (1, 2, 4):
+        text = rules.sheet(2, ((1, 2, 3),) * (MOST_ROWS + more))
+        assert first_reason_of_sheet(text) == (16, BEHIND)
         yield text
 
 
-def tables_of_496():
-    """Rings and their 496 rows, of few offices or with short fronts, so that they are soon routed."""
-    rng = random.Random(1)
-    few = [(k, k + w) for k in (1, 15, 16, 17, 28) for w in (1, 2, 4)]
-    many = [p for p in pairs(32) if p[1] - p[0] <= 12]
+def tables_of_most():
+    """Rings and their rows, as many as there may be, of few offices or with short fronts, so that they are soon routed."""
+    rng, n = random.Random(1), MOST_OFFICES
+    few = [(k, k + w) for k in (1, 31, 32, 33, 60) for w in (1, 2, 4)]
+    many = [p for p in pairs(n) if p[1] - p[0] <= 12]
     return [
-        (2, ((1, 2, 9999),) * 496),
-        (2, tuple((1, 2, rng.choice((0, 1, rng.randrange(10000)))) for _ in range(496))),
+        (2, ((1, 2, 9999),) * MOST_ROWS),
+        (2, tuple((1, 2, rng.choice((0, 1, rng.randrange(10000)))) for _ in range(MOST_ROWS))),
         (3, tuple(LAST)),
-        (32, ((31, 32, 9999),) * 496),
-        (32, tuple(p + (9999,) for p in sorted(rng.choices(few, k=496)))),
-        # every pair of 20 offices, and 306 of their circuits more
-        (20, tuple(p + (rng.randrange(10000),) for p in sorted(pairs(20) + rng.choices(pairs(20), k=306)))),
-        (32, tuple(p + (rng.randrange(10000),) for p in sorted(rng.sample(many, 248) * 2))),
+        (n, ((n - 1, n, 9999),) * MOST_ROWS),
+        (n, tuple(p + (9999,) for p in sorted(rng.choices(few, k=MOST_ROWS)))),
+        # every pair of 20 offices, and many of their circuits more
+        (20, tuple(p + (rng.randrange(10000),) for p in sorted(pairs(20) + rng.choices(pairs(20), k=MOST_ROWS - 190)))),
+        (n, tuple(p + (rng.randrange(10000),) for p in sorted(rng.sample(many, MOST_ROWS // 2) * 2))),
+    ]
+
+
+def tables_between():
+    """Rings and rows of which older desks refuse the number, and these do not."""
+    rng = random.Random(33)
+    return [
+        (33, ()),
+        (33, ((1, 33, 1), (32, 33, 9999))),
+        (2, ((1, 2, 9999),) * 497),
+        (32, tuple(p + (rng.randrange(10000),) for p in pairs(32)[:1] + pairs(32))),
+        # no load of more than seven digits, and loads of eight
+        (2, ((1, 2, 9999),) * 1000),
+        (2, ((1, 2, 9999),) * 1001),
     ]
 
 
 def tables():
     """Good tables and refused ones, small and large."""
     yield from in_order()
-    yield from tables_of_497()
-    for n, rows in tables_of_496():
+    yield from tables_of_more()
+    for n, rows in tables_of_most():
         for more in ((), rows[-1:], rows[-1:] * 4):
             yield write_table(n, rows + more)
-    # all pairs of 32 offices and one circuit more, and in the last row's place one that is below
-    every = [p + (7,) for p in pairs(32)]
-    for at in (0, 200, 494):
-        yield write_table(32, every[:at] + every[at:at + 1] * 2 + every[at + 1:])
-        yield write_table(32, every[:at] + every[at:at + 1] * 2 + every[at + 1:-1] + every[:1])
+    for n, rows in tables_between():
+        yield write_table(n, rows)
+    # as many pairs as there may be rows, and one circuit more; in the last row's place one that is below
+    for n in (32, MOST_OFFICES):
+        every = [p + (7,) for p in spread(n)]
+        for at in (0, 200, len(every) - 2):
+            yield write_table(n, every[:at] + every[at:at + 1] * 2 + every[at + 1:])
+            yield write_table(n, every[:at] + every[at:at + 1] * 2 + every[at + 1:-1] + every[:1])
     # as many rows as a text can hold, and one more
     for count in (4095, 4096):
         yield write_table(2, [(1, 2, 0)] * count)
@@ -159,7 +179,7 @@ def drawn(rng, n, count):
 def small_tables(rng):
     """Tables of many circuits; rule B never splits two of one pair."""
     for _ in range(60):
-        n = rng.choice([2, 3, 4, 5, 6, 9, 16, 32])
+        n = rng.choice([2, 3, 4, 5, 6, 9, 16, 64])
         rows = drawn(rng, n, rng.randint(2, 24))
         split = [row[:2] for row, x in zip(rows, rules.rule_b(n, rows, rules.rule_a(n, rows)[2])) if all(x)]
         assert len(split) == len(set(split)), rows
@@ -176,34 +196,41 @@ def halved(rng, n, count):
 
 
 def late_pairs():
-    """Split rows that all cross but for two circuits, at each place; and whole rows but for the last two of 496."""
+    """Split rows that all cross but for two circuits, at each place; and whole rows but for the last two of as many as there may be."""
     for k in range(1, 7):
         rows = [(i, i + 6, 3) for i in sorted([*range(1, 7), k])]
         yield (0, 0, k, k + 1), rules.text_of(rules.figures(12, rows, (6, 12), [[3, 3]] * 7, "FBFBFBF"))
-    rows = [(1, 2, 9)] * 494 + [(1, 2, 1)] * 2
-    sent = [[18, 0]] * 247 + [[0, 18]] * 247 + [[1, 1]] * 2
-    yield (0, 0, 495, 496), rules.text_of(rules.figures(2, rows, (1, 2), sent, "F" * 247 + "B" * 247 + "FB"))
+    half = MOST_ROWS // 2 - 1
+    rows = [(1, 2, 9)] * 2 * half + [(1, 2, 1)] * 2
+    sent = [[18, 0]] * half + [[0, 18]] * half + [[1, 1]] * 2
+    yield (0, 0, MOST_ROWS - 1, MOST_ROWS), rules.text_of(rules.figures(2, rows, (1, 2), sent, "F" * half + "B" * half + "FB"))
 
 
 def widest(front):
-    """A sheet with the longest rows that there are, and as many that go F: 249 keep the bound, 250 break it."""
-    rows, sent = [(31, 32, 9999)] * 496, [[10000, 9998], [9998, 10000]] * 248
-    return rules.text_of(rules.figures(32, rows, (1, 31), sent, "F" * front + "B" * (496 - front)))
+    """A sheet with the longest rows that there are, and as many that go F: of 1,024 513 keep the bound, 514 break it."""
+    n = MOST_OFFICES
+    rows, sent = [(n - 1, n, 9999)] * MOST_ROWS, [[10000, 9998], [9998, 10000]] * (MOST_ROWS // 2)
+    return rules.text_of(rules.figures(n, rows, (1, n - 1), sent, "F" * front + "B" * (MOST_ROWS - front)))
+
+
+# how many go F, on both sides of the bound
+FRONTS = (MOST_ROWS // 2, MOST_ROWS // 2 + 1, MOST_ROWS // 2 + 2)
 
 
 def sheets():
-    """Sheets of circuits, ours and other tools', and those of 496 rows and more."""
+    """Sheets of circuits, ours and other tools', and those of as many rows as there may be and more."""
     rule_c_on_circuits()
     yield from asserted([*checked_by_hand(), *late_pairs()])
-    yield from sheets_of_497()
-    for n, rows in tables_of_496():
+    yield from sheets_of_more()
+    for n, rows in tables_of_most() + tables_between():
         yield rules.sheet(n, rows)
-    for front in (248, 249, 250):
-        yield widest(front)
+    bounds = [widest(front) for front in FRONTS]
+    assert [first_reason_of_sheet(text) for text in bounds] == [None, None, (14, 0)]
+    yield from bounds
     yield b"R\t2\t4\n" + b"D\t1\t2\t0\t0\t0\tF\n" * 2340
     rng = random.Random(16)
     for _ in range(16):
-        n = rng.choice([2, 3, 4, 6, 9, 16, 32])
+        n = rng.choice([2, 3, 4, 6, 9, 16, 64])
         for lines in foreign(rng, n, drawn(rng, n, rng.randint(2, 16))):
             yield rules.text_of(lines)
         yield rules.text_of(halved(rng, n, rng.randint(2, 16)))
@@ -214,5 +241,5 @@ def sheets():
 def rewritten_often():
     """Two circuits, the longest sheet that is accepted, and one with a row too many."""
     yield checked_by_hand()[2][1]
-    yield widest(248)
-    yield rules.sheet(2, ((1, 2, 3),) * 497)
+    yield widest(FRONTS[0])
+    yield rules.sheet(2, ((1, 2, 3),) * (MOST_ROWS + 1))

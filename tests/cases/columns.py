@@ -1,11 +1,12 @@
 """Bytes by hand (Rules, the byte): texts with the reason, the line and the byte that they get. Where a field of a good line is spelled otherwise, the byte is stated as so many behind the field's start."""
 import rules
+from judging import MOST_OFFICES, MOST_ROWS
 from matrix import write_matrix
 from pointing import byte_of
 from sheets import good, pairs, places, t, write_table
 
 # spellings of a number, * being the number itself, and how far behind its start the fault is; None is its length
-NUMBERS = [("", 0), (" *", 0), ("* ", None), ("x", 0), ("-1", 0), ("+1", 0), ("*x", None), ("*\r", None), ("*.", None), ("00", 1), ("01", 1), ("007", 1), ("12345678", 7), ("99999999", 7), ("123456789", 7)]
+NUMBERS = [("", 0), (" *", 0), ("* ", None), ("x", 0), ("-1", 0), ("+1", 0), ("*x", None), ("*\r", None), ("*.", None), ("00", 1), ("01", 1), ("007", 1), ("123456789", 8), ("999999999", 8), ("1234567890", 8)]
 # the same of a letter and of a way
 LETTERS = [("", 0), (" *", 0), ("* ", 1), ("**", 1), ("*1", 1), ("X", 0), ("1", 0), ("\0", 0)]
 WAYS = [("", 0), (" *", 0), ("* ", 1), ("FB", 1), ("BF", 1), ("FF", 1), ("f", 0), ("b", 0), ("F\r", 1), ("X", 0), ("0", 0)]
@@ -48,9 +49,9 @@ def misshapen(lines, at, counted=True):
 
 
 def large_sheet():
-    """32 offices, rows of few pairs halved."""
-    rows = [(k, k + 16, 9999) for k in range(1, 17)]
-    return [line.decode().replace("\t", "|") for line in rules.text_of(rules.figures(32, rows, (16, 32), [[9999, 9999]] * 16, "FB" * 8)).splitlines()]
+    """64 offices, rows of few pairs halved."""
+    half, rows = MOST_OFFICES // 2, [(k, k + 32, 9999) for k in range(1, 33, 2)]
+    return [line.decode().replace("\t", "|") for line in rules.text_of(rules.figures(MOST_OFFICES, rows, (half, 2 * half), [[9999, 9999]] * 16, "FB" * 8)).splitlines()]
 
 
 TABLE = ["R|12|4", *("D|%d|%d|%d" % (k, k + 2, 100 * k) for k in range(1, 11))]
@@ -72,15 +73,15 @@ def shapes():
 BEHIND_R = [
     ("D \n", 2, 2), ("DD\n", 2, 2), ("X\n", 1, 1), ("\n", 1, 1), ("D", 2, 2), ("D\n", 2, 2), ("DC|1|2|3\n", 2, 2), ("CD|1|2|3\n", 1, 2), ("C\n", 1, 2), ("C|1|2|\n", 1, 7), ("C|1|2|3", 1, 8), ("L|1|2|3\n", 1, 1),
     ("D|1|2|1|1|1|FB\n", 8, 14), ("D|1|2|1|1|1|F \n", 8, 14), ("D|1|2|1|1|1|f\n", 8, 13), ("D|1|2|1|1|1|\n", 8, 13), ("D|1|2|1|1|1\n", 8, 12), ("D|1|2|1|1|1|F|\n", 8, 14), ("D|1|2|1|1|1|F", 8, 14),
-    ("D|1|2|1\n", 0, 8), ("D|1|2|1", 8, 8), ("D|1|2|1 \n", 8, 8), ("d|1|2|1\n", 1, 1), ("D|12345678|2|1\n", 10, 10), ("D|007|2|1\n", 4, 4),
+    ("D|1|2|1\n", 0, 8), ("D|1|2|1", 8, 8), ("D|1|2|1 \n", 8, 8), ("d|1|2|1\n", 1, 1), ("D|123456789|2|1\n", 11, 11), ("D|007|2|1\n", 4, 4),
 ]
-R_LINES = [("R", 2), ("R\n", 2), ("R|\n", 3), ("R|12345678|4\n", 10), ("R|007|4\n", 4), ("R|00000000\n", 4), ("R|4\n", 4), ("R|4|4", 6), ("R|4|12345678\n", 12), ("R|4|007\n", 6), ("RR|4|4\n", 2), ("X\n", 1), ("\n", 1), ("r|4|4\n", 1)]
+R_LINES = [("R", 2), ("R\n", 2), ("R|\n", 3), ("R|123456789|4\n", 11), ("R|007|4\n", 4), ("R|00000000\n", 4), ("R|4\n", 4), ("R|4|4", 6), ("R|4|123456789\n", 13), ("R|4|007\n", 6), ("RR|4|4\n", 2), ("X\n", 1), ("\n", 1), ("r|4|4\n", 1)]
 # values on the second line of a table, with a sheet's end behind them
 VALUES = [
-    ("D|0|2|1", 4, 3), ("D|1|5|1", 4, 5), ("D|5|1|1", 4, 3), ("D|5|6|1", 4, 3), ("D|0|0|10000", 4, 3), ("D|12345|0|1", 4, 3), ("D|9999999|9999999|1", 4, 3), ("D|3|9999999|10000", 4, 5),
-    ("D|1|2|10000", 7, 7), ("D|3|4|9999999", 7, 7), ("D|2|2|10000", 5, 1), ("D|4|1|1", 5, 1),
+    ("D|0|2|1", 4, 3), ("D|1|5|1", 4, 5), ("D|5|1|1", 4, 3), ("D|5|6|1", 4, 3), ("D|0|0|10000", 4, 3), ("D|12345|0|1", 4, 3), ("D|9999999|9999999|1", 4, 3), ("D|12345678|2|1", 4, 3), ("D|1|12345678|1", 4, 5), ("D|3|9999999|10000", 4, 5),
+    ("D|1|2|10000", 7, 7), ("D|3|4|9999999", 7, 7), ("D|3|4|99999999", 7, 7), ("D|2|2|10000", 5, 1), ("D|4|1|1", 5, 1),
 ]
-RINGS = [("R|1|4", 3, 3), ("R|33|2", 3, 3), ("R|9999999|3", 3, 3), ("R|2|3", 20, 5), ("R|32|0", 20, 6), ("R|32|9999999", 20, 6)]
+RINGS = [("R|1|4", 3, 3), ("R|65|2", 3, 3), ("R|9999999|3", 3, 3), ("R|12345678|4", 3, 3), ("R|2|3", 20, 5), ("R|64|0", 20, 6), ("R|64|9999999", 20, 6), ("R|2|12345678", 20, 5)]
 
 
 def by_hand():
@@ -117,10 +118,11 @@ def others():
     yield from (("4", t(*MATRIX, end="\n" + more), (2, 5, 1)) for more in ("\n", "x", "0|0|0|x\n", MATRIX[0] + "\n"))
     yield from (("4", t(*MATRIX[:at], end="\n" if at else ""), (2, at + 1, 1)) for at in (0, 1, 3))
     yield "4", t("0"), (3, 1, 1)
-    yield "4", t("|".join(["10000"] * 33)), (3, 1, 1)
+    yield "4", t("|".join(["10000"] * (MOST_OFFICES + 1))), (3, 1, 1)
+    yield "4", write_matrix(46, [pair + (1,) for pair in pairs(46)]), (16, 0, 0)
     yield "W", t("R|2|4", "D|1|2|9999", "D|1|2|1"), (19, 3, 1)
     yield "T", t("R|4|4", "D|2|3|1", "D|1|2|10000"), (6, 3, 1)
-    yield "T", write_table(2, [(1, 2, 1)] * 496 + [(1, 2, 10000)]), (16, 498, 1)
+    yield "T", write_table(2, [(1, 2, 1)] * MOST_ROWS + [(1, 2, 10000)]), (16, MOST_ROWS + 2, 1)
     yield "T", b"x" * 32769, (1, 0, 0)
     yield "4", b"0\t" * 16383 + b"0", (2, 1, 32768)
     yield "4", b"0\t" * 16384, (2, 1, 32769)

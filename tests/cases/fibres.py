@@ -1,14 +1,14 @@
 """Fibres by hand (Rules, fibres): what an R line's second number may be and when 20 is given, beside 2, 3 and 1 too; and the size to buy on both sides of each size."""
-from matrix import first_reason_of_matrix
+from matrix import first_reason_of_matrix, write_matrix
 from reading import first_reason, first_reason_of_sheet
-from sheets import t
+from sheets import pairs, t
 
 # the fibres that an R line may say, and what is said of them
-SAID = [("0", 20), ("1", 20), ("2", 0), ("3", 20), ("4", 0), ("5", 20), ("8", 20), ("20", 20), ("22", 20), ("24", 20), ("40", 20), ("9999999", 20)]
+SAID = [("0", 20), ("1", 20), ("2", 0), ("3", 20), ("4", 0), ("5", 20), ("8", 20), ("20", 20), ("22", 20), ("24", 20), ("40", 20), ("9999999", 20), ("99999999", 20)]
 # R lines of four offices by their other faults: 2 comes before 3, and 3 before 20
-MISSHAPEN = ["R|4", "R|4|", "R|4|4|4", "R|4|2|4", "R|4|3|3", "R|4|4|", "R|4||4", "R||4", "R|4|04", "R|4|02", "R|4|00", "R|4|10000000", "R|4|F", "R|4| 4", "R|4|4 ", "R|4|4\r", "R|4|-4",
-             "R|04|4", "R|04|3", "R|33", "R|1", "R|33|03", "R|1|4|4", "R|33|3|3", "r|4|3"]
-RING_SIZES = ["0", "1", "33", "9999999"]
+MISSHAPEN = ["R|4", "R|4|", "R|4|4|4", "R|4|2|4", "R|4|3|3", "R|4|4|", "R|4||4", "R||4", "R|4|04", "R|4|02", "R|4|00", "R|4|100000000", "R|4|F", "R|4| 4", "R|4|4 ", "R|4|4\r", "R|4|-4",
+             "R|04|4", "R|04|3", "R|65", "R|1", "R|65|03", "R|1|4|4", "R|65|3|3", "r|4|3"]
+RING_SIZES = ["0", "1", "65", "99999999"]
 # an unsplit peak, and the size for it with four fibres and with two: each side of each size
 SIDES = [(0, 3, 3), (1, 3, 3), (2, 3, 12), (3, 3, 12), (4, 12, 12), (6, 12, 12), (7, 12, 48), (12, 12, 48), (13, 48, 48), (24, 48, 48), (25, 48, 192), (48, 48, 192), (49, 192, 192), (96, 192, 192),
          (97, 192, 768), (192, 192, 768), (193, 768, 768), (384, 768, 768), (385, 768, 0), (768, 768, 0), (769, 0, 0), (9999, 0, 0)]
@@ -18,7 +18,7 @@ def r_lines():
     """R lines, and the reason that each is given."""
     yield from (("R|4|" + fibres, reason) for fibres, reason in SAID)
     yield from ((line, 2) for line in MISSHAPEN)
-    yield from (("R|%s|%s" % (n, fibres), 3) for n in RING_SIZES for fibres in ("2", "3", "4", "9999999"))
+    yield from (("R|%s|%s" % (n, fibres), 3) for n in RING_SIZES for fibres in ("2", "3", "4", "99999999"))
 
 
 def stated(reason_of, reply, text):
@@ -56,10 +56,11 @@ def of_sides():
 
 
 def matrices():
-    """The fibres that a reader is told, and matrices that are good or get 1, 2, 3, 7, 17 or 18 with 2 and 4: with any other number it is 20, first of all."""
+    """The fibres that a reader is told, and matrices that are good or get 1, 2, 3, 7, 17, 18 or 16 with 2 and 4: with any other number it is 20, first of all."""
     texts = [
         (t("0|7", "7|0"), None), (b"x" * 32769, (1, 0)), (b"", (2, 1)), (t("0|x", "7|0"), (2, 1)), (t("0|7", "7"), (2, 2)), (t("R|2|4", "D|1|2|7"), (2, 1)),
-        (t("0"), (3, 1)), (t("|".join("0" * 33)), (3, 1)), (t("0|10000", "7|0"), (7, 1)), (t("0|7", "7|1"), (17, 2)), (t("0|7", "8|0"), (18, 1)),
+        (t("0"), (3, 1)), (t("|".join("0" * 65)), (3, 1)), (t("0|10000", "7|0"), (7, 1)), (t("0|7", "7|1"), (17, 2)), (t("0|7", "8|0"), (18, 1)),
+        (write_matrix(46, [pair + (1,) for pair in pairs(46)]), (16, 0)),
     ]
     for text, reply in texts:
         for fibres in range(10):

@@ -5,7 +5,7 @@ import collections
 
 import rules
 
-MOST_ROWS = 496
+FEWEST_OFFICES, MOST_OFFICES, MOST_ROWS = 2, 64, 1024
 # by rising number, but 16 stands between 6 and 7 and 20 behind 3 (Rules, the order of reasons)
 ORDER = (1, 2, 3, 20, 4, 5, 6, 16, 7, 8, 9, 10, 11, 12, 13, 14)
 
@@ -15,7 +15,7 @@ Values = collections.namedtuple("Values", "n fibres rows cut links last")
 
 def of_ring(n, fibres):
     """3 and 20, which speak of the number of offices and of fibres."""
-    return {3: not 2 <= n <= 32, 20: fibres not in (2, 4)}
+    return {3: not FEWEST_OFFICES <= n <= MOST_OFFICES, 20: fibres not in (2, 4)}
 
 
 def of_row(n, before, place, row):

@@ -14,6 +14,7 @@ import matrices
 import matrix
 import rules
 import sheets
+from judging import MOST_OFFICES, MOST_ROWS
 from pointing import byte_of
 from reading import FORM, Sheet, first_reason, first_reason_of_sheet, holding, line_by_line, lines_of, rewritten
 from sheets import damaged, full, pairs, t, write_table
@@ -77,8 +78,8 @@ def refusals():
     yield t(*good)
     bad = {
         "shape": ["", " ", "D", "D|", "D|1", "D|1|2", "D|1|2|", "D|1|2|3|", "D|1|2|3|4", "d|1|2|3", "D 1 2 3", "D|1|2|3 ", "D|1|2|3\r", "D||1|2", "D|1||2", "D|01|2|3", "D|1|02|3",
-                  "D|1|2|00", "D|1|2|+3", "D|1|2|-3", "D|1|2|3x", "D|1|2|12345678", "D|1|2|00000001", "R|9|4", "C|1|2|3", "L|1|2|3", "Z|1|2", "D|1|2|3\0", "\0", "DD|1|2|3"],
-        "values": ["D|0|2|3", "D|1|0|1", "D|9|0|1", "D|1|10|3", "D|5|2|10000", "D|10|11|3", "D|0|0|0", "D|9|9|1", "D|4|3|1", "D|1|2|10000", "D|1|2|9999999", "D|9999999|1|1", "D|8|8|10000", "D|1|1|1"],
+                  "D|1|2|00", "D|1|2|+3", "D|1|2|-3", "D|1|2|3x", "D|1|2|123456789", "D|1|2|000000001", "R|9|4", "C|1|2|3", "L|1|2|3", "Z|1|2", "D|1|2|3\0", "\0", "DD|1|2|3"],
+        "values": ["D|0|2|3", "D|1|0|1", "D|9|0|1", "D|1|10|3", "D|5|2|10000", "D|10|11|3", "D|0|0|0", "D|9|9|1", "D|4|3|1", "D|1|2|10000", "D|1|2|9999999", "D|1|2|99999999", "D|9999999|1|1", "D|99999999|1|1", "D|8|8|10000", "D|1|1|1"],
     }
     for kind in bad.values():
         for b in kind:
@@ -103,10 +104,10 @@ def single_faults():
     good = [(k, k + 2, 100 * k) for k in range(1, n - 1)]
     for k in (1, 5, len(good)):
         faults = {
-            4: [(k, n + 1, 1), (k, 9999999, 1)],
+            4: [(k, n + 1, 1), (k, 9999999, 1), (k, 99999999, 1)],
             5: [(k, k, 1), (k + 1, k, 1)],
             6: [(k - 1, k, 1), (k - 2, n, 1)],
-            7: [(k, k + 2, 10000), (k, k + 2, 9999999)],
+            7: [(k, k + 2, 10000), (k, k + 2, 9999999), (k, k + 2, 99999999)],
             # the nodes of the row before
             None: [(k - 1, k + 1, 1)],
         }
@@ -122,8 +123,8 @@ def single_faults():
 
 def rings():
     """The first line, and its limits from both sides."""
-    for r in ["", "R", "R|", "R|0|4", "R|1|4", "R|2|4", "R|32|4", "R|33|4", "R|9999999|4", "R|10000000|4", "R|02|4", "R|2", "R|2|", "R|2|04", "R|2|4|4", "R|2|4|M", "r|2|4", "R 2 4", "R|2 4", "R|2|4 ", " R|2|4", "X|2|4", "D|1|2|3",
-              "R|-2|4", "R||2|4", "R|2||4", "\tR|2|4", "R|2|2", "R|32|2", "R|2|0", "R|2|1", "R|2|3", "R|2|5", "R|2|24", "R|2|9999999", "R|2|10000000", "R|1|3", "R|33|3", "R|33|2", "R|4|0"]:
+    for r in ["", "R", "R|", "R|0|4", "R|1|4", "R|2|4", "R|32|4", "R|33|4", "R|64|4", "R|65|4", "R|9999999|4", "R|10000000|4", "R|99999999|4", "R|100000000|4", "R|02|4", "R|2", "R|2|", "R|2|04", "R|2|4|4", "R|2|4|M", "r|2|4", "R 2 4", "R|2 4", "R|2|4 ", " R|2|4", "X|2|4", "D|1|2|3",
+              "R|-2|4", "R||2|4", "R|2||4", "\tR|2|4", "R|2|2", "R|64|2", "R|2|0", "R|2|1", "R|2|3", "R|2|5", "R|2|24", "R|2|9999999", "R|2|99999999", "R|2|100000000", "R|1|3", "R|65|3", "R|65|2", "R|4|0"]:
         yield t(r)
         yield t(r, end="")
         yield t(r, "D|1|2|1")
@@ -131,7 +132,7 @@ def rings():
     yield b"\n"
     yield b"R"
     yield t("R|4|4", "D|5|2|10000")
-    for n in (1, 2, 32, 33):
+    for n in (1, 2, 33, 64, 65):
         yield t("R|%d|4" % n, "D|1|2|9999")
         yield t("R|%d|4" % n, "D|1|2|10000")
         yield t("R|%d|4" % n, "D|1|%d|1" % n)
@@ -145,9 +146,9 @@ def rings():
 
 def longest():
     """Texts of exactly 32,768 and 32,769 bytes and of more, of good lines and of bad ones."""
-    body = full(32, lambda k: 9999)
+    body = full(MOST_OFFICES, lambda k: 9999)
     for size in (32768, 32769):
-        yield body + b"D\t31\t32\t9999\n" * ((size - len(body)) // 13) + b"q" * ((size - len(body)) % 13)
+        yield body + b"D\t63\t64\t9999\n" * ((size - len(body)) // 13) + b"q" * ((size - len(body)) % 13)
         yield b"\n" * size
     yield (b"R\t4\t4\n" + b"x" * ROOM)[:ROOM]
 
@@ -164,11 +165,11 @@ def all_cases():
     for text in longest():
         yield text, ROOM
     square = t("R|4|4", "D|1|3|1", "D|2|4|1")
-    for text in (t("R|2|4"), square, full(20, lambda k: k * 37 % 10000), full(32, lambda k: k * 7919 % 10000), full(32, lambda k: (0, 1, 9999)[k % 3])):
+    for text in (t("R|2|4"), square, full(20, lambda k: k * 37 % 10000), full(32, lambda k: k * 7919 % 10000), full(MOST_OFFICES, lambda k: (0, 1, 9999)[k % 3])):
         yield from rooms(text)
     rng = random.Random(2026)
     for k in range(400):
-        n = rng.choice([2, 3, 5, 8, 16, 20, 32, 32])
+        n = rng.choice([2, 3, 5, 8, 16, 32, 64, 64])
         rows = [p + (rng.choice([0, 1, rng.randrange(10000), 9999]),) for p in pairs(n) if rng.random() < rng.choice([0.05, 0.3, 1.0])]
         text = write_table(n, rows)
         if len(text) > 1500 and k % 8:
@@ -176,7 +177,7 @@ def all_cases():
         yield by_chance(rng, k, text)
     for text in circuits.tables():
         yield text, ROOM
-    for text in [*(text for text, _ in circuits.routed_by_hand()), write_table(32, [(31, 32, 9999)] * 496)]:
+    for text in [*(text for text, _ in circuits.routed_by_hand()), write_table(MOST_OFFICES, [(63, 64, 9999)] * MOST_ROWS)]:
         yield from rooms(text)
     for k, (n, rows) in enumerate(circuits.small_tables(rng)):
         yield by_chance(rng, k, write_table(n, rows))
@@ -190,7 +191,7 @@ def by_chance(rng, k, text):
 
 
 def to_route():
-    """Tables to route: the stated cases with their figures (Rules, stated cases), refusals, and full rings of 20 and 32 offices, with buffers of every kind."""
+    """Tables to route: the stated cases with their figures (Rules, stated cases), refusals, and full rings of 20, 32 and 64 offices, with buffers of every kind."""
     stated = [
         (t("R|4|4", "D|1|3|1", "D|2|4|1"), t("C|1|3|2", "L|1|2|2", "L|2|2|1", "L|3|2|0", "L|4|2|1", "Z|2|3")),
         (t("R|2|4"), t("C|1|2|0", "L|1|0|0", "L|2|0|0", "Z|0|3")),
@@ -210,18 +211,18 @@ def to_route():
         assert part in written("R", text), text
         for room in around(text):
             yield text, room
-    for text in ("R|1|4", "R|33|4", "R|32|4", "R|4|4\nD|5|2|10000", "R|4|4\nD|1|2|9999", "R|4|4\nD|1|2|10000", "R|4|4\nD|1|2|0", "R|4|4\nD|1|2|1\nD|1|2|1", "R|4|4\nD|2|1|1"):
+    for text in ("R|1|4", "R|65|4", "R|64|4", "R|33|4", "R|4|4\nD|5|2|10000", "R|4|4\nD|1|2|9999", "R|4|4\nD|1|2|10000", "R|4|4\nD|1|2|0", "R|4|4\nD|1|2|1\nD|1|2|1", "R|4|4\nD|2|1|1"):
         yield t(text), 200
     yield b"", 200
     yield b"\n" * 32769, ROOM
     rng = random.Random(496)
-    for text in [*sheets.full_tables(rng), *(write_table(n, rows) for n, rows in circuits.tables_of_496())]:
+    for text in [*sheets.full_tables(rng), *(write_table(n, rows) for n, rows in circuits.tables_of_most() + circuits.tables_between())]:
         for room in around(text):
             yield text, room
     for n, rows in itertools.chain(thin_tables(rng), circuits.small_tables(rng)):
         text = write_table(n, rows)
         yield text, rng.choice([ROOM, *around(text)])
-    for n, rows in circuits.tables_of_496():
+    for n, rows in circuits.tables_of_most():
         yield write_table(n, rows + rows[-1:]), ROOM
     for text in itertools.islice(circuits.tables(), 0, None, 4):
         yield text, ROOM
@@ -265,7 +266,7 @@ def of_sheets():
 
 def of_matrices():
     """Matrices to read and tables to write; among these some of each kind of refused table."""
-    return matrices.cases([*itertools.islice(refusals(), 0, None, 5), *single_faults(), *itertools.islice(rings(), 0, None, 3), *longest(), *circuits.tables_of_497()], ROOM)
+    return matrices.cases([*itertools.islice(refusals(), 0, None, 5), *single_faults(), *itertools.islice(rings(), 0, None, 3), *longest(), *circuits.tables_of_more()], ROOM)
 
 
 def main():

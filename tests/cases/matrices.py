@@ -3,8 +3,9 @@ there and back."""
 import itertools
 import random
 
+from judging import MOST_OFFICES, MOST_ROWS
 from matrix import first_reason_of_matrix, first_reason_of_sums, rows_of, table_values, write_matrix
-from sheets import damaged, full, pairs, shown, t, write_table
+from sheets import damaged, full, pairs, shown, spread, t, write_table
 
 # six offices, every entry its own, so that no two lines or columns can be taken for each other
 N = 6
@@ -36,7 +37,7 @@ def reads(reply, matrix):
 def misspelled():
     """2 on the first, a middle and the last line, in the first, a middle and the last field: a field that spells no number."""
     for i, j in itertools.product((1, 3, N), repeat=2):
-        for bad in ("", " ", "x", "00", "01", "+1", "-1", "1 ", " 1", "1.", "1\r", "\0", "12345678", "00000001", "1||1"):
+        for bad in ("", " ", "x", "00", "01", "+1", "-1", "1 ", " 1", "1.", "1\r", "\0", "123456789", "000000001", "1||1"):
             yield reads((2, i), edited((i, j, bad)))
 
 
@@ -66,31 +67,35 @@ def misshapen():
 
 def many_fields():
     """The first line with as many fields as a text can have: 3 where all are well spelled, 2 where the last is not, and 1 for a byte too many."""
-    for count in (33, 34, 1000, 16384):
+    for count in (65, 66, 1000, 16384):
         zeros = b"0\t" * (count - 1)
         yield reads((3, 1), zeros + b"0\n")
         yield reads((2, 1), zeros + b"\n")
         yield reads((2, 1), zeros + b"0")
-    for count in (33, 1000, 5000):
+    for count in (65, 1000, 5000):
         yield reads((3, 1), b"0\t" * (count - 1) + b"10000\n")
-        yield reads((3, 1), b"0\t" * (count - 1) + b"9999999\n")
-        yield reads((2, 1), b"0\t" * (count - 1) + b"10000000\n")
+        yield reads((3, 1), b"0\t" * (count - 1) + b"99999999\n")
+        yield reads((2, 1), b"0\t" * (count - 1) + b"100000000\n")
     yield reads((1, 0), b"0\t" * 16384 + b"0\n")
     yield reads((1, 0), b"0\t" * 16383 + b"00\n")
     yield reads((2, 1), b"0\t" * 16382 + b"000\n")
     yield reads((3, 1), b"1\n" + b"1\n" * 5)
-    # 32 fields, but far more lines; and each field of 7 digits
-    yield reads((2, 33), (b"0\t" * 31 + b"0\n") * 512)
-    yield reads((1, 0), (b"0\t" * 31 + b"0\n") * 512 + b"0")
-    yield reads((7, 1), (b"9999999\t" * 31 + b"9999999\n") * 32)
+    # 64 fields, but far more lines; each field of 7 digits, which is as long as a text may be; of 8; and 45 and 46 of 8
+    yield reads((2, 65), (b"0\t" * 63 + b"0\n") * 256)
+    yield reads((1, 0), (b"0\t" * 63 + b"0\n") * 256 + b"0")
+    yield reads((7, 1), (b"9999999\t" * 63 + b"9999999\n") * 64)
+    yield reads((1, 0), (b"99999999\t" * 63 + b"99999999\n") * 64)
+    yield reads((7, 1), (b"99999999\t" * 44 + b"99999999\n") * 45)
+    yield reads((2, 1), (b"99999999\t" * 44 + b"100000000\n") * 45)
 
 
 def ring_sizes():
-    """n on both sides of its limits, all zeros, all one amount, and a single fault in the last line."""
-    for n in (1, 2, 3, 31, 32, 33):
-        reply = None if 2 <= n <= 32 else (3, 1)
+    """n on both sides of its limits, and of where all pairs are too many rows, all zeros, all one amount, and a single fault in the last line."""
+    for n in (1, 2, 3, 32, 33, 45, 46, 63, 64, 65):
+        reply = None if 2 <= n <= 64 else (3, 1)
         for amount in (0, 1, 9999):
-            yield reads(reply, write_matrix(n, [pair + (amount,) for pair in pairs(n)]))
+            many = amount > 0 and len(pairs(n)) > MOST_ROWS
+            yield reads(reply or ((16, 0) if many else None), write_matrix(n, [pair + (amount,) for pair in pairs(n)]))
         zeros = [["0"] * n for _ in range(n)]
         for new, fault in (("10000", 7), ("1", 17), ("x", 2)):
             wrong = [line[:] for line in zeros]
@@ -126,7 +131,7 @@ def two_faults():
         yield reads((reason, line) if of_lines else (2, N + 1), text(square + square[-1:]))
         yield reads((reason, line) if of_lines and line < N else (2, N), text(square[:-1]))
         yield reads((reason, line) if of_lines and line == 1 else (2, 2), text([square[0] + ["0"]] + square[1:]))
-        yield reads((2, 1) if (reason, line) == (2, 1) else (3, 1), text([square[0] + ["0"] * 27] + square[1:]))
+        yield reads((2, 1) if (reason, line) == (2, 1) else (3, 1), text([square[0] + ["0"] * (MOST_OFFICES + 1 - N)] + square[1:]))
     yield reads((1, 0), edited(*(fault[:3] for fault in FAULTS)) + b"0\n" * 16384)
 
 
@@ -153,10 +158,10 @@ def mirrored():
 
 
 def large():
-    """20 and 32 offices: accepted, and one fault, or two, on first, middle and last lines."""
+    """20, 32 and 64 offices: accepted, and one fault, or two, on first, middle and last lines."""
     rng = random.Random(17)
-    for n in (20, 32):
-        rows = [pair + (rng.choice((0, 1, 9999, rng.randrange(10000))),) for pair in pairs(n)]
+    for n in (20, 32, 64):
+        rows = [pair + (rng.choice((0, 1, 9999, rng.randrange(10000))),) for pair in spread(n)]
         good = [line.split("|") for line in shown(write_matrix(n, rows))]
         yield reads(None, text(good))
         for i, j in ((1, 1), (1, n), (2, n - 1), (n // 2, n // 2), (n // 2, n), (n, 1), (n, n // 2), (n, n - 1), (n, n)):
@@ -170,6 +175,37 @@ def large():
         yield reads((7, n), text(wrong))
 
 
+def too_many():
+    """As many rows as there may be, and one more, on 64 offices and on the fewest that make so many: 16 is tried when no entry is faulty, and has no line."""
+    for n, count in itertools.product((46, MOST_OFFICES), (MOST_ROWS - 1, MOST_ROWS, MOST_ROWS + 1, len(pairs(46)))):
+        # all in the first lines, all in the last, and spread
+        chosen = [pairs(n)[:count], pairs(n)[-count:], [pairs(n)[k * len(pairs(n)) // count] for k in range(count)]]
+        for some in chosen:
+            yield reads((16, 0) if count > MOST_ROWS else None, write_matrix(n, [pair + (1 + (pair[0] * 7 + pair[1]) % 9,) for pair in some]))
+    n, every = MOST_OFFICES, pairs(MOST_OFFICES)
+    for rows, last in ((every, every[-1]), (spread(n) + every[-1:], every[-1])):
+        good = [line.split("|") for line in shown(write_matrix(n, [pair + (1,) for pair in rows]))]
+        i, j = last
+        # what is read before it, a fault on the last lines, and what takes an entry away
+        for edits, reply in [
+            ([(n, n, "x")], (2, n)), ([(n, n, "10000")], (7, n)), ([(n, n, "1")], (17, n)), ([(1, 1, "1")], (17, 1)), ([(i, j, "2")], (18, i)), ([(j, i, "0")], (18, i)), ([(j, i, "2"), (n, n, "1")], (18, i)),
+            ([(n - 2, n - 1, "0"), (n, n, "123456789")], (2, n)), ([(i, j, "9999"), (j, i, "9999")], (16, 0)),
+        ]:
+            wrong = [line[:] for line in good]
+            for line, field, new in edits:
+                wrong[line - 1][field - 1] = new
+            yield reads(reply, text(wrong))
+        yield reads((2, n), text(good[:-1]))
+        yield reads((2, n), text(good, end=""))
+        yield reads((2, n + 1), text(good + good[-1:]))
+    # 1,025 rows, of which one is taken away; zeros are no rows
+    rows = {pair: 5 for pair in spread(n)}
+    more = [pair for pair in every if pair not in rows][::200]
+    for pair in more:
+        yield reads((16, 0), write_matrix(n, [one + (5,) for one in sorted([*rows, pair])]))
+        yield reads(None, write_matrix(n, [one + (5,) for one in sorted([*rows, pair]) if one != spread(n)[500]]))
+
+
 def drawn(rng):
     """Random matrices, three out of four damaged."""
     for k in range(150):
@@ -180,7 +216,7 @@ def drawn(rng):
 
 
 def matrices():
-    return [*misspelled(), *misshapen(), *many_fields(), *ring_sizes(), *two_faults(), *mirrored(), *large(), *drawn(random.Random(18))]
+    return [*misspelled(), *misshapen(), *many_fields(), *ring_sizes(), *two_faults(), *mirrored(), *large(), *too_many(), *drawn(random.Random(18))]
 
 
 def sums_to(total, count):
@@ -217,21 +253,21 @@ def sums_and_others():
         yield writes((reason, 5), t("R|6|4", *passes, "D|2|3|5", bad, "D|5|6|1"))
     yield writes((7, 3), t("R|6|4", "D|2|3|9999", "D|2|3|10000"))
     yield writes((2, 3), t("R|6|4", *passes, end=""))
-    yield writes((3, 1), t("R|33|4", *passes))
+    yield writes((3, 1), t("R|65|4", *passes))
     yield writes((19, 3), t("R|6|4", *passes, "D|3|4|9999", "D|3|4|9999"))
     yield writes(None, t("R|6|4", "D|2|3|9999", "D|2|4|1", "D|3|4|9999"))
-    # the least amounts of which 496 pass, and the largest of which they do not; and a row too many
-    for d, reply in ((20, None), (21, (19, 478))):
-        yield writes(reply, write_table(2, [(1, 2, d)] * 496))
-        yield writes((16, 498), write_table(2, [(1, 2, d)] * 497))
-    yield writes(None, write_table(2, [(1, 2, 0)] * 495 + [(1, 2, 9999)]))
-    yield writes((19, 497), write_table(2, [(1, 2, 1)] + [(1, 2, 0)] * 494 + [(1, 2, 9999)]))
+    # the largest amounts of which 1,024 pass, and the least of which they do not; and a row too many
+    for d, reply in ((9, None), (10, (19, 1001))):
+        yield writes(reply, write_table(2, [(1, 2, d)] * MOST_ROWS))
+        yield writes((16, MOST_ROWS + 2), write_table(2, [(1, 2, d)] * (MOST_ROWS + 1)))
+    yield writes(None, write_table(2, [(1, 2, 0)] * (MOST_ROWS - 1) + [(1, 2, 9999)]))
+    yield writes((19, MOST_ROWS + 1), write_table(2, [(1, 2, 1)] + [(1, 2, 0)] * (MOST_ROWS - 2) + [(1, 2, 9999)]))
 
 
 def drawn_circuits(rng):
     """Several circuits a pair, on rings of every size, few of them passing."""
     for k in range(60):
-        n = rng.choice([2, 3, 5, 9, 16, 32])
+        n = rng.choice([2, 3, 5, 9, 16, 64])
         top = rng.choice([0, 3, 900, 4000])
         rows = [pair + (rng.randint(0, top),) for pair in sorted(rng.choices(pairs(n), k=rng.randint(0, 24)))]
         table = write_table(n, rows)
@@ -239,8 +275,9 @@ def drawn_circuits(rng):
     for top in (3, 4999, 9999):
         few = rng.sample(pairs(20), 150)
         yield write_table(20, [pair + (rng.randint(0, top),) for pair in sorted(pairs(20) + few)])
-    yield full(32, lambda k: 9999)
-    yield full(32, lambda k: (0, 1, 9999)[k % 3])
+    for n in (32, MOST_OFFICES):
+        yield full(n, lambda k: 9999)
+        yield full(n, lambda k: (0, 1, 9999)[k % 3])
 
 
 def stated():
@@ -292,7 +329,7 @@ def cases(refused_tables, most):
     # 15 comes last: the first text of each reason into no room at all, then all rooms for good texts small and large
     yield from (("4", matrix, 0) for matrix in firsts(read, first_reason_of_matrix))
     yield from (("W", table, 0) for table in firsts(tables, first_reason_of_sums))
-    for matrix in [*by_hand, edited(), write_matrix(32, []), write_matrix(32, [pair + (9999,) for pair in pairs(32)]), *accepted[-6:]]:
+    for matrix in [*by_hand, edited(), write_matrix(MOST_OFFICES, []), write_matrix(MOST_OFFICES, [pair + (9999,) for pair in spread(MOST_OFFICES)]), *accepted[-6:]]:
         table = write_table(*rows_of(matrix))
         yield from (("4", matrix, room) for room in rooms(len(table), most))
         yield from (("W", table, room) for room in rooms(len(matrix), most))
@@ -301,7 +338,7 @@ def cases(refused_tables, most):
         yield fibres, matrix, (most, 0)[fibres == "3"]
     # a table of two fibres loses them on the way to its matrix
     yield from (("W", write_table(*rows_of(matrix), fibres), most) for matrix in by_hand for fibres in (2, 3, 4))
-    for table in [*circuits, write_table(2, [(1, 2, 20)] * 496)]:
+    for table in [*circuits, write_table(2, [(1, 2, 9)] * MOST_ROWS)]:
         yield from (("W", table, room) for room in rooms(len(write_matrix(*table_values(table))), most))
 
 

@@ -1,4 +1,5 @@
 """A matrix, read from the rule alone (Rules, matrices): which refusal it gets, the table that it is read into, and the matrix that a table is written as."""
+import judging
 from reading import LONGEST, fields, first_of, first_reason, lines_of, number, those
 
 
@@ -21,7 +22,7 @@ class Matrix:
         said = self.lines[at - 1] if there else None
         if said is None or not due or len(said) != self.n:
             return {2} if there or due else set()
-        return those({3: at == 1 and not 2 <= self.n <= 32, 7: any(entry > 9999 for entry in said)})
+        return those({3: at == 1 and judging.of_ring(self.n, 4)[3], 7: any(entry > 9999 for entry in said)})
 
     def faulty(self):
         """Line, field and reason of each entry that is not as it should be, of a matrix whose lines all pass."""
@@ -32,26 +33,32 @@ class Matrix:
                 if entry != self.lines[j][i]:
                     yield i + 1, j + 1, 18
 
+    def rows(self):
+        """A row for each pair whose entry is above 0."""
+        nodes = range(1, self.n + 1)
+        rows = [(i, j, self.lines[i - 1][j - 1]) for i in nodes for j in nodes if i < j]
+        return [row for row in rows if row[2] > 0]
+
 
 def first_reason_of_matrix(text, fibres=4):
     """The reason that a matrix gets, and its line: 20 of the fibres that its reader is told, 1, then what holds of lines, then the first faulty entry in
-    reading order."""
+    reading order, then 16 where it makes too many rows."""
     if fibres not in (2, 4):
         return 20, 0
     if len(text) > LONGEST:
         return 1, 0
     matrix = Matrix(text)
     held = {(at, reason) for at in range(1, len(matrix.lines) + 2) for reason in matrix.holding(at)}
-    line, _, reason = (0, 0, None) if held else min(matrix.faulty(), default=(0, 0, None))
-    return first_of(held) or reason and (reason, line)
+    if held:
+        return first_of(held)
+    line, _, reason = min(matrix.faulty(), default=(0, 0, None))
+    return (reason, line) if reason else (16, 0) if len(matrix.rows()) > judging.MOST_ROWS else None
 
 
 def rows_of(text):
-    """The ring of an accepted matrix and a row for each pair whose entry is above 0."""
+    """The ring of an accepted matrix and its rows."""
     matrix = Matrix(text)
-    nodes = range(1, matrix.n + 1)
-    rows = [(i, j, matrix.lines[i - 1][j - 1]) for i in nodes for j in nodes if i < j]
-    return matrix.n, [row for row in rows if row[2] > 0]
+    return matrix.n, matrix.rows()
 
 
 def table_values(text):

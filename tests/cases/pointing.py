@@ -3,9 +3,9 @@ pattern of its shape has, of a field by where it starts."""
 import re
 
 from matrix import Matrix
-from reading import SHEET, Sheet, fields, lines_of
+from reading import DIGITS, SHEET, Sheet, fields, lines_of
 
-NUMBER = rb"(?:0|[1-9][0-9]{0,6})"
+NUMBER = rb"(?:0|[1-9][0-9]{0,%d})" % (DIGITS - 1)
 
 
 def beginnings(*parts):

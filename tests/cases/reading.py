@@ -4,7 +4,7 @@ import judging
 import rules
 from judging import ORDER, Values
 
-LONGEST = 32768
+LONGEST, DIGITS = 32768, 8
 # what reading gives; all else is found against what was read
 FORM = {1, 2, 3, 20, 4, 5, 6, 16, 7}
 # what follows the letter of a sheet's line: numbers, and for a row its way
@@ -13,7 +13,7 @@ SHEET = {"R": 2, "D": 5, "C": 3, "L": 3, "Z": 2}
 
 def number(field):
     """The number that a field spells; None where it is badly spelled."""
-    bad = not 1 <= len(field) <= 7 or any(c not in b"0123456789" for c in field) or (field[:1] == b"0" and field != b"0")
+    bad = not 1 <= len(field) <= DIGITS or any(c not in b"0123456789" for c in field) or (field[:1] == b"0" and field != b"0")
     return None if bad else int(field)
 
 
@@ -122,7 +122,7 @@ class Sheet:
         if letter == "D":
             before = self.said(at - 1) if at > 2 else None
             return of_row(self.ring, before, at, said) | those(judging.of_figures(said))
-        return self.false(at, said) if self.known and 1 <= self.ring[0] <= 32 else set()
+        return self.false(at, said) if self.known and 1 <= self.ring[0] <= judging.MOST_OFFICES else set()
 
     def false(self, at, said):
         """10, 11 and 12, of a line behind rows that all have their shape."""

@@ -12,7 +12,7 @@ import circuits
 import judging
 import rules
 import sheets
-from judging import Values
+from judging import MOST_OFFICES, MOST_ROWS, Values
 from reading import FORM, Sheet, first_reason_of_sheet
 
 # no text can spell them: the largest number of 32 bits, and others that would pass if high bits were lost
@@ -85,7 +85,7 @@ def stated():
     row = {4: dict(second=n + 1), 5: dict(first=5), 6: dict(first=1, second=2), 7: dict(amount=10000), 8: dict(front=20), 9: dict(front=0, back=10)}
     yield (0, 0), SQUARE
     yield (0, 0), x
-    for size in (0, 1, 33, 2**32 - 1):
+    for size in (0, 1, 65, 2**32 - 1):
         yield (3, 0), x._replace(n=size, fibres=3)
     for fibres in (0, 1, 3, 5, 2**31 + 4, 2**32 - 1):
         yield (20, 0), with_row(x, 1, first=0)._replace(fibres=fibres)
@@ -97,9 +97,9 @@ def stated():
         yield (11, place), with_link(x, place, link=0)
         yield (11, place), with_link(x, place, split=1)
         yield (11, place), with_link(x, place, unsplit=x.links[place - 1][2] + 1)
-    many = Values(2, 4, ((1, 2, 0, 0, 0, 0),) * 497, (1, 2, 0), ((1, 0, 0), (2, 0, 0)), (0, 3))
-    yield (16, 497), many
-    yield (0, 0), many._replace(rows=many.rows[:496])
+    many = Values(2, 4, ((1, 2, 0, 0, 0, 0),) * (MOST_ROWS + 1), (1, 2, 0), ((1, 0, 0), (2, 0, 0)), (0, 3))
+    yield (16, MOST_ROWS + 1), many
+    yield (0, 0), many._replace(rows=many.rows[:-1])
     # 13 and 14: the stated sheets
     yield (13, 0), of_text(sheets.stated()[9][1])
     yield (14, 0), of_text(sheets.stated()[10][1])
@@ -168,39 +168,39 @@ def huge():
 
 
 def counts():
-    """Of links 0, one too few, one too many and many more, with and without other faults; of rows 0, 496, 497 and 5,000."""
+    """Of links 0, one too few, one too many and many more, with and without other faults; of rows none."""
     x = good()
     n = x.n
     for links in ((), x.links[:-1], x.links[:1], x.links[1:], x.links + x.links[-1:], x.links + ((n + 1, 0, 0),), x.links * 100):
         odd = x._replace(links=links)
-        yield from (odd, with_last(odd, size=3), with_cut(odd, across=1), with_cut(odd, g=0), with_row(odd, len(x.rows), front=3), odd._replace(n=33), odd._replace(fibres=3))
+        yield from (odd, with_last(odd, size=3), with_cut(odd, across=1), with_cut(odd, g=0), with_row(odd, len(x.rows), front=3), odd._replace(n=65), odd._replace(fibres=3))
         if links:
             yield with_link(odd, 1, split=1)
-    for size in (2, 20, 32):
+    for size in (2, 20, 32, 33, 64):
         empty = held(rules.figures(size, [], (1, 2), [], []))
         yield from (empty, empty._replace(links=()), empty._replace(links=empty.links[:-1]), empty._replace(links=empty.links + empty.links), with_cut(empty, h=size), with_cut(empty, across=1))
     yield from (Values(2, 4, (), (1, 2, 0), (), (0, 3)), Values(0, 0, (), (0, 0, 0), (), (0, 0)), Values(2, 4, (), (0, 0, 0), (), (0, 0)))
 
 
 def many_rows():
-    """Values of 496 rows, 497 and 5,000: 16 of the 497th, which is 4, 5 or 6 where these hold, and comes before 7, 8 and 9; and what stands before it."""
-    rows = [(1, 2, 1)] * 100 + [(1, 3, 0)] * 100 + [(2, 3, 1)] * 296
-    x = of_text(rules.sheet(3, tuple(rows)))
+    """Values of as many rows as there may be, of one more, and of 5,000: 16 of the first too many, which is 4, 5 or 6 where these hold, and comes before 7, 8 and 9; and what stands before it."""
+    x = of_text(rules.sheet(3, tuple(circuits.LAST)))
     last = x.rows[-1]
     ends = [last, (2, 3, 10000, 20000, 0, 0), (2, 3, 1, 1, 2, 1), (2, 3, 1, 2, 0, 1), (2, 3, 4000000000, 4000000000, 4000000000, 7), (1, 3, 1, 2, 0, 0), (1, 3, 10000, 0, 1, 0), (3, 3, 1, 2, 0, 0), (2, 4, 1, 2, 0, 0),
             (0, 3, 10000, 0, 0, 1), (3, 2, 10000, 0, 0, 1), (4000000000, 4000000000, 0, 0, 0, 0)]
     yield x
     for end in ends:
-        for more in (1, 2, 4504):
+        for more in (1, 2, 5000 - MOST_ROWS):
             yield x._replace(rows=x.rows + (end,) * more)
-    for place in (1, 100, 201, 496):
-        for count in (496, 497, 5000):
-            long = x._replace(rows=x.rows + (last,) * (count - 496))
+    for place in (1, 100, 201, 496, MOST_ROWS):
+        for count in (MOST_ROWS, MOST_ROWS + 1, 5000):
+            long = x._replace(rows=x.rows + (last,) * (count - MOST_ROWS))
             yield from (with_row(long, place, **new) for new in (dict(second=4), dict(first=3), dict(amount=10000), dict(front=7, back=7), dict(way=1 - long.rows[place - 1][5])))
     # what is found behind the rows
     yield from (with_cut(x, across=x.cut[2] + 1), with_link(x, 3, unsplit=0), with_last(x, size=0), x._replace(links=()))
-    yield x._replace(rows=x.rows + (last,) * 4504, n=33)
-    yield x._replace(rows=x.rows + (last,) * 4504, cut=(0, 0, 0), links=())
+    much = x.rows + (last,) * (5000 - MOST_ROWS)
+    yield x._replace(rows=much, n=MOST_OFFICES + 1)
+    yield x._replace(rows=much, cut=(0, 0, 0), links=())
 
 
 def spoilt():
@@ -229,10 +229,10 @@ def spoilt():
 
 
 def full_rings():
-    """Our sheets of full rings of 20 and of 32 offices, with two fibres too, and each figure false in turn on first, middle and last rows and links."""
+    """Our sheets of full rings of 20, 32 and 64 offices, with two fibres too, and each figure false in turn on first, middle and last rows and links."""
     rng = random.Random(32)
-    for n, fibres in ((20, 2), (32, 4)):
-        rows = tuple(p + (rng.choice((0, 1, 9999, rng.randrange(10000))),) for p in sheets.pairs(n))
+    for n, fibres in ((20, 2), (32, 4), (64, 4)):
+        rows = tuple(p + (rng.choice((0, 1, 9999, rng.randrange(10000))),) for p in sheets.spread(n))
         x = of_text(rules.sheet(n, rows, fibres))
         assert found(x) == (0, 0)
         yield x
@@ -253,7 +253,7 @@ def of_texts():
     """The values of sheets that are stored as texts: the stated ones, circuits, bounds, and some of other tools and of damaged texts, whatever is found."""
     some = [*(text for _, text in sheets.stated() + sheets.by_hand() + sheets.two_fibres() + circuits.checked_by_hand()), *sheets.bounds(), *itertools.islice(sheets.of_other_tools(), 0, 150, 3)]
     some += [*itertools.islice(sheets.figures_refused(), 0, None, 2), *itertools.islice(sheets.rows_refused(), 0, None, 2), *itertools.islice(sheets.damaged_sheets(), 0, None, 3)]
-    some += [circuits.widest(front) for front in (248, 249, 250)] + [rules.sheet(2, ((1, 2, 3),) * count) for count in (496, 497)]
+    some += [circuits.widest(front) for front in circuits.FRONTS] + [rules.sheet(2, ((1, 2, 3),) * count) for count in (497, MOST_ROWS, MOST_ROWS + 1)]
     for text in dict.fromkeys(some):
         values = of_text(text)
         if values:

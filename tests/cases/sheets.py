@@ -2,6 +2,7 @@
 import random
 
 import rules
+from judging import MOST_OFFICES, MOST_ROWS
 from reading import Sheet, first_reason_of_sheet, line_by_line, lines_of
 
 
@@ -19,12 +20,19 @@ def pairs(n):
     return [(i, j) for i in range(1, n) for j in range(i + 1, n + 1)]
 
 
+def spread(n):
+    """All pairs, or of too many as many as a table may have rows, evenly spread among them."""
+    every = pairs(n)
+    count = min(len(every), MOST_ROWS)
+    return [every[k * len(every) // count] for k in range(count)]
+
+
 def write_table(n, rows, fibres=4):
     return b"".join([b"R\t%d\t%d\n" % (n, fibres)] + [b"D\t%d\t%d\t%d\n" % r for r in rows])
 
 
 def full(n, amount):
-    return write_table(n, [p + (amount(k),) for k, p in enumerate(pairs(n))])
+    return write_table(n, [p + (amount(k),) for k, p in enumerate(spread(n))])
 
 
 def stated():
@@ -51,8 +59,8 @@ def stated():
         (yes, t("R|2|4", "D|1|2|0|0|0|F", "C|1|2|0", *z)),
         ((9, 2, 0, 0), t("R|2|4", "D|1|2|0|0|0|B", "C|1|2|0", *z)),
         ((3, 1, 0, 0), t("R|1|4", "C|1|1|0", "L|1|0|0", "Z|0|3")),
-        ((3, 1, 0, 0), t("R|33|4", "C|1|2|0", *["L|%d|0|0" % k for k in range(1, 34)], "Z|0|3")),
-        (yes, t("R|32|4", "C|1|2|0", *["L|%d|0|0" % k for k in range(1, 33)], "Z|0|3")),
+        ((3, 1, 0, 0), t("R|65|4", "C|1|2|0", *["L|%d|0|0" % k for k in range(1, 66)], "Z|0|3")),
+        (yes, t("R|64|4", "C|1|2|0", *["L|%d|0|0" % k for k in range(1, 65)], "Z|0|3")),
         (yes, t("R|2|4", "D|1|2|9999|9999|9999|F", "C|1|2|9999", "L|1|9999|9999", "L|2|9999|0", "Z|9999|0")),
         ((7, 2, 0, 0), t("R|2|4", "D|1|2|10000|10000|10000|F", "C|1|2|10000", "L|1|10000|10000", "L|2|10000|0", "Z|10000|0")),
         ((4, 2, 0, 0), t("R|4|4", "D|5|2|10000|1|1|B", "C|1|2|0", "Z|0|3")),
@@ -131,7 +139,7 @@ def spoilt(line):
         yield "|".join(parts[:k] + [parts[k]] + parts[k:])
         yield "|".join(parts[:k] + [""] + parts[k + 1:])
     for k in range(1, len(parts)):
-        for bad in ("0" + parts[k], parts[k] + " ", "-1", "12345678", "F", "x"):
+        for bad in ("0" + parts[k], parts[k] + " ", "-1", "123456789", "F", "x"):
             # the sixth field is the way, where F is good
             if (k, bad) != (6, "F"):
                 yield "|".join(parts[:k] + [bad] + parts[k + 1:])
@@ -181,9 +189,9 @@ def alone(reason, at, lines):
 def rows_refused():
     """3 to 9, each alone, on the first, a middle and the last row; nodes of the row before are no reason."""
     lines = good()
-    for n in (0, 1, 33, 9999999):
+    for n in (0, 1, 65, 9999999, 99999999):
         yield alone(3, 0, changed(lines, 0, f1=n))
-    for fibres in (0, 1, 3, 5, 24, 9999999):
+    for fibres in (0, 1, 3, 5, 24, 9999999, 99999999):
         yield alone(20, 0, changed(lines, 0, f2=fibres))
     # the fibres' own size differs, and no other figure
     yield alone(0, 0, changed(lines, 0, f2=2))
@@ -192,15 +200,16 @@ def rows_refused():
         i, j, d, front, back, way = (int(p) if p.isdigit() else p for p in lines[at].split("|")[1:])
         yield alone(4, at, changed(lines, at, f2=N + 1))
         yield alone(4, at, changed(lines, at, f2=9999999))
+        yield alone(4, at, changed(lines, at, f2=99999999))
         yield alone(5, at, changed(lines, at, f1=j))
         yield alone(5, at, changed(lines, at, f1=j, f2=j - 1) if at > rows[0] else changed(lines, at, f1=j, f2=i))
         if at > rows[0]:
             before = lines[at - 1].split("|")
             yield alone(0, at, changed(lines, at, f1=before[1], f2=before[2]))
             yield alone(6, at, changed(lines, at, f1=1, f2=2))
-        for amount, f, b in ((10000, 20000, 0), (10000, 1, 19999), (9999999, 9999999, 9999999), (10000, 10000, 10000)):
+        for amount, f, b in ((10000, 20000, 0), (10000, 1, 19999), (9999999, 9999999, 9999999), (99999999, 99999999, 99999999), (10000, 10000, 10000)):
             yield alone(7, at, changed(lines, at, f3=amount, f4=f, f5=b, f6="F"))
-        for f, b in ((front + 1, back), (front, back + 1), (front + 65536, back), (9999999, 9999999), (2 * d + 2, 0)):
+        for f, b in ((front + 1, back), (front, back + 1), (front + 65536, back), (9999999, 9999999), (99999999, 99999999), (2 * d + 2, 0)):
             way_due = "F" if b == 0 else "B" if f == 0 else way
             yield alone(8, at, changed(lines, at, f4=f, f5=b, f6=way_due))
         yield alone(9, at, changed(lines, at, f4=2 * d, f5=0, f6="B"))
@@ -216,23 +225,23 @@ def figures_refused():
     lines = good()
     at = next(k for k, line in enumerate(lines) if line[0] == "C")
     g, h, m = map(int, lines[at].split("|")[1:])
-    off_ring = [(0, h, m), (g, g, m), (g, g, 0), (h, g, m), (h, h, 0), (g, N + 1, m), (0, 0, 0), (N, N + 1, m), (9999999, 9999999, m)]
-    for cut in off_ring + [(g, h, across) for across in (m + 1, m - 1, m + 65536, 0, 9999999)]:
+    off_ring = [(0, h, m), (g, g, m), (g, g, 0), (h, g, m), (h, h, 0), (g, N + 1, m), (0, 0, 0), (N, N + 1, m), (9999999, 9999999, m), (99999999, 99999999, m)]
+    for cut in off_ring + [(g, h, across) for across in (m + 1, m - 1, m + 65536, 0, 9999999, 99999999)]:
         yield alone(10, at, changed(lines, at, f1=cut[0], f2=cut[1], f3=cut[2]))
     links = [k for k, line in enumerate(lines) if line[0] == "L"]
     for at in (links[0], links[3], links[-1]):
         k, split, unsplit = map(int, lines[at].split("|")[1:])
-        wrong = [(link, split, unsplit) for link in (k - 1, k + 1, 9999999)]
-        wrong += [(k, load, unsplit) for load in (split - 1, split + 1, split + 65536, 9999999)]
-        wrong += [(k, split, load) for load in (max(unsplit - 1, 0), unsplit + 1, unsplit + 65536, 9999999)]
+        wrong = [(link, split, unsplit) for link in (k - 1, k + 1, 9999999, 99999999)]
+        wrong += [(k, load, unsplit) for load in (split - 1, split + 1, split + 65536, 9999999, 99999999)]
+        wrong += [(k, split, load) for load in (max(unsplit - 1, 0), unsplit + 1, unsplit + 65536, 9999999, 99999999)]
         for link in wrong + [(k, unsplit, split), (k, 0, 0)]:
             if link != (k, split, unsplit):
                 yield alone(11, at, changed(lines, at, f1=link[0], f2=link[1], f3=link[2]))
     for at in (links[0], links[2], links[-2]):
         yield t(*lines[:at], lines[at + 1], lines[at], *lines[at + 2:])
     peak, size = map(int, lines[-1].split("|")[1:])
-    sizes = [(peak, s) for s in (0, 3, 12, 48, 192, 768, 13, 11, 9999999) if s != size]
-    for last in [(peak + 1, size), (peak - 1, size), (0, 3), (0, 0), (9999999, 0)] + sizes:
+    sizes = [(peak, s) for s in (0, 3, 12, 48, 192, 768, 13, 11, 9999999, 99999999) if s != size]
+    for last in [(peak + 1, size), (peak - 1, size), (0, 3), (0, 0), (9999999, 0), (99999999, 0)] + sizes:
         yield alone(12, len(lines) - 1, changed(lines, len(lines) - 1, f1=last[0], f2=last[1]))
 
 
@@ -243,7 +252,7 @@ def two_faults():
     cut = next(k for k, line in enumerate(lines) if line[0] == "C")
     last = len(lines) - 1
     faults = [
-        (0, "R|33|4"), (0, "R|07|4"),
+        (0, "R|65|4"), (0, "R|07|4"),
         (row, "D|1|3|6|6|7|F"), (row, "D|1|8|10000|6|7|F"), (row, "D|1|3|6|0|12|F"), (row + 2, "D|1|1|3|6|0|F"), (row + 2, "D|1|2|10000|6|0|B"),
         (row + 3, "D|2|6|0|0|0|B"), (row + 3, "D|2|6|0|1|0|B"), (cut - 1, "D|6|7|9|18|0"),
         (cut, "C|1|9|0"), (cut, "C|1|2|3|"), (cut + 1, "L|1|0|0"), (cut + 3, "L|4|1|1"), (cut + N, "L|7|1"),
@@ -289,7 +298,7 @@ def late_forms(lines):
     row, cut, z = 3, next(k for k, line in enumerate(lines) if line[0] == "C"), len(lines) - 1
     for at, reason, line in [
         (row, 4, "D|2|8|5|10|0|F"), (cut - 1, 4, "D|0|5|1|2|0|F"), (row, 5, "D|5|5|5|10|0|F"), (cut - 1, 5, "D|5|4|1|2|0|F"), (row, 6, "D|1|3|5|10|0|F"), (cut - 1, 6, "D|3|5|1|2|0|F"),
-        (row, 7, "D|2|5|10000|20000|0|F"), (cut - 1, 7, "D|4|5|9999999|2|0|F"),
+        (row, 7, "D|2|5|10000|20000|0|F"), (cut - 1, 7, "D|4|5|99999999|2|0|F"), (cut - 1, 2, "D|4|5|100000000|2|0|F"),
         (row, 2, "D|2|5|05|10|0|F"), (cut - 1, 2, "D|4|5|1|2|0|X"), (cut - 1, 2, "D|4|5|1"), (cut, 2, "C|2|6|"), (cut, 2, "c"), (cut + 1, 2, "L|1|0|x"), (cut + 2, 2, ""), (cut + N, 2, "L|7|1"),
         (z, 2, "Z|1|12|"), (z, 2, "Z|1"), (z, 2, "z|1|12"),
     ]:
@@ -307,23 +316,24 @@ def given_late(figure, form, text):
 
 
 def forms_behind_figures():
-    """A fault of form wins over a false figure on an earlier line; and 16, on the 497th row, over figures of the first rows and of the one before it."""
+    """A fault of form wins over a false figure on an earlier line; and 16, on the first row too many, over figures of the first rows and of the one before it."""
     lines = good()
     for early, reason, line in early_figures(lines):
         for late, rest, form in late_forms(lines):
             if late > early:
                 yield given_late((reason, early + 1), form, t(*lines[:early], line, *lines[early + 1:late], *rest))
-    rows = shown(rules.sheet(3, tuple([(1, 2, 1)] * 100 + [(1, 3, 0)] * 100 + [(2, 3, 1)] * 297)))
-    for at in (1, 101, 496):
+    many = MOST_ROWS + 1
+    rows = shown(rules.sheet(3, tuple([(1, 2, 1)] * 100 + [(1, 3, 0)] * 100 + [(2, 3, 1)] * (many - 200))))
+    for at in (1, 101, many - 1):
         nodes = "D|%s|%s" % tuple(rows[at].split("|")[1:3])
         for reason, line in ((8, nodes + "|1|2|1|F"), (9, nodes + "|1|2|0|B")):
             for more in (1, 3):
-                yield given_late((reason, at + 1), (16, 498), t(*rows[:at], line, *rows[at + 1:497], *rows[497:498] * more, *rows[498:]))
+                yield given_late((reason, at + 1), (16, many + 1), t(*rows[:at], line, *rows[at + 1:many], *rows[many:many + 1] * more, *rows[many + 1:]))
 
 
 def bounds():
     """Rows that all cross, each halved: the bound on both sides, by how many go front and by the amounts."""
-    for n, count in ((8, 4), (12, 6), (16, 8), (32, 16)):
+    for n, count in ((8, 4), (12, 6), (16, 8), (32, 16), (64, 32)):
         half = n // 2
         for d in (1, 9999):
             rows = [(k, k + half, d) for k in range(1, count + 1)]
@@ -376,10 +386,10 @@ def drawn(rng, n, count):
 def of_other_tools():
     rng = random.Random(2003)
     for k in range(34):
-        n = rng.choice([3, 4, 5, 7, 9, 12, 16, 20, 27, 32])
+        n = rng.choice([3, 4, 5, 7, 9, 12, 16, 20, 32, 64])
         for lines in foreign(rng, n, drawn(rng, n, rng.randint(2, 18))):
             yield rules.text_of(lines)
-    for n, part in ((20, 1.0), (32, 0.2)):
+    for n, part in ((20, 1.0), (32, 0.2), (64, 0.05)):
         rows = [p + (rng.randint(0, 9999),) for p in pairs(n) if rng.random() < part]
         g, h, m = rules.rule_a(n, rows)
         other = shuffled(rng, n, rows, m)
@@ -416,7 +426,7 @@ def damaged(rng, text):
                 ls.insert(a, ls[a])
             else:
                 parts = ls[a].rstrip(b"\n").split(b"\t")
-                parts[rng.randrange(len(parts))] = rng.choice((b"0", b"1", b"2", b"32", b"33", b"9999", b"10000", b"19998", b"9999999", b"10000000", b"F", b"B"))
+                parts[rng.randrange(len(parts))] = rng.choice((b"0", b"1", b"2", b"64", b"65", b"9999", b"10000", b"19998", b"99999999", b"100000000", b"F", b"B"))
                 ls[a] = b"\t".join(parts) + b"\n"
             s = bytearray(b"".join(ls))
     return bytes(s)
@@ -425,22 +435,22 @@ def damaged(rng, text):
 def damaged_sheets():
     rng = random.Random(14)
     for k in range(330):
-        n = rng.choice([2, 3, 4, 6, 9, 16, 20, 32])
+        n = rng.choice([2, 3, 4, 6, 9, 16, 32, 64])
         text = rules.sheet(n, tuple(drawn(rng, n, rng.randint(0, 10))))
         yield damaged(rng, text) if k % 10 else text
 
 
 def full_tables(rng):
-    """Tables with all pairs of 20 and of 32 offices."""
-    for n in (20, 32):
-        for amounts in (range(10000), (0, 1, 9999), (9999,)):
+    """Tables with all pairs of 20 and of 32 offices, and with as many of those of 64 as there may be."""
+    for n, kinds in ((20, 3), (32, 3), (64, 1)):
+        for amounts in (range(10000), (0, 1, 9999), (9999,))[:kinds]:
             yield full(n, lambda k: rng.choice(amounts))
 
 
 def full_rings():
     """Our sheets of some of them, and one figure in the last lines false."""
     tables = list(full_tables(random.Random(496)))
-    for k in (0, 3, 4):
+    for k in (0, 3, 4, 6):
         n, *rows = [[int(p) for p in line.split("|")[1:]] for line in shown(tables[k])]
         text = rules.sheet(n[0], tuple(map(tuple, rows)))
         yield text
@@ -454,7 +464,7 @@ def rewritten_often():
     yield from (text for _, text in stated()[:6] + stated()[9:11])
     yield t(*good())
     yield t(*good()[:-1])
-    yield rules.sheet(32, tuple(drawn(random.Random(15), 32, 30)))
+    yield rules.sheet(MOST_OFFICES, tuple(drawn(random.Random(15), MOST_OFFICES, 30)))
 
 
 def all_texts():

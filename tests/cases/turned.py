@@ -8,6 +8,7 @@ import random
 
 import circuits
 import turning
+from judging import MOST_ROWS
 from matrix import table_values
 from pointing import byte_of
 from reading import first_reason, holding, lines_of
@@ -64,7 +65,7 @@ def random_tables():
     rng = random.Random(496)
     for _ in range(500):
         yield drawn(rng, rng.choice([2, 3, 4, 5, 6, 9, 12, 16]), rng.randint(1, 24), rng.choice([0, 1, 2, 3, 20, 9999]))
-    for n in (20, 32, 32, 32):
+    for n in (20, 32, 32, 32, 33, 64, 64):
         yield drawn(rng, n, 40, 9999)
 
 
@@ -77,7 +78,7 @@ def amounts_0():
 
 
 def full():
-    """All pairs of 8, 16, 20 and 32 offices; and 496 rows of one pair, of two that lie opposite, and of neighbours."""
+    """All pairs of 8, 16, 20 and 32 offices; as many rows as there may be of one pair, of few pairs, of two that lie opposite, and of 64 neighbours; and as many as older desks took."""
     rng = random.Random(32)
     for n in (8, 8, 8, 16, 16, 20, 32):
         amounts = rng.choice([range(10000), (0, 1, 9999)])
@@ -85,8 +86,10 @@ def full():
     yield 8, tuple(p + (9999,) for p in pairs(8))
     yield 20, tuple(p + (1,) for p in pairs(20))
     yield 2, ((1, 2, 9999),) * 496
-    yield 3, tuple(sorted(((1, 2, 7), (1, 3, 5), (2, 3, 9), (2, 3, 9)) * 124))
-    yield 4, tuple(sorted(((1, 3, 9999), (2, 4, 9998)) * 248))
+    yield 2, ((1, 2, 9999),) * MOST_ROWS
+    yield 3, tuple(sorted(((1, 2, 7), (1, 3, 5), (2, 3, 9), (2, 3, 9)) * (MOST_ROWS // 4)))
+    yield 4, tuple(sorted(((1, 3, 9999), (2, 4, 9998)) * (MOST_ROWS // 2)))
+    yield 64, tuple((k, k + 1, rng.choice((1, 9999))) for k in range(1, 64) for _ in range(16)) + ((63, 64, 9999),) * 16
 
 
 def accepted():
@@ -97,19 +100,20 @@ def accepted():
 
 def refused():
     """Each reason of a table, on first, middle and last lines; the ways stay."""
-    yield from (b"", b"\n", b"R", t("R|4|4", end=""), t("R|1|4"), t("R|33|3"), t("R|4|3"), t("R|4|0", "D|5|2|1"), t("R|4"), t("R|4|4", "D|5|2|10000"), t("R|4|4", "D|1|2|1", end="\n\n"))
+    yield from (b"", b"\n", b"R", t("R|4|4", end=""), t("R|1|4"), t("R|65|3"), t("R|4|3"), t("R|4|0", "D|5|2|1"), t("R|4"), t("R|4|4", "D|5|2|10000"), t("R|4|4", "D|1|2|1", end="\n\n"))
     good = ["R|9|4", "D|1|2|3", "D|1|4|0", "D|2|3|9999", "D|3|9|17", "D|8|9|1"]
-    bad = ["D|1|2", "D|1|2|3 ", "D|01|2|3", "D|1|2|12345678", "x", "D|0|2|3", "D|1|10|3", "D|9|9|1", "D|4|3|1", "D|1|2|10000", "D|8|8|10000", "C|1|2|3"]
+    bad = ["D|1|2", "D|1|2|3 ", "D|01|2|3", "D|1|2|123456789", "D|1|2|12345678", "x", "D|0|2|3", "D|1|10|3", "D|9|9|1", "D|4|3|1", "D|1|2|10000", "D|8|8|10000", "C|1|2|3"]
     for line, at in itertools.product(bad, (1, 3, 6)):
         yield t(*good[:at], line, *good[at:])
     yield t(*good[:2], *good[:0:-1])
-    yield b"R\t2\t4\n" + b"D\t1\t2\t1\n" * 497
-    yield b"R\t2\t4\n" + b"D\t1\t2\t1\n" * 496 + b"D\t1\t2\t10000\n"
+    most = b"R\t2\t4\n" + b"D\t1\t2\t1\n" * MOST_ROWS
+    yield most + b"D\t1\t2\t1\n"
+    yield most + b"D\t1\t2\t10000\n"
     rows = b"R\t2\t4\n" + b"D\t1\t2\t1\n" * 400
     yield from (rows.ljust(length, b"x") for length in (32768, 32769))
     rng = random.Random(11)
     for _ in range(150):
-        yield damaged(rng, write_table(*drawn(rng, rng.randint(2, 32), rng.randint(1, 12), 9999)))
+        yield damaged(rng, write_table(*drawn(rng, rng.randint(2, 64), rng.randint(1, 12), 9999)))
     yield from itertools.islice(circuits.in_order(), 0, None, 3)
 
 

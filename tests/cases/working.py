@@ -1,16 +1,16 @@
 #!/usr/bin/env python3
 """Writes tests/cases/working.calls: stored sequences of calls of the working table, each with the reply that the rule gives it (Rules, the working table).
 
-The replies come from a list of 496 places and nothing kept beside it: the largest cut is rule A's over the rows held, summed afresh. No source of the project is used.
+The replies come from a list of 1,024 places and nothing kept beside it: the largest cut is rule A's over the rows held, summed afresh. No source of the project is used.
 Run it by hand after adding a sequence and look at the difference; tests/desk/sequences.c makes the calls and compares."""
 import itertools
 import random
 
-PLACES, MOST = 496, 9999
+OFFICES, PLACES, MOST = 64, 1024, 9999
 # numbers that would pass if their high bits were lost
 WIDE = (256 + 2, 65536 + 2, 2**32 - 1)
-# room for every table
-ROOM = 8 * (3 + 4 * PLACES)
+# room for every table: 13 bytes a row, 7 for the R line
+ROOM = 7 + 13 * PLACES
 
 
 def across(rows, g, h):
@@ -18,10 +18,30 @@ def across(rows, g, h):
     return sum(d for i, j, d in rows if (g < i <= h) != (g < j <= h))
 
 
+def acrosses(n, rows):
+    """The across number of every cut, with its links. Of many rows each is not summed by itself: an office that a cut takes in adds its own rows, but for those to offices that are in already,
+    which are across it no longer."""
+    if len(rows) < 30:
+        return [(across(rows, g, h), g, h) for g, h in pairs(n)]
+    upto = [[0] * (n + 1) for _ in range(n + 1)]
+    for i, j, d in rows:
+        upto[i][j] += d
+        upto[j][i] += d
+    # the rows of each office to those up to another
+    upto = [list(itertools.accumulate(line)) for line in upto]
+    found = []
+    for g in range(1, n):
+        m = 0
+        for h in range(g + 1, n + 1):
+            m += upto[h][n] - 2 * (upto[h][h] - upto[h][g])
+            found.append((m, g, h))
+    return found
+
+
 def largest_cut(n, rows):
     """Rule A: ties go to the smallest g, then the smallest h."""
-    m, g, h = max((across(rows, g, h), -g, -h) for g, h in pairs(n))
-    return -g, -h, m
+    m, g, h = max(acrosses(n, rows), key=lambda one: one[0])
+    return g, h, m
 
 
 def pairs(n):
@@ -60,8 +80,8 @@ class Sequence:
     # the calls
 
     def start(self, n, fibres):
-        if not 2 <= n <= 32 or fibres not in (2, 4):
-            return self.refuse("start", (n, fibres), 20 if 2 <= n <= 32 else 3)
+        if not 2 <= n <= OFFICES or fibres not in (2, 4):
+            return self.refuse("start", (n, fibres), 20 if 2 <= n <= OFFICES else 3)
         self.n, self.fibres, self.places = n, fibres, [None] * PLACES
         return self.accept("start", (n, fibres), 0)
 
@@ -140,7 +160,7 @@ def by_hand():
 
 def starts():
     s = Sequence("starts that are refused, first of no table and then of one with a row: 3 before 20")
-    bad = [(n, fibres) for n in (0, 1, 33, *WIDE) for fibres in (4, 3)] + [(n, fibres) for n in (2, 32) for fibres in (0, 1, 3, 5, *WIDE)]
+    bad = [(n, fibres) for n in (0, 1, OFFICES + 1, *WIDE) for fibres in (4, 3)] + [(n, fibres) for n in (2, OFFICES) for fibres in (0, 1, 3, 5, *WIDE)]
     for ring in bad:
         s.start(*ring)
     s.start(2, 4)
@@ -151,7 +171,7 @@ def starts():
     s.write(ROOM)
     yield s
     s = begun("a later start, on more offices and on fewer: no row stays, and no number", rows=[(1, 4, 9), (2, 5, 8), (3, 6, 7)])
-    for n, fibres in ((6, 4), (32, 2), (3, 4), (2, 2), (20, 4)):
+    for n, fibres in ((6, 4), (64, 2), (3, 4), (2, 2), (33, 4)):
         s.start(n, fibres)
         s.row(1)
         s.remove(1)
@@ -181,7 +201,7 @@ def refusals():
     yield s
     s = begun("places that hold no row: 22, before 4, 5 and 7", rows=[(1, 2, 3), (2, 3, 4), (3, 4, 5)])
     s.remove(2)
-    for place in (0, 2, 4, 495, 496, 497, 498, 512 + 1, *(wide - 1 for wide in WIDE), 2**32 - 1):
+    for place in (0, 2, 4, 496, 497, PLACES - 1, PLACES, PLACES + 1, PLACES + 2, 2048 + 1, *(wide - 1 for wide in WIDE), 2**32 - 1):
         for row in ((1, 2, 3), (7, 2, 3), (2, 2, 3), (1, 2, MOST + 1), (0, 0, MOST + 1)):
             s.change(place, *row)
         s.remove(place)
@@ -235,7 +255,7 @@ def ties():
     assert s.change(2, 1, 2, 1) == (0, 0, 2, 1, 3, 2)
     assert s.remove(1) == (0, 0, 1, 1, 2, 1)
     yield s
-    for n in (3, 5, 8, 32):
+    for n in (3, 5, 8, 32, 64):
         s = begun("ties on %d offices: every row of 1, the rows in turn put on and taken off" % n, n=n)
         rows = list(pairs(n))[:: max(1, n * n // 60)]
         for row in rows:
@@ -246,7 +266,7 @@ def ties():
 
 
 def full_tables():
-    for n, fibres, step in ((20, 2, 7), (32, 4, 11)):
+    for n, fibres, step in ((20, 2, 7), (64, 4, 11)):
         s = begun("a full table of %d offices: filled, refused, changed and emptied" % n, n, fibres)
         nodes = list(pairs(n))
         for k in range(PLACES):
@@ -254,10 +274,10 @@ def full_tables():
         for row in ((1, 2, 3), (1, 2, 0), (1, n, MOST), (1, n + 1, 3), (0, 0, MOST + 1), (2, 2, MOST + 1), (1, 2, MOST + 1)):
             s.add(*row)
         s.write_all_ways()
-        for place in (1, 248, 496, 497, 0):
+        for place in (1, 248, 496, 497, PLACES, PLACES + 1, 0):
             s.change(place, 1, n, MOST)
             s.change(place, 1, n + 1, MOST)
-        for place in (496, 100, 1):
+        for place in (PLACES, 100, 1):
             s.remove(place)
         for k in range(4):
             s.add(k + 1, n - k, MOST - k)
@@ -267,9 +287,9 @@ def full_tables():
         s.remove(1)
         s.write_all_ways()
         yield s
-    s = begun("the largest number: 496 rows of 9,999 on one cut", n=32)
+    s = begun("the largest number: as many rows as there may be, of 9,999, on one cut", n=OFFICES)
     for k in range(PLACES):
-        s.add(1 + k % 16, 17 + k % 16, MOST)
+        s.add(1 + k % 32, 33 + k % 32, MOST)
     s.write_all_ways()
     yield s
 
@@ -285,7 +305,7 @@ def written():
     s.change(8, 2, 3, 8)
     s.write_all_ways()
     yield s
-    s = begun("no row is written", n=32, fibres=2)
+    s = begun("no row is written", n=OFFICES, fibres=2)
     s.write_all_ways()
     yield s
 
@@ -304,7 +324,16 @@ def by_chance():
         yield s
 
 
+def test_acrosses():
+    """Both ways of adding up find the same."""
+    rng = random.Random(2)
+    for n, count in ((2, 30), (5, 31), (64, 60)):
+        rows = [(*sorted(rng.sample(range(1, n + 1), 2)), rng.randrange(MOST)) for _ in range(count)]
+        assert acrosses(n, rows) == [(across(rows, g, h), g, h) for g, h in pairs(n)]
+
+
 def main():
+    test_acrosses()
     sequences = [*by_hand(), *starts(), *refusals(), *places(), *ties(), *full_tables(), *written(), *by_chance()]
     lines = [line for s in sequences for line in s.lines]
     open("tests/cases/working.calls", "w").write("".join(line + "\n" for line in lines))

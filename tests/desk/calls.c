@@ -5,18 +5,16 @@
 #include <stdarg.h>
 #include <stdbool.h>
 #include <stdio.h>
-#include <stdlib.h>
 #include <string.h>
-#include <sys/mman.h>
-#include <unistd.h>
 
+#include "fenced.h"
 #include "held.h"
 
 _Static_assert(sizeof(ringkit_row) == 24 && sizeof(ringkit_link) == 12 && sizeof(ringkit_judge_reply) == 8, "numbers of 4 bytes, with no padding");
 _Static_assert(sizeof(ringkit_turn_reply) == 24 + sizeof(size_t), "six numbers of 4 bytes, and the rows");
-_Static_assert(RINGKIT_SHEET_BYTES == 8 * (3 + 7 * RINGKIT_MAX_ROWS + 4 + 4 * RINGKIT_MAX_OFFICES + 3),
-               "8 bytes for each field of the longest sheet, as in crates/ringkit");
-_Static_assert(RINGKIT_TABLE_BYTES == 8 * (3 + 4 * RINGKIT_MAX_ROWS), "8 bytes for each field of the longest table");
+_Static_assert(RINGKIT_SHEET_BYTES == 27 * RINGKIT_MAX_ROWS + 23 * RINGKIT_MAX_OFFICES + 44,
+               "so much for each row and each link of the longest sheet, and for the other lines, as in crates/ringkit");
+_Static_assert(RINGKIT_TABLE_BYTES == 13 * RINGKIT_MAX_ROWS + 7, "so much for each row of the longest table, and for its R line");
 _Static_assert(RINGKIT_MATRIX_BYTES == 5 * RINGKIT_MAX_OFFICES * RINGKIT_MAX_OFFICES, "4 digits and the byte behind them for each entry");
 
 static unsigned passed, failed;
@@ -34,15 +32,6 @@ static void expect(bool good, const char *what, ...)
     vprintf(what, values);
     putchar('\n');
     va_end(values);
-}
-
-/* What the tests themselves cannot do without. */
-static void need(bool good, const char *what)
-{
-    if (!good) {
-        perror(what);
-        exit(1);
-    }
 }
 
 /* ---- texts; none lies on a stack, since that is small */
@@ -74,13 +63,21 @@ static unsigned mixed(unsigned i, unsigned j)
     return (i * 7919 + j * 3571) % (RINGKIT_MAX_AMOUNT + 1);
 }
 
+/* Whether a pair has a row: each has, or of 64 offices, which have more pairs than there may be rows, those of an odd office and an even one, which are just as many. */
+static bool has_row(unsigned offices, unsigned i, unsigned j)
+{
+    return offices < RINGKIT_MAX_OFFICES || (j - i) % 2 == 1;
+}
+
 static void all_pairs(unsigned offices)
 {
     table.length = 0;
     add(&table, "R\t%u\t4\n", offices);
     for (unsigned i = 1; i < offices; i++) {
         for (unsigned j = i + 1; j <= offices; j++) {
-            add(&table, "D\t%u\t%u\t%u\n", i, j, mixed(i, j));
+            if (has_row(offices, i, j)) {
+                add(&table, "D\t%u\t%u\t%u\n", i, j, mixed(i, j));
+            }
         }
     }
 }
@@ -100,23 +97,10 @@ enum { AREA = 64 * 1024, PATTERN = 0x55 };
 
 static uint8_t *text_area, *buffer_area;
 
-static uint8_t *fenced_area(void)
-{
-    size_t page = (size_t)sysconf(_SC_PAGESIZE);
-    uint8_t *area = mmap(NULL, AREA + page, PROT_READ | PROT_WRITE, MAP_PRIVATE | MAP_ANONYMOUS, -1, 0);
-    need(area != MAP_FAILED, "mmap");
-    need(mprotect(area + AREA, page, PROT_NONE) == 0, "mprotect");
-    return area;
-}
-
 /* Puts the text against its fence, where it can only be read. */
 static const uint8_t *fenced(const struct text *text)
 {
-    uint8_t *place = text_area + AREA - text->length;
-    need(mprotect(text_area, AREA, PROT_READ | PROT_WRITE) == 0, "mprotect");
-    memcpy(place, text->bytes, text->length);
-    need(mprotect(text_area, AREA, PROT_READ) == 0, "mprotect");
-    return place;
+    return against_fence(text_area, AREA, text->bytes, text->length);
 }
 
 typedef ringkit_reply writing(const uint8_t *, size_t, uint8_t *, size_t);
@@ -274,16 +258,10 @@ static bool judged(ringkit_judge_reply reply, uint32_t reason, uint32_t place)
 /* What is found against the values that are held, their rows and links each before a fence, where they can only be read. */
 static void finds_held(const char *name, uint32_t reason, uint32_t place)
 {
-    static struct text rows, links;
-    rows.length = held.row_count * sizeof *held.rows;
-    links.length = held.link_count * sizeof *held.links;
-    memcpy(rows.bytes, held.rows, rows.length);
-    memcpy(buffer_area + AREA - links.length, held.links, links.length);
-    const ringkit_row *lent_rows = (const ringkit_row *)(const void *)fenced(&rows);
-    const ringkit_link *lent_links = (const ringkit_link *)(const void *)(buffer_area + AREA - links.length);
-    need(mprotect(buffer_area, AREA, PROT_READ) == 0, "mprotect");
-    ringkit_judge_reply reply = ringkit_judge(lent_rows, held.row_count, held.n, held.fibres, held.g, held.h, held.across, lent_links, held.link_count, held.peak, held.size);
-    need(mprotect(buffer_area, AREA, PROT_READ | PROT_WRITE) == 0, "mprotect");
+    const ringkit_row *rows = against_fence(text_area, AREA, held.rows, held.row_count * sizeof *rows);
+    const ringkit_link *links = against_fence(buffer_area, AREA, held.links, held.link_count * sizeof *links);
+    ringkit_judge_reply reply = ringkit_judge(rows, held.row_count, held.n, held.fibres, held.g, held.h, held.across, links, held.link_count, held.peak, held.size);
+    allow_writing(buffer_area, AREA, true);
     expect(judged(reply, reason, place), "%s: judging finds %u at place %u", name, (unsigned)reply.reason, (unsigned)reply.place);
 }
 
@@ -365,13 +343,14 @@ static ringkit_reply read_untold(const uint8_t *text, size_t length, uint8_t *bu
     return ringkit_read_matrix(text, length, 3, buffer, room);
 }
 
-/* A square with 0 on its diagonal and a demand for every pair. */
+/* A square with 0 on its diagonal and a demand for every pair that has a row. */
 static void fill_matrix(unsigned offices, unsigned (*demand)(unsigned, unsigned))
 {
     matrix.length = 0;
     for (unsigned i = 1; i <= offices; i++) {
         for (unsigned j = 1; j <= offices; j++) {
-            unsigned entry = i == j ? 0 : i < j ? demand(i, j) : demand(j, i);
+            unsigned low = i < j ? i : j, high = i < j ? j : i;
+            unsigned entry = i != j && has_row(offices, low, high) ? demand(low, high) : 0;
             add(&matrix, "%u%c", entry, j == offices ? '\n' : '\t');
         }
     }
@@ -385,6 +364,11 @@ static unsigned most(unsigned i, unsigned j)
 static unsigned none(unsigned i, unsigned j)
 {
     return i < j ? 0 : RINGKIT_MAX_AMOUNT;
+}
+
+static unsigned one(unsigned i, unsigned j)
+{
+    return i < j;
 }
 
 /* The matrix is read into its table and written from it, and the table that was made can be routed. */
@@ -414,6 +398,20 @@ static void reads(const char *name, const char *bytes, uint32_t reason, uint32_t
     judges(name, read_matrix, &matrix, reason, line, byte);
 }
 
+/* 45 offices have 990 pairs, 46 have 1,035: too many rows, which is said behind what an entry is refused for and before the buffer is looked at. */
+static void test_many_entries(void)
+{
+    fill_matrix(45, one);
+    judges("as many offices as may all have demands", read_matrix, &matrix, RINGKIT_OK, 0, 0);
+    fill_matrix(46, one);
+    judges("a matrix of too many rows", read_matrix, &matrix, RINGKIT_TOO_MANY_ROWS, 0, 0);
+    expect(says(ringkit_read_matrix(fenced(&matrix), matrix.length, 4, NULL, 0), RINGKIT_TOO_MANY_ROWS, 0, 0, 0), "too many rows, before no buffer");
+    matrix.bytes[matrix.length - 2] = '1';
+    judges("an office with itself, before too many rows", read_matrix, &matrix, RINGKIT_DIAGONAL, 46, 91);
+    matrix.bytes[2] = '2';
+    judges("an entry unlike its mirror, before too many rows", read_matrix, &matrix, RINGKIT_NOT_SYMMETRIC, 1, 3);
+}
+
 static void test_matrix_limits(void)
 {
     reads("largest entries", "0\t9999\n9999\t0\n", RINGKIT_OK, 0, 0);
@@ -432,6 +430,7 @@ static void test_matrix_limits(void)
     judges("too long a matrix", read_matrix, &matrix, RINGKIT_TOO_LONG, 0, 0);
     judges("three fibres, before all else", read_untold, &matrix, RINGKIT_FIBRES, 0, 0);
     judges("three fibres, before no text", read_untold, &NOTHING, RINGKIT_FIBRES, 0, 0);
+    test_many_entries();
     one_row(RINGKIT_MIN_OFFICES, RINGKIT_MAX_AMOUNT);
     add(&table, "D\t1\t2\t0\n");
     judges("the largest sum", ringkit_write_matrix, &table, RINGKIT_OK, 0, 0);
@@ -447,9 +446,9 @@ static void test_matrices(void)
     fill_matrix(20, mixed);
     test_matrix("a matrix of 20 offices");
     fill_matrix(RINGKIT_MAX_OFFICES, mixed);
-    test_matrix("a matrix of 32 offices");
+    test_matrix("a matrix of 64 offices");
     fill_matrix(RINGKIT_MAX_OFFICES, most);
-    test_matrix("the largest demands of 32 offices");
+    test_matrix("the largest demands of 64 offices");
 }
 
 /* ---- a working table, the last bytes before its fence */
@@ -544,7 +543,7 @@ static void remove_row(uint32_t place)
 static void test_work_rows(void)
 {
     bool good = true;
-    need(mprotect(work_area, AREA, PROT_READ) == 0, "mprotect");
+    allow_writing(work_area, AREA, false);
     for (uint32_t place = 0; place <= RINGKIT_MAX_ROWS + 1; place++) {
         bool taken = place >= 1 && place <= RINGKIT_MAX_ROWS && list[place].first != 0;
         struct row due = taken ? list[place] : (struct row){0, 0, 0};
@@ -552,7 +551,7 @@ static void test_work_rows(void)
         good = good && row.reason == (taken ? RINGKIT_OK : RINGKIT_NO_ROW) && row.line == 0 && row.first == due.first && row.second == due.second && row.amount == due.amount;
     }
     expect(good, "work: the row at a place");
-    need(mprotect(work_area, AREA, PROT_READ | PROT_WRITE) == 0, "mprotect");
+    allow_writing(work_area, AREA, true);
 }
 
 /* Writes without a text; it is not looked at. */
@@ -582,20 +581,20 @@ static void list_to_table(void)
 static void test_work_text(const char *name)
 {
     list_to_table();
-    need(mprotect(work_area, AREA, PROT_READ) == 0, "mprotect");
+    allow_writing(work_area, AREA, false);
     writes(name, write_work, &NOTHING, &table);
     expect(says(lend(write_work, &NOTHING, RINGKIT_TABLE_BYTES), RINGKIT_OK, 0, 0, table.length), "%s: the room that suffices does not", name);
-    need(mprotect(work_area, AREA, PROT_READ | PROT_WRITE) == 0, "mprotect");
+    allow_writing(work_area, AREA, true);
     route(name);
 }
 
 static void test_work_refusals(void)
 {
     before = *work;
-    expect(refuses(ringkit_work_start(work, RINGKIT_MAX_OFFICES + 1, 3), RINGKIT_RING_SIZE), "work: 33 offices");
+    expect(refuses(ringkit_work_start(work, RINGKIT_MAX_OFFICES + 1, 3), RINGKIT_RING_SIZE), "work: 65 offices");
     expect(refuses(ringkit_work_start(work, RINGKIT_MIN_OFFICES, 3), RINGKIT_FIBRES), "work: three fibres");
     expect(refuses(ringkit_work_change(work, 0, 9, 9, 10000), RINGKIT_NO_ROW), "work: place 0");
-    expect(refuses(ringkit_work_change(work, RINGKIT_MAX_ROWS + 1, 9, 9, 10000), RINGKIT_NO_ROW), "work: place 497");
+    expect(refuses(ringkit_work_change(work, RINGKIT_MAX_ROWS + 1, 9, 9, 10000), RINGKIT_NO_ROW), "work: place 1025");
     expect(refuses(ringkit_work_remove(work, UINT32_MAX), RINGKIT_NO_ROW), "work: the last place of all");
     expect(refuses(ringkit_work_change(work, 1, RING + 1, 1, 10000), RINGKIT_NO_SUCH_NODE), "work: no such node");
     expect(refuses(ringkit_work_add(work, 2, 257, 10000), RINGKIT_NO_SUCH_NODE), "work: a node of more than 8 bits");
@@ -683,7 +682,7 @@ static void test_limits(void)
     add(&table, "R\t2\t3\n");
     table_judged("three fibres", RINGKIT_FIBRES, 1, 5);
     table.length = 0;
-    add(&table, "R\t33\t3\n");
+    add(&table, "R\t65\t3\n");
     table_judged("too many offices and three fibres", RINGKIT_RING_SIZE, 1, 3);
     equal_rows(RINGKIT_MAX_ROWS);
     table.length = RINGKIT_MAX_TEXT_BYTES;
@@ -717,7 +716,8 @@ static void test_bytes(void)
     row_judged("DD\n", RINGKIT_MISSHAPEN, 2);
     row_judged("X\n", RINGKIT_MISSHAPEN, 1);
     row_judged("\n", RINGKIT_MISSHAPEN, 1);
-    row_judged("D\t12345678\t2\t1\n", RINGKIT_MISSHAPEN, 10);
+    row_judged("D\t123456789\t2\t1\n", RINGKIT_MISSHAPEN, 11);
+    row_judged("D\t12345678\t2\t1\n", RINGKIT_NO_SUCH_NODE, 3);
     row_judged("D\t007\t2\t1\n", RINGKIT_MISSHAPEN, 4);
     row_judged("D\t1\t2\t1\t\n", RINGKIT_MISSHAPEN, 8);
     row_judged("D\t0\t5\t1\n", RINGKIT_NO_SUCH_NODE, 3);
@@ -778,9 +778,9 @@ static void *test_texts(void *unused)
     all_pairs(20);
     test_table("all pairs of 20 offices");
     all_pairs(RINGKIT_MAX_OFFICES);
-    test_table("all pairs of 32 offices");
+    test_table("as many pairs of 64 offices as there may be rows");
     equal_rows(RINGKIT_MAX_ROWS);
-    test_table("496 equal rows");
+    test_table("1,024 equal rows");
     return unused;
 }
 
@@ -830,9 +830,9 @@ static void test_side_by_side(void)
 
 int main(void)
 {
-    text_area = fenced_area();
-    buffer_area = fenced_area();
-    work_area = fenced_area();
+    text_area = fenced_area(AREA);
+    buffer_area = fenced_area(AREA);
+    work_area = fenced_area(AREA);
     test_small_stack();
     test_side_by_side();
     printf("%u passed, %u failed\n", passed, failed);

@@ -5,9 +5,8 @@
 #include <stdio.h>
 #include <stdlib.h>
 #include <string.h>
-#include <sys/mman.h>
-#include <unistd.h>
 
+#include "fenced.h"
 #include "ringkit.h"
 
 _Static_assert(sizeof(ringkit_row) == 24 && sizeof(ringkit_link) == 12 && sizeof(ringkit_judge_reply) == 8, "numbers of 4 bytes, with no padding");
@@ -21,37 +20,10 @@ static ringkit_link links[MOST];
 static uint32_t ring[2], counts[2], cut[3], last[2];
 static uint8_t *row_area, *link_area;
 
-static void need(bool good, const char *what)
-{
-    if (!good) {
-        perror(what);
-        exit(1);
-    }
-}
-
-static uint8_t *fenced_area(void)
-{
-    size_t page = (size_t)sysconf(_SC_PAGESIZE);
-    uint8_t *area = mmap(NULL, AREA + page, PROT_READ | PROT_WRITE, MAP_PRIVATE | MAP_ANONYMOUS, -1, 0);
-    need(area != MAP_FAILED, "mmap");
-    need(mprotect(area + AREA, page, PROT_NONE) == 0, "mprotect");
-    return area;
-}
-
-/* Puts bytes against the fence, where they can only be read. */
-static const void *fenced(uint8_t *area, const void *bytes, size_t length)
-{
-    uint8_t *place = area + AREA - length;
-    need(mprotect(area, AREA, PROT_READ | PROT_WRITE) == 0, "mprotect");
-    memcpy(place, bytes, length);
-    need(mprotect(area, AREA, PROT_READ) == 0, "mprotect");
-    return place;
-}
-
 static ringkit_judge_reply judge(bool null)
 {
-    const ringkit_row *lent_rows = counts[0] == 0 && null ? NULL : fenced(row_area, rows, counts[0] * sizeof *rows);
-    const ringkit_link *lent_links = counts[1] == 0 && null ? NULL : fenced(link_area, links, counts[1] * sizeof *links);
+    const ringkit_row *lent_rows = counts[0] == 0 && null ? NULL : against_fence(row_area, AREA, rows, counts[0] * sizeof *rows);
+    const ringkit_link *lent_links = counts[1] == 0 && null ? NULL : against_fence(link_area, AREA, links, counts[1] * sizeof *links);
     return ringkit_judge(lent_rows, counts[0], ring[0], ring[1], cut[0], cut[1], cut[2], lent_links, counts[1], last[0], last[1]);
 }
 
@@ -148,8 +120,8 @@ int main(void)
     static char line[LINE];
     unsigned passed = 0, failed = 0;
     uint32_t due[2];
-    row_area = fenced_area();
-    link_area = fenced_area();
+    row_area = fenced_area(AREA);
+    link_area = fenced_area(AREA);
     for (unsigned at = 1; fgets(line, sizeof line, stdin) != NULL; at++) {
         line[strcspn(line, "\n")] = '\0';
         if (strncmp(line, DUE, sizeof DUE - 1) == 0 && numbers(line + sizeof DUE - 1, due, 2)) {

@@ -4,33 +4,14 @@
 #define _DEFAULT_SOURCE
 #include <stdbool.h>
 #include <stdio.h>
-#include <stdlib.h>
 #include <string.h>
-#include <sys/mman.h>
-#include <unistd.h>
 
+#include "fenced.h"
 #include "ringkit.h"
 
 enum { AREA = 64 * 1024, BEFORE = 64, LINE = 2 * RINGKIT_MAX_ROWS };
 
 static uint8_t *text_area, *ways_area;
-
-static void need(bool good, const char *what)
-{
-    if (!good) {
-        perror(what);
-        exit(1);
-    }
-}
-
-static uint8_t *fenced_area(void)
-{
-    size_t page = (size_t)sysconf(_SC_PAGESIZE);
-    uint8_t *area = mmap(NULL, AREA + page, PROT_READ | PROT_WRITE, MAP_PRIVATE | MAP_ANONYMOUS, -1, 0);
-    need(area != MAP_FAILED, "mmap");
-    need(mprotect(area + AREA, page, PROT_NONE) == 0, "mprotect");
-    return area;
-}
 
 /* What is due: the answer, and the ways as letters. */
 struct due {
@@ -39,11 +20,15 @@ struct due {
     char letters[RINGKIT_MAX_ROWS + 1];
 };
 
+#define SPELLED(x) #x
+#define NUMBER(x) SPELLED(x)
+#define LETTERS NUMBER(RINGKIT_MAX_ROWS)
+
 static bool read_due(struct due *due, const char *line)
 {
     unsigned n[8];
     char end;
-    int read = sscanf(line, "turn %u %u %u %u %u %u %u %u %496[FB-]%c", &n[0], &n[1], &n[2], &n[3], &n[4], &n[5], &n[6], &n[7], due->letters, &end);
+    int read = sscanf(line, "turn %u %u %u %u %u %u %u %u %" LETTERS "[FB-]%c", &n[0], &n[1], &n[2], &n[3], &n[4], &n[5], &n[6], &n[7], due->letters, &end);
     due->length = n[0];
     due->reply = (ringkit_turn_reply){n[1], n[2], n[3], n[4], n[5], n[6], n[7]};
     return read == 10 && end == '\n' && due->length <= AREA && (strlen(due->letters) == n[7] || (n[7] == 0 && strcmp(due->letters, "-") == 0));
@@ -95,10 +80,11 @@ static bool answers(const struct due *due, const uint8_t *text, unsigned at)
 int main(void)
 {
     static char line[LINE];
+    static uint8_t bytes[AREA];
     static struct due due;
     unsigned passed = 0, failed = 0;
-    text_area = fenced_area();
-    ways_area = fenced_area();
+    text_area = fenced_area(AREA);
+    ways_area = fenced_area(AREA);
     while (fgets(line, sizeof line, stdin) != NULL) {
         unsigned at = passed + failed + 1;
         bool good = read_due(&due, line);
@@ -107,11 +93,8 @@ int main(void)
             failed++;
             break;
         }
-        uint8_t *text = text_area + AREA - due.length;
-        need(mprotect(text_area, AREA, PROT_READ | PROT_WRITE) == 0, "mprotect");
-        need(fread(text, 1, due.length, stdin) == due.length, "a table that ends too early");
-        need(mprotect(text_area, AREA, PROT_READ) == 0, "mprotect");
-        good = answers(&due, text, at);
+        need(fread(bytes, 1, due.length, stdin) == due.length, "a table that ends too early");
+        good = answers(&due, against_fence(text_area, AREA, bytes, due.length), at);
         passed += good;
         failed += !good;
     }

@@ -128,11 +128,11 @@ static struct answer judge_values(const struct request *r, const uint8_t *text)
 {
     const ringkit_row *rows = (const ringkit_row *)(const void *)text;
     const ringkit_link *links = (const ringkit_link *)(const void *)(rows + r->told[0]);
-    const uint32_t *last = (const uint32_t *)(const void *)(links + r->told[1]);
+    const uint32_t *last = (const uint32_t *)(const void *)(links + r->told[1]); /* g, h, across, peak, size, offices, fibres */
     if (r->text_length != sizeof *rows * r->told[0] + sizeof *links * r->told[1] + 7 * sizeof *last) {
         fail("the twin's values have another size than the library's");
     }
-    ringkit_judge_reply judged = ringkit_judge(rows, r->told[0], last[0], last[1], last[2], last[3], last[4], links, r->told[1], last[5], last[6]);
+    ringkit_judge_reply judged = ringkit_judge(rows, r->told[0], last[5], last[6], last[0], last[1], last[2], links, r->told[1], last[3], last[4]);
     return (struct answer){judged.reason, 0, 0, {judged.place}};
 }
 

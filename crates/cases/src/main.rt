@@ -21,7 +21,7 @@ fn digit(b: u8) -> usize
     ensures { result < 10 }
 {
     if b.is_ascii_digit() {
-        (b - b'0') as usize
+        usize::from(b - b'0')
     } else {
         0
     }
@@ -41,7 +41,7 @@ fn number(digits: &[u8]) -> usize
 fn sum_of(s: &[u8]) -> u64 {
     let mut sum: u64 = 0;
     for b in s {
-        sum = (sum * 31 + *b as u64) % 1000003;
+        sum = (sum * 31 + u64::from(*b)) % 1000003;
     }
     sum
 }
@@ -69,7 +69,7 @@ fn call_of(letter: u8) -> Option<Call> {
         b'R' => Some(Call::Filling(Filling::Route)),
         b'S' => Some(Call::Filling(Filling::RewriteSheet)),
         b'W' => Some(Call::Filling(Filling::WriteMatrix)),
-        b'0'..=b'9' => Some(Call::Filling(Filling::ReadMatrix((letter - b'0') as u32))),
+        b'0'..=b'9' => Some(Call::Filling(Filling::ReadMatrix(u32::from(letter - b'0')))),
         b'C' => Some(Call::Check),
         b'P' => Some(Call::Parallel),
         _ => None,

@@ -2,7 +2,7 @@
 use Prim.Native.Nat.{ℕ, ◌≤◌, min}
 use mathlib.Core.List.{List}
 use mathlib.Core.Path.{◌≡◌, ap, ◌∙◌, sym}
-use lib.ListN.{length, take}
+use lib.ListN.{length}
 use Rattle.std.specs.Prelude.{Result as Either, Ok, Err}
 use Rattle.ring.specs.Limits.{desk}
 use Rattle.ring.specs.declared.types.Routed.{Routed}
@@ -29,21 +29,18 @@ module _ (s : List ℕ) (rs : List Routed) (ls : List Link) (answer : Either Fig
     read = sym e ∙ ap (with_values rs ls) a
 
     pub links-there : x.ring.nodes ≤ desk.nodes
-    links-there = ((read-as s (sheet_in x rs (take x.ring.nodes ls))).0 read).range.many
+    links-there = ((read-as s (sheet_in x rs ls)).0 read).range.many
 
-    -- as many links as there are nodes are judged
-    module _ (n : ℕ) (nodes : n ≡ x.ring.nodes) (v : Either Unit Finding) (first : First (findings desk (sheet_in x rs (take n ls))) v) where
-      judged-so : check desk s ≡ judged_on (sheet_in x rs (take x.ring.nodes ls)) v
+    module _ (held : List Link) (same : held ≡ ls) (v : Either Unit Finding) (first : First (findings desk (sheet_in x rs held)) v) where
+      judged-so : check desk s ≡ judged_on (sheet_in x rs ls) v
       unfolding check check_read
-      judged-so =
-          let f = rw nodes at first in
-          ap (check_read desk) read ∙ ap (judged_on (sheet_in x rs (take x.ring.nodes ls))) (sym (judged-is (sheet_in x rs (take x.ring.nodes ls)) v f))
+      judged-so = ap (check_read desk) read ∙ ap (judged_on (sheet_in x rs ls)) (sym (judged-is (sheet_in x rs ls) v (rw same at first)))
 
       pub fine-so : (u : Unit) → v ≡ Ok u → with_values rs ls (Ok x) ≡ check desk s
       unfolding judged_on
-      fine-so u q = sym (judged-so ∙ ap (judged_on (sheet_in x rs (take x.ring.nodes ls))) q)
+      fine-so u q = sym (judged-so ∙ ap (judged_on (sheet_in x rs ls)) q)
 
       pub found-so : (f : Finding) → v ≡ Err f → (many line byte : ℕ) → many ≡ length rs → line ≡ line_of many x.ring.nodes f.reason f.place → byte ≡ min line 1
           → with_values rs ls (Err (record { reason = f.reason; line = line; byte = byte })) ≡ check desk s
       unfolding judged_on
-      found-so f q many line byte m l b = rw (b, l, m) (sym (judged-so ∙ ap (judged_on (sheet_in x rs (take x.ring.nodes ls))) q))
+      found-so f q many line byte m l b = rw (b, l, m) (sym (judged-so ∙ ap (judged_on (sheet_in x rs ls)) q))

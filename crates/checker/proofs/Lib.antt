@@ -1,6 +1,7 @@
 pub mod Found
 pub mod Reasons
 pub mod CheckSteps
+pub mod LowerChecks
 pub mod Promised
 pub mod CasesHold
 pub mod PairSteps

@@ -1,7 +1,6 @@
 -- What is promised of accepted sheets: from what checking accepts (`Reasons`), and that a plan is a true sheet in range.
 use Prim.Native.Nat.{ℕ, ◌<◌, ◌≤◌}
 use mathlib.Core.List.{List}
-use lib.ListN.{length}
 use mathlib.Core.Path.{◌≡◌, refl}
 use native.Mathlib.Omega.{arith}
 use Rattle.ring.specs.Limits.{desk}
@@ -15,13 +14,13 @@ use Rattle.table.specs.Reasons.{rank_of}
 use Rattle.table.specs.declared.reason.Reason.{Reason}
 use Rattle.table.specs.declared.reason.Reason.TheVariants.{TooLong, Misshapen, RingSize, Fibres, NoSuchNode, NotBelow, OutOfOrder, TooMany, TooMuch, NoRow, Full, WrongSum, WrongWay, WrongCut, WrongLink, WrongLast, NotTight, OverBound, NotZero, NotSymmetric, SumTooMuch, NoRoom}
 use Rattle.table.proofs.TableText.{desk-spelled}
-use Rattle.sheet.specs.Read.{Result, accepted, refused, read_sheet}
+use Rattle.sheet.specs.Read.{SheetResult, accepted, refused, read_sheet}
 use Rattle.sheet.specs.Says as reading
 use Rattle.sheet.specs.Says.{Says}
 use Rattle.sheet.specs.WriteSheet.{write_sheet}
 use Rattle.sheet.proofs.Promised.{same-sheet}
 use Rattle.sheet.proofs.SheetReasons.{given as read-given, well-formed-is}
-use Rattle.sheet.proofs.Short.{true-spelled, true-links, true-short, plan-in-range}
+use Rattle.sheet.proofs.Short.{desk-fits, true-in-range, plan-in-range}
 use Rattle.checker.specs.Laws.{TrueAccepted, PlanAccepted, NoLowerPeak, FormedIs, JudgedInRange}
 use Rattle.checker.specs.Says.{Given, of_form, of_figures}
 use Rattle.checker.proofs.Found.{OfFigures, a_sum, a_way, a_cut, a_link, a_last, a_peak, a_bound, first-is, all-figures}
@@ -38,19 +37,7 @@ no-lower-peak x range a =
     no_lower x (rw e text.1.1)
 
 pub judged-in-range : JudgedInRange
-judged-in-range x f t =
-    let count : length x.rows ≤ desk.rows = omega (arith, f.count, demands-length x.rows) in
-    record {
-      few = f.few;
-      many = f.many;
-      fibres = f.fibres;
-      rows = f.rows;
-      count = count;
-      amounts = f.amounts;
-      spelled = true-spelled x t f.many f.fibres f.rows count f.amounts;
-      links = true-links x t f.many f.fibres f.rows count f.amounts;
-      short = omega (arith, true-short x t f.many f.fibres f.rows count f.amounts);
-    }
+judged-in-range x f t = true-in-range desk desk-fits x t f.many f.fibres f.rows (omega (arith, f.count, demands-length x.rows)) f.amounts f.few
 
 -- the sheet of a table's plan is accepted
 pub plan-accepted : PlanAccepted
@@ -99,7 +86,7 @@ formed-is t = (λ w r line byte g. to_late w g, λ all. formed all (read_sheet d
     to_late w {r} {line} (of_form g) = absurd (w r line g.holds)
     to_late w {r} (of_figures x place is first stands) = late (first-is _ (findings desk x) (found r place) (all-figures desk x is.range) first)
 
-    formed : ((r : Reason) (line byte : ℕ) → Given desk t r line byte → (rank_of WrongSum ≤ rank_of r) × (rank_of r ≤ rank_of OverBound)) → (y : Result) → read_sheet desk t ≡ y → reading.WellFormed desk t
+    formed : ((r : Reason) (line byte : ℕ) → Given desk t r line byte → (rank_of WrongSum ≤ rank_of r) × (rank_of r ≤ rank_of OverBound)) → (y : SheetResult) → read_sheet desk t ≡ y → reading.WellFormed desk t
     formed all (accepted x) e = (well-formed-is desk t).0 (record { x = x; is = e })
     formed all (refused r line byte) e =
         let g = (read-given desk t r line byte).0 e in

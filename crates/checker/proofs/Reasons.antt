@@ -6,11 +6,12 @@ use lib.ListN.{length}
 use mathlib.Core.Logic.{◌↔◌}
 use mathlib.Core.Path.{◌≡◌, refl, ap, ◌∙◌, sym, subst}
 use native.Mathlib.Omega.{arith}
-use Rattle.std.specs.Prelude.{Result as Either, Ok, Err}
-use Rattle.ring.specs.Limits.{desk}
+use Rattle.std.specs.Prelude.{Result, Ok, Err}
+use Rattle.ring.specs.Limits.{Limits, desk}
 use Rattle.ring.specs.Sheet.{Sheet, sents, demands}
 use Rattle.ring.proofs.Small.{demands-length}
-use Rattle.table.proofs.Short.{table-short}
+use Rattle.table.specs.Table.{LimitsSpelled}
+use Rattle.table.proofs.Short.{desk-narrow, table-short}
 use Rattle.ring.specs.True.{TrueSheet}
 use Rattle.table.specs.Findings.{First, found}
 use Rattle.table.specs.Reasons.{number_of}
@@ -20,11 +21,11 @@ use Rattle.table.specs.declared.finding.Finding.{Finding}
 use Rattle.table.specs.declared.reason.Reason.{Reason}
 use Rattle.judge.specs.Findings.{findings, Fits}
 use Rattle.judge.specs.Tests.{judged}
-use Rattle.judge.proofs.Tests.{judged-first, judged-is}
+use Rattle.judge.proofs.Tests.{first-judged, first-is-judged}
 use Rattle.judge.proofs.Accepted.{fine-accepted, true-fine}
 use Rattle.table.proofs.TableText.{desk-spelled}
 use Rattle.sheet.specs.Range.{InRange}
-use Rattle.sheet.specs.Read.{Result, accepted, refused, read_sheet}
+use Rattle.sheet.specs.Read.{SheetResult, accepted, refused, read_sheet}
 use Rattle.sheet.specs.Says as reading
 use Rattle.sheet.specs.Says.{Says}
 use Rattle.sheet.specs.WriteSheet.{write_sheet}
@@ -73,60 +74,77 @@ figures-not-15 a_last e = omega arith
 figures-not-15 a_peak e = omega arith
 figures-not-15 a_bound e = omega arith
 
-module _ (t : List ℕ) where
-  pub read-as : (x : Sheet) → (read_sheet desk t ≡ accepted x) ↔ ReadTo desk t x
-  read-as x =
-      (λ e. let h = (sheet-text desk desk-spelled t x).0 e in record { text = h.0; range = h.1 }, λ h. (sheet-text desk desk-spelled t x).1 (h.text, h.range))
+-- ---- of any limits whose numbers can be spelled
+
+module _ (limits : Limits) (spelled : LimitsSpelled limits) (t : List ℕ) where
+  pub read-by : (x : Sheet) → (read_sheet limits t ≡ accepted x) ↔ ReadTo limits t x
+  read-by x =
+      (λ e. let h = (sheet-text limits spelled t x).0 e in record { text = h.0; range = h.1 }, λ h. (sheet-text limits spelled t x).1 (h.text, h.range))
 
   -- ---- refusals
 
   module _ (r : Reason) (line byte : ℕ) where
-    found-on : (x : Sheet) → ReadTo desk t x → (v : Either Unit Finding) → judged desk x ≡ v → judged_on x v ≡ refused r line byte → Given desk t r line byte
+    found-on : (x : Sheet) → ReadTo limits t x → (v : Result Unit Finding) → judged limits x ≡ v → judged_on x v ≡ refused r line byte → Given limits t r line byte
     unfolding judged_on
     found-on x is (Ok _) q h = absurd (cc)
     found-on x is (Err f) q h =
-        let first : First (findings desk x) (Err f) = subst (First (findings desk x)) q (judged-first x) in
-        let stands = there-is x f.place (first-is _ (findings desk x) f (all-figures desk x is.range) first) in
+        let first : First (findings limits x) (Err f) = subst (First (findings limits x)) q (first-judged limits x) in
+        let stands = there-is x f.place (first-is _ (findings limits x) f (all-figures limits x is.range) first) in
         let a : f.reason ≡ r = cc in
         let b : line_of (length x.rows) x.ring.nodes f.reason f.place ≡ line = cc in
         let c : byte_on (line_of (length x.rows) x.ring.nodes f.reason f.place) ≡ byte = cc in
         let d : byte_on line ≡ byte = rw b at c in
         of_figures x f.place is (rw (← a) first) (rw (b, d, a) at stands)
 
-    refused-is : (y : Result) → read_sheet desk t ≡ y → check_read desk y ≡ refused r line byte → Given desk t r line byte
+    refused-is : (y : SheetResult) → read_sheet limits t ≡ y → check_read limits y ≡ refused r line byte → Given limits t r line byte
     unfolding check_read
-    refused-is (refused a b c) e h = of_form ((read-given desk t r line byte).0 (e ∙ h))
-    refused-is (accepted x) e h = found-on x ((read-as x).0 e) (judged desk x) refl h
+    refused-is (refused a b c) e h = of_form ((read-given limits t r line byte).0 (e ∙ h))
+    refused-is (accepted x) e h = found-on x ((read-by x).0 e) (judged limits x) refl h
 
-    is-refused : Given desk t r line byte → check desk t ≡ refused r line byte
+    is-refused-by : Given limits t r line byte → check limits t ≡ refused r line byte
     unfolding check check_read judged_on
-    is-refused (of_form g) = ap (check_read desk) ((read-given desk t r line byte).1 g)
-    is-refused (of_figures x place is first stands) =
-        ap (check_read desk) ((read-as x).1 is)
-        ∙ ap (judged_on x) (sym (judged-is x (Err (found r place)) first))
+    is-refused-by (of_form g) = ap (check_read limits) ((read-given limits t r line byte).1 g)
+    is-refused-by (of_figures x place is first stands) =
+        ap (check_read limits) ((read-by x).1 is)
+        ∙ ap (judged_on x) (sym (first-is-judged limits x (Err (found r place)) first))
         ∙ on-its-line x stands
 
-    pub given : (check desk t ≡ refused r line byte) ↔ Given desk t r line byte
+    pub given-by : (check limits t ≡ refused r line byte) ↔ Given limits t r line byte
     unfolding check
-    given = (λ e. refused-is (read_sheet desk t) refl e, is-refused)
+    given-by = (λ e. refused-is (read_sheet limits t) refl e, is-refused-by)
 
   -- ---- acceptance
 
   -- read to these values, against which nothing is found
-  pub accepted-as : (x : Sheet) → (check desk t ≡ accepted x) ↔ (ReadTo desk t x × First (findings desk x) (Ok tt))
+  pub accepted-by : (x : Sheet) → (check limits t ≡ accepted x) ↔ (ReadTo limits t x × First (findings limits x) (Ok tt))
   unfolding check check_read judged_on
-  accepted-as x = (λ e. there (read_sheet desk t) refl e, λ h. ap (check_read desk) ((read-as x).1 h.0) ∙ ap (judged_on x) (sym (judged-is x (Ok tt) h.1)))
+  accepted-by x = (λ e. there (read_sheet limits t) refl e, λ h. ap (check_read limits) ((read-by x).1 h.0) ∙ ap (judged_on x) (sym (first-is-judged limits x (Ok tt) h.1)))
     where
-      judged-there : (y : Sheet) → ReadTo desk t y → (v : Either Unit Finding) → judged desk y ≡ v → judged_on y v ≡ accepted x → ReadTo desk t x × First (findings desk x) (Ok tt)
+      judged-there : (y : Sheet) → ReadTo limits t y → (v : Result Unit Finding) → judged limits y ≡ v → judged_on y v ≡ accepted x → ReadTo limits t x × First (findings limits x) (Ok tt)
       judged-there y is (Ok _) q h =
           let e : y ≡ x = cc in
-          let first : First (findings desk y) (Ok tt) = subst (First (findings desk y)) q (judged-first y) in
+          let first : First (findings limits y) (Ok tt) = subst (First (findings limits y)) q (first-judged limits y) in
           rw (← e) (is, first)
       judged-there y is (Err f) q h = absurd (cc)
 
-      there : (y : Result) → read_sheet desk t ≡ y → check_read desk y ≡ accepted x → ReadTo desk t x × First (findings desk x) (Ok tt)
-      there (accepted y) e h = judged-there y ((read-as y).0 e) (judged desk y) refl h
+      there : (y : SheetResult) → read_sheet limits t ≡ y → check_read limits y ≡ accepted x → ReadTo limits t x × First (findings limits x) (Ok tt)
+      there (accepted y) e h = judged-there y ((read-by y).0 e) (judged limits y) refl h
       there (refused a b c) e h = absurd (cc)
+
+-- ---- of the desk's
+
+module _ (t : List ℕ) where
+  pub read-as : (x : Sheet) → (read_sheet desk t ≡ accepted x) ↔ ReadTo desk t x
+  read-as = read-by desk desk-spelled t
+
+  pub given : (r : Reason) (line byte : ℕ) → (check desk t ≡ refused r line byte) ↔ Given desk t r line byte
+  given = given-by desk desk-spelled t
+
+  is-refused : (r : Reason) (line byte : ℕ) → Given desk t r line byte → check desk t ≡ refused r line byte
+  is-refused r line byte = (given r line byte).1
+
+  pub accepted-as : (x : Sheet) → (check desk t ≡ accepted x) ↔ (ReadTo desk t x × First (findings desk x) (Ok tt))
+  accepted-as = accepted-by desk desk-spelled t
 
   -- the text is checked to a sheet
   pub record Reads : Type 0 where
@@ -156,7 +174,7 @@ module _ (t : List ℕ) where
             rows = r.rows;
             count = count;
             amounts = r.amounts;
-            short = omega (arith, table-short desk desk-spelled x.ring (demands (sents x.rows)) r.many r.fibres r.rows.nodes count r.amounts);
+            short = omega (arith, table-short desk desk-narrow x.ring (demands (sents x.rows)) r.many r.fibres r.rows.nodes count r.amounts);
           }
 
   -- a text that is read to this sheet is accepted exactly when that is true

@@ -12,9 +12,9 @@ use Rattle.ring.specs.RuleA.{rule_a}
 use Rattle.ring.specs.RuleB.{rule_b}
 use Rattle.ring.specs.Sheet.{Sheet, sents, demands, plan, split_peak, unsplit_peak, largest_split_of}
 use Rattle.table.specs.Reasons.{number_of}
-use Rattle.table.specs.ReadTable.{Result as TableResult, accepted as a-table, refused as no_table, table_of}
+use Rattle.table.specs.ReadTable.{TableResult, accepted as a-table, refused as no_table, table_of}
 use Rattle.sheet.specs.WriteSheet.{write_sheet}
-use Rattle.sheet.specs.Read.{Result, accepted, refused, read_sheet}
+use Rattle.sheet.specs.Read.{SheetResult, accepted, refused, read_sheet}
 use Rattle.checker.specs.Check.{check}
 use Rattle.checker.specs.Printed.{printed}
 
@@ -126,7 +126,7 @@ cases =
     refusal_of ("R|4|3" ∷ [])
     20 1 5
     [] ∷
-    refusal_of ("R|33|3" ∷ [])
+    refusal_of ("R|65|3" ∷ [])
     3 1 3
     [] ∷
     refusal_of ("R|4" ∷ "C|1|2|0" ∷ [])
@@ -187,12 +187,12 @@ routing (a-table ring rs) = text (write_sheet (plan ring rs))
 routing (no_table reason line byte) = E (number_of reason) line byte
 
 -- the checker's
-unfoldable pub checking : Result → Answer
+unfoldable pub checking : SheetResult → Answer
 checking (accepted x) = Y
 checking (refused reason line byte) = E (number_of reason) line byte
 
 -- to a claim: any well-formed sheet can be asked, true or not
-unfoldable pub claiming : Result → Claim → Answer
+unfoldable pub claiming : SheetResult → Claim → Answer
 unfolding truth
 claiming (accepted x) c = claim (truth x c)
 claiming (refused reason line byte) c = E (number_of reason) line byte

@@ -4,8 +4,9 @@ ghost use Rattle.ring.specs.Limits.{desk};
 ghost use Rattle.sheet.specs.Answer.{with_values};
 ghost use Rattle.checker.specs.Check.{line_of, check};
 
+use arrayvec::ArrayVec;
 use judge::judge;
-use ring::{Figures, LINKS, Link, wide};
+use ring::{Figures, LINKS, Link};
 use rows::{Columns, Rows};
 use sheet::read_sheet;
 use table::{Finding, Reason, Refusal};
@@ -30,24 +31,23 @@ fn line_of(rows: usize, nodes: u32, found: Finding) -> u32
     }
 }
 
-/// Checks a sheet's text, whatever tool it comes from: its figures are answered, its rows are in the columns and its links in the array, link k at place k - 1.
+/// Checks a sheet's text, whatever tool it comes from: its figures are answered, and its rows and its links, link k the k-th, are put into what is lent.
 /// A refusal names the first reason that holds, with its line and its byte: those for which no sheet is read, and then 8 to 14, with byte 1 of their line, or, against the
-/// sheet as a whole, with line 0 and byte 0. After it the columns hold no row, and what the array holds means nothing.
+/// sheet as a whole, with line 0 and byte 0. After it no row is left, and no link.
 pub fn check_sheet(
     text: &[u8],
     rows: &mut Columns,
-    links: &mut [Link; LINKS],
+    links: &mut ArrayVec<Link, LINKS>,
 ) -> Result<Figures, Refusal>
-    ensures value { with_values rows.new links.new result ≡ check desk text.now }
-    ensures empty { IfErr result (λ _. rows.new ≡ []) }
+    ensures value { with_values rows.new links.new.items result ≡ check desk text.now }
+    ensures empty { IfErr result (λ _. (rows.new ≡ []) × (links.new.items ≡ [])) }
 {
     let x = read_sheet(text, rows, links)?;
-    let nodes = x.ring.nodes;
-    let held = &links[..wide(nodes)];
-    match judge(x, rows, held) {
+    match judge(x, rows, links.as_slice()) {
         Ok(()) => Ok(x),
         Err(found) => {
-            let line = line_of(rows.count(), nodes, found);
+            let line = line_of(rows.count(), x.ring.nodes, found);
+            links.clear();
             rows.clear();
             Err(Refusal {
                 reason: found.reason,

@@ -19,8 +19,7 @@ use Rattle.ring.proofs.Small.{demands-length}
 use Rattle.table.specs.Findings.{Findings, then, First, ring_findings}
 use Rattle.table.specs.declared.finding.Finding.{Finding}
 use Rattle.table.proofs.Findings.{fine, then-on, none-of, both-of, one-answer}
-use Rattle.table.proofs.Short.{table-short}
-use Rattle.table.proofs.TableText.{desk-spelled}
+use Rattle.table.proofs.Short.{desk-narrow, table-short}
 use Rattle.judge.specs.Findings.{rows_findings, cut_findings, loads_findings, last_findings, findings, Fits}
 use Rattle.judge.proofs.Rows.{same-number, Fine, rows-fine, fine-rows}
 use Rattle.judge.proofs.Links.{links-true, true-links, length-numbers}
@@ -65,7 +64,7 @@ module _ (x : Sheet) where
         rows = record { nodes = nodes; order = rows.order };
         count = count;
         amounts = amounts;
-        short = omega (arith, table-short desk desk-spelled x.ring rs ring.many ring.fibres nodes count amounts);
+        short = omega (arith, table-short desk desk-narrow x.ring rs ring.many ring.fibres nodes count amounts);
       }
 
   pub fine-true : First (findings desk x) fine → TrueSheet x

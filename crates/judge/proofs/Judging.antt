@@ -1,5 +1,6 @@
 -- All findings, part by part: what is given of a part is given of all, where nothing is found before it.
-use Rattle.std.proofs.Common.{ℕ, ◌*◌, ◌^◌, ◌<◌, ◌≤◌, List, None, Result, Err, inl, inr, ◌≡◌, ap, ◌∙◌, arith}
+use Rattle.std.proofs.Common.{ℕ, ◌*◌, ◌^◌, ◌<◌, ◌≤◌, List, None, Result, Ok, Err, MatchResult, IsErrAnd, inl, inr, ◌≡◌, ap, ◌∙◌, arith}
+use Rattle.std.proofs.lemmas.Result.{err_from_is_err_and}
 use mathlib.Core.Logic.{⊎_elim}
 use native.Mathlib.Decide.{ℕ_discrete}
 use Rattle.ring.specs.declared.types.Ring.{Ring}
@@ -8,7 +9,10 @@ use Rattle.ring.specs.Limits.{Limits, desk}
 use Rattle.ring.specs.LineSize.{IsFibres, two_fibres, four_fibres}
 use Rattle.ring.specs.Sheet.{Sheet, figures_of, true_link}
 use Rattle.ring.proofs.Lists.{each}
-use Rattle.table.specs.Findings.{First, ring_findings}
+use Rattle.table.specs.Faults.{ring_found}
+use Rattle.table.specs.Findings.{First, found, found_at, ring_findings}
+use Rattle.table.specs.declared.fault.Fault.{Fault}
+use Rattle.table.proofs.Faults.{ring_given}
 use Rattle.table.specs.declared.finding.Finding.{Finding}
 use Rattle.table.proofs.Findings.{fine, then-on, then-stop, none-of}
 use Rattle.weight.specs.Rows.{Fit}
@@ -38,6 +42,15 @@ ring-fine limits ring h =
     let low : ring.nodes < limits.fewest → ⊥ = λ l. a.0 (inl l) in
     let high : limits.nodes < ring.nodes → ⊥ = λ l. a.0 (inr l) in
     record { few = omega arith; many = omega arith; fibres = fibres-of ring.fibres b.0 }
+
+-- a table's fault of a ring is what is found against it
+pub ring_first : (ring : Ring) (o : Result Unit Fault) → o ≡ ring_found desk ring → (v : Result Unit Finding) {Maps : Fault → Finding → Type 0} → ((f : Fault) (g : Finding) → Maps f g → g ≡ found f.reason 0) →
+    MatchResult o (λ x. v ≡ Ok x) (λ f. IsErrAnd v (Maps f)) → First (ring_findings desk ring) v
+ring_first ring o is v {Maps} at cases = rw (same o cases) (ring_given ring o is)
+  where
+    same : (o : Result Unit Fault) → MatchResult o (λ x. v ≡ Ok x) (λ f. IsErrAnd v (Maps f)) → v ≡ found_at 0 o
+    same (Ok tt) e = e
+    same (Err f) e = let p = err_from_is_err_and v e in p.1 ∙ ap Err (at f p.0 p.2)
 
 -- ---- so the rows can be weighed
 

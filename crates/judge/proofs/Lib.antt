@@ -5,3 +5,4 @@ pub mod Judging
 pub mod Accepted
 pub mod Tests
 pub mod Places
+pub mod LowerJudged

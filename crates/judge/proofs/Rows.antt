@@ -42,7 +42,7 @@ module _ (limits : Limits) (n : ℕ) (rs : List Routed) where
     rows-stop f h = left (Err f) (rw next (then-stop _ _ f h))
 
 -- one row: a table's fault of its demand is what is found; or nothing is found so far, and what is found of its halves and its way is what is found of it
-module _ (n k : ℕ) (above : Option Demand) (r : Routed) (o : Option Fault) (is : o ≡ row_found desk n k above r.sent.demand) (v : Result Unit Finding) (e : v ≡ found_at (k + 1) o) where
+module _ (n k : ℕ) (above : Option Demand) (r : Routed) (o : Result Unit Fault) (is : o ≡ row_found desk n k above r.sent.demand) (v : Result Unit Finding) (e : v ≡ found_at (k + 1) o) where
   so : First (demand_findings desk n (k + 1) above r.sent.demand) v
   so = rw e (row_given n k above r.sent.demand o is)
 

@@ -8,7 +8,7 @@ use Rattle.ring.specs.declared.types.Way.TheVariants.{Front, Back}
 use Rattle.ring.specs.declared.types.Cut.{Cut}
 use Rattle.ring.specs.declared.types.Link.{Link}
 use Rattle.ring.specs.declared.types.Figures.{Figures}
-use Rattle.ring.specs.Limits.{desk}
+use Rattle.ring.specs.Limits.{Limits, desk}
 use Rattle.ring.specs.LineSize.{line_size}
 use Rattle.ring.specs.Cut.{IsCut, across}
 use Rattle.ring.specs.Sheet.{Sheet, figures_of, sents, demands, true_link, split_peak, unsplit_peak, largest_split_of}
@@ -17,7 +17,7 @@ use Rattle.table.specs.Findings.{Findings, nothing, finding, then, found, First,
 use Rattle.table.specs.declared.finding.Finding.{Finding}
 use Rattle.table.specs.declared.reason.Reason.{Reason}
 use Rattle.table.proofs.Findings.{then-on, then-stop, one-answer}
-use Rattle.table.proofs.Faults.{ring_given, row_given}
+use Rattle.table.proofs.Faults.{ring-first, row-first}
 use Rattle.table.proofs.Tested.{Tested, is_so, not_so, test_of, test-or, test-and, test-less, test-most, test-same, test-other}
 use Rattle.judge.specs.Findings.{row_findings, rows_findings, cut_findings, links_findings, loads_findings, last_findings, findings}
 use Rattle.judge.proofs.Rows.{same-number}
@@ -56,17 +56,17 @@ strays-tested r Front e =
 strays-tested r Back e =
     test_of (λ z k. absurd (cc (e, k.front z))) (λ n m. m (record { front = λ z. absurd (n z); back = λ z l. e })) (test-same r.sent.back 0)
 
-row-tested : (n k : ℕ) (above : Option Demand) (r : Routed) → First (row_findings desk n (k + 1) above r) (row_judged desk n k above r)
+row-tested : (limits : Limits) (n k : ℕ) (above : Option Demand) (r : Routed) → First (row_findings limits n (k + 1) above r) (row_judged limits n k above r)
 unfolding row_judged row_tests
-row-tested n k above r =
-    first-or (demand_findings desk n (k + 1) above r.sent.demand) _ _ _ (row_given n k above r.sent.demand _ refl)
+row-tested limits n k above r =
+    first-or (demand_findings limits n (k + 1) above r.sent.demand) _ _ _ (row-first limits n k above r.sent.demand)
     (first-tested (test (test-other (r.sent.front + r.sent.back) (2 * r.sent.demand.amount)) (test (strays-tested r r.way refl) no_test)))
 
-rows-tested : (n k : ℕ) (above : Option Demand) (rs : List Routed) → First (rows_findings desk n (k + 1) above rs) (rows_judged desk n k above rs)
+rows-tested : (limits : Limits) (n k : ℕ) (above : Option Demand) (rs : List Routed) → First (rows_findings limits n (k + 1) above rs) (rows_judged limits n k above rs)
 unfolding rows_judged
-rows-tested n k above [] = refl
-rows-tested n k above (r ∷ rs) =
-    first-or (row_findings desk n (k + 1) above r) (rows_findings desk n (k + 1 + 1) (Some r.sent.demand) rs) _ _ (row-tested n k above r) (rows-tested n (k + 1) (Some r.sent.demand) rs)
+rows-tested limits n k above [] = refl
+rows-tested limits n k above (r ∷ rs) =
+    first-or (row_findings limits n (k + 1) above r) (rows_findings limits n (k + 1 + 1) (Some r.sent.demand) rs) _ _ (row-tested limits n k above r) (rows-tested limits n (k + 1) (Some r.sent.demand) rs)
 
 -- ---- the figures
 
@@ -132,16 +132,24 @@ last-tested x split unsplit largest =
 
 -- ---- all of them
 
-pub judged-first : (x : Sheet) → First (findings desk x) (judged desk x)
+pub first-judged : (limits : Limits) (x : Sheet) → First (findings limits x) (judged limits x)
 unfolding judged figures_tests
-judged-first x =
-    first-or (ring_findings desk x.ring) _ _ _ (ring_given x.ring _ refl)
-    (first-or (rows_findings desk x.ring.nodes 1 None x.rows) _ _ _ (rows-tested x.ring.nodes 0 None x.rows)
+first-judged limits x =
+    first-or (ring_findings limits x.ring) _ _ _ (ring-first limits x.ring)
+    (first-or (rows_findings limits x.ring.nodes 1 None x.rows) _ _ _ (rows-tested limits x.ring.nodes 0 None x.rows)
     (first-tested
     (tested-then (cut-tested x.ring.nodes x.rows x.cut)
     (tested-then (loads-tested x.ring.nodes (true_link x.rows) x.links)
     (last-tested (figures_of x) (split_peak x) (unsplit_peak x) (largest_split_of x))))))
 
 -- so an answer that is the first is that of the tests
+pub first-is-judged : (limits : Limits) (x : Sheet) (r : Result Unit Finding) → First (findings limits x) r → r ≡ judged limits x
+first-is-judged limits x r h = one-answer (findings limits x) r (judged limits x) h (first-judged limits x)
+
+-- ---- of the desk's limits
+
+pub judged-first : (x : Sheet) → First (findings desk x) (judged desk x)
+judged-first = first-judged desk
+
 pub judged-is : (x : Sheet) (r : Result Unit Finding) → First (findings desk x) r → r ≡ judged desk x
-judged-is x r h = one-answer (findings desk x) r (judged desk x) h (judged-first x)
+judged-is = first-is-judged desk

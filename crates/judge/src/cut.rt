@@ -1,13 +1,12 @@
 // The cut: two links of the ring, and the across number of the rows.
 ghost use Rattle.std.specs.Prelude.{◌≡◌, ◌↔◌, ◌^◌, ◌<◌, IsTrue, sum_by};
 ghost use Rattle.ring.specs.Cut.{IsCut, part};
-ghost use Rattle.ring.specs.Demand.{in_front};
 ghost use Rattle.weight.specs.Rows.{Fit};
 ghost use Rattle.table.specs.Findings.{First};
 ghost use Rattle.judge.specs.Findings.{cut_findings};
 
 use ring::{Cut, Demand};
-use rows::Rows;
+use rows::{Rows, each};
 use table::{Finding, Reason};
 
 // Whether two links are a cut of a ring of so many nodes.
@@ -17,19 +16,12 @@ fn is_cut(nodes: u32, cut: Cut) -> bool
     1 <= cut.g && cut.g < cut.h && cut.h <= nodes
 }
 
-// Whether the front of a row holds a link.
-fn in_front(row: Demand, link: u32) -> bool
-    ensures { result ≡ in_front row link }
-{
-    row.first <= link && link < row.second
-}
-
 // What a row adds to the across number of g and h.
 #[tactic(auto, unfolding(ring::specs::Cut::part, ring::specs::Cut::if_one))]
 fn part(row: Demand, g: u32, h: u32) -> u32
     ensures { result ≡ part row g h }
 {
-    if in_front(row, g) == in_front(row, h) {
+    if row.in_front(g) == row.in_front(h) {
         0
     } else {
         row.amount
@@ -41,14 +33,10 @@ fn across<R: Rows>(rows: &R, g: u32, h: u32) -> u32
     requires { sum_by (λ r. part r.sent.demand g h) (R.rows rows.now) < 2 ^ 32 }
     ensures { result ≡ sum_by (λ r. part r.sent.demand g h) (R.rows rows.now) }
 {
-    let mut sum: u32 = 0;
-    for k in 0..rows.count() {
-        sum += part(rows.row(k).sent.demand, g, h);
-    }
-    sum
+    each(rows).map(|row| part(row.sent.demand, g, h)).sum()
 }
 
-// 10: no cut, or an across number that is not that of the rows.
+/// 10: no cut, or an across number that is not that of the rows.
 #[tactic(auto, using(crate::proofs::Across::across_sum, crate::proofs::Across::across_fits))]
 pub(crate) fn judge_cut<R: Rows>(nodes: u32, rows: &R, cut: Cut) -> Result<(), Finding>
     requires { Fit nodes (R.rows rows.now) }

@@ -8,7 +8,7 @@ use sonet::Sonet;
 use table::{Finding, Reason};
 use weight::Weight;
 
-// 12: unsplit peak or size false; 13: the split peak, in halves, is not the across number; 14: twice the unsplit peak is above the split peak and 3D.
+/// 12: unsplit peak or size false; 13: the split peak, in halves, is not the across number; 14: twice the unsplit peak is above the split peak and 3D.
 #[tactic(auto, unfolding(ring::specs::LineSize::line_size))]
 pub(crate) fn judge_last(figures: Figures, weight: &Weight) -> Result<(), Finding>
     requires { 2 * weight.now.peak < 2 ^ 32 }

@@ -9,7 +9,7 @@ ghost use Rattle.std.specs.Prelude.{◌≡◌, ◌↔◌, ◌+◌, ◌≤◌, Re
 ghost use Rattle.ring.specs.Limits.{desk};
 ghost use Rattle.ring.specs.Sheet.{sheet_in};
 ghost use Rattle.ring.specs.True.{TrueSheet};
-ghost use Rattle.table.specs.Findings.{First, found_at, ring_findings};
+ghost use Rattle.table.specs.Findings.{First, ring_findings};
 ghost use Rattle.judge.specs.Findings.{findings, Fits};
 
 use crate::cut::judge_cut;
@@ -18,28 +18,17 @@ use crate::link::judge_links;
 use crate::row::judge_rows;
 use ring::{Figures, Link, Ring};
 use rows::Rows;
-use table::{Fault, Finding, ring_fault};
+use table::{Finding, check_ring};
 use weight::weigh;
-
-// A fault of the ring or of a row as what is found at a place, or nothing.
-#[tactic(auto, unfolding(table::specs::Findings::found_at))]
-fn found_at(place: usize, fault: Option<Fault>) -> Result<(), Finding>
-    ensures { result ≡ found_at place fault }
-{
-    match fault {
-        None => Ok(()),
-        Some(fault) => Err(Finding::at(fault.reason, place)),
-    }
-}
 
 // 3 and 20.
 fn judge_ring(ring: Ring) -> Result<(), Finding>
     ensures { First (ring_findings desk ring) result }
 {
-    found_at(0, ring_fault(ring))
+    check_ring(ring).map_err(|fault| Finding::at(fault.reason, 0))
 }
 
-// Part by part, as far as the first that is at fault. Apart from `judge` for its proof alone: six ways out with one clause each, and all other clauses follow from that one.
+// Part by part, as far as the first that is at fault. Apart from `judge` for its proof alone: five ways out with one clause each, and all other clauses follow from that one.
 fn judge_parts<R: Rows>(figures: Figures, rows: &R, links: &[Link]) -> Result<(), Finding>
     ensures { let x = sheet_in figures (R.rows rows.now) links.now in
         First (findings desk x) result }

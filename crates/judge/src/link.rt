@@ -9,7 +9,7 @@ use ring::{Link, wide};
 use table::{Finding, Reason};
 use weight::Weight;
 
-// 11: as many links as the ring has, and each the one that is due at its place.
+/// 11: as many links as the ring has, and each the one that is due at its place.
 pub(crate) fn judge_links(nodes: u32, weight: &Weight, links: &[Link]) -> Result<(), Finding>
     requires { nodes ≤ desk.nodes }
     ensures { First (loads_findings nodes (weighed_link weight.now) links.now) result }

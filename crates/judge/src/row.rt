@@ -5,10 +5,9 @@ ghost use Rattle.ring.specs.True.{SumsTo2d, GoesByRuleD};
 ghost use Rattle.table.specs.Findings.{First};
 ghost use Rattle.judge.specs.Findings.{row_findings, rows_findings};
 
-use crate::found_at;
 use ring::{Demand, Routed, Sent, Way, wide};
 use rows::Rows;
-use table::{Finding, Reason, row_fault};
+use table::{Finding, Reason, check_row};
 
 // Whether front and back are twice the amount. Each is below 2 to the 32, so their sum fits.
 fn sums(sent: Sent) -> bool
@@ -35,7 +34,7 @@ fn judge_row(nodes: u32, k: usize, above: Option<Demand>, row: Routed) -> Result
     ensures { First (row_findings desk nodes (k + 1) above row) result }
 {
     let place = k + 1;
-    found_at(place, row_fault(nodes, k, above, row.sent.demand))?;
+    check_row(nodes, k, above, row.sent.demand).map_err(|fault| Finding::at(fault.reason, place))?;
     if !sums(row.sent) {
         return Err(Finding::at(Reason::WrongSum, place));
     }
@@ -45,7 +44,7 @@ fn judge_row(nodes: u32, k: usize, above: Option<Demand>, row: Routed) -> Result
     Ok(())
 }
 
-// All rows in their order, as far as the first that is at fault.
+/// All rows in their order, as far as the first that is at fault.
 pub(crate) fn judge_rows<R: Rows>(nodes: u32, rows: &R) -> Result<(), Finding>
     ensures { First (rows_findings desk nodes 1 None (R.rows rows.now)) result }
 {

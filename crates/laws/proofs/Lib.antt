@@ -2,3 +2,5 @@ mod Checked
 mod OneResult
 mod OfTables
 mod Promised
+mod Figures
+mod OldDesk

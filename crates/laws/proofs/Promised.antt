@@ -7,7 +7,7 @@ use Rattle.ring.specs.Lists.{Each, none, more}
 use Rattle.ring.specs.Sheet.{plan}
 use Rattle.table.specs.Reasons.{number_of}
 use Rattle.table.specs.ReadTable as table
-use Rattle.sheet.specs.Read.{Result, accepted, refused, read_sheet}
+use Rattle.sheet.specs.Read.{SheetResult, accepted, refused, read_sheet}
 use Rattle.sheet.specs.WriteSheet.{write_sheet}
 use Rattle.checker.specs.Check.{check}
 use Rattle.checker.specs.Printed.{printed}
@@ -21,7 +21,7 @@ use Rattle.laws.specs.Cases.{GivenNumber, planned, refused as refused_case, Prom
 
 -- ---- one answer
 
-due : (t sheet : List ℕ) (x : table.Result) → table.table_of desk t ≡ x → routing x ≡ text sheet → TableDue sheet_due t sheet
+due : (t sheet : List ℕ) (x : table.TableResult) → table.table_of desk t ≡ x → routing x ≡ text sheet → TableDue sheet_due t sheet
 unfolding routing
 due t sheet (table.accepted ring rs) e a = let same : write_sheet (plan ring rs) ≡ sheet = cc in record { ring = ring; rs = rs; of = (read_is t ring rs).0 e; is = sym same }
 due t sheet (table.refused reason line byte) e a = absurd (no-text a)
@@ -29,7 +29,7 @@ due t sheet (table.refused reason line byte) e a = absurd (no-text a)
     no-text : {reason line byte : ℕ} {sheet : List ℕ} → E reason line byte ≡ text sheet → ⊥
     no-text e = cc
 
-sheet-accepted : (t : List ℕ) (x : Result) → check desk t ≡ x → checking x ≡ Y → Accepted desk t
+sheet-accepted : (t : List ℕ) (x : SheetResult) → check desk t ≡ x → checking x ≡ Y → Accepted desk t
 unfolding checking
 sheet-accepted t (accepted x) e a = (accepted-is t).0 (record { x = x; is = e })
 sheet-accepted t (refused reason line byte) e a = absurd (no-yes a)
@@ -37,7 +37,7 @@ sheet-accepted t (refused reason line byte) e a = absurd (no-yes a)
     no-yes : {reason line byte : ℕ} → E reason line byte ≡ Y → ⊥
     no-yes e = cc
 
-sheet-refused : (t : List ℕ) (number line byte : ℕ) (x : Result) → check desk t ≡ x → checking x ≡ E number line byte → GivenNumber t number line byte
+sheet-refused : (t : List ℕ) (number line byte : ℕ) (x : SheetResult) → check desk t ≡ x → checking x ≡ E number line byte → GivenNumber t number line byte
 unfolding checking
 sheet-refused t number line byte (accepted x) e a = absurd (no-refusal a)
   where

@@ -6,8 +6,9 @@ ghost use Rattle.turns.specs.Cases.{CasesHold as TurnedCasesHold};
 ghost use Rattle.checker.specs.Laws.{TrueAccepted, PlanAccepted, NoLowerPeak, FormedIs, JudgedInRange};
 ghost use Rattle.laws.specs.Texts.{SpellingIs, OneLine, FaultyIs, WellFormedIs, AcceptedMatrixIs, ReasonsApart, ReasonsFromOne};
 ghost use Rattle.laws.specs.Cases.{CasesPromised};
+ghost use Rattle.laws.specs.Figures.{OfJudged, WrittenAccepted, RoomsFit, ShortNodes, ShortAmounts, ShortHalves, ShortLoads, FitsText};
 
-/// Numbers are spelled in one way each: by 1 to 7 digits with no leading zero but 0 itself.
+/// Numbers are spelled in one way each: by 1 to 8 digits with no leading zero but 0 itself.
 pub fn numbers_spelled()
     ensures { SpellingIs }
 {}
@@ -41,7 +42,18 @@ pub fn true_sheet_accepted()
 
 /// Values that judging accepts are in range, so that their sheet, written, is accepted.
 pub fn judged_in_range()
-    ensures { JudgedInRange }
+    ensures range { JudgedInRange }
+    ensures accepted { OfJudged WrittenAccepted }
+{}
+
+/// The figures of values that judging accepts have few digits: nodes 2, amounts 4, fronts and backs 5, loads 8; so each such sheet is no longer than the longest, and that fits a text, as do the rooms of a table and of a matrix.
+pub fn digits_of_figures()
+    ensures nodes { OfJudged ShortNodes }
+    ensures amounts { OfJudged ShortAmounts }
+    ensures halves { OfJudged ShortHalves }
+    ensures loads { OfJudged ShortLoads }
+    ensures fits { OfJudged FitsText }
+    ensures rooms { RoomsFit }
 {}
 
 /// The plan of an accepted table is an accepted sheet.

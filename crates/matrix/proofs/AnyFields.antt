@@ -10,6 +10,7 @@ use lib.ListN.{length, take, replicate, length-append, length-replicate}
 use lib.Seq.{take-append-le, take-append-add}
 use borrow.Author.Tests.{eq-eqb, ne_eqb}
 use Rattle.ring.specs.Lists.{Each, none, more}
+use Rattle.ring.specs.Limits.{Limits}
 use Rattle.text.specs.Bytes.{tab, lf}
 use Rattle.text.specs.Number.{limit, digits}
 use Rattle.text.specs.Field.{top, spell}
@@ -19,6 +20,7 @@ use Rattle.text.specs.declared.field.Field.TheVariants.{Number}
 use Rattle.text.proofs.LineLaws.{fewer}
 use Rattle.text.specs.FirstFault.{Agrees, FirstFault}
 use Rattle.text.proofs.Apart.{clash}
+use Rattle.text.proofs.Digits.{tens}
 use Rattle.table.specs.Lines.{with_byte, lines}
 use Rattle.table.specs.Says.{LineIs, at_first, behind}
 use Rattle.matrix.specs.Read.{fields_in}
@@ -93,10 +95,10 @@ unfolding fields_in
 fields-some [] = omega arith
 fields-some (b ∷ l) = omega (arith, fields-some l)
 
-zeros-fit : (n : ℕ) → FitsShape (numbers n) (replicate {A = ℕ} n 0)
+zeros-fit : (limits : Limits) (n : ℕ) → FitsShape limits.digits (numbers n) (replicate {A = ℕ} n 0)
 unfolding FitsShape top
-zeros-fit zero = tt
-zeros-fit (suc n) = (omega arith, zeros-fit n)
+zeros-fit limits zero = tt
+zeros-fit limits (suc n) = (omega (arith, tens limits.digits limits.countable), zeros-fit limits n)
 
 tab-behind : (n : ℕ) → 1 ≤ n → end_of (length (numbers n)) ≡ tab
 unfolding end_of
@@ -107,31 +109,31 @@ unfolding end_of
 lf-behind = refl
 
 -- no more than the digits of the first number
-within_first : (v : ℕ) (w l : List ℕ) (k : ℕ) → v < limit → k ≤ length (digits v) → take k (digits v ++ w) ≡ take k l → Agrees (numbers (fields_in l)) l k
+within_first : (limits : Limits) (v : ℕ) (w l : List ℕ) (k : ℕ) → v < limit limits.digits → k ≤ length (digits v) → take k (digits v ++ w) ≡ take k l → Agrees limits.digits (numbers (fields_in l)) l k
 unfolding write_line FitsShape spell top
-within_first v w l k small h e =
+within_first limits v w l k small h e =
     let d : suc (fields_in l - 1) ≡ fields_in l = omega (arith, fields-some l) in
     let zs : List ℕ = replicate {A = ℕ} (fields_in l - 1) 0 in
-    subst (λ n. Agrees (numbers n) l k) d
+    subst (λ n. Agrees limits.digits (numbers n) l k) d
     (record {
       vs = v ∷ zs;
-      range = (small, zeros-fit (fields_in l - 1));
+      range = (small, zeros-fit limits (fields_in l - 1));
       text = take-append-le k (digits v) (end_of (length (numbers (fields_in l - 1))) ∷ write_line (numbers (fields_in l - 1)) zs) h ∙ sym (take-append-le k (digits v) w h) ∙ e;
     })
 
 -- one number and LF
-only-first : (v : ℕ) (l : List ℕ) (k : ℕ) → v < limit → l ≡ digits v ++ lf ∷ [] → Agrees (numbers (fields_in l)) l k
+only-first : (limits : Limits) (v : ℕ) (l : List ℕ) (k : ℕ) → v < limit limits.digits → l ≡ digits v ++ lf ∷ [] → Agrees limits.digits (numbers (fields_in l)) l k
 unfolding write_line FitsShape spell top end_of
-only-first v l k small is =
-    let d : fields_in l ≡ 1 = ap fields_in is ∙ fields-line v [] (more small none) in
-    subst (λ n. Agrees (numbers n) l k) (sym d) (record { vs = v ∷ []; range = (small, tt); text = ap (take k) (sym is) })
+only-first limits v l k small is =
+    let d : fields_in l ≡ 1 = ap fields_in is ∙ fields-line limits v [] (more small none) in
+    subst (λ n. Agrees limits.digits (numbers n) l k) (sym d) (record { vs = v ∷ []; range = (small, tt); text = ap (take k) (sym is) })
 
 -- a number and a tab, and what is behind them
-first-and : (v : ℕ) (l rest : List ℕ) (j k : ℕ) → v < limit → l ≡ digits v ++ tab ∷ rest → k ≡ length (digits v) + suc j → Agrees (numbers (fields_in rest)) rest j → Agrees (numbers (fields_in l)) l k
+first-and : (limits : Limits) (v : ℕ) (l rest : List ℕ) (j k : ℕ) → v < limit limits.digits → l ≡ digits v ++ tab ∷ rest → k ≡ length (digits v) + suc j → Agrees limits.digits (numbers (fields_in rest)) rest j → Agrees limits.digits (numbers (fields_in l)) l k
 unfolding write_line FitsShape spell top fields_in
-first-and v l rest j k small is i a =
-    let d : fields_in l ≡ suc (fields_in rest) = ap fields_in is ∙ fields-behind v small (tab ∷ rest) ∙ omega arith in
-    subst (λ n. Agrees (numbers n) l k) (sym d)
+first-and limits v l rest j k small is i a =
+    let d : fields_in l ≡ suc (fields_in rest) = ap fields_in is ∙ fields-behind limits v small (tab ∷ rest) ∙ omega arith in
+    subst (λ n. Agrees limits.digits (numbers n) l k) (sym d)
     (record {
       vs = v ∷ a.vs;
       range = (small, a.range);
@@ -143,41 +145,41 @@ first-and v l rest j k small is i a =
 tail-ended : (a : List ℕ) (x : ℕ) (l rest : List ℕ) → l ≡ a ++ x ∷ rest → Ended l → Ended rest
 tail-ended a x l rest is f p b e = f (a ++ x ∷ p) b (is ∙ rw e (sym (append_assoc a (x ∷ p) (lf ∷ b))))
 
-agree : (m : ℕ) (vs l : List ℕ) (k : ℕ) → FitsShape (numbers (suc m)) vs → Ended l → take k (write_line (numbers (suc m)) vs) ≡ take k l → Agrees (numbers (fields_in l)) l k
+agree : (limits : Limits) (m : ℕ) (vs l : List ℕ) (k : ℕ) → FitsShape limits.digits (numbers (suc m)) vs → Ended l → take k (write_line (numbers (suc m)) vs) ≡ take k l → Agrees limits.digits (numbers (fields_in l)) l k
 unfolding write_line FitsShape spell top
-agree m [] l k r f e = absurd r
-agree zero (v ∷ vs) l k r f e =
+agree limits m [] l k r f e = absurd r
+agree limits zero (v ∷ vs) l k r f e =
     elim (dec_lt (length (digits v)) k) [
-      | no h ↦ within_first v _ l k r.0 (omega arith) e
+      | no h ↦ within_first limits v _ l k r.0 (omega arith) e
       | yes h ↦
           let s = go-behind (digits v) lf (write_line (numbers zero) vs) l k h (rw lf-behind at e) in
-          only-first v l k r.0 (s.is ∙ ap (λ (b : List ℕ). digits v ++ lf ∷ b) (f (digits v) s.rest s.is))
+          only-first limits v l k r.0 (s.is ∙ ap (λ (b : List ℕ). digits v ++ lf ∷ b) (f (digits v) s.rest s.is))
     ]
-agree (suc m) (v ∷ vs) l k r f e =
+agree limits (suc m) (v ∷ vs) l k r f e =
     elim (dec_lt (length (digits v)) k) [
-      | no h ↦ within_first v _ l k r.0 (omega arith) e
+      | no h ↦ within_first limits v _ l k r.0 (omega arith) e
       | yes h ↦
           let s = go-behind (digits v) tab (write_line (numbers (suc m)) vs) l k h (rw (tab-behind (suc m) (omega arith)) at e) in
           let j : ℕ = k - length (digits v) - 1 in
           let i : k ≡ length (digits v) + suc j = omega arith in
-          first-and v l s.rest j k r.0 s.is i (agree m vs s.rest j r.1 (tail-ended (digits v) tab l s.rest s.is f) (s.same j i))
+          first-and limits v l s.rest j k r.0 s.is i (agree limits m vs s.rest j r.1 (tail-ended (digits v) tab l s.rest s.is f) (s.same j i))
     ]
 
-pub agree-any : (m : ℕ) (l : List ℕ) (k : ℕ) → 1 ≤ m → Ended l → Agrees (numbers m) l k → Agrees (numbers (fields_in l)) l k
-agree-any zero l k h f a = absurd (omega arith)
-agree-any (suc m) l k h f a = agree m a.vs l k a.range f a.text
+pub agree-any : (limits : Limits) (m : ℕ) (l : List ℕ) (k : ℕ) → 1 ≤ m → Ended l → Agrees limits.digits (numbers m) l k → Agrees limits.digits (numbers (fields_in l)) l k
+agree-any limits zero l k h f a = absurd (omega arith)
+agree-any limits (suc m) l k h f a = agree limits m a.vs l k a.range f a.text
 
 -- ---- the law
 
-pub any-fault : (l : List ℕ) (p : ℕ) → Ended l → FirstFault (numbers (fields_in l)) l p → NumbersFault l p
-any-fault l p f x = record { m = fields_in l; some = fields-some l; before = x.before; here = λ m h a. x.here (agree-any m l (p + 1) h f a) }
+pub any-fault : (limits : Limits) (l : List ℕ) (p : ℕ) → Ended l → FirstFault limits.digits (numbers (fields_in l)) l p → NumbersFault limits l p
+any-fault limits l p f x = record { m = fields_in l; some = fields-some l; before = x.before; here = λ m h a. x.here (agree-any limits m l (p + 1) h f a) }
 
 -- there is one such place
-not-before : (l : List ℕ) (p q : ℕ) → NumbersFault l p → NumbersFault l q → p < q → ⊥
-not-before l p q x y h = x.here y.m y.some (fewer (numbers y.m) l (p + 1) q (omega arith) y.before)
+not-before : (limits : Limits) (l : List ℕ) (p q : ℕ) → NumbersFault limits l p → NumbersFault limits l q → p < q → ⊥
+not-before limits l p q x y h = x.here y.m y.some (fewer limits.digits limits.countable (numbers y.m) l (p + 1) q (omega arith) y.before)
 
-pub one-any-fault : (l : List ℕ) (p q : ℕ) → NumbersFault l p → NumbersFault l q → p ≡ q
-one-any-fault l p q x y =
-    let a : p < q → ⊥ = not-before l p q x y in
-    let b : q < p → ⊥ = not-before l q p y x in
+pub one-any-fault : (limits : Limits) (l : List ℕ) (p q : ℕ) → NumbersFault limits l p → NumbersFault limits l q → p ≡ q
+one-any-fault limits l p q x y =
+    let a : p < q → ⊥ = not-before limits l p q x y in
+    let b : q < p → ⊥ = not-before limits l q p y x in
     omega arith

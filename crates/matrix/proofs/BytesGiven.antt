@@ -13,7 +13,7 @@ use Rattle.text.specs.Shapes.{numbers, numbers_line}
 use Rattle.text.specs.FirstFault.{FirstFault}
 use Rattle.text.proofs.LineLaws.{one-fault}
 use Rattle.table.specs.declared.reason.Reason.{Reason}
-use Rattle.table.specs.declared.reason.Reason.TheVariants.{TooLong, Misshapen, RingSize, TooMuch, NotZero, NotSymmetric}
+use Rattle.table.specs.declared.reason.Reason.TheVariants.{TooLong, Misshapen, RingSize, TooMany, TooMuch, NotZero, NotSymmetric}
 use Rattle.table.specs.Says.{DueByte}
 use Rattle.table.proofs.BytesGiven.{one-due}
 use Rattle.table.proofs.LineNumbers.{line-one}
@@ -25,16 +25,16 @@ use Rattle.matrix.proofs.MatrixText.{fields-are}
 use Rattle.matrix.proofs.AnyFields.{one-any-fault}
 
 -- a line has one reading
-pub numbers-one : {t : List ℕ} {line other : ℕ} {vs us : List ℕ} → NumbersAre t line vs → NumbersAre t other us → line ≡ other → vs ≡ us
-numbers-one {vs = vs} {us = us} p q e =
+pub numbers-one : {limits : Limits} {t : List ℕ} {line other : ℕ} {vs us : List ℕ} → NumbersAre limits t line vs → NumbersAre limits t other us → line ≡ other → vs ≡ us
+numbers-one {limits} {vs = vs} {us = us} p q e =
     let same : numbers_line vs ≡ numbers_line us = line-one p.text q.text e in
-    let k : length vs ≡ length us = sym (fields-are vs p.some p.spelled) ∙ ap fields_in same ∙ fields-are us q.some q.spelled in
-    let r : Ok vs ≡ Ok us = sym (numbers-line-read (length us) vs k p.spelled) ∙ ap (read_line (numbers (length us))) same ∙ numbers-line-read (length us) us refl q.spelled in
+    let k : length vs ≡ length us = sym (fields-are limits vs p.some p.spelled) ∙ ap fields_in same ∙ fields-are limits us q.some q.spelled in
+    let r : Ok vs ≡ Ok us = sym (numbers-line-read limits (length us) vs k p.spelled) ∙ ap (read_line limits.digits (numbers (length us))) same ∙ numbers-line-read limits (length us) us refl q.spelled in
     cc
 
 -- ---- 7: the first entry over the limit
 
-pub amount-byte : {limits : Limits} {t : List ℕ} {line : ℕ} {vs : List ℕ} (x : ℕ) → NumbersAre t line vs → FirstOver limits vs x → AmountByte limits t line (entry_byte vs x)
+pub amount-byte : {limits : Limits} {t : List ℕ} {line : ℕ} {vs : List ℕ} (x : ℕ) → NumbersAre limits t line vs → FirstOver limits vs x → AmountByte limits t line (entry_byte vs x)
 amount-byte {limits} {t} {line} {vs} x here f =
     record {
       j = x + 1;
@@ -48,27 +48,27 @@ amount-byte {limits} {t} {line} {vs} x here f =
     e : x ≡ x + 1 - 1
     e = omega arith
 
-    before : (y w : ℕ) → y < x + 1 → EntryIs t line y w → w ≤ limits.amount
+    before : (y w : ℕ) → y < x + 1 → EntryIs limits t line y w → w ≤ limits.amount
     before y w l h =
         let q : w ≡ get_or vs (y - 1) 0 = h.is ∙ ap (λ us. get_or us (y - 1) 0) (numbers-one h.line here refl) in
         omega (arith, f.first (y - 1) (omega (arith, h.low)))
 
 -- ---- one byte
 
-one-line-byte : {t : List ℕ} {line b c : ℕ} → LineByte t line b → LineByte t line c → b ≡ c
-one-line-byte (first_due e x) (first_due f y) = one-due one-any-fault x y
+one-line-byte : {limits : Limits} {t : List ℕ} {line b c : ℕ} → LineByte limits t line b → LineByte limits t line c → b ≡ c
+one-line-byte {limits} (first_due e x) (first_due f y) = one-due (one-any-fault limits) x y
 one-line-byte (first_due e x) (later_due l is m y) = absurd (omega arith)
 one-line-byte (first_due e x) (none_due is l y) = absurd (omega (arith, is.some))
 one-line-byte (later_due l is m x) (first_due f y) = absurd (omega arith)
-one-line-byte {t} {line} {b} {c} (later_due {us} l is m x) (later_due {us = vs} k it o y) =
+one-line-byte {limits} {t} {line} {b} {c} (later_due {us} l is m x) (later_due {us = vs} k it o y) =
     let e : length vs ≡ length us = ap length (numbers-one it is refl) in
-    one-due (λ s p q f g. one-fault f g) x (subst (λ n. DueByte t line (FirstFault (numbers n)) c) e y)
+    one-due (λ s p q f g. one-fault limits.digits limits.countable f g) x (subst (λ n. DueByte t line (FirstFault limits.digits (numbers n)) c) e y)
 one-line-byte (later_due l is m x) (none_due it k y) = absurd (omega (arith, ap length (numbers-one is it refl)))
 one-line-byte (none_due is l x) (first_due f y) = absurd (omega (arith, is.some))
 one-line-byte (none_due is l x) (later_due k it m y) = absurd (omega (arith, ap length (numbers-one is it refl)))
 one-line-byte (none_due is l x) (none_due it k y) = x ∙ sym y
 
-one-start : {t : List ℕ} {line j i b c : ℕ} → j ≡ i → EntryStarts t line j b → EntryStarts t line i c → b ≡ c
+one-start : {limits : Limits} {t : List ℕ} {line j i b c : ℕ} → j ≡ i → EntryStarts limits t line j b → EntryStarts limits t line i c → b ≡ c
 one-start {j = j} {i = i} e x y = x.at ∙ ap (λ vs. entry_byte vs (j - 1)) (numbers-one x.is y.is refl) ∙ ap (λ k. entry_byte y.vs (k - 1)) e ∙ sym y.at
 
 amount-not-before : {limits : Limits} {t : List ℕ} {line b c : ℕ} (x : AmountByte limits t line b) (y : AmountByte limits t line c) → x.j < y.j → ⊥
@@ -80,10 +80,10 @@ one-amount-byte x y =
     let q : y.j < x.j → ⊥ = amount-not-before y x in
     one-start (omega arith) x.starts y.starts
 
-faulty-not-before : {t : List ℕ} {r : Reason} {line : ℕ} (x y : FirstFaulty t r line) → x.j < y.j → ⊥
+faulty-not-before : {limits : Limits} {t : List ℕ} {r : Reason} {line : ℕ} (x y : FirstFaulty limits t r line) → x.j < y.j → ⊥
 faulty-not-before {r = r} {line} x y l = y.first line x.j r (inr (refl, l)) x.wrong
 
-one-faulty-byte : {t : List ℕ} {r : Reason} {line b c : ℕ} → FaultyByte t r line b → FaultyByte t r line c → b ≡ c
+one-faulty-byte : {limits : Limits} {t : List ℕ} {r : Reason} {line b c : ℕ} → FaultyByte limits t r line b → FaultyByte limits t r line c → b ≡ c
 one-faulty-byte x y =
     let p : x.faulty.j < y.faulty.j → ⊥ = faulty-not-before x.faulty y.faulty in
     let q : y.faulty.j < x.faulty.j → ⊥ = faulty-not-before y.faulty x.faulty in
@@ -94,6 +94,7 @@ unfolding ByteIs
 one_byte limits t line b c TooLong x y = x ∙ sym y
 one_byte limits t line b c Misshapen x y = one-line-byte x y
 one_byte limits t line b c RingSize x y = x ∙ sym y
+one_byte limits t line b c TooMany x y = x ∙ sym y
 one_byte limits t line b c TooMuch x y = one-amount-byte x y
 one_byte limits t line b c NotZero x y = one-faulty-byte x y
 one_byte limits t line b c NotSymmetric x y = one-faulty-byte x y

@@ -14,6 +14,7 @@ pub mod BytesGiven
 pub mod Entries
 pub mod SumLaws
 pub mod RowLaws
+pub mod FewRows
 -- what the code's steps say
 pub mod NumbersSteps
 pub mod LineSteps

@@ -34,58 +34,58 @@ use Rattle.matrix.specs.Read.{SquareRead, Numbers, first_over, unless_over, amou
 -- ---- one line
 
 -- each value can be spelled
-abbrev pub Spelled : List ℕ → Type 0
-Spelled vs = Each (λ v. v < limit) vs
+abbrev pub Spelled : Limits → List ℕ → Type 0
+Spelled limits vs = Each (λ v. v < limit limits.digits) vs
 
-pub in-range : (vs : List ℕ) → Spelled vs → FitsShape (numbers (length vs)) vs
+pub in-range : (limits : Limits) (vs : List ℕ) → Spelled limits vs → FitsShape limits.digits (numbers (length vs)) vs
 unfolding FitsShape top
-in-range [] none = tt
-in-range (v ∷ vs) (more h hs) = (h, in-range vs hs)
+in-range limits [] none = tt
+in-range limits (v ∷ vs) (more h hs) = (h, in-range limits vs hs)
 
-in-range-long : (n : ℕ) (vs : List ℕ) → FitsShape (numbers n) vs → length vs ≡ n
+in-range-long : (most n : ℕ) (vs : List ℕ) → FitsShape most (numbers n) vs → length vs ≡ n
 unfolding FitsShape
-in-range-long zero [] r = refl
-in-range-long zero (v ∷ vs) r = absurd r
-in-range-long (suc n) [] r = absurd r
-in-range-long (suc n) (v ∷ vs) r = ap suc (in-range-long n vs r.1)
+in-range-long most zero [] r = refl
+in-range-long most zero (v ∷ vs) r = absurd r
+in-range-long most (suc n) [] r = absurd r
+in-range-long most (suc n) (v ∷ vs) r = ap suc (in-range-long most n vs r.1)
 
-pub spelled-in : (n : ℕ) (vs : List ℕ) → FitsShape (numbers n) vs → Spelled vs
+pub spelled-in : (limits : Limits) (n : ℕ) (vs : List ℕ) → FitsShape limits.digits (numbers n) vs → Spelled limits vs
 unfolding FitsShape top
-spelled-in zero [] r = none
-spelled-in zero (v ∷ vs) r = absurd r
-spelled-in (suc n) [] r = absurd r
-spelled-in (suc n) (v ∷ vs) r = more r.0 (spelled-in n vs r.1)
+spelled-in limits zero [] r = none
+spelled-in limits zero (v ∷ vs) r = absurd r
+spelled-in limits (suc n) [] r = absurd r
+spelled-in limits (suc n) (v ∷ vs) r = more r.0 (spelled-in limits n vs r.1)
 
-pub spelled-line : (limits : Limits) {vs : List ℕ} → limits.amount < limit → Each (λ v. v ≤ limits.amount) vs → Spelled vs
+pub spelled-line : (limits : Limits) {vs : List ℕ} → limits.amount < limit limits.digits → Each (λ v. v ≤ limits.amount) vs → Spelled limits vs
 spelled-line limits small none = none
-spelled-line limits small (more {a = a} h hs) = let q : a < limit = omega arith in more q (spelled-line limits small hs)
+spelled-line limits small (more {a = a} h hs) = let q : a < limit limits.digits = omega arith in more q (spelled-line limits small hs)
 
 -- what a line is read to
-pub data NumbersRead (n : ℕ) (l : List ℕ) : Reading → Type 0 where
-  are_numbers : {vs : List ℕ} → l ≡ numbers_line vs → length vs ≡ n → Spelled vs → NumbersRead n l (Ok vs)
-  no_numbers : {p : ℕ} → ((vs : List ℕ) → l ≡ numbers_line vs → length vs ≡ n → Spelled vs → ⊥) → FirstFault (numbers n) l p → NumbersRead n l (Err p)
+pub data NumbersRead (limits : Limits) (n : ℕ) (l : List ℕ) : Reading → Type 0 where
+  are_numbers : {vs : List ℕ} → l ≡ numbers_line vs → length vs ≡ n → Spelled limits vs → NumbersRead limits n l (Ok vs)
+  no_numbers : {p : ℕ} → ((vs : List ℕ) → l ≡ numbers_line vs → length vs ≡ n → Spelled limits vs → ⊥) → FirstFault limits.digits (numbers n) l p → NumbersRead limits n l (Err p)
 
-pub numbers-line-read : (n : ℕ) (vs : List ℕ) → length vs ≡ n → Spelled vs → read_line (numbers n) (numbers_line vs) ≡ Ok vs
-numbers-line-read n vs e h = rw (← e) ((line-good (numbers (length vs)) (numbers_line vs) vs).1 (refl, in-range vs h))
+pub numbers-line-read : (limits : Limits) (n : ℕ) (vs : List ℕ) → length vs ≡ n → Spelled limits vs → read_line limits.digits (numbers n) (numbers_line vs) ≡ Ok vs
+numbers-line-read limits n vs e h = rw (← e) ((line-good limits.digits limits.countable (numbers (length vs)) (numbers_line vs) vs).1 (refl, in-range limits vs h))
 
-pub numbers-read : (n : ℕ) (l : List ℕ) → NumbersRead n l (read_line (numbers n) l)
-numbers-read n l = go (read_line (numbers n) l) refl
+pub numbers-read : (limits : Limits) (n : ℕ) (l : List ℕ) → NumbersRead limits n l (read_line limits.digits (numbers n) l)
+numbers-read limits n l = go (read_line limits.digits (numbers n) l) refl
   where
-    go : (x : Reading) → read_line (numbers n) l ≡ x → NumbersRead n l x
+    go : (x : Reading) → read_line limits.digits (numbers n) l ≡ x → NumbersRead limits n l x
     go (Ok vs) e =
-        let w = (line-good (numbers n) l vs).0 e in
-        let k : length vs ≡ n = in-range-long n vs w.1 in
-        are_numbers {vs = vs} (w.0 ∙ ap (λ x. write_line (numbers x) vs) (sym k)) k (spelled-in n vs w.1)
-    go (Err p) e = no_numbers (λ vs w k h. clash (cc (numbers-line-read n vs k h))) ((line-bad (numbers n) l p).0 e)
+        let w = (line-good limits.digits limits.countable (numbers n) l vs).0 e in
+        let k : length vs ≡ n = in-range-long limits.digits n vs w.1 in
+        are_numbers {vs = vs} (w.0 ∙ ap (λ x. write_line (numbers x) vs) (sym k)) k (spelled-in limits n vs w.1)
+    go (Err p) e = no_numbers (λ vs w k h. clash (cc (numbers-line-read limits n vs k h))) ((line-bad limits.digits limits.countable (numbers n) l p).0 e)
 
 -- a line of numbers in front of a text is its first line
 no-lf : (n : ℕ) → Each NoLf (numbers n)
 no-lf zero = none
 no-lf (suc n) = more tt (no-lf n)
 
-pub numbers-first : (vs : List ℕ) → 1 ≤ length vs → Spelled vs → FirstLine (numbers_line vs)
-numbers-first [] h s = absurd (omega arith)
-numbers-first (v ∷ vs) h s = written-first Number (numbers (length vs)) (v ∷ vs) (no-lf (suc (length vs))) (in-range (v ∷ vs) s)
+pub numbers-first : (limits : Limits) (vs : List ℕ) → 1 ≤ length vs → Spelled limits vs → FirstLine (numbers_line vs)
+numbers-first limits [] h s = absurd (omega arith)
+numbers-first limits (v ∷ vs) h s = written-first limits.digits limits.countable Number (numbers (length vs)) (v ∷ vs) (no-lf (suc (length vs))) (in-range limits (v ∷ vs) s)
 
 -- ---- amounts
 
@@ -101,9 +101,9 @@ some_at [] k l h = absurd (omega arith)
 some_at (v ∷ vs) zero l h = here h
 some_at (v ∷ vs) (suc k) l h = there (some_at vs k (omega arith) h)
 
-each_by : {P : ℕ → Type 0} (vs : List ℕ) → ((k : ℕ) → k < length vs → P (get_or vs k 0)) → Each P vs
-each_by [] h = none
-each_by (v ∷ vs) h = more (h 0 (omega arith)) (each_by vs (λ k l. h (suc k) (omega arith)))
+pub each_by : {A : Type 0} {P : A → Type 0} (d : A) (l : List A) → ((k : ℕ) → k < length l → P (get_or l k d)) → Each P l
+each_by d [] h = none
+each_by d (x ∷ l) h = more (h 0 (omega arith)) (each_by d l (λ k m. h (suc k) (omega arith)))
 
 pub each_at : {A : Type 0} {P : A → Type 0} {l : List A} → Each P l → (d : A) (k : ℕ) → k < length l → P (get_or l k d)
 each_at none d k h = absurd (omega arith)
@@ -121,14 +121,10 @@ module _ (limits : Limits) (vs : List ℕ) where
       record { some = some_at vs k p.0 l; within = p.0; over = l; first = λ y h. ltb-false limits.amount (get_or vs y 0) (p.2 y h) }
 
   none-over : first_over limits vs ≡ None → Each (λ v. v ≤ limits.amount) vs
-  none-over e = each_by vs (λ k l. ltb-false limits.amount (get_or vs k 0) (fails_before_first over vs k 0 (omega (arith, all))))
+  none-over e = each_by 0 vs (λ k l. ltb-false limits.amount (get_or vs k 0) (fails_before_first over vs k 0 (omega (arith, all))))
     where
       all : length vs ≤ position_or_len over vs
       all = elim (dec_lt (position_or_len over vs) (length vs)) [ yes l ↦ clash (cc (rw (lt-ltb _ _ l) at e)) | no l ↦ omega arith ]
-
-  -- the entry found stands in the line
-  pub over-within : (k : ℕ) → first_over limits vs ≡ at_place k → k ≤ length vs
-  over-within k e = omega (arith, (first-over k e).within)
 
   fine-amounts : Each (λ v. v ≤ limits.amount) vs → first_over limits vs ≡ None
   fine-amounts each =
@@ -137,20 +133,20 @@ module _ (limits : Limits) (vs : List ℕ) where
 
 -- what a line is read to where n numbers within the limit are due
 pub data LineRead (limits : Limits) (n line : ℕ) (l : List ℕ) : Numbers → Type 0 where
-  line_is : {vs : List ℕ} → l ≡ numbers_line vs → length vs ≡ n → Spelled vs → Each (λ v. v ≤ limits.amount) vs → LineRead limits n line l (Ok vs)
-  line_over : {vs : List ℕ} (x : ℕ) → l ≡ numbers_line vs → length vs ≡ n → Spelled vs → FirstOver limits vs x → LineRead limits n line l (Err (refusal TooMuch line (entry_byte vs x)))
-  line_not : {p : ℕ} → ((vs : List ℕ) → l ≡ numbers_line vs → length vs ≡ n → Spelled vs → ⊥) → FirstFault (numbers n) l p
+  line_is : {vs : List ℕ} → l ≡ numbers_line vs → length vs ≡ n → Spelled limits vs → Each (λ v. v ≤ limits.amount) vs → LineRead limits n line l (Ok vs)
+  line_over : {vs : List ℕ} (x : ℕ) → l ≡ numbers_line vs → length vs ≡ n → Spelled limits vs → FirstOver limits vs x → LineRead limits n line l (Err (refusal TooMuch line (entry_byte vs x)))
+  line_not : {p : ℕ} → ((vs : List ℕ) → l ≡ numbers_line vs → length vs ≡ n → Spelled limits vs → ⊥) → FirstFault limits.digits (numbers n) l p
       → LineRead limits n line l (Err (refusal Misshapen line (p + 1)))
 
-pub line-read : (limits : Limits) (n line : ℕ) (l : List ℕ) → LineRead limits n line l (amounts_in limits line (read_line (numbers n) l))
+pub line-read : (limits : Limits) (n line : ℕ) (l : List ℕ) → LineRead limits n line l (amounts_in limits line (read_line limits.digits (numbers n) l))
 unfolding amounts_in and_then values_on unless_over
-line-read limits n line l = go (numbers-read n l)
+line-read limits n line l = go (numbers-read limits n l)
   where
-    amounts : {vs : List ℕ} (v : Option ℕ) → first_over limits vs ≡ v → l ≡ numbers_line vs → length vs ≡ n → Spelled vs → LineRead limits n line l (unless_over v line vs)
+    amounts : {vs : List ℕ} (v : Option ℕ) → first_over limits vs ≡ v → l ≡ numbers_line vs → length vs ≡ n → Spelled limits vs → LineRead limits n line l (unless_over v line vs)
     amounts {vs} (at_place k) f e w s = line_over k e w s (first-over limits vs k f)
     amounts {vs} None f e w s = line_is e w s (none-over limits vs f)
 
-    go : {x : Reading} → NumbersRead n l x → LineRead limits n line l (amounts_in limits line x)
+    go : {x : Reading} → NumbersRead limits n l x → LineRead limits n line l (amounts_in limits line x)
     go (are_numbers {vs} e k s) = amounts (first_over limits vs) refl e k s
     go (no_numbers out fault) = line_not out fault
 
@@ -193,11 +189,11 @@ module _ {limits : Limits} {n : ℕ} where
       go (line_not out fault) rest = lines_refused
 
 -- and back
-pub written-lines-read : (limits : Limits) (n : ℕ) → limits.amount < limit → 1 ≤ n → (line : ℕ) (m rest : List (List ℕ)) → Wide n rest → Within limits rest
+pub written-lines-read : (limits : Limits) (n : ℕ) → limits.amount < limit limits.digits → 1 ≤ n → (line : ℕ) (m rest : List (List ℕ)) → Wide n rest → Within limits rest
     → lines_of limits n line (length rest) m (lines (write_matrix rest)) ≡ Ok (n, m ++ rest)
 unfolding lines_of and_then values_on amounts_in unless_over write_matrix lines
 written-lines-read limits n small some line m [] none none = ap (λ l. Ok (n, l)) (sym (append-nil m))
 written-lines-read limits n small some line m (vs ∷ rest) (more k ks) (more a bs) =
-    let s : Spelled vs = spelled-line limits small a in
-    rw (numbers-first vs (omega arith) s (write_matrix rest), numbers-line-read n vs k s, fine-amounts limits vs a)
+    let s : Spelled limits vs = spelled-line limits small a in
+    rw (numbers-first limits vs (omega arith) s (write_matrix rest), numbers-line-read limits n vs k s, fine-amounts limits vs a)
     (written-lines-read limits n small some (line + 1) (m ++ vs ∷ []) rest ks bs ∙ ap (λ l. Ok (n, l)) (append_assoc m (vs ∷ []) rest))

@@ -17,14 +17,16 @@ use Rattle.text.specs.Number.{limit, digits}
 use Rattle.text.specs.Field.{spell}
 use Rattle.text.specs.WriteLine.{end_of, write_line}
 use Rattle.text.specs.Shapes.{numbers, numbers_line}
-use Rattle.text.proofs.Digits.{by_digits, digits-one, digits_more}
+use Rattle.text.proofs.Digits.{tens, by_digits, digits-one, digits_more}
 use Rattle.table.specs.Lines.{lines}
 use Rattle.table.specs.declared.reason.Reason.{Reason}
 use Rattle.table.specs.Verdict as of_table
 use Rattle.table.proofs.Judged.{SizeJudged, not_so_many, right_size, size-judged, fine-size}
 use Rattle.table.proofs.LinesOf.{join-lines}
-use Rattle.matrix.specs.Matrix.{entry, write_matrix, Node, InRange}
-use Rattle.matrix.specs.Read.{SquareRead, Found, fields_in, lines_of, judge_down, square_judged, on_first, matrix_lines, matrix_of}
+use Rattle.matrix.specs.Matrix.{entry, write_matrix, Node}
+use Rattle.matrix.specs.Range.{InRange}
+use Rattle.matrix.specs.Demands.{rows_of_matrix}
+use Rattle.matrix.specs.Read.{SquareRead, Found, fields_in, lines_of, judge_down, judge_count, square_judged, on_first, matrix_lines, matrix_of}
 use Rattle.std.specs.Prelude.{Ok, Err}
 use Rattle.table.specs.OnLine.{and_then, values_on}
 use Rattle.table.specs.declared.reason.Refusal.{Refusal}
@@ -33,28 +35,28 @@ use Rattle.matrix.proofs.Entries.{WrongEntry, not_zero, not_mirror, DownJudged, 
 
 -- ---- the fields of a line of numbers are its values
 
-pub fields-behind : (n : ℕ) → n < limit → (l : List ℕ) → fields_in (digits n ++ l) ≡ fields_in l
+pub fields-behind : (limits : Limits) (n : ℕ) → n < limit limits.digits → (l : List ℕ) → fields_in (digits n ++ l) ≡ fields_in l
 unfolding fields_in
-fields-behind =
-    by_digits (λ n. (l : List ℕ) → fields_in (digits n ++ l) ≡ fields_in l)
+fields-behind limits =
+    by_digits limits.digits limits.countable (λ n. (l : List ℕ) → fields_in (digits n ++ l) ≡ fields_in l)
     (λ n h l. rw (digits-one n h, ne_eqb (digit0 + n) tab (λ e. omega arith)) (omega arith))
-    (λ v d hv hf hd ih l. rw (digits_more v d hv (omega arith) hd, append_assoc) (ih ((digit0 + d) ∷ l) ∙ rw (ne_eqb (digit0 + d) tab (λ e. omega arith)) (omega arith)))
+    (λ v d hv hf hd ih l. rw (digits_more v d hv (omega (arith, tens limits.digits limits.countable)) hd, append_assoc) (ih ((digit0 + d) ∷ l) ∙ rw (ne_eqb (digit0 + d) tab (λ e. omega arith)) (omega arith)))
 
-pub fields-line : (v : ℕ) (vs : List ℕ) → Spelled (v ∷ vs) → fields_in (numbers_line (v ∷ vs)) ≡ suc (length vs)
+pub fields-line : (limits : Limits) (v : ℕ) (vs : List ℕ) → Spelled limits (v ∷ vs) → fields_in (numbers_line (v ∷ vs)) ≡ suc (length vs)
 unfolding write_line spell end_of fields_in
-fields-line v [] (more h hs) = fields-behind v h _
-fields-line v (w ∷ vs) (more h hs) =
-    rw (ne_eqb (suc (length (numbers (length vs)))) 0 (λ e. omega arith)) (fields-behind v h _ ∙ omega (arith, fields-line w vs hs))
+fields-line limits v [] (more h hs) = fields-behind limits v h _
+fields-line limits v (w ∷ vs) (more h hs) =
+    rw (ne_eqb (suc (length (numbers (length vs)))) 0 (λ e. omega arith)) (fields-behind limits v h _ ∙ omega (arith, fields-line limits w vs hs))
 
-pub fields-are : (vs : List ℕ) → 1 ≤ length vs → Spelled vs → fields_in (numbers_line vs) ≡ length vs
-fields-are [] l s = absurd (omega arith)
-fields-are (v ∷ vs) l s = fields-line v vs s
+pub fields-are : (limits : Limits) (vs : List ℕ) → 1 ≤ length vs → Spelled limits vs → fields_in (numbers_line vs) ≡ length vs
+fields-are limits [] l s = absurd (omega arith)
+fields-are limits (v ∷ vs) l s = fields-line limits v vs s
 
 -- ---- limits that matrices can have
 
 pub record Possible (limits : Limits) : Type 0 where
   pub some : 1 ≤ limits.fewest
-  pub amount : limits.amount < limit
+  pub amount : limits.amount < limit limits.digits
 
 pub desk-possible : Possible desk
 desk-possible = record { some = omega arith; amount = omega arith }
@@ -67,16 +69,17 @@ data MatrixRead (limits : Limits) (t : List ℕ) : SquareRead → Type 0 where
 
 module _ {limits : Limits} {t : List ℕ} (short : length t ≤ limits.bytes) where
   square-read : {n : ℕ} {ls : List (List ℕ)} {x : SquareRead} → limits.fewest ≤ n → n ≤ limits.nodes → t ≡ flatten ls → LinesRead limits n n [] ls x
-      → MatrixRead limits t (square_judged x)
+      → MatrixRead limits t (square_judged limits x)
   unfolding square_judged and_then
   square-read few many whole lines_refused = matrix_refused
   square-read {n} few many whole (lines_are {all = m} rest is text tall wide within) = go (down-judged m n 1 n)
     where
-      go : {z : Found} → DownJudged m n 1 n z → MatrixRead limits t (and_then z (λ u. Ok (n, m)))
+      go : {z : Found} → DownJudged m n 1 n z → MatrixRead limits t (and_then z (λ u. and_then (judge_count limits n m) (λ w. Ok (n, m))))
       go (down_wrong at a b c d e) = matrix_refused
       go (down_right right) =
           let written : t ≡ write_matrix m = whole ∙ text ∙ ap write_matrix (sym is) in
-          matrix_is written (record {
+          cond-elim (λ (z : Found). MatrixRead limits t (and_then z (λ w. Ok (n, m)))) _ _ _ (λ e. matrix_refused)
+          (λ e. matrix_is written (record {
             few = few;
             many = many;
             square = record { tall = ap length is ∙ tall; wide = subst (Wide n) (sym is) wide };
@@ -87,22 +90,23 @@ module _ {limits : Limits} {t : List ℕ} (short : length t ≤ limits.bytes) wh
                   | yes e ↦ rw e
                   | no e ↦ elim (ℕ_discrete (entry m i j) (entry m j i)) [ yes z ↦ z | no z ↦ absurd (right i j _ p.0 (omega (arith, p.1)) q (not_mirror e z)) ]
                 ];
+            count = ltb-false limits.rows (length (rows_of_matrix n m)) e;
             short = omega (arith, ap length written);
-          })
+          }))
 
   lines-matrix : (ls : List (List ℕ)) → t ≡ flatten ls → MatrixRead limits t (matrix_lines limits ls)
   unfolding matrix_lines and_then values_on on_first
   lines-matrix [] whole = matrix_refused
-  lines-matrix (l ∷ ls) whole = go (numbers-read (fields_in l) l) (size-judged limits (fields_in l))
+  lines-matrix (l ∷ ls) whole = go (numbers-read limits (fields_in l) l) (size-judged limits (fields_in l))
     where
       next : SquareRead
-      next = square_judged (lines_of limits (fields_in l) 1 (fields_in l) [] (l ∷ ls))
+      next = square_judged limits (lines_of limits (fields_in l) 1 (fields_in l) [] (l ∷ ls))
 
       ring : {v : of_table.Verdict} → SizeJudged limits (fields_in l) v → MatrixRead limits t (and_then (on_first v) (λ u. next))
       ring (not_so_many w) = matrix_refused
       ring (right_size few many) = square-read few many whole (lines-read (l ∷ ls) 1 (fields_in l) [])
 
-      go : {x : Reading} {v : of_table.Verdict} → NumbersRead (fields_in l) l x → SizeJudged limits (fields_in l) v → MatrixRead limits t (and_then (values_on 1 x) (λ vs. and_then (on_first v) (λ u. next)))
+      go : {x : Reading} {v : of_table.Verdict} → NumbersRead limits (fields_in l) l x → SizeJudged limits (fields_in l) v → MatrixRead limits t (and_then (values_on 1 x) (λ vs. and_then (on_first v) (λ u. next)))
       go (are_numbers e k s) judged = ring judged
       go (no_numbers h fault) judged = matrix_refused
 
@@ -139,11 +143,11 @@ module _ (limits : Limits) (possible : Possible limits) where
 
       go : Each (λ us. length us ≡ n) (vs ∷ m) → Each (Each (λ v. v ≤ limits.amount)) (vs ∷ m) → matrix_lines limits l ≡ Ok (n, vs ∷ m)
       go (more w ws) (more a bs) =
-          let s : Spelled vs = spelled-line limits possible.amount a in
+          let s : Spelled limits vs = spelled-line limits possible.amount a in
           let some : 1 ≤ length vs = omega (arith, range.few, possible.some) in
-          let f : fields_in (numbers_line vs) ≡ n = fields-are vs some s ∙ w in
-          let head : lines (write_matrix (vs ∷ m)) ≡ numbers_line vs ∷ lines (write_matrix m) = numbers-first vs some s (write_matrix m) in
-          rw (← e, head, f, numbers-line-read n vs w s, fine-size limits n range.few range.many, lines-back _ head, right-square limits n (vs ∷ m) range)
+          let f : fields_in (numbers_line vs) ≡ n = fields-are limits vs some s ∙ w in
+          let head : lines (write_matrix (vs ∷ m)) ≡ numbers_line vs ∷ lines (write_matrix m) = numbers-first limits vs some s (write_matrix m) in
+          rw (← e, head, f, numbers-line-read limits n vs w s, fine-size limits n range.few range.many, lines-back _ head, right-square limits n (vs ∷ m) range, le-ltb limits.rows (length (rows_of_matrix n (vs ∷ m))) range.count)
 
   written_read : (n : ℕ) (m : List (List ℕ)) → InRange limits n m → matrix_of limits (write_matrix m) ≡ Ok (n, m)
   unfolding matrix_of

@@ -3,29 +3,27 @@ use Prim.Native.Nat.{ℕ, suc, ◌+◌, ◌-◌, ◌≤◌, ◌<◌}
 use mathlib.Core.List.{List, [], ◌∷◌, ◌++◌}
 use mathlib.Core.Path.{◌≡◌, refl, ap, ◌∙◌, sym, subst}
 use native.Mathlib.Omega.{arith}
-use lib.Dec.{eqb}
+use mathlib.Core.Bool.{Bool, true, false, cond}
+use lib.Dec.{ltb}
 use lib.ListN.{length, set, take, length-set}
 use lib.Seq.{take_all}
-use borrow.Author.Tests.{lt-ltb, le-ltb}
-use Rattle.std.specs.Prelude.{Ok, Err}
+use borrow.Author.Tests.{lt-ltb, le-ltb, ltb-false}
+use Rattle.std.specs.Prelude.{Ok, Err, IfOk, IfErr}
 use Rattle.std.proofs.lemmas.List.{take_more_set}
 use Rattle.ring.specs.Limits.{desk}
 use Rattle.ring.specs.Lists.{Each}
 use Rattle.ring.specs.declared.types.Demand.{Demand}
-use Rattle.ring.proofs.Side.{cond-elim}
-use Rattle.text.specs.Bytes.{tab}
 use Rattle.text.specs.ReadLine.{read_line}
 use Rattle.text.specs.Shapes.{numbers}
 use Rattle.table.specs.Lines.{lines}
 use Rattle.table.specs.Judge.{judge_size}
 use Rattle.table.specs.Verdict as of_table
-use Rattle.table.specs.declared.reason.Reason.{Reason}
-use Rattle.table.specs.declared.reason.Reason.TheVariants.{TooLong, Misshapen}
+use Rattle.table.specs.declared.reason.Reason.TheVariants.{TooLong, Misshapen, TooMany}
 use Rattle.table.specs.declared.reason.Refusal.{Refusal}
 use Rattle.table.proofs.Judged.{SizeJudged, right_size, size-judged}
 use Rattle.matrix.specs.Demands.{rows_of_matrix}
 use Rattle.table.specs.OnLine.{refusal, and_then, values_on}
-use Rattle.matrix.specs.Read.{SquareRead, Found, Numbers, fields_in, first_numbers, amounts_in, lines_of, judge_down, square_judged, on_first, matrix_of}
+use Rattle.matrix.specs.Read.{SquareRead, Found, refusing, Numbers, fields_in, first_numbers, amounts_in, lines_of, judge_down, judge_count, square_judged, on_first, matrix_of}
 use Rattle.matrix.specs.Answer.{read_to, IsMatrix, IsGiven}
 use Rattle.matrix.proofs.LineSteps.{told-bad, told-good}
 use Rattle.matrix.proofs.LinesText.{LineRead, line_is, line-read, LinesRead, lines_are, lines-read}
@@ -34,16 +32,13 @@ use Rattle.matrix.proofs.ReasonsGiven.{given}
 
 -- ---- the first line
 
-pub fields-small : (l : List ℕ) → fields_in l ≤ length l + 1
-unfolding fields_in
-fields-small [] = omega arith
-fields-small (b ∷ l) = omega (arith, fields-small l, cond-elim (λ x. x ≤ 1) (eqb b tab) 1 0 (λ e. omega arith) (λ e. omega arith))
-
-pub ring-few : (n : ℕ) (v : of_table.Verdict) → v ≡ judge_size desk n → v ≡ Ok tt → n ≤ desk.nodes
-ring-few n v e f = let q = sym e ∙ f in go (rw q at (size-judged desk n))
+pub ring-few : (n : ℕ) (v : of_table.Verdict) → v ≡ judge_size desk n → (y : Found) → y ≡ on_first v → y ≡ Ok tt → n ≤ desk.nodes
+unfolding on_first
+ring-few n v e y ey f = go v (rw (← e) at (size-judged desk n)) (sym ey ∙ f)
   where
-    go : SizeJudged desk n (Ok tt) → n ≤ desk.nodes
-    go (right_size few many) = many
+    go : (v : of_table.Verdict) → SizeJudged desk n v → on_first v ≡ Ok tt → n ≤ desk.nodes
+    go (Ok tt) (right_size few many) g = many
+    go (Err r) judged g = absurd (cc)
 
 module _ (s : List ℕ) where
   pub too_long : desk.bytes < length s → matrix_of desk s ≡ Err (refusal TooLong 0 0)
@@ -56,19 +51,31 @@ module _ (s : List ℕ) where
     no_line none = rw (le-ltb desk.bytes (length s) short, none)
 
     module _ (first : List ℕ) (ls : List (List ℕ)) (left : lines s ≡ first ∷ ls) where
-      module _ (count : ℕ) (ec : count ≡ fields_in first) (x : Numbers) (ex : x ≡ values_on 1 (first_numbers (read_line (numbers count) first))) where
+      module _ (count : ℕ) (ec : count ≡ fields_in first) (x : Numbers) (ex : x ≡ values_on 1 (first_numbers (read_line desk.digits (numbers count) first))) where
         pub first-misshapen : (r : Refusal) → x ≡ Err r → matrix_of desk s ≡ Err r
         unfolding matrix_of and_then
         first-misshapen r f = rw (le-ltb desk.bytes (length s) short, left, ← ec, told-bad count 1 first x ex r f)
 
-        module _ (read : List ℕ) (f : x ≡ Ok read) (n : ℕ) (en : n ≡ count) (v : of_table.Verdict) (ev : v ≡ judge_size desk n) where
-          pub ring-fault : (reason : Reason) → v ≡ Err reason → matrix_of desk s ≡ Err (refusal reason 1 1)
-          unfolding matrix_of and_then values_on on_first
-          ring-fault reason g = rw (le-ltb desk.bytes (length s) short, left, ← ec, (told-good count 1 first x ex read f).is, ← en, ← ev, g)
+        module _ (read : List ℕ) (f : x ≡ Ok read) (v : of_table.Verdict) (ev : v ≡ judge_size desk count) (y : Found) (ey : y ≡ on_first v) where
+          size-told : matrix_of desk s ≡ and_then y (λ u. square_judged desk (lines_of desk count 1 count [] (lines s)))
+          unfolding matrix_of and_then values_on
+          size-told = rw (le-ltb desk.bytes (length s) short, left, ← ec, (told-good count 1 first x ex read f).is, ← ev, ← ey)
 
-          pub then-square : v ≡ Ok tt → matrix_of desk s ≡ square_judged (lines_of desk n 1 n [] (lines s))
-          unfolding matrix_of and_then values_on on_first
-          then-square g = rw (le-ltb desk.bytes (length s) short, left, ← ec, (told-good count 1 first x ex read f).is, ← en, ← ev, g)
+          pub ring-fault : (r : Refusal) → y ≡ Err r → matrix_of desk s ≡ Err r
+          unfolding and_then
+          ring-fault r g = size-told ∙ rw g
+
+          pub then-square : y ≡ Ok tt → matrix_of desk s ≡ square_judged desk (lines_of desk count 1 count [] (lines s))
+          unfolding and_then
+          then-square g = size-told ∙ rw g
+
+-- a square that is not refused by 16 has as many rows as a table can have
+pub count-few : (n : ℕ) (m : List (List ℕ)) (w : Found) → w ≡ judge_count desk n m → w ≡ Ok tt → length (rows_of_matrix n m) ≤ desk.rows
+count-few n m w ew h = go (ltb desk.rows (length (rows_of_matrix n m))) refl (sym ew ∙ h)
+  where
+    go : (b : Bool) → ltb desk.rows (length (rows_of_matrix n m)) ≡ b → cond b (refusing TooMany 0 0) (Ok tt) ≡ Ok tt → length (rows_of_matrix n m) ≤ desk.rows
+    go true e f = absurd (cc)
+    go false e f = ltb-false desk.rows (length (rows_of_matrix n m)) e
 
 -- ---- line by line: those before `line` are read, and `left` are left of the lines ls
 
@@ -77,14 +84,14 @@ pub record ReadingLines (ls : List (List ℕ)) (n : ℕ) (square : List (List �
   pub tall : length square ≡ n
 
 -- a line that was read has as many numbers as are due
-pub amounts-wide : (n line : ℕ) (l : List ℕ) (x : Numbers) → x ≡ amounts_in desk line (read_line (numbers n) l) → (vs : List ℕ) → x ≡ Ok vs → length vs ≡ n
+pub amounts-wide : (n line : ℕ) (l : List ℕ) (x : Numbers) → x ≡ amounts_in desk line (read_line desk.digits (numbers n) l) → (vs : List ℕ) → x ≡ Ok vs → length vs ≡ n
 amounts-wide n line l x ex vs e = go (rw (sym ex ∙ e) at (line-read desk n line l))
   where
     go : LineRead desk n line l (Ok vs) → length vs ≡ n
     go (line_is t k s a) = k
 
 -- and each of them is an amount
-pub amounts-within : (n line : ℕ) (l : List ℕ) (x : Numbers) → x ≡ amounts_in desk line (read_line (numbers n) l) → (vs : List ℕ) → x ≡ Ok vs → Each (λ v. v ≤ desk.amount) vs
+pub amounts-within : (n line : ℕ) (l : List ℕ) (x : Numbers) → x ≡ amounts_in desk line (read_line desk.digits (numbers n) l) → (vs : List ℕ) → x ≡ Ok vs → Each (λ v. v ≤ desk.amount) vs
 amounts-within n line l x ex vs e = go (rw (sym ex ∙ e) at (line-read desk n line l))
   where
     go : LineRead desk n line l (Ok vs) → Each (λ v. v ≤ desk.amount) vs
@@ -99,11 +106,11 @@ module _ (ls : List (List ℕ)) (n : ℕ) (square : List (List ℕ)) (line : ℕ
     one-more = omega arith
 
     -- no line is left, and one is missing
-    pub missing : left ≡ [] → (r : Refusal) → r ≡ refusal Misshapen line (0 + 1) → read_to (Err r) square ≡ whole
+    pub missing : left ≡ [] → (r : Refusal) → r ≡ refusal Misshapen line 1 → read_to (Err r) square ≡ whole
     unfolding lines_of and_then read_to
     missing none r e = sym (on.rest ∙ rw (one-more, none, e))
 
-    module _ (l : List ℕ) (behind : List (List ℕ)) (there : left ≡ l ∷ behind) (x : Numbers) (ex : x ≡ amounts_in desk line (read_line (numbers n) l)) where
+    module _ (l : List ℕ) (behind : List (List ℕ)) (there : left ≡ l ∷ behind) (x : Numbers) (ex : x ≡ amounts_in desk line (read_line desk.digits (numbers n) l)) where
       next-line : whole ≡ and_then x λ vs. lines_of desk n (line + 1) (n - line) (take (line - 1) square ++ vs ∷ []) behind
       unfolding lines_of
       next-line = on.rest ∙ rw (one-more, there, ← ex)
@@ -124,33 +131,35 @@ module _ (ls : List (List ℕ)) (n : ℕ) (square : List (List ℕ)) (line : ℕ
     none-due : n + 1 - line ≡ 0
     none-due = omega arith
 
-    -- a line behind the n-th
-    pub left-over : (l : List ℕ) (behind : List (List ℕ)) → left ≡ l ∷ behind → line ≤ n + 1 → (r : Refusal) → r ≡ refusal Misshapen (n + 1) (0 + 1) → read_to (Err r) square ≡ whole
-    unfolding lines_of and_then read_to
-    left-over l behind there high r e =
-        let k : n + 1 ≡ line = omega arith in
-        sym (on.rest ∙ rw (none-due, there, e, k))
+    -- a line behind the n-th is left over
+    pub lines-over : line ≤ n + 1 → (x : Found) → IfOk x (λ _. left ≡ []) → IfErr x (λ r. (r ≡ refusal Misshapen (n + 1) 1) × (left ≡ [] → ⊥)) → read_to x square ≡ whole
+    unfolding read_to and_then lines_of
+    lines-over high (Ok tt) none over = sym (on.rest ∙ rw (none-due, none, take_all (line - 1) square (omega (arith, on.tall)), on.tall))
+    lines-over high (Err r) none over = sym (on.rest ∙ rw (none-due, over.0) (left-over left over.1))
+      where
+        k : n + 1 ≡ line
+        k = omega arith
 
-    pub all-read : left ≡ [] → read_to (Ok tt) square ≡ whole
-    unfolding lines_of and_then read_to
-    all-read none = sym (on.rest ∙ rw (none-due, none, take_all (line - 1) square (omega (arith, on.tall)), on.tall))
+        left-over : (ls : List (List ℕ)) → (ls ≡ [] → ⊥) → lines_of desk n line 0 (take (line - 1) square) ls ≡ Err (refusal Misshapen (n + 1) 1)
+        left-over [] some = absurd (some refl)
+        left-over (l ∷ ls) some = rw k refl
 
 -- ---- the whole
 
 pub told-refusal : (s : List ℕ) (r : Refusal) → matrix_of desk s ≡ Err r → IsGiven s r
 told-refusal s r e = (given desk s r).0 e
 
-module _ (s : List ℕ) (n : ℕ) (is : matrix_of desk s ≡ square_judged (lines_of desk n 1 n [] (lines s))) where
+module _ (s : List ℕ) (n : ℕ) (is : matrix_of desk s ≡ square_judged desk (lines_of desk n 1 n [] (lines s))) where
   module _ (square old : List (List ℕ)) (tall : length old ≡ n) where
-    lines-are : (x : Found) → read_to x square ≡ lines_of desk (length old) 1 (length old) [] (lines s) → matrix_of desk s ≡ square_judged (read_to x square)
-    lines-are x e = is ∙ ap square_judged (sym (rw tall at e))
+    lines-are : (x : Found) → read_to x square ≡ lines_of desk (length old) 1 (length old) [] (lines s) → matrix_of desk s ≡ square_judged desk (read_to x square)
+    lines-are x e = is ∙ ap (square_judged desk) (sym (rw tall at e))
 
     pub told-lines : (x : Found) → read_to x square ≡ lines_of desk (length old) 1 (length old) [] (lines s) → (r : Refusal) → x ≡ Err r → IsGiven s r
     unfolding square_judged and_then read_to
     told-lines x e r f = told-refusal s r (lines-are x e ∙ rw f)
 
     module _ (x : Found) (e : read_to x square ≡ lines_of desk (length old) 1 (length old) [] (lines s)) (f : x ≡ Ok tt) (v : Found) (ev : v ≡ judge_down square (length square) 1 (length square)) where
-      judged : matrix_of desk s ≡ and_then v (λ u. Ok (length square, square))
+      judged : matrix_of desk s ≡ and_then v (λ u. and_then (judge_count desk (length square) square) (λ w. Ok (length square, square)))
       unfolding square_judged and_then read_to
       judged = lines-are x e ∙ rw (f, ev)
 
@@ -158,15 +167,20 @@ module _ (s : List ℕ) (n : ℕ) (is : matrix_of desk s ≡ square_judged (line
       unfolding and_then
       told-entries r g = told-refusal s r (judged ∙ rw g)
 
-      pub told-matrix : v ≡ Ok tt → (rs : List Demand) → rs ≡ rows_of_matrix (length square) square → IsMatrix s n rs
-      unfolding and_then read_to
-      told-matrix g rs er =
-          let w = (matrix-text desk desk-possible s (length square) square).0 (judged ∙ rw g) in
-          let k : length square ≡ n = as-many (rw (f, tall) at e) in
-          rw (← k) (record { m = square; text = w.0; range = w.1; rows = er })
-        where
-          as-many : Ok (length square, square) ≡ lines_of desk n 1 n [] (lines s) → length square ≡ n
-          as-many q = go (subst (LinesRead desk n n [] (lines s)) (sym q) (lines-read (lines s) 1 n []))
-            where
-              go : {k : ℕ} → LinesRead desk n n [] (lines s) (Ok (k, square)) → k ≡ n
-              go (lines_are rest whole text many wide within) = refl
+      module _ (g : v ≡ Ok tt) (w : Found) (ew : w ≡ judge_count desk (length square) square) where
+        pub told-count : (r : Refusal) → w ≡ Err r → IsGiven s r
+        unfolding and_then
+        told-count r h = told-refusal s r (judged ∙ rw (g, ← ew, h))
+
+        pub told-matrix : w ≡ Ok tt → (rs : List Demand) → rs ≡ rows_of_matrix (length square) square → IsMatrix s n rs
+        unfolding and_then read_to
+        told-matrix h rs er =
+            let w = (matrix-text desk desk-possible s (length square) square).0 (judged ∙ rw (g, ← ew, h)) in
+            let k : length square ≡ n = as-many (rw (f, tall) at e) in
+            rw (← k) (record { m = square; text = w.0; range = w.1; rows = er })
+          where
+            as-many : Ok (length square, square) ≡ lines_of desk n 1 n [] (lines s) → length square ≡ n
+            as-many q = go (subst (LinesRead desk n n [] (lines s)) (sym q) (lines-read (lines s) 1 n []))
+              where
+                go : {k : ℕ} → LinesRead desk n n [] (lines s) (Ok (k, square)) → k ≡ n
+                go (lines_are rest whole text many wide within) = refl

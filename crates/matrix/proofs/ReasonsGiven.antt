@@ -20,7 +20,7 @@ use Rattle.table.specs.Lines.{lines}
 use Rattle.table.specs.Reasons.{rank_of}
 use Rattle.table.specs.Says.{LineIs, at_first, behind, DueByte, line_missing, line_faulty}
 use Rattle.table.specs.declared.reason.Reason.{Reason}
-use Rattle.table.specs.declared.reason.Reason.TheVariants.{TooLong, Misshapen, RingSize, TooMuch, NotZero, NotSymmetric}
+use Rattle.table.specs.declared.reason.Reason.TheVariants.{TooLong, Misshapen, RingSize, TooMany, TooMuch, NotZero, NotSymmetric}
 use Rattle.std.specs.Prelude.{Ok, Err}
 use Rattle.table.specs.OnLine.{refusal, and_then, values_on}
 use Rattle.table.specs.declared.reason.Refusal.{Refusal}
@@ -29,10 +29,12 @@ use Rattle.table.proofs.Judged.{SizeJudged, not_so_many, right_size, size-judged
 use Rattle.table.proofs.LineNumbers.{line-one, LinesFrom, from_first, from_next, line-here, no-line-left}
 use Rattle.table.proofs.ReasonNumbers.{same_rank, no-rank-0}
 use Rattle.matrix.specs.Matrix.{entry, entry_byte, Node}
-use Rattle.matrix.specs.Read.{SquareRead, Numbers, Found, fields_in, lines_of, byte_of, square_judged, on_first, matrix_lines, matrix_of}
-use Rattle.matrix.specs.Says.{NumbersAre, EntryIs, NoFirstLine, NoLaterLine, LeftOver, WrongSize, WrongAmount, WrongEntry, not_zero, not_mirror, FirstFaulty, Says, LineByte, first_due, later_due, none_due, EntryStarts, FaultyByte, ByteIs, stage, Earlier, Given, Accepted}
-use Rattle.matrix.proofs.LinesText.{NumbersRead, are_numbers, no_numbers, numbers-read, FirstOver, LineRead, line_is, line_over, line_not, line-read, Spelled}
+use Rattle.matrix.specs.Demands.{pairs_from, above_zero, rows_by, rows_of_matrix}
+use Rattle.matrix.specs.Read.{SquareRead, Numbers, Found, fields_in, lines_of, byte_of, judge_count, square_judged, on_first, matrix_lines, matrix_of}
+use Rattle.matrix.specs.Says.{NumbersAre, EntryIs, NoFirstLine, NoLaterLine, LeftOver, WrongSize, WrongAmount, WrongEntry, not_zero, not_mirror, FirstFaulty, ManyRows, Says, LineByte, first_due, later_due, none_due, EntryStarts, FaultyByte, ByteIs, stage, Earlier, Given, Accepted}
+use Rattle.matrix.proofs.LinesText.{NumbersRead, are_numbers, no_numbers, numbers-read, FirstOver, LineRead, line_is, line_over, line_not, line-read, Spelled, each_by, each_at}
 use Rattle.matrix.proofs.MatrixText.{fields-are}
+use Rattle.matrix.proofs.RoundTrip.{same-lines}
 use Rattle.matrix.proofs.Entries.{WrongEntry as Wrong, not_zero as zero-wrong, not_mirror as mirror-wrong, DownJudged, down_wrong, down_right, down-judged}
 use Rattle.matrix.proofs.AnyFields.{lines-ended, line-ended, fields-some, any-fault}
 use Rattle.matrix.proofs.BytesGiven.{numbers-one, amount-byte, one_byte}
@@ -41,16 +43,17 @@ use Rattle.matrix.proofs.BytesGiven.{numbers-one, amount-byte, one_byte}
 
 data Said (limits : Limits) (t : List ℕ) (line : ℕ) : Reason → Type 0 where
   too_long : line ≡ 0 → limits.bytes < length t → Said limits t line TooLong
-  no_first : NoFirstLine t line → Said limits t line Misshapen
-  no_later : NoLaterLine t line → Said limits t line Misshapen
-  left_over : LeftOver t line → Said limits t line Misshapen
+  no_first : NoFirstLine limits t line → Said limits t line Misshapen
+  no_later : NoLaterLine limits t line → Said limits t line Misshapen
+  left_over : LeftOver limits t line → Said limits t line Misshapen
   wrong_n : WrongSize limits t line → Said limits t line RingSize
   wrong_amount : WrongAmount limits t line → Said limits t line TooMuch
 
--- it is said of a line, or of the whole square
+-- it is said of a line, or of the whole square, or of its rows
 data Told (limits : Limits) (t : List ℕ) (line : ℕ) (r : Reason) : Type 0 where
   of_line : stage r ≡ 0 → Said limits t line r → Told limits t line r
-  of_square : stage r ≡ 1 → FirstFaulty t r line → Told limits t line r
+  of_square : stage r ≡ 1 → FirstFaulty limits t r line → Told limits t line r
+  of_rows : r ≡ TooMany → ManyRows limits t line → Told limits t line r
 
 told : {limits : Limits} {t : List ℕ} {line : ℕ} (r : Reason) → Says limits t r line → Told limits t line r
 unfolding Says
@@ -62,6 +65,7 @@ told RingSize h = of_line refl (wrong_n h)
 told TooMuch h = of_line refl (wrong_amount h)
 told NotZero h = of_square refl h
 told NotSymmetric h = of_square refl h
+told TooMany h = of_rows refl h
 told _ h = absurd h
 
 line_low : {ls : List (List ℕ)} {line : ℕ} {l : List ℕ} → LineIs ls line l → 1 ≤ line
@@ -87,6 +91,7 @@ module _ {limits : Limits} {t : List ℕ} where
       go : (s : Reason) (other : ℕ) → Earlier s other r line → Told limits t other s → ⊥
       go s other (inl l) h = omega arith
       go s other (inr e) (of_square q h) = omega (arith, e.0)
+      go s other (inr e) (of_rows q h) = omega (arith, e.0, ap stage q)
       go s other (inr e) (of_line q h) = ⊎_elim (λ l. clean.nothing s other l h) (λ l. least s l.1 (subst (λ x. Said limits t x s) l.0 h)) e.1
 
   clean-start : length t ≤ limits.bytes → Clean limits t 1
@@ -119,7 +124,7 @@ module _ {limits : Limits} {t : List ℕ} where
   below_two low l (wrong_n h) = omega arith
   below_two low l (wrong_amount h) = omega arith
 
-  misshapen-here : {line byte : ℕ} → 1 ≤ line → Clean limits t line → Says limits t Misshapen line → LineByte t line byte → Given limits t Misshapen line byte
+  misshapen-here : {line byte : ℕ} → 1 ≤ line → Clean limits t line → Says limits t Misshapen line → LineByte limits t line byte → Given limits t Misshapen line byte
   unfolding ByteIs
   misshapen-here low clean h b = given-here Misshapen refl clean h (λ s l k. below_two low l k) b
 
@@ -133,7 +138,7 @@ within-not limits (more {a = a} h hs) = let q : limits.amount < a → ⊥ = λ l
 
 -- ---- the first line is the numbers us, a size in range
 
-module _ (limits : Limits) (t : List ℕ) (us : List ℕ) (first : NumbersAre t 1 us) where
+module _ (limits : Limits) (t : List ℕ) (us : List ℕ) (first : NumbersAre limits t 1 us) where
   -- its size alone can be wrong on line 1 before its amounts
   size-first : {s : Reason} → rank_of s < rank_of RingSize → Said limits t 1 s → ⊥
   size-first l (too_long e long) = omega arith
@@ -151,7 +156,7 @@ module _ (limits : Limits) (t : List ℕ) (us : List ℕ) (first : NumbersAre t 
     wrong-n-not h = let e : length h.us ≡ n = ap length (numbers-one h.first first refl) in ⊎_elim (λ l. omega arith) (λ l. omega arith) h.wrong
 
     -- of a line that is due and has n numbers only 7 can be said
-    module _ (line : ℕ) (low : 1 ≤ line) (due : line ≤ n) (vs : List ℕ) (is : NumbersAre t line vs) (wide : length vs ≡ n) where
+    module _ (line : ℕ) (low : 1 ≤ line) (due : line ≤ n) (vs : List ℕ) (is : NumbersAre limits t line vs) (wide : length vs ≡ n) where
       only-amount : {s : Reason} → Said limits t line s → (s ≡ TooMuch) × WrongAmount limits t line
       only-amount (too_long e long) = absurd (omega arith)
       only-amount (no_first h) = absurd (h.none us first)
@@ -175,14 +180,14 @@ module _ (limits : Limits) (t : List ℕ) (us : List ℕ) (first : NumbersAre t 
     -- the lines m are read
     record Held (m : List (List ℕ)) (line : ℕ) : Type 0 where
       pub count : line ≡ length m + 1
-      pub at : (i : ℕ) → 1 ≤ i → i ≤ length m → NumbersAre t i (get_or m (i - 1) [])
+      pub at : (i : ℕ) → 1 ≤ i → i ≤ length m → NumbersAre limits t i (get_or m (i - 1) [])
       pub wide : (i : ℕ) → 1 ≤ i → i ≤ length m → length (get_or m (i - 1) []) ≡ n
 
-    held_next : (m : List (List ℕ)) (line : ℕ) (vs : List ℕ) → Held m line → NumbersAre t line vs → length vs ≡ n → Held (m ++ vs ∷ []) (line + 1)
+    held_next : (m : List (List ℕ)) (line : ℕ) (vs : List ℕ) → Held m line → NumbersAre limits t line vs → length vs ≡ n → Held (m ++ vs ∷ []) (line + 1)
     held_next m line vs held is wide =
         record {
           count = omega (arith, held.count, length-append m (vs ∷ []));
-          at = λ i l h. elim (dec_lt (length m) i) [ yes k ↦ subst (λ x. NumbersAre t i x) (sym (last i k h)) (let e : line ≡ i = omega (arith, held.count, length-append m (vs ∷ [])) in subst (λ x. NumbersAre t x vs) e is) | no k ↦ subst (λ x. NumbersAre t i x) (sym (before i l (omega arith))) (held.at i l (omega arith)) ];
+          at = λ i l h. elim (dec_lt (length m) i) [ yes k ↦ subst (λ x. NumbersAre limits t i x) (sym (last i k h)) (let e : line ≡ i = omega (arith, held.count, length-append m (vs ∷ [])) in subst (λ x. NumbersAre limits t x vs) e is) | no k ↦ subst (λ x. NumbersAre limits t i x) (sym (before i l (omega arith))) (held.at i l (omega arith)) ];
           wide = λ i l h. elim (dec_lt (length m) i) [ yes k ↦ ap length (last i k h) ∙ wide | no k ↦ ap length (before i l (omega arith)) ∙ held.wide i l (omega arith) ];
         }
       where
@@ -219,7 +224,7 @@ module _ (limits : Limits) (t : List ℕ) (us : List ℕ) (first : NumbersAre t 
         pub column : Node n j
         pub is : v ≡ entry m i j
 
-      entry_in : {i j v : ℕ} → EntryIs t i j v → InSquare i j v
+      entry_in : {i j v : ℕ} → EntryIs limits t i j v → InSquare i j v
       entry_in {i} {j} h =
           let low : 1 ≤ i = line_low h.line.text in
           let high : i ≤ length m = omega (arith, no-line-left from h.line.text, held.count) in
@@ -230,7 +235,7 @@ module _ (limits : Limits) (t : List ℕ) (us : List ℕ) (first : NumbersAre t 
             is = h.is ∙ ap (λ l. get_or l (j - 1) 0) e;
           }
 
-      entry_of : (i j : ℕ) → Node n i → Node n j → EntryIs t i j (entry m i j)
+      entry_of : (i j : ℕ) → Node n i → Node n j → EntryIs limits t i j (entry m i j)
       entry_of i j p q =
           record {
             vs = get_or m (i - 1) [];
@@ -240,11 +245,11 @@ module _ (limits : Limits) (t : List ℕ) (us : List ℕ) (first : NumbersAre t 
             is = refl;
           }
 
-      wrong-in : {i j : ℕ} {r : Reason} → WrongEntry t i j r → (Node n i) × (Node n j) × Wrong m i j r
+      wrong-in : {i j : ℕ} {r : Reason} → WrongEntry limits t i j r → (Node n i) × (Node n j) × Wrong m i j r
       wrong-in (not_zero e h w) = let s = entry_in h in (s.row, s.column, zero-wrong e (λ z. w (s.is ∙ z)))
       wrong-in (not_mirror e h k w) = let s = entry_in h in let u = entry_in k in (s.row, s.column, mirror-wrong e (λ z. w (s.is ∙ z ∙ sym u.is)))
 
-      wrong-of : {i j : ℕ} {r : Reason} → Node n i → Node n j → Wrong m i j r → WrongEntry t i j r
+      wrong-of : {i j : ℕ} {r : Reason} → Node n i → Node n j → Wrong m i j r → WrongEntry limits t i j r
       wrong-of {i} {j} p q (zero-wrong e w) = not_zero e (entry_of i j p q) w
       wrong-of {i} {j} p q (mirror-wrong e w) = not_mirror e (entry_of i j p q) (entry_of j i q p) w
 
@@ -254,42 +259,91 @@ module _ (limits : Limits) (t : List ℕ) (us : List ℕ) (first : NumbersAre t 
       one-wrong (mirror-wrong e w) (zero-wrong f u) = absurd (e f)
       one-wrong (mirror-wrong e w) (mirror-wrong f u) = refl
 
-      faulty-says : {i j : ℕ} {r : Reason} → Wrong m i j r → FirstFaulty t r i → (stage r ≡ 1) × Says limits t r i
+      faulty-says : {i j : ℕ} {r : Reason} → Wrong m i j r → FirstFaulty limits t r i → (stage r ≡ 1) × Says limits t r i
       unfolding Says
       faulty-says (zero-wrong e w) h = (refl, h)
       faulty-says (mirror-wrong e w) h = (refl, h)
 
-      faulty-byte : {i j byte : ℕ} {r : Reason} → Wrong m i j r → FaultyByte t r i byte → ByteIs limits t r i byte
+      faulty-byte : {i j byte : ℕ} {r : Reason} → Wrong m i j r → FaultyByte limits t r i byte → ByteIs limits t r i byte
       unfolding ByteIs
       faulty-byte (zero-wrong e w) h = h
       faulty-byte (mirror-wrong e w) h = h
 
-      starts-at : (i j : ℕ) → Node n i → EntryStarts t i j (byte_of m i j)
+      starts-at : (i j : ℕ) → Node n i → EntryStarts limits t i j (byte_of m i j)
       starts-at i j p = record { vs = get_or m (i - 1) []; is = held.at i p.0 (omega (arith, p.1)); at = refl }
 
-      square-right : {z : Found} → DownJudged m n 1 n z → Right limits t (and_then z (λ u. Ok (n, m)))
-      unfolding and_then
-      square-right (down_right all) = none_holds (λ r other h. go (told r h))
+      -- a text has one square
+      one-size : {other : ℕ} (h : ManyRows limits t other) → h.n ≡ n
+      unfolding rows_by pairs_from above_zero
+      one-size h =
+          elim (dec_lt 0 h.n) [
+            | yes l ↦
+                let e : length (get_or h.m (1 - 1) []) ≡ h.n = each_at h.square.wide [] 0 (omega (arith, h.square.tall)) in
+                let f : get_or h.m (1 - 1) [] ≡ us = numbers-one (h.lines 1 (omega arith, omega arith)) first refl in
+                omega (arith, ap length f)
+            | no l ↦ let e : h.n ≡ 0 = omega arith in let w = rw e at h.wrong in omega (arith, w)
+          ]
+
+      one-square : {other : ℕ} (h : ManyRows limits t other) → h.m ≡ m
+      one-square h =
+          let e = one-size h in
+          same-lines n h.m m (omega (arith, h.square.tall)) tall (λ i p. numbers-one (h.lines i (p.0, omega (arith, p.1))) (held.at i p.0 (omega (arith, p.1))) refl)
+
+      few-rows : {other : ℕ} → length (rows_of_matrix n m) ≤ limits.rows → ManyRows limits t other → ⊥
+      few-rows l h = let e = one-size h in let f = one-square h in let w = rw (e, f) at h.wrong in omega arith
+
+      -- 16, where nothing is wrong with an entry
+      many-given : ((x y : ℕ) (s : Reason) → WrongEntry limits t x y s → ⊥) → limits.rows < length (rows_of_matrix n m) → Given limits t TooMany 0 0
+      unfolding Says ByteIs
+      many-given right l =
+          record {
+            holds = record {
+              at = refl;
+              n = n;
+              m = m;
+              square = record { tall = tall; wide = each_by [] m (λ k h. let e : k + 1 - 1 ≡ k = omega arith in rw e at (held.wide (k + 1) (omega arith) (omega arith))) };
+              lines = λ i p. held.at i p.0 (omega (arith, p.1));
+              wrong = l;
+            };
+            first = λ s other e h. go s other e (told s h);
+            byte_is = refl;
+          }
         where
-          go : {r : Reason} {other : ℕ} → Told limits t other r → ⊥
-          go (of_line z h) = no_line h
-          go {r} {other} (of_square z h) = let w = wrong-in h.wrong in all other h.j r w.0.0 (omega (arith, w.0.1)) w.1 w.2
+          go : (s : Reason) (other : ℕ) → Earlier s other TooMany 0 → Told limits t other s → ⊥
+          go s other e (of_line z h) = no_line h
+          go s other e (of_square z h) = right other h.j s h.wrong
+          go s other (inl e) (of_rows z h) = omega (arith, ap stage z)
+          go s other (inr e) (of_rows z h) = ⊎_elim (λ l. omega arith) (λ l. omega (arith, l.1, ap rank_of z)) e.1
+
+      square-right : {z : Found} → DownJudged m n 1 n z → Right limits t (and_then z (λ u. and_then (judge_count limits n m) (λ w. Ok (n, m))))
+      unfolding and_then
+      square-right (down_right all) =
+          cond-elim (λ (z : Found). Right limits t (and_then z (λ w. Ok (n, m)))) _ _ _ (λ e. first_holds (many-given right (ltb-true limits.rows (length (rows_of_matrix n m)) e)))
+          (λ e. none_holds (λ r other h. go (ltb-false limits.rows (length (rows_of_matrix n m)) e) (told r h)))
+        where
+          right : (x y : ℕ) (s : Reason) → WrongEntry limits t x y s → ⊥
+          right x y s h = let w = wrong-in h in all x y s w.0.0 (omega (arith, w.0.1)) w.1 w.2
+
+          go : {r : Reason} {other : ℕ} → length (rows_of_matrix n m) ≤ limits.rows → Told limits t other r → ⊥
+          go l (of_line z h) = no_line h
+          go {r} {other} l (of_square z h) = right other h.j r h.wrong
+          go l (of_rows z h) = few-rows l h
       square-right (down_wrong {r} {line = i} j low high q wrong before) =
           first_holds (record { holds = says.1; first = λ s other e h. go s other e (told s h); byte_is = faulty-byte wrong (record { faulty = found; starts = starts-at i j p }) })
         where
           p : Node n i
           p = (low, omega arith)
 
-          none_before : (x y : ℕ) (s : Reason) → PairBefore x y i j → WrongEntry t x y s → ⊥
+          none_before : (x y : ℕ) (s : Reason) → PairBefore x y i j → WrongEntry limits t x y s → ⊥
           none_before x y s b w = let u = wrong-in w in before x y s u.0.0 u.1 b u.2
 
-          found : FirstFaulty t r i
+          found : FirstFaulty limits t r i
           found = record { j = j; wrong = wrong-of p q wrong; first = none_before }
 
           says : (stage r ≡ 1) × Says limits t r i
           says = faulty-says wrong found
 
-          same_line : (s : Reason) → rank_of s < rank_of r → FirstFaulty t s i → ⊥
+          same_line : (s : Reason) → rank_of s < rank_of r → FirstFaulty limits t s i → ⊥
           same_line s l h =
               elim (dec_lt h.j j) [
                 | yes a ↦ none_before i h.j s (inr (refl, a)) h.wrong
@@ -306,7 +360,9 @@ module _ (limits : Limits) (t : List ℕ) (us : List ℕ) (first : NumbersAre t 
           go s other e (of_line z h) = no_line h
           go s other (inl l) (of_square z h) = omega (arith, says.0)
           go s other (inr e) (of_square z h) =
-              ⊎_elim (λ l. none_before other h.j s (inl l) h.wrong) (λ l. same_line s l.1 (subst (FirstFaulty t s) l.0 h)) e.1
+              ⊎_elim (λ l. none_before other h.j s (inl l) h.wrong) (λ l. same_line s l.1 (subst (FirstFaulty limits t s) l.0 h)) e.1
+          go s other (inl l) (of_rows z h) = omega (arith, says.0, ap stage z)
+          go s other (inr e) (of_rows z h) = omega (arith, says.0, e.0, ap stage z)
 
     -- ---- line by line
 
@@ -314,34 +370,34 @@ module _ (limits : Limits) (t : List ℕ) (us : List ℕ) (first : NumbersAre t 
       is_first : line ≡ 1 → Prev line
       is_later : {before : ℕ} {l : List ℕ} → LineIs (lines t) before l → line ≡ before + 1 → Prev line
 
-    no-line-here : {line : ℕ} → Prev line → 1 ≤ line → line ≤ n → ((vs : List ℕ) → length vs ≡ n → NumbersAre t line vs → ⊥) → Says limits t Misshapen line
+    no-line-here : {line : ℕ} → Prev line → 1 ≤ line → line ≤ n → ((vs : List ℕ) → length vs ≡ n → NumbersAre limits t line vs → ⊥) → Says limits t Misshapen line
     unfolding Says
-    no-line-here (is_first e) low due out = absurd (out us refl (subst (λ x. NumbersAre t x us) (sym e) first))
+    no-line-here (is_first e) low due out = absurd (out us refl (subst (λ x. NumbersAre limits t x us) (sym e) first))
     no-line-here (is_later {before} {l} stands next) low due out =
         inr (inl (record { us = us; first = first; before = before; next = next; l = l; there = stands; due = due; none = out }))
 
-    no-line-byte : {line byte : ℕ} → Prev line → line ≤ n → ((vs : List ℕ) → length vs ≡ n → NumbersAre t line vs → ⊥) → DueByte t line (FirstFault (numbers n)) byte
-        → LineByte t line byte
-    no-line-byte (is_first e) due out b = absurd (out us refl (subst (λ x. NumbersAre t x us) (sym e) first))
+    no-line-byte : {line byte : ℕ} → Prev line → line ≤ n → ((vs : List ℕ) → length vs ≡ n → NumbersAre limits t line vs → ⊥) → DueByte t line (FirstFault limits.digits (numbers n)) byte
+        → LineByte limits t line byte
+    no-line-byte (is_first e) due out b = absurd (out us refl (subst (λ x. NumbersAre limits t x us) (sym e) first))
     no-line-byte (is_later stands next) due out b = later_due (omega (arith, line_low stands)) first due b
 
     -- a line that is due is missing, or is not n numbers
-    not-numbers : {line byte : ℕ} → Prev line → 1 ≤ line → line ≤ n → Clean limits t line → ((vs : List ℕ) → length vs ≡ n → NumbersAre t line vs → ⊥)
-        → DueByte t line (FirstFault (numbers n)) byte → Right limits t (Err (refusal Misshapen line byte))
+    not-numbers : {line byte : ℕ} → Prev line → 1 ≤ line → line ≤ n → Clean limits t line → ((vs : List ℕ) → length vs ≡ n → NumbersAre limits t line vs → ⊥)
+        → DueByte t line (FirstFault limits.digits (numbers n)) byte → Right limits t (Err (refusal Misshapen line byte))
     not-numbers prev low due clean out b = first_holds (misshapen-here low clean (no-line-here prev low due out) (no-line-byte prev due out b))
 
     left-over-here : {line : ℕ} {l : List ℕ} → LineIs (lines t) line l → n < line → Says limits t Misshapen line
     unfolding Says
     left-over-here {l = l} is over = inr (inr (record { us = us; first = first; l = l; is = is; wrong = over }))
 
-    amount-given : {line : ℕ} {vs : List ℕ} (x : ℕ) → 1 ≤ line → line ≤ n → Clean limits t line → NumbersAre t line vs → length vs ≡ n → FirstOver limits vs x
+    amount-given : {line : ℕ} {vs : List ℕ} (x : ℕ) → 1 ≤ line → line ≤ n → Clean limits t line → NumbersAre limits t line vs → length vs ≡ n → FirstOver limits vs x
         → Given limits t TooMuch line (entry_byte vs x)
     unfolding Says ByteIs
     amount-given {line} {vs} x low due clean is wide f =
         given-here TooMuch refl clean (record { vs = vs; is = is; wrong = f.some }) (amount-first line low due vs is wide) (amount-byte x is f)
 
     lines-right : (ls : List (List ℕ)) (line left : ℕ) (m : List (List ℕ)) → 1 ≤ line → line + left ≡ n + 1 → LinesFrom (lines t) line ls → Prev line → Clean limits t line
-        → Held m line → Right limits t (square_judged (lines_of limits n line left m ls))
+        → Held m line → Right limits t (square_judged limits (lines_of limits n line left m ls))
     unfolding lines_of and_then square_judged
     lines-right [] line zero m low due from prev clean held =
         square-right m line held (omega (arith, held.count)) clean from (down-judged m n 1 n)
@@ -355,12 +411,12 @@ module _ (limits : Limits) (t : List ℕ) (us : List ℕ) (first : NumbersAre t 
         next : List ℕ → SquareRead
         next vs = lines_of limits n (line + 1) left (m ++ vs ∷ []) ls
 
-        here-is : {vs : List ℕ} → l ≡ numbers_line vs → length vs ≡ n → Spelled vs → NumbersAre t line vs
+        here-is : {vs : List ℕ} → l ≡ numbers_line vs → length vs ≡ n → Spelled limits vs → NumbersAre limits t line vs
         here-is e wide spelled = record { text = subst (LineIs (lines t) line) e (line-here from); some = omega (arith, first.some); spelled = spelled }
 
         go : {x : Numbers} → LineRead limits n line l x
-            → ((vs : List ℕ) → Clean limits t (line + 1) → Held (m ++ vs ∷ []) (line + 1) → Right limits t (square_judged (next vs)))
-            → Right limits t (square_judged (and_then x next))
+            → ((vs : List ℕ) → Clean limits t (line + 1) → Held (m ++ vs ∷ []) (line + 1) → Right limits t (square_judged limits (next vs)))
+            → Right limits t (square_judged limits (and_then x next))
         go (line_is {vs} e wide spelled within) rest =
             let is = here-is e wide spelled in
             rest vs (clean-next clean (line-fine line low (omega arith) vs is wide within)) (held_next m line vs held is wide)
@@ -371,11 +427,11 @@ module _ (limits : Limits) (t : List ℕ) (us : List ℕ) (first : NumbersAre t 
 -- ---- the whole
 
 module _ (limits : Limits) (t : List ℕ) where
-  first_says : ((vs : List ℕ) → NumbersAre t 1 vs → ⊥) → Says limits t Misshapen 1
+  first_says : ((vs : List ℕ) → NumbersAre limits t 1 vs → ⊥) → Says limits t Misshapen 1
   unfolding Says
   first_says out = inl (record { at = refl; none = out })
 
-  size-given : {us : List ℕ} → length t ≤ limits.bytes → NumbersAre t 1 us → (length us < limits.fewest) ⊎ (limits.nodes < length us) → Given limits t RingSize 1 1
+  size-given : {us : List ℕ} → length t ≤ limits.bytes → NumbersAre limits t 1 us → (length us < limits.fewest) ⊎ (limits.nodes < length us) → Given limits t RingSize 1 1
   unfolding Says ByteIs
   size-given {us} short first w =
       given-here RingSize refl (clean-start short) (record { at = refl; us = us; first = first; wrong = w }) (λ s l h. size-first limits t us first l h) refl
@@ -385,27 +441,27 @@ module _ (limits : Limits) (t : List ℕ) where
   all_right short [] from =
       first_holds (misshapen-here (omega arith) (clean-start short) (first_says (λ vs is. omega (arith, no-line-left from is.text)))
       (first_due refl (line_missing (λ l is. omega (arith, no-line-left from is)))))
-  all_right short (l ∷ ls) from = go (numbers-read (fields_in l) l) (size-judged limits (fields_in l))
+  all_right short (l ∷ ls) from = go (numbers-read limits (fields_in l) l) (size-judged limits (fields_in l))
     where
       next : SquareRead
-      next = square_judged (lines_of limits (fields_in l) 1 (fields_in l) [] (l ∷ ls))
+      next = square_judged limits (lines_of limits (fields_in l) 1 (fields_in l) [] (l ∷ ls))
 
-      ring : (us : List ℕ) {v : of_table.Verdict} → NumbersAre t 1 us → length us ≡ fields_in l → SizeJudged limits (fields_in l) v → Right limits t (and_then (on_first v) (λ u. next))
+      ring : (us : List ℕ) {v : of_table.Verdict} → NumbersAre limits t 1 us → length us ≡ fields_in l → SizeJudged limits (fields_in l) v → Right limits t (and_then (on_first v) (λ u. next))
       ring us first k (not_so_many w) =
           first_holds (size-given short first (subst (λ x. (x < limits.fewest) ⊎ (limits.nodes < x)) (sym k) w))
       ring us first k (right_size few many) =
-          subst (λ x. Right limits t (square_judged (lines_of limits x 1 x [] (l ∷ ls)))) k
+          subst (λ x. Right limits t (square_judged limits (lines_of limits x 1 x [] (l ∷ ls)))) k
           (lines-right limits t us first (omega arith) (omega arith) (l ∷ ls) 1 (length us) [] (omega arith) (omega arith) from (is_first refl) (clean-start short)
           (record { count = refl; at = λ i p q. absurd (omega arith); wide = λ i p q. absurd (omega arith) }))
 
-      go : {x : Reading} {v : of_table.Verdict} → NumbersRead (fields_in l) l x → SizeJudged limits (fields_in l) v → Right limits t (and_then (values_on 1 x) (λ vs. and_then (on_first v) (λ u. next)))
+      go : {x : Reading} {v : of_table.Verdict} → NumbersRead limits (fields_in l) l x → SizeJudged limits (fields_in l) v → Right limits t (and_then (values_on 1 x) (λ vs. and_then (on_first v) (λ u. next)))
       go (are_numbers {vs = us} e k s) judged =
           ring us (record { text = subst (LineIs (lines t) 1) e (line-here from); some = omega (arith, fields-some l); spelled = s }) k judged
       go (no_numbers {p} out fault) judged =
           first_holds (misshapen-here (omega arith) (clean-start short) (first_says (λ vs is.
           let e : l ≡ numbers_line vs = line-one (line-here from) is.text refl in
-          out vs e (sym (ap fields_in e ∙ fields-are vs is.some is.spelled)) is.spelled))
-          (first_due refl (line_faulty (line-here from) (any-fault l p (line-ended (lines-ended t) (line-here from)) fault))))
+          out vs e (sym (ap fields_in e ∙ fields-are limits vs is.some is.spelled)) is.spelled))
+          (first_due refl (line_faulty (line-here from) (any-fault limits l p (line-ended (lines-ended t) (line-here from)) fault))))
 
   too-long-given : limits.bytes < length t → Given limits t TooLong 0 0
   unfolding Says ByteIs

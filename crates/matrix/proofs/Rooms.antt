@@ -16,12 +16,14 @@ use Rattle.text.specs.WriteLine.{end_of, write_line}
 use Rattle.text.specs.Shapes.{numbers, numbers_line}
 use Rattle.text.proofs.Lengths.{one-long, more-long}
 use Rattle.table.specs.Table.{InRange as TableInRange}
-use Rattle.matrix.specs.Matrix.{write_matrix, IsSquare, InRange}
+use Rattle.matrix.specs.Matrix.{write_matrix, IsSquare}
+use Rattle.matrix.specs.Range.{InRange}
 use Rattle.matrix.specs.Demands.{sum_of, matrix_of_rows, Passes}
 use Rattle.matrix.specs.Room.{matrix_room}
 use Rattle.matrix.proofs.SumLaws.{sum-either, sum-diagonal}
 use Rattle.matrix.proofs.SumsGiven.{fit_small}
 use Rattle.matrix.proofs.RoundTrip.{entry-sum}
+use Rattle.matrix.proofs.FewRows.{rows-no-more}
 
 -- ---- an amount has at most 4 digits
 
@@ -73,6 +75,7 @@ module _ (ring : Ring) (rs : List Demand) (table : TableInRange desk ring rs) (f
         amounts = amounts-of-rows;
         zeros = λ i p. entry-sum ring.nodes rs i i p p ∙ sum-diagonal table.rows.nodes i;
         symmetric = λ i j p q. entry-sum ring.nodes rs i j p q ∙ sum-either rs i j ∙ sym (entry-sum ring.nodes rs j i q p);
+        count = omega (arith, rows-no-more ring.nodes rs, table.count);
         short = omega (arith, matrix-room ring.nodes (matrix_of_rows ring.nodes rs) table.many square-of-rows amounts-of-rows);
       }
 

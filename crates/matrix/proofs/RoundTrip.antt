@@ -15,13 +15,13 @@ use Rattle.ring.specs.Demand.{OnRing, PairBefore, PairUpTo, InTableOrder, TableR
 use Rattle.ring.specs.declared.types.Demand.{Demand}
 use Rattle.ring.proofs.Listed.{listed_same, listed-shift}
 use Rattle.table.specs.Table.{write_table, table_room, InRange as TableInRange}
-use Rattle.table.proofs.TableText.{desk-spelled}
-use Rattle.table.proofs.Short.{table-short}
-use Rattle.matrix.specs.Matrix.{entry, IsSquare, Node, InRange}
+use Rattle.table.proofs.Short.{desk-narrow, table-short}
+use Rattle.matrix.specs.Matrix.{entry, IsSquare, Node}
+use Rattle.matrix.specs.Range.{InRange}
 use Rattle.matrix.specs.Demands.{rows_of_matrix, sum_of, matrix_of_rows, OneEach}
 use Rattle.matrix.proofs.LinesText.{each_at}
 use Rattle.matrix.proofs.SumLaws.{part-other, sum-either, sum-diagonal, Rising, no_row, next_row, same-sums}
-use Rattle.matrix.proofs.RowLaws.{rows-rising, rows-each, rows_on, rows-some, rows_few, rows-sum}
+use Rattle.matrix.proofs.RowLaws.{rows-rising, rows-each, rows_on, rows-some, rows-sum}
 
 -- ---- lists by place
 
@@ -40,6 +40,13 @@ from_one : {A : Type 0} (d : A) (l : List A) → listed (λ k. get_or l (k - 1) 
 from_one d l =
     listed-shift (λ k. get_or l (k - 1) d) 0 (length l) ∙
     listed_same (λ x. get_or l (suc x - 1) d) (λ x. get_or l x d) 0 (length l) (λ x p q. ap (λ k. get_or l k d) (let e : suc x - 1 ≡ x = omega arith in e)) ∙ listed-members d l
+
+-- n lines are told by each
+pub same-lines : (n : ℕ) (m o : List (List ℕ)) → length m ≡ n → length o ≡ n → ((i : ℕ) → Node n i → get_or m (i - 1) [] ≡ get_or o (i - 1) []) → m ≡ o
+same-lines n m o tall high same =
+    sym (subst (λ k. listed (λ i. get_or m (i - 1) []) 1 k ≡ m) tall (from_one [] m))
+    ∙ listed_same (λ i. get_or m (i - 1) []) (λ i. get_or o (i - 1) []) 1 n (λ i p q. same i (p, omega arith))
+    ∙ subst (λ k. listed (λ i. get_or o (i - 1) []) 1 k ≡ o) high (from_one [] o)
 
 -- ---- the entries of a matrix made from rows are their sums
 
@@ -169,7 +176,7 @@ table-back n rs table each =
 -- room for the table of every matrix
 pub table-room : (n fibres : ℕ) (m : List (List ℕ)) → IsFibres fibres → InRange desk n m → length (write_table (ring_of n fibres) (rows_of_matrix n m)) ≤ table_room desk
 table-room n fibres m two_or_four range =
-    table-short desk desk-spelled (ring_of n fibres) (rows_of_matrix n m) range.many two_or_four (rows_on (entry m) n) (rows_few (entry m) n range.many) (rows-small desk n m range)
+    table-short desk desk-narrow (ring_of n fibres) (rows_of_matrix n m) range.many two_or_four (rows_on (entry m) n) range.count (rows-small desk n m range)
 
 -- so it is accepted: at most one row for a pair, none of amount 0
 pub rows-in-range : (n fibres : ℕ) (m : List (List ℕ)) → IsFibres fibres → InRange desk n m → TableInRange desk (ring_of n fibres) (rows_of_matrix n m)
@@ -179,7 +186,7 @@ rows-in-range n fibres m two_or_four range =
       many = range.many;
       fibres = two_or_four;
       rows = record { nodes = rows_on (entry m) n; order = rising-steps (rows-rising (entry m) n) };
-      count = rows_few (entry m) n range.many;
+      count = range.count;
       amounts = rows-small desk n m range;
       short = omega (arith, table-room n fibres m two_or_four range);
     }

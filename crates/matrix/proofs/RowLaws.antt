@@ -29,8 +29,8 @@ unfolding pair_count
 count-grows k zero = let e : k + 0 ≡ k = omega arith in rw e (omega arith)
 count-grows k (suc m) = let e : k + suc m ≡ suc (k + m) = omega arith in rw e (omega (arith, count-grows k m))
 
--- the desk's arrays have room for every pair
-pub count_small : (n : ℕ) → n ≤ desk.nodes → pair_count n ≤ desk.rows
+-- how many pairs the largest ring has
+pub count_small : (n : ℕ) → n ≤ desk.nodes → pair_count n ≤ 2016
 unfolding pair_count
 count_small n l =
     let e : n + (desk.nodes - n) ≡ desk.nodes = omega arith in
@@ -182,9 +182,10 @@ module _ (a : ℕ → ℕ → ℕ) where
     unfolding rows_by
     rows-some = above-some (pairs_from a n 1 n)
 
-    pub rows_few : n ≤ desk.nodes → length (rows_by n a) ≤ desk.rows
+    -- each pair makes at most one row
+    pub rows-counted : n ≤ desk.nodes → length (rows_by n a) ≤ 2016
     unfolding rows_by
-    rows_few l = omega (arith, above-short (pairs_from a n 1 n), pairs-count n 1 (omega arith), count_small n l)
+    rows-counted l = omega (arith, above-short (pairs_from a n 1 n), pairs-count n 1 (omega arith), count_small n l)
 
     pub rows-sum : (x y : ℕ) → 1 ≤ x → x < y → y ≤ n → sum_of (rows_by n a) x y ≡ a x y
     unfolding rows_by

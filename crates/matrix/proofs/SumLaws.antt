@@ -1,13 +1,14 @@
 -- The sums of rows by pair: the same in either order of a pair, 0 on the diagonal, and over rows that rise each pair's own amount; rows that rise are told by their sums.
 use Prim.Native.Nat.{ℕ, ◌+◌, ◌*◌, ◌≤◌, ◌<◌}
-use mathlib.Core.Bool.{Bool, true, false, cond, ◌||◌}
+use mathlib.Core.Bool.{Bool, true, false, cond, ◌&&◌, ◌||◌}
 use mathlib.Core.List.{List, [], ◌∷◌, ◌++◌}
-use mathlib.Core.Logic.{inl, inr}
+use mathlib.Core.Logic.{◌⊎◌, inl, inr}
 use mathlib.Core.Path.{◌≡◌, refl, ap, ◌∙◌, sym, subst}
 use native.Mathlib.Omega.{arith}
 use lib.ListN.{length}
 use native.Mathlib.Decide.{dec_lt, ℕ_discrete}
-use borrow.Author.Tests.{eq-eqb, ne_eqb}
+use lib.Dec.{eqb}
+use borrow.Author.Tests.{eq-eqb, ne_eqb, eqb-true}
 use Rattle.ring.specs.Lists.{Each, none, more}
 use Rattle.ring.specs.Demand.{demand, OnRing, PairBefore}
 use Rattle.ring.specs.declared.types.Demand.{Demand}
@@ -34,6 +35,21 @@ other-pair a b i j h =
       | yes e ↦ elim (ℕ_discrete b j) [ yes f ↦ absurd (h (e, f)) | no f ↦ rw (eq-eqb a i e, ne_eqb b j f) ]
       | no e ↦ rw (ne_eqb a i e)
     ]
+
+-- a row of a pair names its nodes, in either order
+pub joined : (r : Demand) (i j : ℕ) → joins r i j ≡ true → ((r.first ≡ i) × (r.second ≡ j)) ⊎ ((r.first ≡ j) × (r.second ≡ i))
+unfolding same_pair
+joined r i j e = go (eqb r.first i) refl (eqb r.second j) refl (eqb r.first j) refl (eqb r.second i) refl e
+  where
+    go : (a : Bool) → eqb r.first i ≡ a → (b : Bool) → eqb r.second j ≡ b → (c : Bool) → eqb r.first j ≡ c → (d : Bool) → eqb r.second i ≡ d → ((a && b) || (c && d)) ≡ true
+        → ((r.first ≡ i) × (r.second ≡ j)) ⊎ ((r.first ≡ j) × (r.second ≡ i))
+    go true ea true eb c ec d ed h = inl (eqb-true _ _ ea, eqb-true _ _ eb)
+    go true ea false eb true ec true ed h = inr (eqb-true _ _ ec, eqb-true _ _ ed)
+    go true ea false eb true ec false ed h = absurd (cc)
+    go true ea false eb false ec d ed h = absurd (cc)
+    go false ea b eb true ec true ed h = inr (eqb-true _ _ ec, eqb-true _ _ ed)
+    go false ea b eb true ec false ed h = absurd (cc)
+    go false ea b eb false ec d ed h = absurd (cc)
 
 module _ (r : Demand) (i j : ℕ) where
   pub part-own : r.first ≡ i → r.second ≡ j → part_of r i j ≡ r.amount

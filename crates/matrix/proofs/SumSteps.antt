@@ -1,61 +1,50 @@
--- Sums under their loops: the rows passed are added up, and judged row by row.
-use Prim.Native.Nat.{ℕ, zero, suc, ◌+◌, ◌*◌, ◌≤◌, ◌<◌}
+-- Sums: what each row adds to them, and how they are judged row by row.
+use Prim.Native.Nat.{ℕ, zero, suc, ◌+◌, ◌≤◌, ◌<◌}
 use mathlib.Core.List.{List, [], ◌∷◌, ◌++◌}
 use mathlib.Core.Path.{◌≡◌, refl, ap, ◌∙◌, sym}
 use native.Mathlib.Omega.{arith}
-use native.Mathlib.Numerals.{add-one}
 use lib.ListN.{length, take, drop, drop_of_length-le}
 use borrow.Author.Tests.{lt-ltb, le-ltb}
-use Rattle.std.specs.Prelude.{Ok, Some, slice_get}
+use Rattle.std.specs.Prelude.{Ok, Some, slice_get, sum_by}
 use Rattle.ring.specs.Limits.{desk}
 use Rattle.ring.specs.declared.types.Demand.{Demand}
 use Rattle.ring.specs.declared.types.Routed.{Routed}
 use Rattle.ring.specs.Sheet.{sents, demands}
 use Rattle.matrix.specs.Demands.{sum_of}
 use Rattle.matrix.specs.Judged.{passes_at, sums_from, judge_sums}
+use Rattle.std.proofs.lemmas.List.{take_more}
+use Rattle.std.proofs.lemmas.List.Sums.{sum_by-cons}
+use Rattle.std.proofs.lemmas.Option.{get_or_from_slice_get, slice_get_within}
 use Rattle.rows.proofs.Demands.{demands-get}
+use Rattle.rows.proofs.Places.{row_then}
 use Rattle.ring.proofs.Small.{demands-length}
-use Rattle.matrix.proofs.SumLaws.{part_of, sum_more}
+use Rattle.matrix.proofs.SumLaws.{part_of}
+
+-- ---- the first rows, and what each adds
+
+pub sums-parts : (i j n : ℕ) (rows : List Routed) → sum_by (λ r. part_of r.sent.demand i j) (take n rows) ≡ sum_of (take n (demands (sents rows))) i j
+unfolding sum_of
+sums-parts i j zero rows = refl
+sums-parts i j (suc n) [] = refl
+sums-parts i j (suc n) (r ∷ rows) = sum_by-cons (λ (r : Routed). part_of r.sent.demand i j) r (take n rows) ∙ ap (λ s. part_of r.sent.demand i j + s) (sums-parts i j n rows)
 
 -- ---- a row at a place
-
-take-one : {A : Type 0} (l : List A) (k : ℕ) (x : A) → slice_get l k ≡ Some x → take (suc k) l ≡ take k l ++ x ∷ []
-take-one [] k x e = absurd (cc)
-take-one (y ∷ l) zero x e = let q : y ≡ x = cc in rw q
-take-one (y ∷ l) (suc k) x e = ap (λ m. y ∷ m) (take-one l k x e)
-
-drop-one : {A : Type 0} (l : List A) (k : ℕ) (x : A) → slice_get l k ≡ Some x → drop k l ≡ x ∷ drop (suc k) l
-drop-one [] k x e = absurd (cc)
-drop-one (y ∷ l) zero x e = let q : y ≡ x = cc in rw q
-drop-one (y ∷ l) (suc k) x e = drop-one l k x e
 
 module _ (rows : List Routed) where
   abbrev pub all : List Demand
   all = demands (sents rows)
 
   module _ (k : ℕ) (r : Routed) (at : slice_get rows k ≡ Some r) where
+    here : slice_get all k ≡ Some r.sent.demand
+    here = demands-get rows k r at
+
     pub rows_more : take (k + 1) all ≡ take k all ++ r.sent.demand ∷ []
-    rows_more = rw add-one (take-one all k r.sent.demand (demands-get rows k r at))
+    rows_more =
+        take_more all k r.sent.demand (slice_get_within all k _ here)
+        ∙ ap (λ (d : Demand). take k all ++ d ∷ []) (get_or_from_slice_get all k r.sent.demand r.sent.demand here)
 
     rows_left : drop k all ≡ r.sent.demand ∷ drop (k + 1) all
-    rows_left = rw add-one (drop-one all k r.sent.demand (demands-get rows k r at))
-
-  -- ---- the rows before k are added up
-
-  pub record Summing (i j sum k : ℕ) : Type 0 where
-    pub is : sum ≡ sum_of (take k all) i j
-    pub small : sum ≤ 4294967295 * k
-
-  pub summing-starts : (i j : ℕ) → Summing i j 0 0
-  unfolding sum_of
-  summing-starts i j = record { is = refl; small = omega arith }
-
-  pub sums-row : (i j sum k : ℕ) → Summing i j sum k → (r : Routed) → slice_get rows k ≡ Some r → (x : ℕ) → x ≡ part_of r.sent.demand i j → x ≤ 4294967295 → Summing i j (sum + x) (k + 1)
-  sums-row i j sum k summing r at x ex h =
-      record {
-        is = omega (arith, summing.is, ap (λ rs. sum_of rs i j) (rows_more k r at), sum_more (take k all) r.sent.demand i j);
-        small = omega (arith, summing.small);
-      }
+    rows_left = row_then all k r.sent.demand here
 
   -- ---- judged
 

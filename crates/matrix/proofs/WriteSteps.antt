@@ -3,7 +3,7 @@ use Prim.Native.Nat.{ℕ, ◌+◌, ◌-◌, ◌≤◌, ◌<◌}
 use mathlib.Core.List.{List, [], ◌∷◌, ◌++◌, append_assoc, append-nil}
 use mathlib.Core.Path.{◌≡◌, refl, ap, ◌∙◌, sym}
 use native.Mathlib.Omega.{arith}
-use lib.ListN.{length, take, length-append, length-replicate}
+use lib.ListN.{length, take, length-replicate}
 use lib.Seq.{take_all}
 use Rattle.ring.specs.Limits.{desk}
 use Rattle.ring.specs.declared.types.Demand.{Demand}
@@ -29,15 +29,14 @@ whole-sum rows count e i j =
     let n = demands-length rows in
     ap (λ rs. sum_of rs i j) (take_all count (demands (sents rows)) (omega arith))
 
-pub sums_more : (rows : List Routed) (i n j count : ℕ) (old new : List ℕ) → old ≡ listed (sum_of (demands (sents rows)) i) 1 (j - 1) → 1 ≤ j → j ≤ n → n ≤ desk.nodes
-    → count ≡ length rows → (v : ℕ) → v ≡ sum_of (take count (demands (sents rows))) i j → new ≡ take desk.nodes (old ++ v ∷ [])
+pub sums_more : (rows : List Routed) (i j count : ℕ) (old new : List ℕ) → old ≡ listed (sum_of (demands (sents rows)) i) 1 (j - 1) → 1 ≤ j
+    → count ≡ length rows → (v : ℕ) → v ≡ sum_of (take count (demands (sents rows))) i j → new ≡ old ++ v ∷ []
     → new ≡ listed (sum_of (demands (sents rows)) i) 1 (j + 1 - 1)
-sums_more rows i n j count old new e l h few all v ev en =
+sums_more rows i j count old new e l all v ev en =
     let f : ℕ → ℕ = sum_of (demands (sents rows)) i in
     let k : 1 + (j - 1) ≡ j = omega arith in
     let m : j + 1 - 1 ≡ j - 1 + 1 = omega arith in
-    let z : length (old ++ v ∷ []) ≤ desk.nodes = omega (arith, length-append old (v ∷ []), ap length e, listed-length f 1 (j - 1)) in
-    en ∙ take_all desk.nodes (old ++ v ∷ []) z ∙ rw (e, ev ∙ whole-sum rows count all i j, m) (sym (rw k at (listed-snoc f 1 (j - 1))))
+    en ∙ rw (e, ev ∙ whole-sum rows count all i j, m) (sym (rw k at (listed-snoc f 1 (j - 1))))
 
 -- the sums of such rows have room in 32 bits
 pub sum-fits : (rs : List Demand) → Amounts rs → (i j : ℕ) → sum_of rs i j < 4294967296

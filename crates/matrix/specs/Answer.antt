@@ -4,7 +4,8 @@ use Rattle.ring.specs.Limits.{desk}
 use Rattle.ring.specs.declared.types.Demand.{Demand}
 use Rattle.table.specs.declared.reason.Refusal.{Refusal}
 use Rattle.table.specs.OnLine.{and_then}
-use Rattle.matrix.specs.Matrix.{write_matrix, InRange}
+use Rattle.matrix.specs.Matrix.{write_matrix}
+use Rattle.matrix.specs.Range.{InRange}
 use Rattle.matrix.specs.Demands.{rows_of_matrix}
 use Rattle.matrix.specs.Read.{SquareRead, Found}
 use Rattle.matrix.specs.Says.{Given}

@@ -1,6 +1,7 @@
 -- What a matrix is, what it says of a table's rows, what each reason says of its text, and how much room suffices.
 pub mod Matrix
 pub mod Demands
+pub mod Range
 pub mod Read
 pub mod Judged
 pub mod Square

@@ -1,6 +1,5 @@
 -- To believe: what a matrix is and how it is written (Rules, matrices), n lines of n numbers parted by tabs, symmetric and 0 on the diagonal.
 use Rattle.std.specs.Prelude.{ℕ, ◌+◌, ◌-◌, ◌≤◌, List, [], ◌∷◌, ◌++◌, ◌≡◌, length, get_or, take}
-use Rattle.ring.specs.Limits.{Limits}
 use Rattle.ring.specs.Lists.{Each}
 use Rattle.text.specs.Shapes.{numbers_line}
 
@@ -25,13 +24,3 @@ pub record IsSquare (n : ℕ) (m : List (List ℕ)) : Type 0 where
 -- a node of the ring
 abbrev pub Node : ℕ → ℕ → Type 0
 Node n i = (1 ≤ i) × (i ≤ n)
-
--- what a matrix can hold, within limits
-pub record InRange (limits : Limits) (n : ℕ) (m : List (List ℕ)) : Type 0 where
-  pub few : limits.fewest ≤ n
-  pub many : n ≤ limits.nodes
-  pub square : IsSquare n m
-  pub amounts : Each (Each (λ v. v ≤ limits.amount)) m
-  pub zeros : (i : ℕ) → Node n i → entry m i i ≡ 0
-  pub symmetric : (i j : ℕ) → Node n i → Node n j → entry m i j ≡ entry m j i
-  pub short : length (write_matrix m) ≤ limits.bytes

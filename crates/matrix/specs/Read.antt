@@ -10,8 +10,9 @@ use Rattle.table.specs.OnLine.{refusal, and_then, values_on}
 use Rattle.table.specs.Verdict as of_table
 use Rattle.table.specs.declared.reason.Reason.{Reason}
 use Rattle.table.specs.declared.reason.Refusal.{Refusal}
-use Rattle.table.specs.declared.reason.Reason.TheVariants.{TooLong, Misshapen, TooMuch, NotZero, NotSymmetric}
+use Rattle.table.specs.declared.reason.Reason.TheVariants.{TooLong, Misshapen, TooMany, TooMuch, NotZero, NotSymmetric}
 use Rattle.matrix.specs.Matrix.{entry, entry_byte}
+use Rattle.matrix.specs.Demands.{rows_of_matrix}
 
 -- how many nodes there are, and the lines; or the refusal of the text
 abbrev pub SquareRead : Type 0
@@ -64,7 +65,7 @@ lines_of limits n line zero m [] = Ok (n, m)
 lines_of limits n line zero m (l ∷ ls) = Err (refusal Misshapen line 1)
 lines_of limits n line (suc left) m [] = Err (refusal Misshapen line 1)
 lines_of limits n line (suc left) m (l ∷ ls) =
-    and_then (amounts_in limits line (read_line (numbers n) l)) λ vs. lines_of limits n (line + 1) left (m ++ vs ∷ []) ls
+    and_then (amounts_in limits line (read_line limits.digits (numbers n) l)) λ vs. lines_of limits n (line + 1) left (m ++ vs ∷ []) ls
 
 -- ---- the entries in order
 
@@ -92,9 +93,13 @@ unfolding judge_across
 judge_down m n i zero = Ok tt
 judge_down m n i (suc k) = judge_across m i 1 n (judge_down m n (i + 1) k)
 
-unfoldable pub square_judged : SquareRead → SquareRead
+-- 16, of all rows together
+abbrev pub judge_count : Limits → ℕ → List (List ℕ) → Found
+judge_count limits n m = cond (ltb limits.rows (length (rows_of_matrix n m))) (refusing TooMany 0 0) (Ok tt)
+
+unfoldable pub square_judged : Limits → SquareRead → SquareRead
 unfolding judge_down and_then
-square_judged x = and_then x λ s. and_then (judge_down s.1 s.0 1 s.0) λ u. Ok s
+square_judged limits x = and_then x λ s. and_then (judge_down s.1 s.0 1 s.0) λ u. and_then (judge_count limits s.0 s.1) λ w. Ok s
 
 -- ---- the whole
 
@@ -108,9 +113,9 @@ unfoldable pub matrix_lines : Limits → List (List ℕ) → SquareRead
 unfolding and_then values_on on_first lines_of square_judged fields_in
 matrix_lines limits [] = Err (refusal Misshapen 1 1)
 matrix_lines limits (l ∷ ls) =
-    and_then (values_on 1 (read_line (numbers (fields_in l)) l)) λ vs.
+    and_then (values_on 1 (read_line limits.digits (numbers (fields_in l)) l)) λ vs.
     and_then (on_first (judge_size limits (fields_in l))) λ u.
-    square_judged (lines_of limits (fields_in l) 1 (fields_in l) [] (l ∷ ls))
+    square_judged limits (lines_of limits (fields_in l) 1 (fields_in l) [] (l ∷ ls))
 
 unfoldable pub matrix_of : Limits → List ℕ → SquareRead
 unfolding matrix_lines

@@ -1,5 +1,5 @@
 -- To believe: what each reason says of a matrix's text (Rules, reasons), by its lines and the writer alone, and the byte that goes with it; which reason is given; and what an accepted matrix is.
-use Rattle.std.specs.Prelude.{ℕ, ◌+◌, ◌-◌, ◌≤◌, ◌<◌, List, ◌⊎◌, ◌≡◌, length, get_or}
+use Rattle.std.specs.Prelude.{ℕ, ◌+◌, ◌-◌, ◌≤◌, ◌<◌, List, [], ◌⊎◌, ◌≡◌, length, get_or}
 use Rattle.ring.specs.Limits.{Limits}
 use Rattle.ring.specs.Lists.{Each, Some}
 use Rattle.ring.specs.Demand.{PairBefore}
@@ -10,21 +10,22 @@ use Rattle.table.specs.Lines.{lines}
 use Rattle.table.specs.Reasons.{rank_of}
 use Rattle.table.specs.Says.{LineIs, DueByte}
 use Rattle.table.specs.declared.reason.Reason.{Reason}
-use Rattle.table.specs.declared.reason.Reason.TheVariants.{TooLong, Misshapen, RingSize, TooMuch, NotZero, NotSymmetric}
-use Rattle.matrix.specs.Matrix.{entry_byte}
+use Rattle.table.specs.declared.reason.Reason.TheVariants.{TooLong, Misshapen, RingSize, TooMany, TooMuch, NotZero, NotSymmetric}
+use Rattle.matrix.specs.Matrix.{entry_byte, IsSquare, Node}
+use Rattle.matrix.specs.Demands.{rows_of_matrix}
 
 -- ---- lines and entries
 
 -- a line is the numbers vs, of which there is at least one
-pub record NumbersAre (t : List ℕ) (line : ℕ) (vs : List ℕ) : Type 0 where
+pub record NumbersAre (limits : Limits) (t : List ℕ) (line : ℕ) (vs : List ℕ) : Type 0 where
   pub text : LineIs (lines t) line (numbers_line vs)
   pub some : 1 ≤ length vs
-  pub spelled : Each (λ v. v < limit) vs
+  pub spelled : Each (λ v. v < limit limits.digits) vs
 
 -- entry i, j, both counted from 1, is v
-pub record EntryIs (t : List ℕ) (i j v : ℕ) : Type 0 where
+pub record EntryIs (limits : Limits) (t : List ℕ) (i j v : ℕ) : Type 0 where
   pub vs : List ℕ
-  pub line : NumbersAre t i vs
+  pub line : NumbersAre limits t i vs
   pub low : 1 ≤ j
   pub high : j ≤ length vs
   pub is : v ≡ get_or vs (j - 1) 0
@@ -32,61 +33,71 @@ pub record EntryIs (t : List ℕ) (i j v : ℕ) : Type 0 where
 -- ---- the reasons
 
 -- 2: the first line is missing, or is no line of numbers
-pub record NoFirstLine (t : List ℕ) (line : ℕ) : Type 0 where
+pub record NoFirstLine (limits : Limits) (t : List ℕ) (line : ℕ) : Type 0 where
   pub at : line ≡ 1
-  pub none : (vs : List ℕ) → NumbersAre t 1 vs → ⊥
+  pub none : (vs : List ℕ) → NumbersAre limits t 1 vs → ⊥
 
 -- a later line that is due, behind one that is there, is missing or has not as many numbers as the first
-pub record NoLaterLine (t : List ℕ) (line : ℕ) : Type 0 where
+pub record NoLaterLine (limits : Limits) (t : List ℕ) (line : ℕ) : Type 0 where
   pub us : List ℕ
-  pub first : NumbersAre t 1 us
+  pub first : NumbersAre limits t 1 us
   pub before : ℕ
   pub next : line ≡ before + 1
   pub l : List ℕ
   pub there : LineIs (lines t) before l
   pub due : line ≤ length us
-  pub none : (vs : List ℕ) → length vs ≡ length us → NumbersAre t line vs → ⊥
+  pub none : (vs : List ℕ) → length vs ≡ length us → NumbersAre limits t line vs → ⊥
 
 -- a line is left over
-pub record LeftOver (t : List ℕ) (line : ℕ) : Type 0 where
+pub record LeftOver (limits : Limits) (t : List ℕ) (line : ℕ) : Type 0 where
   pub us : List ℕ
-  pub first : NumbersAre t 1 us
+  pub first : NumbersAre limits t 1 us
   pub l : List ℕ
   pub is : LineIs (lines t) line l
   pub wrong : length us < line
 
--- 3: n, the number of fields of the first line, outside 2..32
+-- 3: n, the number of fields of the first line, outside 2..64
 pub record WrongSize (limits : Limits) (t : List ℕ) (line : ℕ) : Type 0 where
   pub at : line ≡ 1
   pub us : List ℕ
-  pub first : NumbersAre t 1 us
+  pub first : NumbersAre limits t 1 us
   pub wrong : (length us < limits.fewest) ⊎ (limits.nodes < length us)
 
 -- 7: an entry over 9,999
 pub record WrongAmount (limits : Limits) (t : List ℕ) (line : ℕ) : Type 0 where
   pub vs : List ℕ
-  pub is : NumbersAre t line vs
+  pub is : NumbersAre limits t line vs
   pub wrong : Some (λ v. limits.amount < v) vs
 
 -- 17: a diagonal entry not 0; 18: an entry that differs from its mirror entry
-pub data WrongEntry (t : List ℕ) (i j : ℕ) : Reason → Type 0 where
-  not_zero : {v : ℕ} → i ≡ j → EntryIs t i j v → (v ≡ 0 → ⊥) → WrongEntry t i j NotZero
-  not_mirror : {v w : ℕ} → (i ≡ j → ⊥) → EntryIs t i j v → EntryIs t j i w → (v ≡ w → ⊥) → WrongEntry t i j NotSymmetric
+pub data WrongEntry (limits : Limits) (t : List ℕ) (i j : ℕ) : Reason → Type 0 where
+  not_zero : {v : ℕ} → i ≡ j → EntryIs limits t i j v → (v ≡ 0 → ⊥) → WrongEntry limits t i j NotZero
+  not_mirror : {v w : ℕ} → (i ≡ j → ⊥) → EntryIs limits t i j v → EntryIs limits t j i w → (v ≡ w → ⊥) → WrongEntry limits t i j NotSymmetric
 
 -- at the first faulty entry in reading order, which is on this line
-pub record FirstFaulty (t : List ℕ) (r : Reason) (line : ℕ) : Type 0 where
+pub record FirstFaulty (limits : Limits) (t : List ℕ) (r : Reason) (line : ℕ) : Type 0 where
   pub j : ℕ
-  pub wrong : WrongEntry t line j r
-  pub first : (x y : ℕ) (s : Reason) → PairBefore x y line j → WrongEntry t x y s → ⊥
+  pub wrong : WrongEntry limits t line j r
+  pub first : (x y : ℕ) (s : Reason) → PairBefore x y line j → WrongEntry limits t x y s → ⊥
+
+-- 16: it makes more rows than 1,024, which are judged together; as a whole, so that no line is named
+pub record ManyRows (limits : Limits) (t : List ℕ) (line : ℕ) : Type 0 where
+  pub at : line ≡ 0
+  pub n : ℕ
+  pub m : List (List ℕ)
+  pub square : IsSquare n m
+  pub lines : (i : ℕ) → Node n i → NumbersAre limits t i (get_or m (i - 1) [])
+  pub wrong : limits.rows < length (rows_of_matrix n m)
 
 -- what a reason says, with its line
 unfoldable pub Says : Limits → List ℕ → Reason → ℕ → Type 0
 Says limits t TooLong line = (line ≡ 0) × (limits.bytes < length t)
-Says limits t Misshapen line = NoFirstLine t line ⊎ (NoLaterLine t line ⊎ LeftOver t line)
+Says limits t Misshapen line = NoFirstLine limits t line ⊎ (NoLaterLine limits t line ⊎ LeftOver limits t line)
 Says limits t RingSize line = WrongSize limits t line
 Says limits t TooMuch line = WrongAmount limits t line
-Says limits t NotZero line = FirstFaulty t NotZero line
-Says limits t NotSymmetric line = FirstFaulty t NotSymmetric line
+Says limits t NotZero line = FirstFaulty limits t NotZero line
+Says limits t NotSymmetric line = FirstFaulty limits t NotSymmetric line
+Says limits t TooMany line = ManyRows limits t line
 -- the others judge no matrix
 Says limits t _ line = ⊥
 
@@ -94,61 +105,63 @@ Says limits t _ line = ⊥
 
 -- p is the place of the first faulty byte of a line that may have any number of fields: for some number of fields a line may begin with the bytes before it, and for
 -- none with it too
-pub record NumbersFault (l : List ℕ) (p : ℕ) : Type 0 where
+pub record NumbersFault (limits : Limits) (l : List ℕ) (p : ℕ) : Type 0 where
   pub m : ℕ
   pub some : 1 ≤ m
-  pub before : Agrees (numbers m) l p
-  pub here : (m : ℕ) → 1 ≤ m → Agrees (numbers m) l (p + 1) → ⊥
+  pub before : Agrees limits.digits (numbers m) l p
+  pub here : (m : ℕ) → 1 ≤ m → Agrees limits.digits (numbers m) l (p + 1) → ⊥
 
 -- 2: any number of fields is due in the first line, and as many in a later one; a line is left over as a whole
-pub data LineByte (t : List ℕ) (line byte : ℕ) : Type 0 where
-  first_due : line ≡ 1 → DueByte t line NumbersFault byte → LineByte t line byte
-  later_due : {us : List ℕ} → 2 ≤ line → NumbersAre t 1 us → line ≤ length us → DueByte t line (FirstFault (numbers (length us))) byte → LineByte t line byte
-  none_due : {us : List ℕ} → NumbersAre t 1 us → length us < line → byte ≡ 1 → LineByte t line byte
+pub data LineByte (limits : Limits) (t : List ℕ) (line byte : ℕ) : Type 0 where
+  first_due : line ≡ 1 → DueByte t line (NumbersFault limits) byte → LineByte limits t line byte
+  later_due : {us : List ℕ} → 2 ≤ line → NumbersAre limits t 1 us → line ≤ length us → DueByte t line (FirstFault limits.digits (numbers (length us))) byte → LineByte limits t line byte
+  none_due : {us : List ℕ} → NumbersAre limits t 1 us → length us < line → byte ≡ 1 → LineByte limits t line byte
 
 -- where entry j of a line starts
-pub record EntryStarts (t : List ℕ) (line j byte : ℕ) : Type 0 where
+pub record EntryStarts (limits : Limits) (t : List ℕ) (line j byte : ℕ) : Type 0 where
   pub vs : List ℕ
-  pub is : NumbersAre t line vs
+  pub is : NumbersAre limits t line vs
   pub at : byte ≡ entry_byte vs (j - 1)
 
 -- 7: where the first entry over 9,999 starts
 pub record AmountByte (limits : Limits) (t : List ℕ) (line byte : ℕ) : Type 0 where
   pub j : ℕ
   pub v : ℕ
-  pub is : EntryIs t line j v
+  pub is : EntryIs limits t line j v
   pub wrong : limits.amount < v
-  pub first : (x w : ℕ) → x < j → EntryIs t line x w → w ≤ limits.amount
-  pub starts : EntryStarts t line j byte
+  pub first : (x w : ℕ) → x < j → EntryIs limits t line x w → w ≤ limits.amount
+  pub starts : EntryStarts limits t line j byte
 
 -- 17 and 18: where the first faulty entry starts
-pub record FaultyByte (t : List ℕ) (r : Reason) (line byte : ℕ) : Type 0 where
-  pub faulty : FirstFaulty t r line
-  pub starts : EntryStarts t line faulty.j byte
+pub record FaultyByte (limits : Limits) (t : List ℕ) (r : Reason) (line byte : ℕ) : Type 0 where
+  pub faulty : FirstFaulty limits t r line
+  pub starts : EntryStarts limits t line faulty.j byte
 
 -- the byte of a reason that holds on a line
 unfoldable pub ByteIs : Limits → List ℕ → Reason → ℕ → ℕ → Type 0
 -- a reason with line 0
 ByteIs limits t TooLong line byte = byte ≡ 0
-ByteIs limits t Misshapen line byte = LineByte t line byte
+ByteIs limits t TooMany line byte = byte ≡ 0
+ByteIs limits t Misshapen line byte = LineByte limits t line byte
 -- a reason that judges the line as a whole
 ByteIs limits t RingSize line byte = byte ≡ 1
 -- a reason about one field
 ByteIs limits t TooMuch line byte = AmountByte limits t line byte
-ByteIs limits t NotZero line byte = FaultyByte t NotZero line byte
-ByteIs limits t NotSymmetric line byte = FaultyByte t NotSymmetric line byte
+ByteIs limits t NotZero line byte = FaultyByte limits t NotZero line byte
+ByteIs limits t NotSymmetric line byte = FaultyByte limits t NotSymmetric line byte
 -- the others judge no matrix
 ByteIs limits t _ line byte = ⊥
 
 -- ---- which is given
 
--- 17 and 18 come behind all lines
+-- 17 and 18 come behind all lines, and 16 behind them
 abbrev pub stage : Reason → ℕ
 stage NotZero = 1
 stage NotSymmetric = 1
+stage TooMany = 2
 stage _ = 0
 
--- what is tried earlier: 1, before all lines; then the line before, and on the same line the reason before; 17 and 18 behind all lines
+-- what is tried earlier: 1, before all lines; then the line before, and on the same line the reason before; 17 and 18 behind all lines, and 16 behind them
 abbrev pub Earlier : Reason → ℕ → Reason → ℕ → Type 0
 Earlier r line s other =
     (stage r < stage s) ⊎ ((stage r ≡ stage s) × ((line < other) ⊎ ((line ≡ other) × (rank_of r < rank_of s))))

@@ -1,5 +1,6 @@
 //! The rows of a square.
-ghost use Rattle.std.specs.Prelude.{◌≡◌, [], length};
+ghost use Rattle.std.specs.Prelude.{◌≡◌, ◌≤◌, [], length};
+ghost use Rattle.ring.specs.Limits.{desk};
 ghost use Rattle.ring.specs.Sheet.{sents, demands};
 ghost use Rattle.matrix.specs.Demands.{rows_of_matrix};
 
@@ -7,9 +8,27 @@ use crate::square::Square;
 use ring::Demand;
 use rows::Columns;
 
+/// How many rows a square makes: one for each pair whose entry is above 0.
+pub(crate) fn count_rows(square: &Square) -> usize
+    ensures { result ≡ length (rows_of_matrix (length square.now) square.now) }
+{
+    let nodes = square.nodes();
+    let mut count: usize = 0;
+    for first in 1..nodes + 1 {
+        for second in first + 1..nodes + 1 {
+            if square.get(first, second) == 0 {
+                continue;
+            }
+            count += 1;
+        }
+    }
+    count
+}
+
 /// Fills columns that hold no row with a row for each pair whose entry is above 0, in table order.
 pub(crate) fn fill(square: &Square, rows: &mut Columns)
-    requires { rows.old ≡ [] }
+    requires empty { rows.old ≡ [] }
+    requires few { length (rows_of_matrix (length square.now) square.now) ≤ desk.rows }
     ensures { demands (sents rows.new) ≡ rows_of_matrix (length square.now) square.now }
 {
     let nodes = square.nodes();

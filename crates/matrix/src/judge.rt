@@ -1,8 +1,11 @@
-//! What is found against the entries, in reading order.
+//! What is found against the entries, in reading order, and then against all rows that they make.
 ghost use Rattle.std.specs.Prelude.{◌≡◌, length};
-ghost use Rattle.matrix.specs.Read.{entry_fault, judge_down};
+ghost use Rattle.ring.specs.Limits.{desk};
+ghost use Rattle.matrix.specs.Read.{entry_fault, judge_down, judge_count};
 
+use crate::fill::count_rows;
 use crate::square::Square;
+use ring::ROWS;
 use table::{Reason, Refusal};
 
 /// What is found against the entry x at i, j, whose mirror entry is y.
@@ -34,6 +37,16 @@ pub(crate) fn judge_square(square: &Square) -> Result<(), Refusal>
                 });
             }
         }
+    }
+    Ok(())
+}
+
+/// A table has room for the rows that the square makes; or the refusal of them all.
+pub(crate) fn judge_count(square: &Square) -> Result<(), Refusal>
+    ensures { result ≡ judge_count desk (length square.now) square.now }
+{
+    if ROWS < count_rows(square) {
+        return Err(Refusal::whole(Reason::TooMany));
     }
     Ok(())
 }

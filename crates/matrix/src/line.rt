@@ -7,7 +7,7 @@ ghost use Rattle.table.specs.OnLine.{values_on};
 ghost use Rattle.matrix.specs.Read.{fields_in, first_numbers, amounts_in};
 ghost use Rattle.matrix.specs.Answer.{read_as};
 
-use crate::numbers::Numbers;
+use crate::numbers::{Numbers, byte_of, first_over};
 use table::{Line, Reason, Refusal};
 use text::{Field, end_of, read_field};
 
@@ -19,35 +19,33 @@ pub(crate) fn tabs(line: &Line) -> usize
     line.bytes().iter().filter(|byte| **byte == b'\t').count()
 }
 
-/// Reads a line of so many numbers, of which a longer line keeps the first; or answers the place of its first faulty byte. The numbers take the place of those
-/// that were there, and hold whatever where they are refused.
+/// Reads a line of so many numbers, of which the first are kept, as far as there is room for them; or answers the place of its first faulty byte. They take the place of
+/// those that were there, which hold whatever where the line is refused.
 fn numbers_in(text: &[u8], count: usize, read: &mut Numbers) -> Result<(), usize>
-    ensures { read_as result read.new ≡ first_numbers (read_line (numbers count) text.now) }
+    ensures { read_as result read.new.items ≡ first_numbers (read_line desk.digits (numbers count) text.now) }
 {
     read.clear();
     let mut at: usize = 0;
-    for t in 0..count {
-        let (value, next) = read_field(text, at, Field::Number, end_of(count - t - 1))?;
-        read.push(value);
+    for left in (0..count).rev() {
+        let (value, next) = read_field(text, at, Field::Number, end_of(left))?;
+        let _full = read.try_push(value);
         at = next;
     }
     if at == text.len() { Ok(()) } else { Err(at) }
 }
 
 /// The same of the line with this number; or its refusal.
+#[tactic(auto, using(crate::proofs::LineSteps::line_place), unfolding(crate::specs::Read::first_numbers, crate::specs::Answer::read_as, table::specs::OnLine::values_on))]
 pub(crate) fn numbers_on(
     line: &Line,
     number: u32,
     count: usize,
     read: &mut Numbers,
 ) -> Result<(), Refusal>
-    ensures { read_as result read.new
-        ≡ values_on number (first_numbers (read_line (numbers count) line.now)) }
+    ensures { read_as result read.new.items
+        ≡ values_on number (first_numbers (read_line desk.digits (numbers count) line.now)) }
 {
-    match numbers_in(line.bytes(), count, read) {
-        Err(place) => Err(Refusal::misshapen(number, place)),
-        Ok(()) => Ok(()),
-    }
+    numbers_in(line.bytes(), count, read).map_err(|place| Refusal::misshapen(number, place))
 }
 
 /// The numbers of a line of a matrix of so many nodes, none over the limit; or the refusal of the line.
@@ -58,15 +56,15 @@ pub(crate) fn amounts_on(
     read: &mut Numbers,
 ) -> Result<(), Refusal>
     requires { count ≤ desk.nodes }
-    ensures { read_as result read.new
-        ≡ amounts_in desk number (read_line (numbers count) line.now) }
+    ensures { read_as result read.new.items
+        ≡ amounts_in desk number (read_line desk.digits (numbers count) line.now) }
 {
     numbers_on(line, number, count, read)?;
-    match read.first_over() {
+    match first_over(read) {
         Some(k) => Err(Refusal {
             reason: Reason::TooMuch,
             line: number,
-            byte: read.byte_of(k),
+            byte: byte_of(read, k),
         }),
         None => Ok(()),
     }

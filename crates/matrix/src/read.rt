@@ -7,7 +7,7 @@ ghost use Rattle.matrix.specs.Read.{lines_of, square_judged, matrix_of};
 ghost use Rattle.matrix.specs.Answer.{read_to, IsMatrix, IsGiven};
 
 use crate::fill::fill;
-use crate::judge::judge_square;
+use crate::judge::{judge_count, judge_square};
 use crate::line::{amounts_on, numbers_on, tabs};
 use crate::numbers::Numbers;
 use crate::square::Square;
@@ -20,25 +20,21 @@ use table::{Lines, Refusal, judge_size};
 fn nodes_of(text: &[u8]) -> Result<u32, Refusal>
     ensures goes_on { IfOk result (λ n.
         matrix_of desk text.now
-        ≡ square_judged (lines_of desk n 1 n [] (lines_in text.now))) }
+        ≡ square_judged desk (lines_of desk n 1 n [] (lines_in text.now))) }
     ensures few { IfOk result (λ n. n ≤ desk.nodes) }
     ensures refused { IfErr result
         (λ r. matrix_of desk text.now ≡ Err r) }
 {
-    let Some(first) = Lines::of(text)?.next_line() else {
-        return Err(Refusal::misshapen(1, 0));
-    };
+    let first = Lines::of(text)?.due(1)?;
     let count = tabs(&first) + 1;
     numbers_on(&first, 1, count, &mut Numbers::new())?;
     let nodes = count as u32;
-    match judge_size(nodes) {
-        Err(reason) => Err(Refusal {
-            reason,
-            line: 1,
-            byte: 1,
-        }),
-        Ok(()) => Ok(nodes),
-    }
+    judge_size(nodes).map_err(|reason| Refusal {
+        reason,
+        line: 1,
+        byte: 1,
+    })?;
+    Ok(nodes)
 }
 
 /// Reads the lines of a matrix into a square of its nodes. A missing line is the one after the last, and a line behind them is left over.
@@ -49,16 +45,11 @@ fn read_lines(lines: &mut Lines, square: &mut Square) -> Result<(), Refusal>
     let nodes = square.nodes();
     let mut read = Numbers::new();
     for number in 1..nodes + 1 {
-        let Some(line) = lines.next_line() else {
-            return Err(Refusal::misshapen(number, 0));
-        };
+        let line = lines.due(number)?;
         amounts_on(&line, number, wide(nodes), &mut read)?;
         square.put(number, &read);
     }
-    match lines.next_line() {
-        Some(_) => Err(Refusal::misshapen(nodes + 1, 0)),
-        None => Ok(()),
-    }
+    lines.end(nodes + 1)
 }
 
 /// Reads a matrix into columns: a row for each pair of nodes whose entry is above 0, in table order; how it is sent is not said. It answers how many nodes the ring has; of
@@ -73,6 +64,7 @@ pub fn read_matrix(text: &[u8], rows: &mut Columns) -> Result<u32, Refusal>
     let mut square = Square::new(nodes);
     read_lines(&mut Lines::of(text)?, &mut square)?;
     judge_square(&square)?;
+    judge_count(&square)?;
     fill(&square, rows);
     Ok(nodes)
 }

@@ -1,15 +1,40 @@
 //! The lines of a matrix: all are read before any entry is compared with its mirror entry, so they are kept in a square.
-ghost use Rattle.std.specs.Prelude.{◌≡◌, [], ◌-◌, ◌≤◌, length, get_or, set};
+ghost use Rattle.std.specs.Prelude.{◌≡◌, [], ◌-◌, ◌≤◌, length, get_or, set, take};
 ghost use Rattle.ring.specs.Limits.{desk};
 ghost use Rattle.ring.specs.Lists.{Each};
 ghost use Rattle.matrix.specs.Matrix.{entry, IsSquare, Node};
 ghost use Rattle.matrix.specs.Read.{byte_of};
 
-use crate::numbers::Numbers;
+use crate::numbers::{Numbers, byte_of};
 use ring::{LINKS, wide};
 use std::marker::Model;
 
-/// The entries of a matrix, each of which is an amount. Some 2 KB: make it where it stays, and lend it.
+/// The numbers of entries, at most as many as a line has.
+fn numbers_of(entries: &[u16]) -> Numbers
+    requires { length entries.now ≤ desk.nodes }
+    ensures { result.items ≡ entries.now }
+{
+    let mut numbers = Numbers::new();
+    for entry in entries {
+        numbers.push(u32::from(*entry));
+    }
+    numbers
+}
+
+/// The numbers as entries of a square, and others behind them.
+fn entries_of(numbers: &[u32]) -> [u16; LINKS]
+    requires few { length numbers.now ≤ desk.nodes }
+    requires amounts { Each (λ v. v ≤ desk.amount) numbers.now }
+    ensures { take (length numbers.now) result ≡ numbers.now }
+{
+    let mut entries = [0; LINKS];
+    for (k, number) in numbers.iter().enumerate() {
+        entries[k] = *number as u16;
+    }
+    entries
+}
+
+/// The entries of a matrix, each of which is an amount. Some 8 KB: make it where it stays, and lend it.
 #[derive(Drop)]
 pub(crate) struct Square {
     nodes: u32,
@@ -68,17 +93,17 @@ impl Square {
     {
         let _ = &self.nodes;
         let before = wide(j) - 1;
-        Numbers::of(&self.entries[wide(i) - 1], before).byte_of(before)
+        byte_of(&numbers_of(&self.entries[wide(i) - 1][..before]), before)
     }
 
     /// Other numbers for line i, as many as there are nodes.
-    pub(crate) fn put(&mut self, i: u32, numbers: &Numbers)
+    pub(crate) fn put(&mut self, i: u32, numbers: &[u32])
         requires line { Node (length self.old) i }
         requires width { length numbers.now ≡ length self.old }
         requires amounts { Each (λ v. v ≤ desk.amount) numbers.now }
         ensures { self.new ≡ set self.old (i - 1) numbers.now }
     {
         let _ = &self.nodes;
-        self.entries[wide(i) - 1] = numbers.entries();
+        self.entries[wide(i) - 1] = entries_of(numbers);
     }
 }

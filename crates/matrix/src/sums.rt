@@ -2,27 +2,20 @@
 ghost use Rattle.std.specs.Prelude.{◌≡◌, ◌≤◌, ◌<◌, cond, length, take};
 ghost use Rattle.ring.specs.Limits.{desk};
 ghost use Rattle.ring.specs.Sheet.{sents, demands};
-ghost use Rattle.matrix.specs.Demands.{same_pair, joins, sum_of};
+ghost use Rattle.matrix.specs.Demands.{joins, sum_of};
 ghost use Rattle.matrix.specs.Judged.{judge_sums};
 
 use ring::{AMOUNT, Demand};
-use rows::Rows;
+use rows::{Rows, each};
 use table::{Reason, Refusal};
 
-/// Whether the nodes a, b are i, j.
-#[tactic(auto, unfolding(crate::specs::Demands::same_pair))]
-fn same(a: u32, b: u32, i: u32, j: u32) -> bool
-    ensures { result ≡ same_pair a b i j }
-{
-    a == i && b == j
-}
-
 /// What a row adds to the pair i, j, which it may name in either order.
-#[tactic(auto, unfolding(crate::specs::Demands::joins))]
+#[tactic(auto, unfolding(crate::specs::Demands::same_pair))]
 fn part(row: Demand, i: u32, j: u32) -> u32
     ensures { result ≡ cond (joins row i j) row.amount 0 }
 {
-    if same(row.first, row.second, i, j) || same(row.first, row.second, j, i) {
+    let nodes = (row.first, row.second);
+    if nodes == (i, j) || nodes == (j, i) {
         row.amount
     } else {
         0
@@ -31,15 +24,13 @@ fn part(row: Demand, i: u32, j: u32) -> u32
 
 /// The sum of the pair i, j over the first `count` rows. As many amounts of 32 bits as a table has rows fit in 64.
 pub(crate) fn sum_of<R: Rows>(rows: &R, count: usize, i: u32, j: u32) -> u64
-    requires there { count ≤ length (R.rows rows.now) }
-    requires few { count ≤ desk.rows }
+    requires { count ≤ desk.rows }
     ensures { result ≡ sum_of (take count (demands (sents (R.rows rows.now)))) i j }
 {
-    let mut sum: u64 = 0;
-    for k in 0..count {
-        sum += u64::from(part(rows.row(k).sent.demand, i, j));
-    }
-    sum
+    each(rows)
+        .take(count)
+        .map(|row| u64::from(part(row.sent.demand, i, j)))
+        .sum()
 }
 
 /// Whether each pair's sum is an amount; or the refusal on the line of the first row at which one passes it. The first row stands on line 2.

@@ -8,7 +8,7 @@ ghost use Rattle.matrix.specs.Matrix.{write_matrix};
 ghost use Rattle.matrix.specs.Demands.{sum_of, matrix_of_rows};
 ghost use Rattle.matrix.specs.Judged.{Amounts};
 
-use crate::numbers::Numbers;
+use crate::numbers::{Numbers, write_numbers};
 use crate::sums::sum_of;
 use ring::Ring;
 use rows::Rows;
@@ -19,7 +19,7 @@ fn sums_of<R: Rows>(i: u32, ring: Ring, rows: &R) -> Numbers
     requires few_nodes { ring.nodes ≤ desk.nodes }
     requires amounts { Amounts (demands (sents (R.rows rows.now))) }
     ensures { let rs = demands (sents (R.rows rows.now)) in
-        result ≡ listed (sum_of rs i) 1 ring.nodes }
+        result.items ≡ listed (sum_of rs i) 1 ring.nodes }
 {
     let mut sums = Numbers::new();
     for j in 1..ring.nodes + 1 {
@@ -40,7 +40,7 @@ fn write_lines<P: Pass, R: Rows>(buffer: &mut [u8], ring: Ring, rows: &R) -> usi
 {
     let mut at: usize = 0;
     for k in 0..ring.nodes {
-        at = sums_of(k + 1, ring, rows).write::<P>(buffer, at);
+        at = write_numbers::<P>(buffer, at, &sums_of(k + 1, ring, rows));
     }
     at
 }

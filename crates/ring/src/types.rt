@@ -1,10 +1,9 @@
 // The records of the subject, one for each thing: the definitions speak of these very types.
 ghost use Rattle.std.specs.Prelude.{◌≡◌};
-ghost use Rattle.ring.specs.Routing.{way_of, way_number};
+ghost use Rattle.ring.specs.Demand.{in_front};
+ghost use Rattle.ring.specs.Routing.{by_way, way_of, way_number};
 
-use crate::{BACK, FRONT};
-
-// A ring: its nodes, 1 to `nodes`, and its fibres. Link k joins nodes k and k + 1, the last link the last node and node 1.
+/// A ring: its nodes, 1 to `nodes`, and its fibres. Link k joins nodes k and k + 1, the last link the last node and node 1.
 #[repr(C)]
 #[derive(Clone, Copy)]
 pub struct Ring {
@@ -12,7 +11,7 @@ pub struct Ring {
     pub fibres: u32,
 }
 
-// A demand of so many units between two nodes, the first below the second in every table.
+/// A demand of so many units between two nodes, the first below the second in every table.
 #[derive(Clone, Copy)]
 pub struct Demand {
     pub first: u32,
@@ -20,7 +19,16 @@ pub struct Demand {
     pub amount: u32,
 }
 
-// A demand and what a split routing sends over its front and over its back, in halves of a unit.
+impl Demand {
+    /// Whether its front holds a link.
+    pub fn in_front(self, link: u32) -> bool
+        ensures { result ≡ in_front self link }
+    {
+        self.first <= link && link < self.second
+    }
+}
+
+/// A demand and what a split routing sends over its front and over its back, in halves of a unit.
 #[derive(Clone, Copy)]
 pub struct Sent {
     pub demand: Demand,
@@ -28,11 +36,11 @@ pub struct Sent {
     pub back: u32,
 }
 
-// The way of a demand that goes whole: over its front (F on a sheet) or over its back (B).
+/// The way of a demand that goes whole: over its front (F on a sheet) or over its back (B).
 #[derive(Clone, Copy)]
 pub enum Way {
-    Front,
-    Back,
+    Front = 0,
+    Back = 1,
 }
 
 impl Way {
@@ -40,7 +48,7 @@ impl Way {
     pub fn of(number: u32) -> Self
         ensures { result ≡ way_of number }
     {
-        if number == FRONT {
+        if number == Way::Front as u32 {
             Way::Front
         } else {
             Way::Back
@@ -51,21 +59,29 @@ impl Way {
     pub fn number(self) -> u32
         ensures { result ≡ way_number self }
     {
+        self as u32
+    }
+
+    /// What goes over the front and what over the back, where so much goes this way whole.
+    pub fn whole(self, amount: u32) -> (u32, u32)
+        ensures front { result.0 ≡ by_way self amount 0 }
+        ensures back { result.1 ≡ by_way self 0 amount }
+    {
         match self {
-            Way::Front => FRONT,
-            Way::Back => BACK,
+            Way::Front => (amount, 0),
+            Way::Back => (0, amount),
         }
     }
 }
 
-// A demand as a split routing sends it, and its way where it goes whole.
+/// A demand as a split routing sends it, and its way where it goes whole.
 #[derive(Clone, Copy)]
 pub struct Routed {
     pub sent: Sent,
     pub way: Way,
 }
 
-// Two links and the across number that is said of them.
+/// Two links and the across number that is said of them.
 #[repr(C)]
 #[derive(Clone, Copy)]
 pub struct Cut {
@@ -74,7 +90,7 @@ pub struct Cut {
     pub across: u32,
 }
 
-// The figures of a sheet that are not of a row or of a link: R n fibres, C g h across, Z peak size; the peak is the unsplit one, in units.
+/// The figures of a sheet that are not of a row or of a link: R n fibres, C g h across, Z peak size; the peak is the unsplit one, in units.
 #[derive(Clone, Copy)]
 pub struct Figures {
     pub ring: Ring,
@@ -83,7 +99,7 @@ pub struct Figures {
     pub size: u32,
 }
 
-// A link with its split load in halves and its unsplit load in units; C lends them as they stand here.
+/// A link with its split load in halves and its unsplit load in units; C lends them as they stand here.
 #[repr(C)]
 #[derive(Clone, Copy, Default, PartialEq, Eq)]
 pub struct Link {

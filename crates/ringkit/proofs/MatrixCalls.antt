@@ -15,7 +15,7 @@ use Rattle.ring.specs.declared.types.Demand.{Demand}
 use Rattle.table.specs.OnLine.{and_then}
 use Rattle.table.specs.Reasons.{number_of}
 use Rattle.table.specs.Table.{write_table, table_room}
-use Rattle.table.specs.ReadTable.{Result, accepted, refused, table_of}
+use Rattle.table.specs.ReadTable.{TableResult, accepted, refused, table_of}
 use Rattle.table.specs.Says as table
 use Rattle.table.specs.declared.reason.Reason.{Reason}
 use Rattle.table.specs.declared.reason.Reason.TheVariants.{NoRoom}
@@ -149,7 +149,7 @@ no-reason : {t : List ℕ} {ring : Ring} {rs : List Demand} → TableOf t ring r
 no-reason {t} {ring} {rs} of {reason} {line} {byte} g = (due-accepted t write_table).1 (record { text = t; is = record { ring = ring; rs = rs; of = of; is = of.text } }) reason line g.holds
 
 module _ (t : List ℕ) where
-  sums-decided : (x : Result) → table_of desk t ≡ x → Decided (SumsDue t) (SumsGiven t) (of_table matrix_of_table x)
+  sums-decided : (x : TableResult) → table_of desk t ≡ x → Decided (SumsDue t) (SumsGiven t) (of_table matrix_of_table x)
   unfolding of_table and_then
   sums-decided (accepted ring rs) e = go (sums-judged desk rs)
     where

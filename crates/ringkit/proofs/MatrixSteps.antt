@@ -18,14 +18,13 @@ use Rattle.table.specs.Judge.{other_fibres}
 use Rattle.table.specs.Table.{write_table}
 use Rattle.table.specs.declared.reason.Reason.TheVariants.{Fibres}
 use Rattle.table.specs.declared.reason.Refusal.{Refusal}
-use Rattle.matrix.specs.Matrix.{entry, write_matrix}
+use Rattle.matrix.specs.Matrix.{write_matrix}
 use Rattle.matrix.specs.Demands.{matrix_of_rows}
 use Rattle.matrix.specs.Read.{Found}
 use Rattle.matrix.specs.Judged.{judge_sums}
 use Rattle.matrix.specs.Answer.{IsMatrix, IsGiven}
 use Rattle.matrix.proofs.MatrixText.{desk-possible, matrix-text}
 use Rattle.matrix.proofs.ReasonsGiven.{given}
-use Rattle.matrix.proofs.RowLaws.{rows_few}
 use Rattle.ringkit.specs.Says.{Answer, refusal}
 use Rattle.ringkit.specs.Outcome.{Fills}
 use Rattle.ringkit.specs.MatrixCalls.{table_of_matrix, matrix_read, matrix_of_table}
@@ -54,7 +53,7 @@ module _ (s old : List ℕ) (fibres : ℕ) (other : Bool) (eo : other ≡ other_
 pub matrix-rows-have-room : (s : List ℕ) (n : ℕ) (rows : List Routed) → IsMatrix s n (demands (sents rows)) → length rows ≤ desk.rows
 matrix-rows-have-room s n rows is =
     let e = is.rows in
-    let few = rw (← e) at (rows_few (entry is.m) n is.range.many) in
+    let few = rw (← e) at is.range.count in
     omega (arith, demands-length rows)
 
 -- ---- writing a table's matrix

@@ -4,7 +4,7 @@ use Prim.Native.Nat.{ℕ}
 use mathlib.Core.List.{List}
 use mathlib.Core.Logic.{◌↔◌}
 use mathlib.Core.Path.{◌≡◌, refl, ap, ◌∙◌, sym, subst}
-use Rattle.std.specs.Prelude.{Result as Either, Ok, Err}
+use Rattle.std.specs.Prelude.{Result, Ok, Err}
 use Rattle.ring.specs.Limits.{desk}
 use Rattle.ring.specs.Sheet.{Sheet, sents, plan}
 use Rattle.ring.proofs.OurPlan.{plan-true, plan-demands}
@@ -14,7 +14,7 @@ use Rattle.table.specs.Reasons.{number_of}
 use Rattle.table.specs.Says as table
 use Rattle.table.specs.declared.reason.Reason.{Reason}
 use Rattle.table.specs.declared.reason.Refusal.{Refusal}
-use Rattle.sheet.specs.Read.{Result, accepted, refused, read_sheet}
+use Rattle.sheet.specs.Read.{SheetResult, accepted, refused, read_sheet}
 use Rattle.sheet.specs.Says.{WellFormed}
 use Rattle.sheet.proofs.SheetReasons.{well-formed-is}
 use Rattle.checker.specs.Check.{check}
@@ -53,7 +53,7 @@ module _ (t : List ℕ) where
 
 -- ---- rewriting
 
-afresh : (t : List ℕ) (x : Result) → check desk t ≡ x → Decided (Itself (Accepted desk t) t) (Given desk t) (of_sheet write_sheet x)
+afresh : (t : List ℕ) (x : SheetResult) → check desk t ≡ x → Decided (Itself (Accepted desk t) t) (Given desk t) (of_sheet write_sheet x)
 unfolding of_sheet
 afresh t (accepted x) e = is_due (record { accepted = accepted-as t x e; same = sym ((checked-is t x).0 e).text })
 afresh t (refused reason line byte) e = is_given ((given t reason line byte).0 e)
@@ -80,7 +80,7 @@ checked : (t : List ℕ) → CheckSays t (sheet_checked t)
 unfolding of_sheet
 checked t = go (check desk t) refl
   where
-    go : (x : Result) → check desk t ≡ x → CheckSays t (of_sheet (λ x. tt) x)
+    go : (x : SheetResult) → check desk t ≡ x → CheckSays t (of_sheet (λ x. tt) x)
     go (accepted x) e = says_yes (accepted-as t x e)
     go (refused reason line byte) e = says_no ((given t reason line byte).0 e)
 
@@ -89,7 +89,7 @@ yes-not-no : {x : Refusal} → yes ≡ Err x → ⊥
 yes-not-no e = absurd (cc)
 
 module _ {t : List ℕ} where
-  same-no : {A : Type 0} {x y : Refusal} → ◌≡◌ {A = Either A Refusal} (Err x) (Err y) → Given desk t x.reason x.line x.byte → Given desk t y.reason y.line y.byte
+  same-no : {A : Type 0} {x y : Refusal} → ◌≡◌ {A = Result A Refusal} (Err x) (Err y) → Given desk t x.reason x.line x.byte → Given desk t y.reason y.line y.byte
   same-no e g = let f = same-err e in rw f at g
 
   some-sheet : Accepted desk t ↔ SomeSheet t
@@ -165,7 +165,7 @@ asked t = go (check desk t) refl
     pair_of x of (Are p r) e = let are = (first-pair-is (sents x.rows) p r).0 e in a_pair (record { x = x; of = of; pair = are }) (low are.are.first)
     pair_of x of None e = no_pair (record { x = x; of = of; none = (no-pair-is (sents x.rows)).0 e })
 
-    go : (y : Result) → check desk t ≡ y → PairSays t (of_sheet (λ x. first_pair (sents x.rows)) y)
+    go : (y : SheetResult) → check desk t ≡ y → PairSays t (of_sheet (λ x. first_pair (sents x.rows)) y)
     go (accepted x) q = pair_of x ((checked-is t x).0 q) (first_pair (sents x.rows)) refl
     go (refused reason line byte) q = pair-refused ((given t reason line byte).0 q)
 

@@ -2,8 +2,9 @@
 use Prim.Native.Nat.{ℕ, ◌≤◌}
 use mathlib.Core.List.{List}
 use lib.ListN.{length}
+use native.Mathlib.Omega.{arith}
 use mathlib.Core.Path.{◌≡◌, ap, ◌∙◌, sym}
-use Rattle.std.specs.Prelude.{Result as Either, Ok, Err, take}
+use Rattle.std.specs.Prelude.{Result as Either, Ok, Err}
 use Rattle.ring.specs.Limits.{desk}
 use Rattle.ring.specs.Sheet.{Sheet, sents, sheet_in}
 use Rattle.ring.specs.declared.types.Link.{Link}
@@ -43,12 +44,12 @@ module _ (s : List ℕ) (rs : List Routed) (ls : List Link) (answer : Either Fig
     unfolding of_sheet
     check-accepted = sym (ap (of_sheet (λ x. tt)) told)
 
-    range : InRange desk (sheet_in x rs (take x.ring.nodes ls))
-    range = ((check-text s (sheet_in x rs (take x.ring.nodes ls))).0 told).1.0
+    range : InRange desk (sheet_in x rs ls)
+    range = ((check-text s (sheet_in x rs ls)).0 told).1.0
 
-    -- the links and the rows that are handed on are there
-    pub links-there : x.ring.nodes ≤ desk.nodes
-    links-there = range.many
+    -- there are few enough links and rows to be handed on
+    pub links-there : length ls ≤ desk.nodes
+    links-there = let m = range.many in let h = range.links in omega arith
 
     pub rows-there : length rs ≤ desk.rows
     rows-there = range.count
@@ -57,7 +58,6 @@ module _ (s : List ℕ) (rs : List Routed) (ls : List Link) (answer : Either Fig
     unfolding of_sheet
     pair-found pair is = rw is (sym (ap (of_sheet (λ x. first_pair (sents x.rows))) told))
 
-    module _ (n : ℕ) (nodes : n ≡ x.ring.nodes) where
-      pub sheet-fills : (old new : List ℕ) (r : Answer) → Fills (Ok (write_sheet (sheet_in x rs (take n ls)))) old new r → Fills (sheet_afresh s) old new r
-      unfolding of_sheet
-      sheet-fills old new r f = let is_text : sheet_afresh s ≡ Ok (write_sheet (sheet_in x rs (take x.ring.nodes ls))) = ap (of_sheet write_sheet) told in rw is_text (rw nodes at f)
+    pub sheet-fills : (old new : List ℕ) (r : Answer) → Fills (Ok (write_sheet (sheet_in x rs ls))) old new r → Fills (sheet_afresh s) old new r
+    unfolding of_sheet
+    sheet-fills old new r f = let is_text : sheet_afresh s ≡ Ok (write_sheet (sheet_in x rs ls)) = ap (of_sheet write_sheet) told in rw is_text f

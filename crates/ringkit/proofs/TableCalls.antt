@@ -12,7 +12,7 @@ use Rattle.ring.specs.declared.types.Ring.{Ring}
 use Rattle.ring.specs.declared.types.Demand.{Demand}
 use Rattle.table.specs.Reasons.{number_of}
 use Rattle.table.specs.Table.{write_table}
-use Rattle.table.specs.ReadTable.{Result, accepted, refused, table_of}
+use Rattle.table.specs.ReadTable.{TableResult, accepted, refused, table_of}
 use Rattle.table.specs.Says.{Given, Accepted}
 use Rattle.table.proofs.Said.{not-15}
 use Rattle.table.proofs.ReasonsGiven.{one-given, given, accepted-is}
@@ -44,7 +44,7 @@ module _ (t : List ℕ) where
       λ s. let d = s.is in (accepted-is desk t).0 (record { ring = d.ring; rs = d.rs; is = (read_is d.ring d.rs).1 d.of }),
     )
 
-    pub decided : (x : Result) → table_of desk t ≡ x → Decided (TableDue due t) (Given desk t) (of_table (λ ring rs. Ok (due ring rs)) x)
+    pub decided : (x : TableResult) → table_of desk t ≡ x → Decided (TableDue due t) (Given desk t) (of_table (λ ring rs. Ok (due ring rs)) x)
     unfolding of_table
     decided (accepted ring rs) e = is_due (record { ring = ring; rs = rs; of = (read_is ring rs).0 e; is = refl })
     decided (refused reason line byte) e = is_given ((given desk t reason line byte).0 e)
@@ -67,7 +67,7 @@ same-values {ring} {other} {rs} {qs} a b = same-table desk desk-spelled ring oth
 
 -- ---- rewriting
 
-afresh : (t : List ℕ) (x : Result) → table_of desk t ≡ x → Decided (Itself (Accepted desk t) t) (Given desk t) (of_table (λ ring rs. Ok (write_table ring rs)) x)
+afresh : (t : List ℕ) (x : TableResult) → table_of desk t ≡ x → Decided (Itself (Accepted desk t) t) (Given desk t) (of_table (λ ring rs. Ok (write_table ring rs)) x)
 unfolding of_table
 afresh t (accepted ring rs) e =
     is_due (record { accepted = (accepted-is desk t).0 (record { ring = ring; rs = rs; is = e }); same = sym ((read_is t ring rs).0 e).text })

@@ -1,5 +1,5 @@
 -- Turning a table's rows: the ways are put into the lent bytes one by one; and what the call answers by what its text is read to keeps its promise.
-use Rattle.std.proofs.Common.{◌≡◌, ℕ, ◌+◌, ◌≤◌, List, [], ◌∷◌, ◌++◌, take, drop, length, set, Some, slice_get, refl, sym, ap, subst, ◌∙◌, arith, Ok, Err, Result}
+use Rattle.std.proofs.Common.{suc, ◌≡◌, ℕ, ◌+◌, ◌≤◌, List, [], ◌∷◌, ◌++◌, take, drop, length, set, Some, slice_get, refl, sym, ap, subst, ◌∙◌, arith, Ok, Err, Result}
 use Rattle.std.proofs.lemmas.List.{take_all, take_more, take-append-drop, map-append, length-map}
 use Rattle.std.proofs.lemmas.Option.{get_or_from_slice_get, slice_get_within, slice_get-get_or}
 use lib.Seq.{take-append_seam}
@@ -18,6 +18,7 @@ use Rattle.table.specs.declared.reason.Reason.{Reason}
 use Rattle.table.specs.declared.reason.Refusal.{Refusal}
 use Rattle.table.proofs.Told.{read-table, read-refusal}
 use Rattle.table.proofs.ReasonsGiven.{one-given, given, accepted-is}
+use Rattle.rows.proofs.Places.{first-left, behind-first, none-left}
 use Rattle.router.proofs.Zip.{Passed, passed-none, put-passed, put-taken}
 use Rattle.turns.specs.declared.Turned.{Turned}
 use Rattle.turns.specs.Turns.{least_start}
@@ -51,11 +52,33 @@ module _ (rs : List Routed) (old : List ℕ) where
             (put-taken old now k _ here o.passed z ∙ (rw (o.so_far, e) (sym (map-append (λ (r : Routed). way_number r.way) (take k rs) (r ∷ [])))));
       }
 
-  pub put_done : (now : List ℕ) (k count : ℕ) → count ≡ length rs → count ≤ k → k ≤ count → Putting rs old now k → now ≡ ways_of rs ++ drop (length rs) old
-  put_done now k count c a b o =
-      let all = take_all k rs (omega arith) in
-      let e : k ≡ length rs = omega arith in
-      sym (take-append-drop k now) ∙ (rw (o.so_far, all, o.passed.rest, e))
+  put_done : (now : List ℕ) (k : ℕ) → length rs ≤ k → Putting rs old now k → now ≡ ways_of rs ++ drop k old
+  put_done now k h o = let all = take_all k rs h in sym (take-append-drop k now) ∙ (rw (o.so_far, all, o.passed.rest))
+
+-- the rows `left` are to come
+pub record Passing (rs : List Routed) (old now : List ℕ) (left : List Routed) (k : ℕ) : Type 0 where
+  pub behind : left ≡ drop k rs
+  pub within : k ≤ length rs
+  pub putting : Putting rs old now k
+
+pub put_begun : (rs : List Routed) (old : List ℕ) (left : List Routed) (k : ℕ) → left ≡ rs → k ≡ 0 → Passing rs old old left k
+put_begun rs old left k e z = rw (e, z) (record { behind = refl; within = omega arith; putting = put_start rs old })
+
+module _ (rs : List Routed) (old now : List ℕ) (left : List Routed) (k : ℕ) where
+  pub put_turned : length rs ≤ desk.rows → length old ≡ desk.rows → Passing rs old now left k → (r : Routed) (rest : List Routed) → left ≡ r ∷ rest → (place z next : ℕ) → place ≡ k → z ≡ way_number r.way → next ≡ k + 1 →
+      Passing rs old (set now place z) rest next
+  put_turned few size o r rest e place z next p w m =
+      rw (p, m)
+      record {
+        behind = let s : k + 1 ≡ suc k = omega arith in rw s (behind-first rs k r rest (sym o.behind ∙ e));
+        within = omega (arith, slice_get_within rs k r (first-left rs k r rest (sym o.behind ∙ e)));
+        putting = put_turn rs old now k r z few size (first-left rs k r rest (sym o.behind ∙ e)) w o.putting;
+      }
+
+  pub put_all : Passing rs old now left k → left ≡ [] → now ≡ ways_of rs ++ drop (length rs) old
+  put_all o e =
+      let all : k ≡ length rs = omega (arith, o.within, none-left rs k (sym o.behind ∙ e)) in
+      put_done rs old now (length rs) (omega arith) (rw all at o.putting)
 
 -- ---- the answer
 
@@ -65,7 +88,7 @@ turned_few rs rows e l = omega (arith, demands-length rows, ap length e)
 
 module _ (t : List ℕ) where
   -- what comes of reading
-  turns-read : (x : read.Result) (old new : List ℕ) (r : TurnAnswer) → table_of desk t ≡ x → TurnsTable x old new r → TurnsTable (table_of desk t) old new r
+  turns-read : (x : read.TableResult) (old new : List ℕ) (r : TurnAnswer) → table_of desk t ≡ x → TurnsTable x old new r → TurnsTable (table_of desk t) old new r
   turns-read x old new r e f = rw e f
 
   module _ (rs : List Demand) (answer : Result Ring Refusal) (e : with_rows rs answer ≡ table_of desk t) where
@@ -82,7 +105,7 @@ module _ (t : List ℕ) where
   -- ---- the promise
 
   module _ (old new : List ℕ) (r : TurnAnswer) where
-    says : (x : read.Result) → table_of desk t ≡ x → TurnsTable x old new r → TurnSays t old new r
+    says : (x : read.TableResult) → table_of desk t ≡ x → TurnsTable x old new r → TurnSays t old new r
     says (accepted ring rs) e f = are_turned ((read_is t ring rs).0 e) f
     says (refused reason line byte) e f = are_not ((given desk t reason line byte).0 e) f
 

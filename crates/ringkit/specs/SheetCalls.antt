@@ -1,9 +1,9 @@
 -- Internal: what the calls that read a sheet answer: the checker's refusals, or what is due to an accepted sheet.
-use Rattle.std.specs.Prelude.{ℕ, List, Result as Either, Ok, Err}
+use Rattle.std.specs.Prelude.{ℕ, List, Result, Ok, Err}
 use Rattle.ring.specs.Limits.{desk}
 use Rattle.ring.specs.Sheet.{Sheet, sents}
 use Rattle.table.specs.declared.reason.Refusal.{Refusal}
-use Rattle.sheet.specs.Read.{Result, accepted, refused}
+use Rattle.sheet.specs.Read.{SheetResult, accepted, refused}
 use Rattle.checker.specs.Check.{check}
 use Rattle.checker.specs.FindPair.{first_pair}
 use Rattle.sheet.specs.WriteSheet.{write_sheet}
@@ -12,7 +12,7 @@ use Rattle.ringkit.specs.Answers.{Checked, Asked}
 use Rattle.ringkit.specs.Outcome.{Outcome}
 
 -- what is due to an accepted sheet, or the refusal
-unfoldable pub of_sheet : {A : Type 0} → (Sheet → A) → Result → Either A Refusal
+unfoldable pub of_sheet : {A : Type 0} → (Sheet → A) → SheetResult → Result A Refusal
 of_sheet due (accepted x) = Ok (due x)
 of_sheet due (refused reason line byte) = Err (refusal reason line byte)
 

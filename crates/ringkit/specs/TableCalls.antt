@@ -4,7 +4,7 @@ use Rattle.ring.specs.Limits.{desk}
 use Rattle.ring.specs.declared.types.Ring.{Ring}
 use Rattle.ring.specs.declared.types.Demand.{Demand}
 use Rattle.table.specs.Table.{write_table}
-use Rattle.table.specs.ReadTable.{Result, accepted, refused, table_of}
+use Rattle.table.specs.ReadTable.{TableResult, accepted, refused, table_of}
 use Rattle.work.specs.Keys.{sorted_rows}
 use Rattle.work.specs.declared.Work.{Work}
 use Rattle.ringkit.specs.Texts.{sheet_due}
@@ -12,7 +12,7 @@ use Rattle.ringkit.specs.Says.{refusal}
 use Rattle.ringkit.specs.Outcome.{Outcome}
 
 -- what comes of the values of an accepted table; or the refusal
-unfoldable pub of_table : (Ring → List Demand → Outcome) → Result → Outcome
+unfoldable pub of_table : (Ring → List Demand → Outcome) → TableResult → Outcome
 of_table next (accepted ring rs) = next ring rs
 of_table next (refused reason line byte) = Err (refusal reason line byte)
 

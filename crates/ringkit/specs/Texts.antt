@@ -13,7 +13,7 @@ use Rattle.table.specs.Says.{Given}
 use Rattle.table.specs.Table.{write_table, InRange}
 use Rattle.table.specs.declared.reason.Reason.{Reason}
 use Rattle.table.specs.declared.reason.Reason.TheVariants.{Fibres, SumTooMuch}
-use Rattle.matrix.specs.Matrix as matrix
+use Rattle.matrix.specs.Range as matrix
 use Rattle.matrix.specs.Says as matrix_says
 use Rattle.matrix.specs.Matrix.{write_matrix}
 use Rattle.matrix.specs.Demands.{rows_of_matrix, matrix_of_rows, Passes, PassesAt}
@@ -40,7 +40,7 @@ pub record SomeForm (t : List ℕ) : Type 0 where
   pub text : t ≡ write_sheet x
   pub range : sheet_range.InRange desk x
 
--- t is the matrix of these lines, and they are in the desk's range: n lines of n numbers, symmetric, with 0 on the diagonal
+-- t is the matrix of these lines, and they are in the desk's range: n lines of n numbers, symmetric, with 0 on the diagonal, that make at most 1,024 rows
 pub record MatrixOf (t : List ℕ) (n : ℕ) (m : List (List ℕ)) : Type 0 where
   pub text : t ≡ write_matrix m
   pub range : matrix.InRange desk n m

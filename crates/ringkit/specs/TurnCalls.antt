@@ -1,8 +1,8 @@
 -- Internal: what the call that turns a table's rows answers, by what its text is read to.
 use Rattle.std.specs.Prelude.{ℕ, List}
-use Rattle.table.specs.ReadTable.{Result, accepted, refused}
+use Rattle.table.specs.ReadTable.{TableResult, accepted, refused}
 use Rattle.ringkit.specs.Turning.{TurnAnswer, TurnedTo, NotTurned}
 
-abbrev pub TurnsTable : Result → List ℕ → List ℕ → TurnAnswer → Type 0
+abbrev pub TurnsTable : TableResult → List ℕ → List ℕ → TurnAnswer → Type 0
 TurnsTable (accepted ring rs) = TurnedTo ring rs
 TurnsTable (refused reason line byte) = NotTurned reason line byte

@@ -27,9 +27,10 @@ ghost use Rattle.ringkit.specs.TableCalls.{table_afresh, table_routed};
 ghost use Rattle.ringkit.specs.MatrixCalls.{matrix_read, matrix_written};
 ghost use Rattle.ringkit.specs.SheetCalls.{sheet_checked, sheet_parallel, sheet_afresh};
 
+use arrayvec::ArrayVec;
 use checker::Pair;
 pub use judging::ringkit_judge;
-use ring::{Figures, LINKS, Link, ROWS, Ring, wide};
+use ring::{BYTES, Figures, LINKS, Link, ROWS, Ring, wide};
 use rows::{Columns, Rows};
 use table::{Reason, Refusal};
 pub use turning::{TurnedTable, ringkit_turn};
@@ -38,35 +39,30 @@ pub use working::{
     ringkit_work_start, ringkit_work_write,
 };
 
-/// A buffer of so many bytes has room for every sheet that routing writes: R has 3 fields, D 7, C 4, L 4, Z 3, and a field takes at most 7 digits and
-/// the byte behind them.
-pub const SHEET_BYTES: usize = 8 * (3 + 7 * ROWS + 4 + 4 * LINKS + 3);
+/// A program that reads a text from outside takes at most so many bytes of it: one more than a text can have, so that a longer one is seen to be longer.
+pub const BYTES_TAKEN: u64 = BYTES as u64 + 1;
 
-/// That constant, as a promise: a constant has no contract, so a function says of it what is proved, here and below. None calls it.
-pub fn sheet_bytes() -> usize
+/// A buffer of so many bytes has room for every sheet that routing writes: at most 44 bytes of the R, C and Z lines, 27 of a D line and 23 of an L line. A node has at
+/// most 2 digits, an amount 4, a front or back 5, a load 8, and behind each field stands one byte.
+pub const fn sheet_bytes() -> usize
     ensures { result ≡ longest desk }
 {
-    SHEET_BYTES
+    44 + 27 * ROWS + 23 * LINKS
 }
 
-/// A buffer of so many bytes has room for every table that is made of a matrix, or that a working table which calls made is written as: R has 3 fields, D 4.
-pub const TABLE_BYTES: usize = 8 * (3 + 4 * ROWS);
-
-/// A buffer of so many bytes has room for every matrix that is made of a table: each entry has at most 4 digits, and the byte behind them.
-pub const MATRIX_BYTES: usize = 5 * LINKS * LINKS;
-
-/// `TABLE_BYTES`, as a promise.
-pub fn table_bytes() -> usize
+/// A buffer of so many bytes has room for every table that is made of a matrix, or that a working table which calls made is written as: at most
+/// 7 bytes of the R line and 13 of a D line.
+pub const fn table_bytes() -> usize
     ensures { result ≡ table_room desk }
 {
-    TABLE_BYTES
+    7 + 13 * ROWS
 }
 
-/// `MATRIX_BYTES`, as a promise.
-pub fn matrix_bytes() -> usize
+/// A buffer of so many bytes has room for every matrix that is made of a table: each entry has at most 4 digits, and the byte behind them.
+pub const fn matrix_bytes() -> usize
     ensures { result ≡ matrix_room desk }
 {
-    MATRIX_BYTES
+    5 * LINKS * LINKS
 }
 
 // Whether the buffer has room for so many bytes.
@@ -163,7 +159,7 @@ fn read_matrix(matrix: &[u8], fibres: u32, buffer: &mut [u8]) -> Result<usize, R
     put_table(buffer, Ring { nodes, fibres }, &rows)
 }
 
-/// Reads a matrix and writes its table, on a ring of so many fibres, 2 or 4, which a matrix does not say. Answers the table's length, at most `TABLE_BYTES`. Else the buffer
+/// Reads a matrix and writes its table, on a ring of so many fibres, 2 or 4, which a matrix does not say. Answers the table's length, at most `table_bytes()`. Else the buffer
 /// stays as it was, and the refusal is 20 of the fibres, which is tried before the text is read, with line 0; or the matrix's first reason, with its line and byte; or 15.
 pub fn ringkit_read_matrix(matrix: &[u8], fibres: u32, buffer: &mut [u8]) -> Result<usize, Refusal>
     ensures promise { ReadMatrixPromise fibres matrix.now buffer.old buffer.new result }
@@ -187,7 +183,7 @@ fn write_matrix(table: &[u8], buffer: &mut [u8]) -> Result<usize, Refusal>
     put_matrix(buffer, ring, &rows)
 }
 
-/// Reads a table and writes its matrix, in which rows of the same two nodes add up. Answers the matrix's length, at most `MATRIX_BYTES`. Else the buffer stays as it was, and
+/// Reads a table and writes its matrix, in which rows of the same two nodes add up. Answers the matrix's length, at most `matrix_bytes()`. Else the buffer stays as it was, and
 /// the refusal is the table's first reason, with its line and byte; or 19, with the line of the first row at which a pair's sum passes 9,999 units; or 15.
 pub fn ringkit_write_matrix(table: &[u8], buffer: &mut [u8]) -> Result<usize, Refusal>
     ensures promise { WriteMatrixPromise table.now buffer.old buffer.new result }
@@ -208,7 +204,7 @@ fn route(table: &[u8], buffer: &mut [u8]) -> Result<usize, Refusal>
     put_route(buffer, ring, &mut rows)
 }
 
-/// Routes a table by rules A to D and writes its sheet. Answers the sheet's length, at most `SHEET_BYTES`. Else the buffer stays as it was, and the refusal is the table's first
+/// Routes a table by rules A to D and writes its sheet. Answers the sheet's length, at most `sheet_bytes()`. Else the buffer stays as it was, and the refusal is the table's first
 /// reason, with its line and byte; or 15.
 pub fn ringkit_route(table: &[u8], buffer: &mut [u8]) -> Result<usize, Refusal>
     ensures promise { RoutePromise table.now buffer.old buffer.new result }
@@ -226,7 +222,7 @@ fn check(sheet: &[u8]) -> Result<(), Refusal>
     ensures { result ≡ sheet_checked sheet.now }
 {
     let mut rows = Columns::new();
-    let mut links = [Link::default(); LINKS];
+    let mut links = ArrayVec::new();
     checker::check_sheet(sheet, &mut rows, &mut links)?;
     Ok(())
 }
@@ -246,7 +242,7 @@ fn first_parallel(sheet: &[u8]) -> Result<Pair, Refusal>
     ensures { result ≡ sheet_parallel sheet.now }
 {
     let mut rows = Columns::new();
-    let mut links = [Link::default(); LINKS];
+    let mut links = ArrayVec::new();
     checker::check_sheet(sheet, &mut rows, &mut links)?;
     Ok(checker::first_pair(&rows))
 }
@@ -264,9 +260,9 @@ fn rewrite_sheet(sheet: &[u8], buffer: &mut [u8]) -> Result<usize, Refusal>
     ensures { Fills (sheet_afresh sheet.now) buffer.old buffer.new result }
 {
     let mut rows = Columns::new();
-    let mut links = [Link::default(); LINKS];
+    let mut links = ArrayVec::new();
     let x = checker::check_sheet(sheet, &mut rows, &mut links)?;
-    put_sheet(buffer, x, &rows, &links[..wide(x.ring.nodes)])
+    put_sheet(buffer, x, &rows, links.as_slice())
 }
 
 /// Reads a sheet and writes its values afresh, at the start of the buffer: the same bytes as the text, so as many bytes of room suffice. Answers how many they are. Else the

@@ -1,15 +1,14 @@
 // The call that turns a table's rows one at a time.
 ghost use Rattle.std.specs.Prelude.{◌≡◌, ◌≤◌, ◌++◌, length, drop};
 ghost use Rattle.ring.specs.Limits.{desk};
-ghost use Rattle.ring.specs.Routing.{way_number};
 ghost use Rattle.table.specs.Says.{Accepted};
 ghost use Rattle.table.specs.ReadTable.{table_of};
 ghost use Rattle.ringkit.specs.Says.{Only};
 ghost use Rattle.ringkit.specs.Turning.{ways_of, TurnPromise, TurnedWell};
 ghost use Rattle.ringkit.specs.TurnCalls.{TurnsTable};
 
-use ring::{BACK, FRONT, ROWS, Way};
-use rows::{Columns, Rows};
+use ring::ROWS;
+use rows::{Columns, Rows, each};
 use table::Refusal;
 use turns::Turned;
 
@@ -20,23 +19,13 @@ pub struct TurnedTable {
     pub rows: usize,
 }
 
-// A way as a byte.
-fn way_byte(way: Way) -> u8
-    ensures { result ≡ way_number way }
-{
-    match way {
-        Way::Front => FRONT as u8,
-        Way::Back => BACK as u8,
-    }
-}
-
 // The ways of rows are put into the first bytes.
 fn put_ways<R: Rows>(ways: &mut [u8; ROWS], rows: &R)
     requires { length (R.rows rows.now) ≤ desk.rows }
     ensures { ways.new ≡ ways_of (R.rows rows.now) ++ drop (length (R.rows rows.now)) ways.old }
 {
-    for k in 0..rows.count() {
-        ways[k] = way_byte(rows.row(k).way);
+    for (place, row) in each(rows).enumerate() {
+        ways[place] = row.way.number() as u8;
     }
 }
 

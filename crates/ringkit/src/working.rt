@@ -31,7 +31,7 @@ fn settle(work: &mut Work, change: Result<Changed, Reason>) -> Result<Placed, Re
     Ok(done.placed)
 }
 
-/// Makes the struct a table of this ring that holds no row, whatever bytes were in it. Answers place 0 and the cut of no rows. Refused with 3 where the nodes are outside 2 to 32, then with 20
+/// Makes the struct a table of this ring that holds no row, whatever bytes were in it. Answers place 0 and the cut of no rows. Refused with 3 where the nodes are outside 2 to 64, then with 20
 /// where the fibres are neither 2 nor 4; no byte of the struct is changed then.
 pub fn ringkit_work_start(work: &mut Work, ring: Ring) -> Result<Placed, Reason>
     // On every struct.
@@ -57,7 +57,7 @@ pub fn ringkit_work_start(work: &mut Work, ring: Ring) -> Result<Placed, Reason>
     settle(work, work::started(ring))
 }
 
-/// Puts a row at the lowest free place; its amount is in units, at most 9,999. Answers that place, counted from 1 to 496, and the largest cut of the rows then held. Refused with the first that
+/// Puts a row at the lowest free place; its amount is in units, at most 9,999. Answers that place, counted from 1 to 1,024, and the largest cut of the rows then held. Refused with the first that
 /// holds of 4, 5 and 7 against the row, and 21 where all places are taken; no byte of the struct is changed then.
 pub fn ringkit_work_add(work: &mut Work, row: Demand) -> Result<Placed, Reason>
     // On a struct made by calls.
@@ -88,7 +88,8 @@ pub fn ringkit_work_change(work: &mut Work, place: u32, row: Demand) -> Result<P
         WorkPromise work.old (change place row) result work.new }
     ensures only { (calls : List Call) → Made calls work.old →
         OnlyThis (WorkPromise work.old (change place row)) result work.new }
-    ensures made { (calls : List Call) → Made calls work.old → Made (change place row ∷ calls) work.new }
+    ensures made { (calls : List Call) → Made calls work.old →
+        Made (change place row ∷ calls) work.new }
     ensures kept { (calls : List Call) → Made calls work.old → Keeps work.new }
     ensures played { (calls : List Call) → Made calls work.old →
         AsPlayed (change place row ∷ calls) work.new }
@@ -111,7 +112,8 @@ pub fn ringkit_work_remove(work: &mut Work, place: u32) -> Result<Placed, Reason
         WorkPromise work.old (remove place) result work.new }
     ensures only { (calls : List Call) → Made calls work.old →
         OnlyThis (WorkPromise work.old (remove place)) result work.new }
-    ensures made { (calls : List Call) → Made calls work.old → Made (remove place ∷ calls) work.new }
+    ensures made { (calls : List Call) → Made calls work.old →
+        Made (remove place ∷ calls) work.new }
     ensures kept { (calls : List Call) → Made calls work.old → Keeps work.new }
     ensures played { (calls : List Call) → Made calls work.old →
         AsPlayed (remove place ∷ calls) work.new }
@@ -126,7 +128,7 @@ pub fn ringkit_work_remove(work: &mut Work, place: u32) -> Result<Placed, Reason
     settle(work, work::removed(*work, place))
 }
 
-/// The row at a place, counted from 1, its amount in units. Refused with 22 where the place holds none, as 0 and all above 496 do.
+/// The row at a place, counted from 1, its amount in units. Refused with 22 where the place holds none, as 0 and all above 1,024 do.
 pub fn ringkit_work_row(work: &Work, place: u32) -> Result<Demand, Reason>
     // On every struct.
     ensures promise { RowPromise work.now place result }
@@ -146,7 +148,7 @@ fn written(work: &Work, buffer: &mut [u8]) -> Result<usize, Refusal>
     put_table(buffer, work.ring, &rows)
 }
 
-/// Writes the table of the rows held, by nodes, then by place, at the start of the buffer. Answers its length, at most `TABLE_BYTES` of a table that calls made. Where the buffer
+/// Writes the table of the rows held, by nodes, then by place, at the start of the buffer. Answers its length, at most `table_bytes()` of a table that calls made. Where the buffer
 /// is too short the refusal is 15, with line and byte 0, and the buffer stays as it was; there is no other.
 pub fn ringkit_work_write(work: &Work, buffer: &mut [u8]) -> Result<usize, Refusal>
     // On every struct.

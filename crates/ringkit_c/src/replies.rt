@@ -18,12 +18,12 @@ pub struct Reply {
     pub length: usize,
 }
 
-impl Reply {
-    /// The reply of a call that fills a buffer: how many bytes it wrote, or why it wrote none.
+/// The reply of a call that fills a buffer: how many bytes it wrote, or why it wrote none.
+impl From<Result<usize, Refusal>> for Reply {
+    ghost from_gives = { λ answer reply. reply ≡ reply_of answer };
+
     #[tactic(auto, unfolding(crate::specs::Replies::reply_of))]
-    pub fn of(answer: Result<usize, Refusal>) -> Self
-        ensures { result ≡ reply_of answer }
-    {
+    fn from(answer: Result<usize, Refusal>) -> Reply {
         match answer {
             Ok(length) => Reply {
                 reason: 0,
@@ -39,16 +39,15 @@ impl Reply {
             },
         }
     }
+}
 
-    /// The reply of checking, which writes nothing.
+/// The reply of checking, which writes nothing.
+impl From<Result<(), Refusal>> for Reply {
+    ghost from_gives = { λ answer reply. reply ≡ checked_reply answer };
+
     #[tactic(auto, unfolding(crate::specs::Replies::checked_reply))]
-    pub fn of_check(answer: Result<(), Refusal>) -> Self
-        ensures { result ≡ checked_reply answer }
-    {
-        match answer {
-            Ok(()) => Self::of(Ok(0)),
-            Err(refusal) => Self::of(Err(refusal)),
-        }
+    fn from(answer: Result<(), Refusal>) -> Reply {
+        Reply::from(answer.map(|()| 0))
     }
 }
 
@@ -63,34 +62,38 @@ pub struct PairReply {
     pub second: usize,
 }
 
-impl PairReply {
-    /// The reply to the parallel question.
+impl From<Result<Pair, Refusal>> for PairReply {
+    ghost from_gives = { λ answer reply. reply ≡ pair_reply answer };
+
     #[tactic(auto, unfolding(crate::specs::Replies::pair_reply))]
-    pub fn of(answer: Result<Pair, Refusal>) -> Self
-        ensures { result ≡ pair_reply answer }
-    {
-        match answer {
-            Ok(Pair::Are(first, second)) => PairReply {
-                reason: 0,
-                line: 0,
-                byte: 0,
-                first,
-                second,
-            },
-            Ok(Pair::None) => PairReply {
+    fn from(answer: Result<Pair, Refusal>) -> PairReply {
+        let pair = match answer {
+            Ok(pair) => pair,
+            Err(refusal) => {
+                return PairReply {
+                    reason: refusal.reason.number(),
+                    line: refusal.line,
+                    byte: refusal.byte,
+                    first: 0,
+                    second: 0,
+                };
+            }
+        };
+        let Pair::Are(first, second) = pair else {
+            return PairReply {
                 reason: 0,
                 line: 0,
                 byte: 0,
                 first: 0,
                 second: 0,
-            },
-            Err(refusal) => PairReply {
-                reason: refusal.reason.number(),
-                line: refusal.line,
-                byte: refusal.byte,
-                first: 0,
-                second: 0,
-            },
+            };
+        };
+        PairReply {
+            reason: 0,
+            line: 0,
+            byte: 0,
+            first,
+            second,
         }
     }
 }
@@ -104,7 +107,8 @@ pub struct JudgeReply {
 }
 
 impl JudgeReply {
-    /// The reply of judging, whose places are few.
+    /// The reply of judging, whose places are few: only so does a place fit. It is no `From`, whose trait
+    /// asks nothing of a value.
     #[tactic(auto, unfolding(crate::specs::Replies::judge_reply))]
     pub fn of(answer: Result<(), Finding>) -> Self
         requires { IfErr answer (λ f. f.place ≤ desk.rows + 1) }
@@ -137,12 +141,11 @@ pub struct TurnReply {
     pub rows: usize,
 }
 
-impl TurnReply {
-    /// The reply of turning.
+impl From<Result<TurnedTable, Refusal>> for TurnReply {
+    ghost from_gives = { λ answer reply. reply ≡ turn_reply answer };
+
     #[tactic(auto, unfolding(crate::specs::Replies::turn_reply))]
-    pub fn of(answer: Result<TurnedTable, Refusal>) -> Self
-        ensures { result ≡ turn_reply answer }
-    {
+    fn from(answer: Result<TurnedTable, Refusal>) -> TurnReply {
         match answer {
             Ok(table) => TurnReply {
                 reason: 0,

@@ -25,19 +25,22 @@ ghost use Rattle.ringkit_c.specs.Replies.{checked_reply, pair_reply, turn_reply,
 use crate::replies::{PairReply, Reply, TurnReply};
 use ring::ROWS;
 
+/// Reads a table and writes its values afresh: the same bytes. The reply has their number; or the table's first reason with its line and byte, or 15, and then no byte of the buffer has changed.
 #[unsafe(no_mangle)]
 pub extern "C" fn ringkit_rewrite_table(table: &[u8], buffer: &mut [u8]) -> Reply
     ensures promise { Replies (RewriteTablePromise table.now buffer.old) buffer.new result }
     ensures only { Only (Replies (RewriteTablePromise table.now buffer.old)) buffer.new result }
     ensures value { Replies (Fills (table_afresh table.now) buffer.old) buffer.new result }
 {
-    Reply::of(ringkit::ringkit_rewrite_table(table, buffer))
+    Reply::from(ringkit::ringkit_rewrite_table(table, buffer))
 }
 
+/// Reads a matrix and writes its table, on a ring of so many fibres. The reply has the table's length in bytes; or 20, the matrix's first reason with its line and byte, or 15, and then no byte of the buffer has changed.
 #[unsafe(no_mangle)]
 pub extern "C" fn ringkit_read_matrix(matrix: &[u8], fibres: u32, buffer: &mut [u8]) -> Reply
     ensures promise { Replies (ReadMatrixPromise fibres matrix.now buffer.old) buffer.new result }
-    ensures only { Only (Replies (ReadMatrixPromise fibres matrix.now buffer.old)) buffer.new result }
+    ensures only { Only (Replies (ReadMatrixPromise fibres matrix.now buffer.old)) buffer.new
+        result }
     ensures accepted { result.reason ≡ 0 → AcceptedTable desk (take result.length buffer.new) }
     ensures fits { result.length ≤ table_room desk }
     ensures room { IsFibres fibres → AcceptedMatrix desk matrix.now →
@@ -45,9 +48,10 @@ pub extern "C" fn ringkit_read_matrix(matrix: &[u8], fibres: u32, buffer: &mut [
         result.reason ≡ 0 }
     ensures value { Replies (Fills (matrix_read fibres matrix.now) buffer.old) buffer.new result }
 {
-    Reply::of(ringkit::ringkit_read_matrix(matrix, fibres, buffer))
+    Reply::from(ringkit::ringkit_read_matrix(matrix, fibres, buffer))
 }
 
+/// Reads a table and writes its matrix. The reply has the matrix's length in bytes; or the table's first reason or 19, with line and byte, or 15, and then no byte of the buffer has changed.
 #[unsafe(no_mangle)]
 pub extern "C" fn ringkit_write_matrix(table: &[u8], buffer: &mut [u8]) -> Reply
     ensures promise { Replies (WriteMatrixPromise table.now buffer.old) buffer.new result }
@@ -57,9 +61,10 @@ pub extern "C" fn ringkit_write_matrix(table: &[u8], buffer: &mut [u8]) -> Reply
     ensures room { SumsFit table.now → matrix_room desk ≤ length buffer.old → result.reason ≡ 0 }
     ensures value { Replies (Fills (matrix_written table.now) buffer.old) buffer.new result }
 {
-    Reply::of(ringkit::ringkit_write_matrix(table, buffer))
+    Reply::from(ringkit::ringkit_write_matrix(table, buffer))
 }
 
+/// Routes a table and writes its sheet. The reply has the sheet's length in bytes; or the table's first reason with its line and byte, or 15, and then no byte of the buffer has changed.
 #[unsafe(no_mangle)]
 pub extern "C" fn ringkit_route(table: &[u8], buffer: &mut [u8]) -> Reply
     ensures promise { Replies (RoutePromise table.now buffer.old) buffer.new result }
@@ -71,9 +76,10 @@ pub extern "C" fn ringkit_route(table: &[u8], buffer: &mut [u8]) -> Reply
         result.reason ≡ 0 }
     ensures value { Replies (Fills (table_routed table.now) buffer.old) buffer.new result }
 {
-    Reply::of(ringkit::ringkit_route(table, buffer))
+    Reply::from(ringkit::ringkit_route(table, buffer))
 }
 
+/// Checks a sheet. The reply is 0 where it is accepted; or its first reason with its line and byte.
 #[unsafe(no_mangle)]
 pub extern "C" fn ringkit_check(sheet: &[u8]) -> Reply
     ensures promise { Told checked_reply (CheckPromise sheet.now) result }
@@ -84,9 +90,10 @@ pub extern "C" fn ringkit_check(sheet: &[u8]) -> Reply
     ensures best { result.reason ≡ 0 → BestSheet sheet.now }
     ensures value { result ≡ checked_reply (sheet_checked sheet.now) }
 {
-    Reply::of_check(ringkit::ringkit_check(sheet))
+    Reply::from(ringkit::ringkit_check(sheet))
 }
 
+/// The first pair of split rows of a sheet that are parallel, by their places, counted from 1, both 0 where there is none; or the sheet's first reason with its line and byte.
 #[unsafe(no_mangle)]
 pub extern "C" fn ringkit_parallel(sheet: &[u8]) -> PairReply
     ensures promise { Told pair_reply (PairPromise sheet.now) result }
@@ -94,24 +101,29 @@ pub extern "C" fn ringkit_parallel(sheet: &[u8]) -> PairReply
         other ≡ result }
     ensures value { result ≡ pair_reply (sheet_parallel sheet.now) }
 {
-    PairReply::of(ringkit::ringkit_parallel(sheet))
+    PairReply::from(ringkit::ringkit_parallel(sheet))
 }
 
+/// Reads a sheet and writes its values afresh: the same bytes. The reply has their number; or the sheet's first reason with its line and byte, or 15, and then no byte of the buffer has changed.
 #[unsafe(no_mangle)]
 pub extern "C" fn ringkit_rewrite_sheet(sheet: &[u8], buffer: &mut [u8]) -> Reply
     ensures promise { Replies (RewriteSheetPromise sheet.now buffer.old) buffer.new result }
     ensures only { Only (Replies (RewriteSheetPromise sheet.now buffer.old)) buffer.new result }
     ensures value { Replies (Fills (sheet_afresh sheet.now) buffer.old) buffer.new result }
 {
-    Reply::of(ringkit::ringkit_rewrite_sheet(sheet, buffer))
+    Reply::from(ringkit::ringkit_rewrite_sheet(sheet, buffer))
 }
 
+/// Turns a table's rows one at a time, and puts their ways at their places, 0 for F and 1 for B. The reply has the peak in units; or the table's first reason with its line and byte, and then no byte of the ways has changed.
 #[unsafe(no_mangle)]
 pub extern "C" fn ringkit_turn(table: &[u8], ways: &mut [u8; ROWS]) -> TurnReply
     ensures promise { Told turn_reply (TurnPromise table.now ways.old ways.new) result }
-    ensures only { Only (λ new. Told turn_reply (TurnPromise table.now ways.old new)) ways.new result }
-    ensures best { AcceptedTable desk table.now → Told turn_reply (TurnedWell table.now ways.new) result }
-    ensures value { Told turn_reply (TurnsTable (table_of desk table.now) ways.old ways.new) result }
+    ensures only { Only (λ new. Told turn_reply (TurnPromise table.now ways.old new)) ways.new
+        result }
+    ensures best { AcceptedTable desk table.now →
+        Told turn_reply (TurnedWell table.now ways.new) result }
+    ensures value { let read = table_of desk table.now in
+        Told turn_reply (TurnsTable read ways.old ways.new) result }
 {
-    TurnReply::of(ringkit::ringkit_turn(table, ways))
+    TurnReply::from(ringkit::ringkit_turn(table, ways))
 }

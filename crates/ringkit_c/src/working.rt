@@ -36,12 +36,12 @@ pub struct WorkReply {
     pub across: u32,
 }
 
-impl WorkReply {
-    /// The reply of a call: what it placed, or why it is refused.
+/// The reply of a call: what it placed, or why it is refused.
+impl From<Result<Placed, Reason>> for WorkReply {
+    ghost from_gives = { λ answer reply. reply ≡ work_reply answer };
+
     #[tactic(auto, unfolding(crate::specs::Working::work_reply))]
-    pub fn of(answer: Result<Placed, Reason>) -> Self
-        ensures { result ≡ work_reply answer }
-    {
+    fn from(answer: Result<Placed, Reason>) -> WorkReply {
         match answer {
             Ok(placed) => WorkReply {
                 reason: 0,
@@ -74,12 +74,12 @@ pub struct RowReply {
     pub amount: u32,
 }
 
-impl RowReply {
-    /// The reply of the call that reads a row.
+/// The reply of the call that reads a row.
+impl From<Result<Demand, Reason>> for RowReply {
+    ghost from_gives = { λ answer reply. reply ≡ row_reply answer };
+
     #[tactic(auto, unfolding(crate::specs::Working::row_reply))]
-    pub fn of(answer: Result<Demand, Reason>) -> Self
-        ensures { result ≡ row_reply answer }
-    {
+    fn from(answer: Result<Demand, Reason>) -> RowReply {
         match answer {
             Ok(row) => RowReply {
                 reason: 0,
@@ -99,6 +99,7 @@ impl RowReply {
     }
 }
 
+/// Makes the struct a table of this ring that holds no row. The reply has place 0 and the cut of no rows; or 3 or 20, and then no byte of the struct has changed.
 #[unsafe(no_mangle)]
 pub extern "C" fn ringkit_work_start(work: &mut Work, n: u32, fibres: u32) -> WorkReply
     // On every struct.
@@ -122,9 +123,10 @@ pub extern "C" fn ringkit_work_start(work: &mut Work, n: u32, fibres: u32) -> Wo
     ensures played_later { (calls : List Call) → Made calls work.old →
         AsPlayed (start (ring_of n fibres) ∷ calls) work.new }
 {
-    WorkReply::of(ringkit::ringkit_work_start(work, Ring { nodes: n, fibres }))
+    WorkReply::from(ringkit::ringkit_work_start(work, Ring { nodes: n, fibres }))
 }
 
+/// Puts a row at the lowest free place; its amount is in units. The reply has the place, counted from 1, and the largest cut; or 4, 5, 7 or 21, and then no byte of the struct has changed.
 #[unsafe(no_mangle)]
 pub extern "C" fn ringkit_work_add(
     work: &mut Work,
@@ -153,17 +155,20 @@ pub extern "C" fn ringkit_work_add(
     // On every struct.
     ensures any { let call = add (demand first second amount) in
         Told work_reply (λ a. Answered work.old call a work.new) result }
-    ensures value { result ≡ work_reply (placed_of (added_in work.old (demand first second amount))) }
-    ensures table { work.new ≡ work_after work.old (added_in work.old (demand first second amount)) }
+    ensures value { let row = demand first second amount in
+        result ≡ work_reply (placed_of (added_in work.old row)) }
+    ensures table { let row = demand first second amount in
+        work.new ≡ work_after work.old (added_in work.old row) }
 {
     let row = Demand {
         first,
         second,
         amount,
     };
-    WorkReply::of(ringkit::ringkit_work_add(work, row))
+    WorkReply::from(ringkit::ringkit_work_add(work, row))
 }
 
+/// Puts a row in place of the one at a place, counted from 1; its amount is in units. The reply has the place and the largest cut; or 22, 4, 5 or 7, and then no byte of the struct has changed.
 #[unsafe(no_mangle)]
 pub extern "C" fn ringkit_work_change(
     work: &mut Work,
@@ -193,17 +198,20 @@ pub extern "C" fn ringkit_work_change(
     // On every struct.
     ensures any { let call = change place (demand first second amount) in
         Told work_reply (λ a. Answered work.old call a work.new) result }
-    ensures value { result ≡ work_reply (placed_of (changed_in work.old place (demand first second amount))) }
-    ensures table { work.new ≡ work_after work.old (changed_in work.old place (demand first second amount)) }
+    ensures value { let row = demand first second amount in
+        result ≡ work_reply (placed_of (changed_in work.old place row)) }
+    ensures table { let row = demand first second amount in
+        work.new ≡ work_after work.old (changed_in work.old place row) }
 {
     let row = Demand {
         first,
         second,
         amount,
     };
-    WorkReply::of(ringkit::ringkit_work_change(work, place, row))
+    WorkReply::from(ringkit::ringkit_work_change(work, place, row))
 }
 
+/// Takes the row off a place, counted from 1. The reply has the place and the largest cut; or 22, and then no byte of the struct has changed.
 #[unsafe(no_mangle)]
 pub extern "C" fn ringkit_work_remove(work: &mut Work, place: u32) -> WorkReply
     // On a struct made by calls.
@@ -220,13 +228,15 @@ pub extern "C" fn ringkit_work_remove(work: &mut Work, place: u32) -> WorkReply
         Told work_reply (AnswerAfter calls call) result }
 
     // On every struct.
-    ensures any { let call = remove place in Told work_reply (λ a. Answered work.old call a work.new) result }
+    ensures any { let call = remove place in
+        Told work_reply (λ a. Answered work.old call a work.new) result }
     ensures value { result ≡ work_reply (placed_of (removed_in work.old place)) }
     ensures table { work.new ≡ work_after work.old (removed_in work.old place) }
 {
-    WorkReply::of(ringkit::ringkit_work_remove(work, place))
+    WorkReply::from(ringkit::ringkit_work_remove(work, place))
 }
 
+/// The row at a place, counted from 1, its amount in units; or 22 where the place holds none.
 #[unsafe(no_mangle)]
 pub extern "C" fn ringkit_work_row(work: &Work, place: u32) -> RowReply
     // On every struct.
@@ -235,9 +245,10 @@ pub extern "C" fn ringkit_work_row(work: &Work, place: u32) -> RowReply
         other ≡ result }
     ensures value { result ≡ row_reply (row_in work.now place) }
 {
-    RowReply::of(ringkit::ringkit_work_row(work, place))
+    RowReply::from(ringkit::ringkit_work_row(work, place))
 }
 
+/// Writes the table of the rows held, by nodes, then by place. The reply has its length in bytes; or 15, and then no byte of the buffer has changed.
 #[unsafe(no_mangle)]
 pub extern "C" fn ringkit_work_write(work: &Work, buffer: &mut [u8]) -> Reply
     // On every struct.
@@ -253,5 +264,5 @@ pub extern "C" fn ringkit_work_write(work: &Work, buffer: &mut [u8]) -> Reply
     ensures room { (calls : List Call) → Made calls work.now →
         table_room desk ≤ length buffer.old → result.reason ≡ 0 }
 {
-    Reply::of(ringkit::ringkit_work_write(work, buffer))
+    Reply::from(ringkit::ringkit_work_write(work, buffer))
 }

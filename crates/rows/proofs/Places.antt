@@ -1,7 +1,8 @@
 -- Rows in columns, place by place: what a read gives, and what a write makes of them.
-use Rattle.std.proofs.Common.{◌≡◌, ℕ, zero, suc, ◌+◌, ◌<◌, ◌≤◌, [], ◌∷◌, ◌++◌, length, get_or, set, sym, ap, ◌∙◌, arith}
+use Rattle.std.proofs.Common.{List, Some, drop, slice_get, length-drop, ◌≡◌, ℕ, zero, suc, ◌+◌, ◌<◌, ◌≤◌, [], ◌∷◌, ◌++◌, length, get_or, set, sym, ap, ◌∙◌, arith}
 use Rattle.std.proofs.lemmas.List.{same_lists, get_or-set_same, get_or-set_other, length-set}
 use native.Mathlib.Decide.{ℕ_discrete}
+use native.Mathlib.Numerals.{add-one}
 use Rattle.ring.specs.declared.types.Routed.{Routed}
 use Rattle.ring.specs.Lists.{listed}
 use Rattle.ring.proofs.Listed.{listed-length, listed-snoc, listed_same}
@@ -83,3 +84,31 @@ module _ (c : Inside) (k : ℕ) (r : Routed) (s : Sized c) (l : k < desk.rows) w
       let z : 0 + k ≡ k = omega arith in
       listed-snoc (row_of (with_row c k r)) 0 k ∙
       (rw (z, here, e) (ap (λ l. l ++ r ∷ []) (listed_same (row_of (with_row c c.count r)) (row_of c) 0 c.count (λ x a b. rw e at (other x (omega arith))))))
+
+-- ---- row after row
+
+pub drop-one : {A : Type 0} (l : List A) (k : ℕ) (x : A) → slice_get l k ≡ Some x → drop k l ≡ x ∷ drop (suc k) l
+drop-one [] k x e = absurd (cc)
+drop-one (y ∷ l) zero x e = let q : y ≡ x = cc in rw q
+drop-one (y ∷ l) (suc k) x e = drop-one l k x e
+
+-- the row at a place, and the rows behind it
+pub row_then : {A : Type 0} (l : List A) (k : ℕ) (x : A) → slice_get l k ≡ Some x → drop k l ≡ x ∷ drop (k + 1) l
+row_then l k x e = rw add-one (drop-one l k x e)
+
+-- where the rows from a place on are a first and others, it stands there, and the others are those behind it; where they are none, the place is behind all
+module _ {A : Type 0} where
+  pub first-left : (l : List A) (k : ℕ) (x : A) (rest : List A) → drop k l ≡ x ∷ rest → slice_get l k ≡ Some x
+  first-left [] zero x rest e = absurd (cc)
+  first-left [] (suc k) x rest e = absurd (cc)
+  first-left (y ∷ l) zero x rest e = let same : y ≡ x = cc in rw same
+  first-left (y ∷ l) (suc k) x rest e = first-left l k x rest e
+
+  pub behind-first : (l : List A) (k : ℕ) (x : A) (rest : List A) → drop k l ≡ x ∷ rest → rest ≡ drop (suc k) l
+  behind-first [] zero x rest e = absurd (cc)
+  behind-first [] (suc k) x rest e = absurd (cc)
+  behind-first (y ∷ l) zero x rest e = cc
+  behind-first (y ∷ l) (suc k) x rest e = behind-first l k x rest e
+
+  pub none-left : (l : List A) (k : ℕ) → drop k l ≡ [] → length l ≤ k
+  none-left l k e = omega (arith, length-drop k l, ap length e)

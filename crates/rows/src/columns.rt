@@ -45,7 +45,7 @@ impl Arrays {
     }
 }
 
-/// At most 496 rows. Some 10 KB: make it where it stays, and lend it.
+/// At most 1,024 rows. Some 21 KB: make it where it stays, and lend it.
 #[derive(Drop)]
 pub struct Columns {
     count: usize,
@@ -119,7 +119,7 @@ impl Columns {
 impl Rows for Columns {
     ghost rows = { λ c. c };
 
-    /// How many rows there are: at most 496.
+    /// How many rows there are: at most 1,024.
     fn count(&self) -> usize
         ensures is { result ≡ length self.now }
         ensures few { length self.now ≤ desk.rows }

@@ -32,8 +32,7 @@ use Rattle.table.proofs.Against.{AgainstRing, by_size, by_fibres, ring-least}
 use Rattle.table.proofs.LineNumbers.{line-one}
 use Rattle.sheet.specs.Read.{Turn, on, stop, unless, row_in, cut_in, link_in, ring_turn, cut_turn, row_turn, link_turn, last_turn, turn}
 use Rattle.sheet.specs.Says.{State, start, rows, links, end, SentIs, CutIs, LinkIs, LastIs, At, at_start, behind_ring, behind_row, behind_cut, behind_link, behind_last, Says, ring_due, row_or_cut_due, link_due, last_due, none_due, ByteIs}
-use Rattle.sheet.proofs.LineAt.{way-spelled}
-use Rattle.sheet.proofs.SheetLines.{RingRead, is_ring, no_ring, ring-read, SentRead, is_sent, no_sent, sent-read, CutRead, is_cut, no_cut, cut-read, LinkRead, is_link, no_link, link-read, LastRead, is_last, no_last, last-read}
+use Rattle.sheet.proofs.SheetLines.{way-spelled, RingRead, is_ring, no_ring, ring-read, SentRead, is_sent, no_sent, sent-read, CutRead, is_cut, no_cut, cut-read, LinkRead, is_link, no_link, link-read, LastRead, is_last, no_last, last-read}
 use Rattle.sheet.proofs.Places.{sent-spelled}
 use Rattle.sheet.proofs.FirstReason.{HoldsAs, First, first-as}
 use Rattle.sheet.proofs.SheetSaid.{said-of-ring, none-of-cut, none-of-link, none-of-last, Unfit, unfit-wrong, said, said_here, from-2}
@@ -43,18 +42,18 @@ use Rattle.sheet.proofs.RowFirst.{sent-first}
 -- ---- a turn that is right
 
 pub data Turned (limits : Limits) (t : List ℕ) (line : ℕ) : Turn → Type 0 where
-  goes_on : {next : State} → ((s : Reason) → Says limits t s line → ⊥) → At t (line + 1) next → Turned limits t line (on next)
-  stops : {r : Reason} {byte : ℕ} → First (λ s. Says limits t s line) (Err r) → ByteIs t r line byte → Turned limits t line (stop r byte)
+  goes_on : {next : State} → ((s : Reason) → Says limits t s line → ⊥) → At limits t (line + 1) next → Turned limits t line (on next)
+  stops : {r : Reason} {byte : ℕ} → First (λ s. Says limits t s line) (Err r) → ByteIs limits t r line byte → Turned limits t line (stop r byte)
 
 module _ (limits : Limits) {t : List ℕ} {line : ℕ} where
   unless-turned : (shape : List Field) (vs : List ℕ) (field : Reason → ℕ) {v : Verdict} {next : State} → First (λ s. Says limits t s line) v
-      → ByteOn t line (λ reason. field_byte shape vs (field reason)) v → At t (line + 1) next → Turned limits t line (unless shape vs (found v field) next)
+      → ByteOn limits t line (λ reason. field_byte shape vs (field reason)) v → At limits t (line + 1) next → Turned limits t line (unless shape vs (found v field) next)
   unfolding unless found
   unless-turned shape vs field {v = Ok tt} f b at = goes_on f.least at
   unless-turned shape vs field {v = Err r} f b at = stops f b
 
   -- a line of the wrong shape
-  pub unfit-first : {state : State} → At t line state → Unfit t line state → First (λ s. Says limits t s line) (Err Misshapen)
+  pub unfit-first : {state : State} → At limits t line state → Unfit limits t line state → First (λ s. Says limits t s line) (Err Misshapen)
   unfolding Says
   unfit-first at none = record { holds = unfit-wrong at none; least = λ s h. from-2 limits at s h }
 
@@ -68,7 +67,7 @@ ring-first limits ring = record { holds = go (ring-judged limits ring); least = 
     go (wrong_fibres l m w) = by_fibres w
     go (right_ring l m f) = tt
 
-ring-said : {limits : Limits} {ring : Ring} {t : List ℕ} → RingIs t ring → (s : Reason) → AgainstRing limits ring s → Says limits t s 1
+ring-said : {limits : Limits} {ring : Ring} {t : List ℕ} → RingIs limits t ring → (s : Reason) → AgainstRing limits ring s → Says limits t s 1
 unfolding Says
 ring-said {ring} here s (by_size w) = record { at = refl; ring = ring; said = here; wrong = w }
 ring-said {ring} here s (by_fibres w) = record { at = refl; ring = ring; said = here; wrong = w }
@@ -77,10 +76,10 @@ ring-said {ring} here s (by_fibres w) = record { at = refl; ring = ring; said = 
 
 module _ (limits : Limits) {t l : List ℕ} where
   -- R n fibres
-  ring-turned : {x : Reading} {line : ℕ} → At t line start → LineIs (lines t) line l → RingRead l x → Turned limits t line (ring_turn limits x)
+  ring-turned : {x : Reading} {line : ℕ} → At limits t line start → LineIs (lines t) line l → RingRead limits l x → Turned limits t line (ring_turn limits x)
   unfolding ring_turn ring_found ByteIs
   ring-turned at_start here (is_ring {n} {fibres} e a b) =
-      let ring : RingIs t (ring_of n fibres) = record { text = subst (LineIs (lines t) 1) e here; spelled = (a, b) } in
+      let ring : RingIs limits t (ring_of n fibres) = record { text = subst (LineIs (lines t) 1) e here; spelled = (a, b) } in
       unless-turned limits ring_shape (0 ∷ n ∷ fibres ∷ []) (λ reason. field_of reason 0)
       (first-as (ring-said ring) (λ s h. said-of-ring ring (said_here at_start (said s h))) (ring-first limits (ring_of n fibres)))
       (ring-byte ring (ring-judged limits (ring_of n fibres)))
@@ -90,59 +89,59 @@ module _ (limits : Limits) {t l : List ℕ} where
 
   module _ {line : ℕ} (here : LineIs (lines t) line l) where
     -- C g h across, where the line is no D line
-    cut-turned : {ring : Ring} {rs : List Routed} {x : Reading} {o : ℕ} → At t line (rows ring rs) → ((r : Routed) → SentIs t line r → ⊥) → FirstFault sent_shape l o → CutRead l x
+    cut-turned : {ring : Ring} {rs : List Routed} {x : Reading} {o : ℕ} → At limits t line (rows ring rs) → ((r : Routed) → SentIs limits t line r → ⊥) → FirstFault limits.digits sent_shape l o → CutRead limits l x
         → Turned limits t line (cut_turn ring rs o x)
     unfolding cut_turn ByteIs
     cut-turned at none fault (is_cut {g} {h} {m} e u v w) =
-        let is : CutIs t line (cut_in (0 ∷ g ∷ h ∷ m ∷ [])) = record { text = subst (LineIs (lines t) line) e here; pair = (u, v); number = w } in
+        let is : CutIs limits t line (cut_in (0 ∷ g ∷ h ∷ m ∷ [])) = record { text = subst (LineIs (lines t) line) e here; pair = (u, v); number = w } in
         goes_on (λ s h. none-of-cut is (said_here at (said s h))) (behind_cut at is)
     cut-turned at none fault (no_cut none' fault') =
         stops (unfit-first limits at (none, λ c k. none' c.g c.h c.across (line-one here k.text refl) k.pair.0 k.pair.1 k.number))
         (row_or_cut_due at (line_faulty here (neither fault fault')))
 
     -- D i j amount front back F-or-B, else C
-    row-turned : {ring : Ring} {rs : List Routed} {x y : Reading} → At t line (rows ring rs) → SentRead l x → CutRead l y → Turned limits t line (row_turn limits ring rs x y)
+    row-turned : {ring : Ring} {rs : List Routed} {x y : Reading} → At limits t line (rows ring rs) → SentRead limits l x → CutRead limits l y → Turned limits t line (row_turn limits ring rs x y)
     unfolding row_turn row_found
     row-turned {ring} at (is_sent {i} {j} {d} {f} {b = k} {w} e h) c =
-        let is : SentIs t line (row_in (0 ∷ i ∷ j ∷ d ∷ f ∷ k ∷ w ∷ [])) =
+        let is : SentIs limits t line (row_in (0 ∷ i ∷ j ∷ d ∷ f ∷ k ∷ w ∷ [])) =
         record {
           text = subst (LineIs (lines t) line) (e ∙ sym (way-spelled i j d f k w)) here;
           nodes = (h.first, h.second);
           amount = h.amount;
           halves = (h.front, h.back);
         } in
-        unless-turned limits sent_shape (0 ∷ i ∷ j ∷ d ∷ f ∷ k ∷ w ∷ []) (λ reason. field_of reason (node_field ring.nodes i)) (sent-first limits at is) (sent-row-bytes at is w limits) (behind_row at is)
+        unless-turned limits sent_shape (0 ∷ i ∷ j ∷ d ∷ f ∷ k ∷ w ∷ []) (λ reason. field_of reason (node_field ring.nodes i)) (sent-first limits at is) (sent-row-bytes at is w) (behind_row at is)
     row-turned at (no_sent none fault) c =
         cut-turned at (λ r s. none _ _ _ _ _ _ (line-one here s.text refl) (sent-spelled s)) fault c
 
-    module _ {ring : Ring} {rs : List Routed} {c : Cut} {ks : List Link} (at : At t line (links ring rs c ks)) where
+    module _ {ring : Ring} {rs : List Routed} {c : Cut} {ks : List Link} (at : At limits t line (links ring rs c ks)) where
       -- L link split-load unsplit-load
-      link-turned : {x : Reading} → length ks < ring.nodes → LinkRead l x → Turned limits t line (link_turn ring rs c ks x)
+      link-turned : {x : Reading} → length ks < ring.nodes → LinkRead limits l x → Turned limits t line (link_turn ring rs c ks x)
       unfolding link_turn ByteIs
       link-turned few (is_link {k} {s} {u} e p q o) =
-          let is : LinkIs t line (link_in (0 ∷ k ∷ s ∷ u ∷ [])) = record { text = subst (LineIs (lines t) line) e here; link = p; loads = (q, o) } in
+          let is : LinkIs limits t line (link_in (0 ∷ k ∷ s ∷ u ∷ [])) = record { text = subst (LineIs (lines t) line) e here; link = p; loads = (q, o) } in
           goes_on (λ s h. none-of-link few is (said_here at (said s h))) (behind_link at few is)
       link-turned few (no_link none fault) =
           stops (unfit-first limits at (inl (few, λ k m. none k.link k.split k.unsplit (line-one here m.text refl) m.link m.loads.0 m.loads.1)))
           (link_due at few (line_faulty here fault))
 
       -- Z unsplit-peak size
-      last-turned : {x : Reading} → ring.nodes ≤ length ks → LastRead l x → Turned limits t line (last_turn ring rs c ks x)
+      last-turned : {x : Reading} → ring.nodes ≤ length ks → LastRead limits l x → Turned limits t line (last_turn ring rs c ks x)
       unfolding last_turn ByteIs
       last-turned all (is_last {p} {z} e v w) =
-          let is : LastIs t line p z = record { text = subst (LineIs (lines t) line) e here; spelled = (v, w) } in
+          let is : LastIs limits t line p z = record { text = subst (LineIs (lines t) line) e here; spelled = (v, w) } in
           goes_on (λ s h. none-of-last all is (said_here at (said s h))) (behind_last at all is)
       last-turned all (no_last none fault) =
           stops (unfit-first limits at (inr (all, λ p z m. none p z (line-one here m.text refl) m.spelled.0 m.spelled.1)))
           (last_due at all (line_faulty here fault))
 
   -- by what is due
-  pub turned : {state : State} {line : ℕ} → At t line state → LineIs (lines t) line l → Turned limits t line (turn limits state l)
+  pub turned : {state : State} {line : ℕ} → At limits t line state → LineIs (lines t) line l → Turned limits t line (turn limits state l)
   unfolding turn ByteIs
-  turned {state = start} at here = ring-turned at here (ring-read l)
-  turned {state = rows ring rs} at here = row-turned here at (sent-read l) (cut-read l)
+  turned {state = start} at here = ring-turned at here (ring-read limits l)
+  turned {state = rows ring rs} at here = row-turned here at (sent-read limits l) (cut-read limits l)
   turned {state = links ring rs c ks} {line} at here =
       cond-elim (Turned limits t line) _ _ _
-      (λ e. link-turned here at (ltb-true (length ks) ring.nodes e) (link-read l))
-      (λ e. last-turned here at (ltb-false (length ks) ring.nodes e) (last-read l))
+      (λ e. link-turned here at (ltb-true (length ks) ring.nodes e) (link-read limits l))
+      (λ e. last-turned here at (ltb-false (length ks) ring.nodes e) (last-read limits l))
   turned {state = end x} at here = stops (unfit-first limits at (l, here)) (none_due at refl)

@@ -5,6 +5,7 @@ use mathlib.Core.List.{List, [], ◌∷◌, ◌++◌}
 use mathlib.Core.Path.{◌≡◌, refl, ap, ap₂, ◌∙◌, sym, subst, subst₂}
 use native.Mathlib.Omega.{arith}
 use lib.ListN.{length, get_or}
+use Rattle.ring.specs.Limits.{Limits}
 use Rattle.ring.specs.Routing.{way_number, routed}
 use Rattle.ring.specs.declared.types.Routed.{Routed}
 use Rattle.ring.specs.declared.types.Cut.{Cut}
@@ -23,50 +24,50 @@ use Rattle.sheet.proofs.SheetLines.{way_small, way_back, SentSpelled, sent-in-ra
 
 -- ---- one reading
 
-pub sent-spelled : {t : List ℕ} {line : ℕ} {r : Routed} → SentIs t line r
-    → SentSpelled r.sent.demand.first r.sent.demand.second r.sent.demand.amount r.sent.front r.sent.back (way_number r.way)
+pub sent-spelled : {limits : Limits} {t : List ℕ} {line : ℕ} {r : Routed} → SentIs limits t line r
+    → SentSpelled limits r.sent.demand.first r.sent.demand.second r.sent.demand.amount r.sent.front r.sent.back (way_number r.way)
 sent-spelled {r} s =
     record { first = s.nodes.0; second = s.nodes.1; amount = s.amount; front = s.halves.0; back = s.halves.1; way = way_small r.way }
 
-module _ {t : List ℕ} {line : ℕ} where
-  pub sent-one : {r q : Routed} → SentIs t line r → SentIs t line q → r ≡ q
+module _ {limits : Limits} {t : List ℕ} {line : ℕ} where
+  pub sent-one : {r q : Routed} → SentIs limits t line r → SentIs limits t line q → r ≡ q
   sent-one {r} {q} a b =
-      let e = one-line sent_shape _ _ (sent-in-range _ _ _ _ _ _ (sent-spelled a)) (sent-in-range _ _ _ _ _ _ (sent-spelled b)) (line-one a.text b.text refl) in
+      let e = one-line limits.digits limits.countable sent_shape _ _ (sent-in-range limits _ _ _ _ _ _ (sent-spelled a)) (sent-in-range limits _ _ _ _ _ _ (sent-spelled b)) (line-one a.text b.text refl) in
       sym (ap (routed r.sent) (way_back r.way)) ∙ ap row_in e ∙ ap (routed q.sent) (way_back q.way)
 
-  pub cut-one : {c b : Cut} → CutIs t line c → CutIs t line b → c ≡ b
+  pub cut-one : {c b : Cut} → CutIs limits t line c → CutIs limits t line b → c ≡ b
   cut-one p q =
       ap cut_in
-      (one-line cut_shape _ _ (cut-in-range _ _ _ p.pair.0 p.pair.1 p.number) (cut-in-range _ _ _ q.pair.0 q.pair.1 q.number) (line-one p.text q.text refl))
+      (one-line limits.digits limits.countable cut_shape _ _ (cut-in-range limits _ _ _ p.pair.0 p.pair.1 p.number) (cut-in-range limits _ _ _ q.pair.0 q.pair.1 q.number) (line-one p.text q.text refl))
 
-  pub link-one : {l m : Link} → LinkIs t line l → LinkIs t line m → l ≡ m
+  pub link-one : {l m : Link} → LinkIs limits t line l → LinkIs limits t line m → l ≡ m
   link-one p q =
       ap link_in
-      (one-line link_shape _ _ (link-in-range _ _ _ p.link p.loads.0 p.loads.1) (link-in-range _ _ _ q.link q.loads.0 q.loads.1) (line-one p.text q.text refl))
+      (one-line limits.digits limits.countable link_shape _ _ (link-in-range limits _ _ _ p.link p.loads.0 p.loads.1) (link-in-range limits _ _ _ q.link q.loads.0 q.loads.1) (line-one p.text q.text refl))
 
-  pub last_one : {p z q y : ℕ} → LastIs t line p z → LastIs t line q y → (p ≡ q) × (z ≡ y)
+  pub last_one : {p z q y : ℕ} → LastIs limits t line p z → LastIs limits t line q y → (p ≡ q) × (z ≡ y)
   last_one a b =
-      let e = one-line last_shape _ _ (last-in-range _ _ a.spelled.0 a.spelled.1) (last-in-range _ _ b.spelled.0 b.spelled.1) (line-one a.text b.text refl) in
+      let e = one-line limits.digits limits.countable last_shape _ _ (last-in-range limits _ _ a.spelled.0 a.spelled.1) (last-in-range limits _ _ b.spelled.0 b.spelled.1) (line-one a.text b.text refl) in
       (ap (λ vs. get_or vs 1 0) e, ap (λ vs. get_or vs 2 0) e)
 
   -- a D and a C line differ in their letter
-  pub sent-or-cut : {r : Routed} {c : Cut} → SentIs t line r → CutIs t line c → ⊥
+  pub sent-or-cut : {r : Routed} {c : Cut} → SentIs limits t line r → CutIs limits t line c → ⊥
   unfolding write_line spell
   sent-or-cut a b = omega (arith, ap (λ l. get_or l 0 0) (line-one a.text b.text refl))
 
 -- ---- one way on
 
 -- the line leads from one place to the next
-data Leads (t : List ℕ) (line : ℕ) : State → State → Type 0 where
-  by_ring : {ring : Ring} → RingIs t ring → Leads t line start (rows ring [])
-  by_row : {ring : Ring} {rs : List Routed} {r : Routed} → SentIs t line r → Leads t line (rows ring rs) (rows ring (rs ++ r ∷ []))
-  by_cut : {ring : Ring} {rs : List Routed} {c : Cut} → CutIs t line c → Leads t line (rows ring rs) (links ring rs c [])
-  by_link : {ring : Ring} {rs : List Routed} {c : Cut} {ks : List Link} {l : Link} → length ks < ring.nodes → LinkIs t line l
-      → Leads t line (links ring rs c ks) (links ring rs c (ks ++ l ∷ []))
-  by_last : {ring : Ring} {rs : List Routed} {c : Cut} {ks : List Link} {p z : ℕ} → ring.nodes ≤ length ks → LastIs t line p z
-      → Leads t line (links ring rs c ks) (end (record { ring = ring; rows = rs; cut = c; links = ks; peak = p; size = z }))
+data Leads (limits : Limits) (t : List ℕ) (line : ℕ) : State → State → Type 0 where
+  by_ring : {ring : Ring} → RingIs limits t ring → Leads limits t line start (rows ring [])
+  by_row : {ring : Ring} {rs : List Routed} {r : Routed} → SentIs limits t line r → Leads limits t line (rows ring rs) (rows ring (rs ++ r ∷ []))
+  by_cut : {ring : Ring} {rs : List Routed} {c : Cut} → CutIs limits t line c → Leads limits t line (rows ring rs) (links ring rs c [])
+  by_link : {ring : Ring} {rs : List Routed} {c : Cut} {ks : List Link} {l : Link} → length ks < ring.nodes → LinkIs limits t line l
+      → Leads limits t line (links ring rs c ks) (links ring rs c (ks ++ l ∷ []))
+  by_last : {ring : Ring} {rs : List Routed} {c : Cut} {ks : List Link} {p z : ℕ} → ring.nodes ≤ length ks → LastIs limits t line p z
+      → Leads limits t line (links ring rs c ks) (end (record { ring = ring; rows = rs; cut = c; links = ks; peak = p; size = z }))
 
-leads_one : {t : List ℕ} {line : ℕ} {q x y : State} → Leads t line q x → Leads t line q y → x ≡ y
+leads_one : {limits : Limits} {t : List ℕ} {line : ℕ} {q x y : State} → Leads limits t line q x → Leads limits t line q y → x ≡ y
 leads_one (by_ring a) (by_ring b) = ap (λ ring. rows ring []) (ring-one a b)
 leads_one (by_row {ring} {rs} a) (by_row b) = ap (λ (r : Routed). rows ring (rs ++ r ∷ [])) (sent-one a b)
 leads_one (by_row a) (by_cut b) = absurd (sent-or-cut a b)
@@ -82,12 +83,12 @@ leads_one (by_last {ring} {rs} {c} {ks} all a) (by_last all' b) =
 -- ---- one place
 
 -- from line to line
-data Walked (t : List ℕ) : ℕ → State → Type 0 where
-  at_first : Walked t 1 start
-  on_from : {line : ℕ} {q s : State} {l : List ℕ} → Walked t line q → LineIs (lines t) line l → Leads t line q s → Walked t (line + 1) s
+data Walked (limits : Limits) (t : List ℕ) : ℕ → State → Type 0 where
+  at_first : Walked limits t 1 start
+  on_from : {line : ℕ} {q s : State} {l : List ℕ} → Walked limits t line q → LineIs (lines t) line l → Leads limits t line q s → Walked limits t (line + 1) s
 
-module _ {t : List ℕ} where
-  walked : {line : ℕ} {s : State} → At t line s → Walked t line s
+module _ {limits : Limits} {t : List ℕ} where
+  walked : {line : ℕ} {s : State} → At limits t line s → Walked limits t line s
   walked at_start = at_first
   walked (behind_ring r) = on_from at_first r.text (by_ring r)
   walked (behind_row at r) = on_from (walked at) r.text (by_row r)
@@ -95,30 +96,30 @@ module _ {t : List ℕ} where
   walked (behind_link at few l) = on_from (walked at) l.text (by_link few l)
   walked (behind_last at all l) = on_from (walked at) l.text (by_last all l)
 
-  walked_low : {line : ℕ} {s : State} → Walked t line s → 1 ≤ line
+  walked_low : {line : ℕ} {s : State} → Walked limits t line s → 1 ≤ line
   walked_low at_first = omega arith
   walked_low (on_from w is k) = omega arith
 
-  walked_one : {line other : ℕ} {s q : State} → Walked t line s → Walked t other q → line ≡ other → s ≡ q
+  walked_one : {line other : ℕ} {s q : State} → Walked limits t line s → Walked limits t other q → line ≡ other → s ≡ q
   walked_one at_first at_first e = refl
   walked_one at_first (on_from w is k) e = absurd (omega (arith, walked_low w))
   walked_one (on_from w is k) at_first e = absurd (omega (arith, walked_low w))
   walked_one {q} (on_from {line} w is k) (on_from {line = other} w' is' k') e =
       let f : line ≡ other = omega arith in
-      leads_one k (subst₂ (λ x y. Leads t x y q) (sym f) (sym (walked_one w w' f)) k')
+      leads_one k (subst₂ (λ x y. Leads limits t x y q) (sym f) (sym (walked_one w w' f)) k')
 
-  walked-within : {line k : ℕ} {s : State} → 1 ≤ line → ((l : List ℕ) → LineIs (lines t) line l → ⊥) → Walked t k s → k ≤ line
+  walked-within : {line k : ℕ} {s : State} → 1 ≤ line → ((l : List ℕ) → LineIs (lines t) line l → ⊥) → Walked limits t k s → k ≤ line
   walked-within low none at_first = low
   walked-within {line} low none (on_from {line = k} {l} w is to) =
       let e : k ≡ line → ⊥ = λ e. none l (subst (λ m. LineIs (lines t) m l) e is) in
       omega (arith, walked-within low none w)
 
-  pub place-low : {line : ℕ} {s : State} → At t line s → 1 ≤ line
+  pub place-low : {line : ℕ} {s : State} → At limits t line s → 1 ≤ line
   place-low at = walked_low (walked at)
 
-  pub place-one : {line other : ℕ} {s q : State} → At t line s → At t other q → line ≡ other → s ≡ q
+  pub place-one : {line other : ℕ} {s q : State} → At limits t line s → At limits t other q → line ≡ other → s ≡ q
   place-one a b e = walked_one (walked a) (walked b) e
 
   -- no place lies behind a line that is missing
-  pub place-within : {line k : ℕ} {q s : State} → At t line q → ((l : List ℕ) → LineIs (lines t) line l → ⊥) → At t k s → k ≤ line
+  pub place-within : {line k : ℕ} {q s : State} → At limits t line q → ((l : List ℕ) → LineIs (lines t) line l → ⊥) → At limits t k s → k ≤ line
   place-within a none b = walked-within (place-low a) none (walked b)

@@ -3,10 +3,9 @@ use Prim.Native.Nat.{ℕ, ◌+◌, ◌≤◌, ◌<◌}
 use mathlib.Core.List.{List, [], ◌∷◌, ◌++◌}
 use mathlib.Core.Path.{◌≡◌, refl, ◌∙◌, sym}
 use native.Mathlib.Omega.{arith}
-use lib.ListN.{length, set, take, length-append, length-take, length-set}
+use lib.ListN.{length, length-append}
 use borrow.Author.Tests.{lt-ltb, le-ltb}
-use Rattle.std.proofs.lemmas.List.{take_more_set}
-use Rattle.std.specs.Prelude.{Result, Ok, Err, Option, Some, None, IfOk}
+use Rattle.std.specs.Prelude.{Result, Ok, Err}
 use Rattle.ring.specs.Limits.{desk}
 use Rattle.ring.specs.declared.types.Cut.{Cut}
 use Rattle.ring.specs.declared.types.Link.{Link}
@@ -26,28 +25,33 @@ use Rattle.table.proofs.Faults.{row-none}
 use Rattle.table.proofs.Judged.{RowJudged, row_fine, row-judged}
 use Rattle.sheet.specs.Answer.{with_values}
 use Rattle.sheet.specs.Parts.{read_by}
-use Rattle.sheet.specs.Read.{Result as SheetResult, accepted, refused, link_in, sheet_with, unless, ring_turn, row_turn, cut_turn, link_turn, last_turn, turn, at_end, after, read_from, read_sheet}
+use Rattle.sheet.specs.Read.{SheetResult, accepted, refused, last_of, link_in, sheet_with, unless, ring_turn, row_turn, cut_turn, link_turn, last_turn, turn, at_end, after, read_from, read_sheet}
 use Rattle.sheet.specs.Says.{State, rows, links, end}
-use Rattle.ring.specs.Sheet.{sheet_in}
+use Rattle.ring.specs.Sheet.{sheet_in, sents, demands}
+use Rattle.ring.proofs.Small.{demands-length}
 use Rattle.ring.specs.declared.types.Figures.{Figures}
 
 -- ---- what is known where nothing is found
 
-pub has_room : (n k : ℕ) (above : Option Demand) (r : Demand) → None ≡ row_found desk n k above r → k < desk.rows
-has_room n k above r e = let q = row-none n k above r None e refl in go (rw (← q) at (row-judged desk n k above r))
+-- a row has room behind the rows rs
+pub has_room : (n : ℕ) (rs : List Routed) (r : Demand) (o : Result Unit Fault) → o ≡ row_found desk n (length (demands (sents rs))) (last_of rs) r → o ≡ Ok tt
+    → length rs < desk.rows
+has_room n rs r o e f =
+    let q = row-none n (length (demands (sents rs))) (last_of rs) r o e f in
+    go (rw (← q) at (row-judged desk n (length (demands (sents rs))) (last_of rs) r))
   where
-    go : RowJudged desk n k above r (Ok tt) → k < desk.rows
-    go (row_fine on order room most) = room
+    go : RowJudged desk n (length (demands (sents rs))) (last_of rs) r (Ok tt) → length rs < desk.rows
+    go (row_fine on order room most) = omega (arith, room, demands-length rs)
 
 -- ---- a line by its values
 
-ring-leads : (l : List ℕ) (y : Result Ring Refusal) → y ≡ ring_on desk l → (next : State → SheetResult) → read_by y (λ ring. next (rows ring [])) ≡ after (ring_turn desk (read_line ring_shape l)) 1 next
+ring-leads : (l : List ℕ) (y : Result Ring Refusal) → y ≡ ring_on desk l → (next : State → SheetResult) → read_by y (λ ring. next (rows ring [])) ≡ after (ring_turn desk (read_line desk.digits ring_shape l)) 1 next
 unfolding ring_on judged and_then values_on passed ring_turn unless after
-ring-leads l y e next = rw e (go (read_line ring_shape l))
+ring-leads l y e next = rw e (go (read_line desk.digits ring_shape l))
   where
-    found : (vs : List ℕ) (o : Option Fault) → read_by (passed 1 ring_shape vs o (ring_in vs)) (λ ring. next (rows ring [])) ≡ after (unless ring_shape vs o (rows (ring_in vs) [])) 1 next
-    found vs None = refl
-    found vs (Some f) = refl
+    found : (vs : List ℕ) (o : Result Unit Fault) → read_by (passed 1 ring_shape vs o (ring_in vs)) (λ ring. next (rows ring [])) ≡ after (unless ring_shape vs o (rows (ring_in vs) [])) 1 next
+    found vs (Ok tt) = refl
+    found vs (Err f) = refl
 
     go : (x : Reading) → read_by (and_then (values_on 1 x) λ vs. passed 1 ring_shape vs (ring_found desk (ring_in vs)) (ring_in vs)) (λ ring. next (rows ring [])) ≡ after (ring_turn desk x) 1 next
     go (Ok vs) = found vs (ring_found desk (ring_in vs))
@@ -81,14 +85,14 @@ module _ (ring : Ring) (all : List (List ℕ)) (rs : List Routed) (before : List
   rows-missing none = sym (reading.rest ∙ rw (none, ← many))
 
   module _ (l : List ℕ) (ls : List (List ℕ)) (left : before ≡ l ∷ ls) where
-    rows-led : read_from desk (rows ring []) 2 all ≡ after (row_turn desk ring rs (read_line sent_shape l) (read_line cut_shape l)) (count + 2) (λ next. read_from desk next (count + 2 + 1) ls)
+    rows-led : read_from desk (rows ring []) 2 all ≡ after (row_turn desk ring rs (read_line desk.digits sent_shape l) (read_line desk.digits cut_shape l)) (count + 2) (λ next. read_from desk next (count + 2 + 1) ls)
     unfolding read_from turn
     rows-led = reading.rest ∙ rw (left, ← many)
 
-    module _ (vs : List ℕ) (is : Ok vs ≡ read_line sent_shape l) (y : Result Routed Refusal)
+    module _ (vs : List ℕ) (is : Ok vs ≡ read_line desk.digits sent_shape l) (y : Result Routed Refusal)
         (leads : (other : Reading) (next : State → SheetResult) → read_by y (λ r. next (rows ring (rs ++ r ∷ []))) ≡ after (row_turn desk ring rs (Ok vs) other) (count + 2) next) where
       row-led : read_from desk (rows ring []) 2 all ≡ read_by y (λ r. read_from desk (rows ring (rs ++ r ∷ [])) (count + 2 + 1) ls)
-      row-led = rows-led ∙ rw (← is) (sym (leads (read_line cut_shape l) (λ next. read_from desk next (count + 2 + 1) ls)))
+      row-led = rows-led ∙ rw (← is) (sym (leads (read_line desk.digits cut_shape l) (λ next. read_from desk next (count + 2 + 1) ls)))
 
       pub row-refused : (r : Refusal) → y ≡ Err r → refused r.reason r.line r.byte ≡ read_from desk (rows ring []) 2 all
       row-refused r e = sym (row-led ∙ rw e)
@@ -99,8 +103,8 @@ module _ (ring : Ring) (all : List (List ℕ)) (rs : List Routed) (before : List
           rw f (record { rest = row-led ∙ rw (e, m) })
 
     -- the next line is no D line, so it is the C line
-    pub cut-read : (p : ℕ) → Err p ≡ read_line sent_shape l → (y : Result Cut Refusal)
-        → ((ring : Ring) (rs : List Routed) (next : State → SheetResult) → read_by y (λ c. next (links ring rs c [])) ≡ after (cut_turn ring rs p (read_line cut_shape l)) (count + 2) next)
+    pub cut-read : (p : ℕ) → Err p ≡ read_line desk.digits sent_shape l → (y : Result Cut Refusal)
+        → ((ring : Ring) (rs : List Routed) (next : State → SheetResult) → read_by y (λ c. next (links ring rs c [])) ≡ after (cut_turn ring rs p (read_line desk.digits cut_shape l)) (count + 2) next)
         → read_by y (λ c. read_from desk (links ring rs c []) (length rs + 3) ls) ≡ read_from desk (rows ring []) 2 all
     unfolding row_turn
     cut-read p is y leads =
@@ -109,33 +113,30 @@ module _ (ring : Ring) (all : List (List ℕ)) (rs : List Routed) (before : List
 
 -- ---- the L lines
 
--- of the lines `all`, the first of which has the number `line`, k are read, and the lines `left` are left
-pub record LinksReading (ring : Ring) (all : List (List ℕ)) (line : ℕ) (left : List (List ℕ)) (k : ℕ) (ls : List Link) : Type 0 where
-  pub rest : (rs : List Routed) (c : Cut) → read_from desk (links ring rs c []) line all ≡ read_from desk (links ring rs c (take k ls)) (line + k) left
-  pub upto : k ≤ ring.nodes
-  pub many : ring.nodes ≤ length ls
+-- of the lines `all`, the first of which has the number `first`, the links ks are read; the next line has the number `line`, and the lines `left` are left
+pub record LinksReading (ring : Ring) (all : List (List ℕ)) (first : ℕ) (left : List (List ℕ)) (line : ℕ) (ks : List Link) : Type 0 where
+  pub rest : (rs : List Routed) (c : Cut) → read_from desk (links ring rs c []) first all ≡ read_from desk (links ring rs c ks) line left
+  pub count : first + length ks ≡ line
 
-module _ (ring : Ring) (all : List (List ℕ)) (line : ℕ) (before : List (List ℕ)) (k : ℕ) (ks : List Link) (reading : LinksReading ring all line before k ks) where
-  pub link-missing : before ≡ [] → (rs : List Routed) (c : Cut) → refused Misshapen (line + k) 1 ≡ read_from desk (links ring rs c []) line all
+module _ (ring : Ring) (all : List (List ℕ)) (first : ℕ) (before : List (List ℕ)) (line : ℕ) (ks : List Link) (reading : LinksReading ring all first before line ks) where
+  pub link-missing : before ≡ [] → (rs : List Routed) (c : Cut) → refused Misshapen line 1 ≡ read_from desk (links ring rs c []) first all
   unfolding read_from at_end
   link-missing none rs c = sym (reading.rest rs c ∙ rw none)
 
-  module _ (m : ℕ) (em : m ≡ ring.nodes) (below : k < m) (l : List ℕ) (ls : List (List ℕ)) (left : before ≡ l ∷ ls) (y : Result (List ℕ) Refusal) (ey : y ≡ values_on (line + k) (read_line link_shape l)) where
-    link-led : (rs : List Routed) (c : Cut) → read_from desk (links ring rs c []) line all ≡ read_by y (λ vs. read_from desk (links ring rs c (take k ks ++ link_in vs ∷ [])) (line + k + 1) ls)
+  module _ (below : line < first + ring.nodes) (l : List ℕ) (ls : List (List ℕ)) (left : before ≡ l ∷ ls) (y : Result (List ℕ) Refusal) (ey : y ≡ values_on line (read_line desk.digits link_shape l)) where
+    link-led : (rs : List Routed) (c : Cut) → read_from desk (links ring rs c []) first all ≡ read_by y (λ vs. read_from desk (links ring rs c (ks ++ link_in vs ∷ [])) (line + 1) ls)
     unfolding read_from turn
     link-led rs c =
-        let few : length (take k ks) < ring.nodes = omega (arith, length-take k ks) in
+        let few : length ks < ring.nodes = omega (arith, reading.count) in
         reading.rest rs c
-        ∙ rw (left, lt-ltb (length (take k ks)) ring.nodes few, ey) (link-by ring rs c (take k ks) (line + k) (read_line link_shape l) (λ next. read_from desk next (line + k + 1) ls))
+        ∙ rw (left, lt-ltb (length ks) ring.nodes few, ey) (link-by ring rs c ks line (read_line desk.digits link_shape l) (λ next. read_from desk next (line + 1) ls))
 
-    pub link-refused : (r : Refusal) → y ≡ Err r → (rs : List Routed) (c : Cut) → refused r.reason r.line r.byte ≡ read_from desk (links ring rs c []) line all
+    pub link-refused : (r : Refusal) → y ≡ Err r → (rs : List Routed) (c : Cut) → refused r.reason r.line r.byte ≡ read_from desk (links ring rs c []) first all
     link-refused r e rs c = sym (link-led rs c ∙ rw e)
 
-    pub link-read : (vs : List ℕ) → y ≡ Ok vs → LinksReading ring all line ls (k + 1) (set ks k (link_in vs))
-    link-read vs e =
-        let m : line + k + 1 ≡ line + (k + 1) = omega arith in
-        let s : take (k + 1) (set ks k (link_in vs)) ≡ take k ks ++ link_in vs ∷ [] = take_more_set ks k (link_in vs) (omega (arith, reading.many)) in
-        record { rest = λ rs c. link-led rs c ∙ rw (e, m, s); upto = omega arith; many = omega (arith, reading.many, length-set ks k (link_in vs)) }
+    pub link-read : (vs : List ℕ) (new : List Link) → y ≡ Ok vs → new ≡ ks ++ link_in vs ∷ [] → LinksReading ring all first ls (line + 1) new
+    link-read vs new e f =
+        rw f (record { rest = λ rs c. link-led rs c ∙ rw e; count = omega (arith, reading.count, length-append ks (link_in vs ∷ [])) })
 
 -- ---- the Z line
 
@@ -144,21 +145,25 @@ module _ (ring : Ring) (c : Cut) (line : ℕ) (all : List (List ℕ)) where
   unfolding read_from at_end
   last-missing none rs ks many = sym (rw none)
 
-  module _ (l : List ℕ) (ls : List (List ℕ)) (left : all ≡ l ∷ ls) (y : Result (List ℕ) Refusal) (ey : y ≡ values_on line (read_line last_shape l)) where
+  module _ (l : List ℕ) (ls : List (List ℕ)) (left : all ≡ l ∷ ls) (y : Result (List ℕ) Refusal) (ey : y ≡ values_on line (read_line desk.digits last_shape l)) where
     last-led : (rs : List Routed) (ks : List Link) → ring.nodes ≤ length ks
         → read_from desk (links ring rs c ks) line all ≡ read_by y (λ vs. read_from desk (end (sheet_with ring rs c ks vs)) (line + 1) ls)
     unfolding read_from turn
     last-led rs ks many =
-        rw (left, le-ltb (length ks) ring.nodes many, ey) (last-by ring rs c ks line (read_line last_shape l) (λ next. read_from desk next (line + 1) ls))
+        rw (left, le-ltb (length ks) ring.nodes many, ey) (last-by ring rs c ks line (read_line desk.digits last_shape l) (λ next. read_from desk next (line + 1) ls))
 
     pub last-refused : (r : Refusal) → y ≡ Err r → (rs : List Routed) (ks : List Link) → ring.nodes ≤ length ks → refused r.reason r.line r.byte ≡ read_from desk (links ring rs c ks) line all
     last-refused r e rs ks many = sym (last-led rs ks many ∙ rw e)
 
     module _ (vs : List ℕ) (e : y ≡ Ok vs) where
-      pub left_over : (over : List ℕ) (others : List (List ℕ)) → ls ≡ over ∷ others → (rs : List Routed) (ks : List Link) → ring.nodes ≤ length ks
+      pub left_over : (ls ≡ [] → ⊥) → (rs : List Routed) (ks : List Link) → ring.nodes ≤ length ks
           → refused Misshapen (line + 1) 1 ≡ read_from desk (links ring rs c ks) line all
-      unfolding read_from turn after
-      left_over over others more rs ks many = sym (last-led rs ks many ∙ rw (e, more))
+      unfolding read_from turn at_end after
+      left_over more rs ks many = sym (last-led rs ks many ∙ rw e (go ls more))
+        where
+          go : (ls : List (List ℕ)) → (ls ≡ [] → ⊥) → read_from desk (end (sheet_with ring rs c ks vs)) (line + 1) ls ≡ refused Misshapen (line + 1) 1
+          go [] more = absurd (more refl)
+          go (over ∷ others) more = refl
 
       pub last_done : ls ≡ [] → (rs : List Routed) (ks : List Link) → ring.nodes ≤ length ks → accepted (sheet_with ring rs c ks vs) ≡ read_from desk (links ring rs c ks) line all
       unfolding read_from at_end
@@ -193,19 +198,19 @@ module _ (text : List ℕ) where
         rows-refused r e = sym (rows-end ∙ rw e)
 
         module _ (cut : Cut) (ez : z ≡ Ok cut) (count : ℕ) (counted : count ≡ length rs) (ks : List Link) (behind_links : List (List ℕ)) (u : Result Unit Refusal)
-            (behind : (rs : List Routed) (c : Cut) → read_by u (λ _. read_from desk (links ring rs c (take ring.nodes ks)) (count + 3 + ring.nodes) behind_links)
+            (behind : (rs : List Routed) (c : Cut) → read_by u (λ _. read_from desk (links ring rs c ks) (count + 3 + ring.nodes) behind_links)
             ≡ read_from desk (links ring rs c []) (count + 3) behind_rows) where
-          links-end : read_sheet desk text ≡ read_by u (λ _. read_from desk (links ring rs cut (take ring.nodes ks)) (count + 3 + ring.nodes) behind_links)
+          links-end : read_sheet desk text ≡ read_by u (λ _. read_from desk (links ring rs cut ks) (count + 3 + ring.nodes) behind_links)
           links-end = rows-end ∙ rw (ez, ← counted) (sym (behind rs cut))
 
           pub links-refused : (r : Refusal) → u ≡ Err r → refused r.reason r.line r.byte ≡ read_sheet desk text
           links-refused r f = sym (links-end ∙ rw f)
 
-          module _ (eu : u ≡ Ok tt) (long : length ks ≡ desk.nodes) (size : ring.nodes ≤ desk.nodes) (v : Result Figures Refusal)
-              (last : (rs : List Routed) (ks : List Link) → ring.nodes ≤ length ks → read_by v (λ x. accepted (sheet_in x rs ks)) ≡ read_from desk (links ring rs cut ks) (count + 3 + ring.nodes) behind_links) where
-            pub sheet-read : IfOk v (λ x. x.ring ≡ ring) → with_values rs ks v ≡ read_sheet desk text
-            sheet-read same = go v same ∙ last rs (take ring.nodes ks) (omega (arith, long, size, length-take ring.nodes ks)) ∙ sym (links-end ∙ rw eu)
-              where
-                go : (v : Result Figures Refusal) → IfOk v (λ x. x.ring ≡ ring) → with_values rs ks v ≡ read_by v (λ x. accepted (sheet_in x rs (take ring.nodes ks)))
-                go (Ok x) same = let n : x.ring ≡ ring = same in rw n
-                go (Err r) same = refl
+          pub sheet-read : u ≡ Ok tt → ring.nodes ≤ length ks → (v : Result Figures Refusal)
+              → ((rs : List Routed) (ks : List Link) → ring.nodes ≤ length ks → read_by v (λ x. accepted (sheet_in x rs ks)) ≡ read_from desk (links ring rs cut ks) (count + 3 + ring.nodes) behind_links)
+              → with_values rs ks v ≡ read_sheet desk text
+          sheet-read eu all v last = go v ∙ last rs ks all ∙ sym (links-end ∙ rw eu)
+            where
+              go : (v : Result Figures Refusal) → with_values rs ks v ≡ read_by v (λ x. accepted (sheet_in x rs ks))
+              go (Ok x) = refl
+              go (Err r) = refl

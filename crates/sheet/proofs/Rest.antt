@@ -29,7 +29,7 @@ use Rattle.table.specs.Lines.{lines}
 use Rattle.table.specs.Judge.{ring_verdict}
 use Rattle.table.specs.Faults.{found, ring_found, row_found}
 use Rattle.table.specs.declared.fault.Fault.{Fault}
-use Rattle.std.specs.Prelude.{Option, Some, None, Ok}
+use Rattle.std.specs.Prelude.{Result, Ok, Err}
 use Rattle.table.proofs.Faults.{found-none}
 use Rattle.table.proofs.LinesOf.{FirstLine, NoLf, written-first}
 use Rattle.sheet.specs.Read.{accepted, last_of, Turn, on, stop, unless, row_in, cut_in, link_in, ring_turn, cut_turn, row_turn, link_turn, last_turn, turn, at_end, after, read_from}
@@ -50,23 +50,23 @@ link_of k s u = link_in (0 ∷ k ∷ s ∷ u ∷ [])
 -- the rest `text` leads from a state to the sheet x
 pub data Rest (limits : Limits) (x : Sheet) : State → List ℕ → Type 0 where
   rest_end : Rest limits x (end x) []
-  rest_last : {ring : Ring} {rs : List Routed} {c : Cut} {ks : List Link} {p z : ℕ} {text : List ℕ} → ring.nodes ≤ length ks → p < limit → z < limit
+  rest_last : {ring : Ring} {rs : List Routed} {c : Cut} {ks : List Link} {p z : ℕ} {text : List ℕ} → ring.nodes ≤ length ks → p < limit limits.digits → z < limit limits.digits
       → Rest limits x (end (record { ring = ring; rows = rs; cut = c; links = ks; peak = p; size = z })) text → Rest limits x (links ring rs c ks) (last_line p z ++ text)
-  rest_link : {ring : Ring} {rs : List Routed} {c : Cut} {ks : List Link} {k s u : ℕ} {text : List ℕ} → length ks < ring.nodes → k < limit → s < limit → u < limit
+  rest_link : {ring : Ring} {rs : List Routed} {c : Cut} {ks : List Link} {k s u : ℕ} {text : List ℕ} → length ks < ring.nodes → k < limit limits.digits → s < limit limits.digits → u < limit limits.digits
       → Rest limits x (links ring rs c (ks ++ link_of k s u ∷ [])) text → Rest limits x (links ring rs c ks) (link_line k s u ++ text)
-  rest_cut : {ring : Ring} {rs : List Routed} {g h m : ℕ} {text : List ℕ} → g < limit → h < limit → m < limit
+  rest_cut : {ring : Ring} {rs : List Routed} {g h m : ℕ} {text : List ℕ} → g < limit limits.digits → h < limit limits.digits → m < limit limits.digits
       → Rest limits x (links ring rs (cut_of g h m) []) text → Rest limits x (rows ring rs) (cut_line g h m ++ text)
-  rest_row : {ring : Ring} {rs : List Routed} {i j d f k w : ℕ} {text : List ℕ} → SentSpelled i j d f k w → judge_next limits ring.nodes rs (demand i j d) ≡ Ok tt
+  rest_row : {ring : Ring} {rs : List Routed} {i j d f k w : ℕ} {text : List ℕ} → SentSpelled limits i j d f k w → judge_next limits ring.nodes rs (demand i j d) ≡ Ok tt
       → Rest limits x (rows ring (rs ++ routed_of i j d f k w ∷ [])) text → Rest limits x (rows ring rs) (sent_line i j d f k w ++ text)
-  rest_ring : {ring : Ring} {text : List ℕ} → ring.nodes < limit → ring.fibres < limit → ring_verdict limits ring ≡ Ok tt → Rest limits x (rows ring []) text
+  rest_ring : {ring : Ring} {text : List ℕ} → ring.nodes < limit limits.digits → ring.fibres < limit limits.digits → ring_verdict limits ring ≡ Ok tt → Rest limits x (rows ring []) text
       → Rest limits x start (ring_line ring.nodes ring.fibres ++ text)
 
 -- ---- a line that leads on
 
-unless-on : (shape : List Field) (vs : List ℕ) (o : Option Fault) (next state : State) → unless shape vs o next ≡ on state → (o ≡ None) × (next ≡ state)
+unless-on : (shape : List Field) (vs : List ℕ) (o : Result Unit Fault) (next state : State) → unless shape vs o next ≡ on state → (o ≡ Ok tt) × (next ≡ state)
 unfolding unless
-unless-on shape vs None next state e = (refl, cc)
-unless-on shape vs (Some f) next state e = clash (cc)
+unless-on shape vs (Ok tt) next state e = (refl, cc)
+unless-on shape vs (Err f) next state e = clash (cc)
 
 on-same : (next state : State) → on next ≡ on state → next ≡ state
 on-same next state e = cc
@@ -76,7 +76,7 @@ module _ (limits : Limits) (x : Sheet) where
   abbrev Leads : State → List ℕ → Turn → Type 0
   Leads state l t = (next : State) → t ≡ on next → (text : List ℕ) → Rest limits x next text → Rest limits x state (l ++ text)
 
-  ring-leads : (l : List ℕ) {y : Reading} → RingRead l y → Leads start l (ring_turn limits y)
+  ring-leads : (l : List ℕ) {y : Reading} → RingRead limits l y → Leads start l (ring_turn limits y)
   unfolding ring_turn ring_found
   ring-leads l (is_ring {n} {fibres} e a b) next q text rest =
       let u = unless-on ring_shape (0 ∷ n ∷ fibres ∷ []) (ring_found limits (ring_of n fibres)) (rows (ring_of n fibres) []) next q in
@@ -84,13 +84,13 @@ module _ (limits : Limits) (x : Sheet) where
   ring-leads l (no_ring misread fault) next q text rest = clash (cc)
 
   module _ (ring : Ring) (rs : List Routed) where
-    cut-leads : (l : List ℕ) (o : ℕ) {y : Reading} → CutRead l y → Leads (rows ring rs) l (cut_turn ring rs o y)
+    cut-leads : (l : List ℕ) (o : ℕ) {y : Reading} → CutRead limits l y → Leads (rows ring rs) l (cut_turn ring rs o y)
     unfolding cut_turn
     cut-leads l o (is_cut {g} {h} {m} e p q r) next t text rest =
         rw e (rest_cut p q r (subst (λ s. Rest limits x s text) (sym (on-same (links ring rs (cut_of g h m) []) next t)) rest))
     cut-leads l o (no_cut misread fault) next t text rest = clash (cc)
 
-    row-leads : (l : List ℕ) {y z : Reading} → SentRead l y → CutRead l z → Leads (rows ring rs) l (row_turn limits ring rs y z)
+    row-leads : (l : List ℕ) {y z : Reading} → SentRead limits l y → CutRead limits l z → Leads (rows ring rs) l (row_turn limits ring rs y z)
     unfolding row_turn row_found
     row-leads l (is_sent {i} {j} {d} {f} {b = k} {w} e spelled) other next t text rest =
         let u = unless-on sent_shape (0 ∷ i ∷ j ∷ d ∷ f ∷ k ∷ w ∷ []) (row_found limits ring.nodes (length rs) (last_of rs) (demand i j d)) (rows ring (rs ++ routed_of i j d f k w ∷ [])) next t in
@@ -98,13 +98,13 @@ module _ (limits : Limits) (x : Sheet) where
     row-leads l (no_sent {p} misread fault) other next t text rest = cut-leads l p other next t text rest
 
     module _ (c : Cut) (ks : List Link) where
-      link-leads : (l : List ℕ) {y : Reading} → length ks < ring.nodes → LinkRead l y → Leads (links ring rs c ks) l (link_turn ring rs c ks y)
+      link-leads : (l : List ℕ) {y : Reading} → length ks < ring.nodes → LinkRead limits l y → Leads (links ring rs c ks) l (link_turn ring rs c ks y)
       unfolding link_turn
       link-leads l few (is_link {k} {s} {u} e p q r) next t text rest =
           rw e (rest_link few p q r (subst (λ s. Rest limits x s text) (sym (on-same (links ring rs c (ks ++ link_of k s u ∷ [])) next t)) rest))
       link-leads l few (no_link misread fault) next t text rest = clash (cc)
 
-      last-leads : (l : List ℕ) {y : Reading} → ring.nodes ≤ length ks → LastRead l y → Leads (links ring rs c ks) l (last_turn ring rs c ks y)
+      last-leads : (l : List ℕ) {y : Reading} → ring.nodes ≤ length ks → LastRead limits l y → Leads (links ring rs c ks) l (last_turn ring rs c ks y)
       unfolding last_turn
       last-leads l all (is_last {p} {z} e a b) next t text rest =
           let same = on-same (end (record { ring = ring; rows = rs; cut = c; links = ks; peak = p; size = z })) next t in
@@ -113,12 +113,12 @@ module _ (limits : Limits) (x : Sheet) where
 
   turn-leads : (state : State) (l : List ℕ) → Leads state l (turn limits state l)
   unfolding turn
-  turn-leads start l = ring-leads l (ring-read l)
-  turn-leads (rows ring rs) l = row-leads ring rs l (sent-read l) (cut-read l)
+  turn-leads start l = ring-leads l (ring-read limits l)
+  turn-leads (rows ring rs) l = row-leads ring rs l (sent-read limits l) (cut-read limits l)
   turn-leads (links ring rs c ks) l =
       elim (dec_lt (length ks) ring.nodes) [
-        | yes h ↦ rw (lt-ltb (length ks) ring.nodes h) (link-leads ring rs c ks l h (link-read l))
-        | no h ↦ let k : ring.nodes ≤ length ks = omega arith in rw (le-ltb (length ks) ring.nodes k) (last-leads ring rs c ks l k (last-read l))
+        | yes h ↦ rw (lt-ltb (length ks) ring.nodes h) (link-leads ring rs c ks l h (link-read limits l))
+        | no h ↦ let k : ring.nodes ≤ length ks = omega arith in rw (le-ltb (length ks) ring.nodes k) (last-leads ring rs c ks l k (last-read limits l))
       ]
   turn-leads (end y) l = λ next t text rest. clash (cc)
 
@@ -149,46 +149,46 @@ cut-no-row : (g h m i j d f b w : ℕ) → cut_line g h m ≡ sent_line i j d f 
 unfolding write_line spell
 cut-no-row g h m i j d f b w e = let q : letter_c ≡ letter_d = ap (λ l. get_or l 0 0) e in omega arith
 
-cut-not-sent : (g h m : ℕ) {y : Reading} → SentRead (cut_line g h m) y → (limits : Limits) (ring : Ring) (rs : List Routed) (z : Reading)
+pub cut-not-sent : (limits : Limits) (g h m : ℕ) {y : Reading} → SentRead limits (cut_line g h m) y → (ring : Ring) (rs : List Routed) (z : Reading)
     → (o : ℕ) × (row_turn limits ring rs y z ≡ cut_turn ring rs o z)
 unfolding row_turn
-cut-not-sent g h m (is_sent e s) limits ring rs z = absurd (cut-no-row g h m _ _ _ _ _ _ e)
-cut-not-sent g h m (no_sent {p} misread fault) limits ring rs z = (p, refl)
+cut-not-sent limits g h m (is_sent e s) ring rs z = absurd (cut-no-row g h m _ _ _ _ _ _ e)
+cut-not-sent limits g h m (no_sent {p} misread fault) ring rs z = (p, refl)
 
 -- each line is the first of what it begins
-ring-first : (n fibres : ℕ) → n < limit → fibres < limit → FirstLine (ring_line n fibres)
-ring-first n fibres a b = written-first _ _ _ (more (λ e. omega arith) (more tt (more tt none))) (ring-in-range n fibres a b)
+ring-first : (limits : Limits) (n fibres : ℕ) → n < limit limits.digits → fibres < limit limits.digits → FirstLine (ring_line n fibres)
+ring-first limits n fibres a b = written-first limits.digits limits.countable _ _ _ (more (λ e. omega arith) (more tt (more tt none))) (ring-in-range limits n fibres a b)
 
-sent-first : (i j d f b w : ℕ) → SentSpelled i j d f b w → FirstLine (sent_line i j d f b w)
-sent-first i j d f b w h =
-    written-first _ _ _
+pub sent-first : (limits : Limits) (i j d f b w : ℕ) → SentSpelled limits i j d f b w → FirstLine (sent_line i j d f b w)
+sent-first limits i j d f b w h =
+    written-first limits.digits limits.countable _ _ _
     (more (λ e. omega arith) (more tt (more tt (more tt (more tt (more tt (more tt none)))))))
-    (sent-in-range i j d f b w h)
+    (sent-in-range limits i j d f b w h)
 
 three-numbers : (f : Field) → NoLf f → Each NoLf (f ∷ Number ∷ Number ∷ Number ∷ [])
 three-numbers f h = more h (more tt (more tt (more tt none)))
 
-cut-first : (g h m : ℕ) → g < limit → h < limit → m < limit → FirstLine (cut_line g h m)
-cut-first g h m a b c = written-first _ _ _ (three-numbers (Letter letter_c) (λ e. omega arith)) (cut-in-range g h m a b c)
+cut-first : (limits : Limits) (g h m : ℕ) → g < limit limits.digits → h < limit limits.digits → m < limit limits.digits → FirstLine (cut_line g h m)
+cut-first limits g h m a b c = written-first limits.digits limits.countable _ _ _ (three-numbers (Letter letter_c) (λ e. omega arith)) (cut-in-range limits g h m a b c)
 
-link-first : (k s u : ℕ) → k < limit → s < limit → u < limit → FirstLine (link_line k s u)
-link-first k s u a b c = written-first _ _ _ (three-numbers (Letter letter_l) (λ e. omega arith)) (link-in-range k s u a b c)
+link-first : (limits : Limits) (k s u : ℕ) → k < limit limits.digits → s < limit limits.digits → u < limit limits.digits → FirstLine (link_line k s u)
+link-first limits k s u a b c = written-first limits.digits limits.countable _ _ _ (three-numbers (Letter letter_l) (λ e. omega arith)) (link-in-range limits k s u a b c)
 
-last-first : (p z : ℕ) → p < limit → z < limit → FirstLine (last_line p z)
-last-first p z a b = written-first _ _ _ (more (λ e. omega arith) (more tt (more tt none))) (last-in-range p z a b)
+last-first : (limits : Limits) (p z : ℕ) → p < limit limits.digits → z < limit limits.digits → FirstLine (last_line p z)
+last-first limits p z a b = written-first limits.digits limits.countable _ _ _ (more (λ e. omega arith) (more tt (more tt none))) (last-in-range limits p z a b)
 
 module _ (limits : Limits) (x : Sheet) where
   pub rest_read : {state : State} {text : List ℕ} → Rest limits x state text → (line : ℕ) → read_from limits state line (lines text) ≡ accepted x
   unfolding read_from turn after at_end lines ring_turn row_turn cut_turn link_turn last_turn unless ring_found row_found found
   rest_read rest_end line = refl
   rest_read (rest_last {ring} {rs} {c} {ks} {p} {z} {text} all a b rest) line =
-      rw (last-first p z a b text, le-ltb (length ks) ring.nodes all, line-back last_shape _ (last-in-range p z a b)) (rest_read rest (line + 1))
+      rw (last-first limits p z a b text, le-ltb (length ks) ring.nodes all, line-back limits last_shape _ (last-in-range limits p z a b)) (rest_read rest (line + 1))
   rest_read (rest_link {ring} {rs} {c} {ks} {k} {s} {u} {text} few a b d rest) line =
-      rw (link-first k s u a b d text, lt-ltb (length ks) ring.nodes few, line-back link_shape _ (link-in-range k s u a b d)) (rest_read rest (line + 1))
+      rw (link-first limits k s u a b d text, lt-ltb (length ks) ring.nodes few, line-back limits link_shape _ (link-in-range limits k s u a b d)) (rest_read rest (line + 1))
   rest_read (rest_cut {ring} {rs} {g} {h} {m} {text} p q r rest) line =
-      rw (cut-first g h m p q r text, (cut-not-sent g h m (sent-read (cut_line g h m)) limits ring rs (read_line cut_shape (cut_line g h m))).1, line-back cut_shape _ (cut-in-range g h m p q r))
+      rw (cut-first limits g h m p q r text, (cut-not-sent limits g h m (sent-read limits (cut_line g h m)) ring rs (read_line limits.digits cut_shape (cut_line g h m))).1, line-back limits cut_shape _ (cut-in-range limits g h m p q r))
       (rest_read rest (line + 1))
   rest_read (rest_row {ring} {rs} {i} {j} {d} {f} {k} {w} {text} spelled v rest) line =
-      rw (sent-first i j d f k w spelled text, line-back sent_shape _ (sent-in-range i j d f k w spelled), v) (rest_read rest (line + 1))
+      rw (sent-first limits i j d f k w spelled text, line-back limits sent_shape _ (sent-in-range limits i j d f k w spelled), v) (rest_read rest (line + 1))
   rest_read (rest_ring {ring} {text} a b v rest) line =
-      rw (ring-first ring.nodes ring.fibres a b text, line-back ring_shape _ (ring-in-range ring.nodes ring.fibres a b), v) (rest_read rest (line + 1))
+      rw (ring-first limits ring.nodes ring.fibres a b text, line-back limits ring_shape _ (ring-in-range limits ring.nodes ring.fibres a b), v) (rest_read rest (line + 1))

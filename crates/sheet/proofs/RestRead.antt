@@ -22,8 +22,7 @@ use Rattle.sheet.specs.WriteSheet.{routed_line, load_line, lines_of, end_text, w
 use Rattle.sheet.specs.Range.{RowSpelled, LinkSpelled, Spelled}
 use Rattle.sheet.specs.Read.{last_of}
 use Rattle.sheet.specs.Says.{start, rows, links, end}
-use Rattle.sheet.proofs.LineAt.{way-spelled}
-use Rattle.sheet.proofs.SheetLines.{SentSpelled}
+use Rattle.sheet.proofs.SheetLines.{way-spelled, SentSpelled}
 use Rattle.sheet.proofs.Last.{judge_next, last_more}
 use Rattle.sheet.proofs.Rest.{routed_of, cut_of, link_of, Rest, rest_end, rest_last, rest_link, rest_cut, rest_row, rest_ring}
 
@@ -38,16 +37,16 @@ module _ (x : Sheet) where
   at-end rest_end = record { same = refl; nothing = refl }
 
   -- the links ks are read, and those of `later` follow
-  record FromLinks (ring : Ring) (rs : List Routed) (c : Cut) (ks : List Link) (text : List ℕ) : Type 0 where
+  record FromLinks (limits : Limits) (ring : Ring) (rs : List Routed) (c : Cut) (ks : List Link) (text : List ℕ) : Type 0 where
     later : List Link
     same : x ≡ record { ring = ring; rows = rs; cut = c; links = ks ++ later; peak = x.peak; size = x.size }
     is_text : text ≡ lines_of load_line later ++ last_line x.peak x.size
     many : length ks + length later ≡ ring.nodes
-    spelled : Each LinkSpelled later
-    last : (x.peak < limit) × (x.size < limit)
+    spelled : Each (LinkSpelled limits) later
+    last : (x.peak < limit limits.digits) × (x.size < limit limits.digits)
 
-  last-from : {ring : Ring} {rs : List Routed} {c : Cut} {ks : List Link} {p z : ℕ} {text : List ℕ} → length ks ≤ ring.nodes → ring.nodes ≤ length ks → p < limit → z < limit
-      → AtEnd (record { ring = ring; rows = rs; cut = c; links = ks; peak = p; size = z }) text → FromLinks ring rs c ks (last_line p z ++ text)
+  last-from : {limits : Limits} {ring : Ring} {rs : List Routed} {c : Cut} {ks : List Link} {p z : ℕ} {text : List ℕ} → length ks ≤ ring.nodes → ring.nodes ≤ length ks → p < limit limits.digits → z < limit limits.digits
+      → AtEnd (record { ring = ring; rows = rs; cut = c; links = ks; peak = p; size = z }) text → FromLinks limits ring rs c ks (last_line p z ++ text)
   unfolding lines_of
   last-from {ks = ks} {p = p} {z = z} within all a b e =
       let ep : p ≡ x.peak = ap (λ (y : Sheet). y.peak) e.same in
@@ -62,8 +61,8 @@ module _ (x : Sheet) where
         last = (rw (← ep) a, rw (← ez) b);
       }
 
-  link-from : {ring : Ring} {rs : List Routed} {c : Cut} {ks : List Link} {k s u : ℕ} {text : List ℕ} → k < limit → s < limit → u < limit
-      → FromLinks ring rs c (ks ++ link_of k s u ∷ []) text → FromLinks ring rs c ks (link_line k s u ++ text)
+  link-from : {limits : Limits} {ring : Ring} {rs : List Routed} {c : Cut} {ks : List Link} {k s u : ℕ} {text : List ℕ} → k < limit limits.digits → s < limit limits.digits → u < limit limits.digits
+      → FromLinks limits ring rs c (ks ++ link_of k s u ∷ []) text → FromLinks limits ring rs c ks (link_line k s u ++ text)
   unfolding lines_of
   link-from {ks = ks} {k = k} {s = s} {u = u} a b d f =
       record {
@@ -76,7 +75,7 @@ module _ (x : Sheet) where
       }
 
   from-links : {limits : Limits} {ring : Ring} {rs : List Routed} {c : Cut} {ks : List Link} {text : List ℕ} → length ks ≤ ring.nodes → Rest limits x (links ring rs c ks) text
-      → FromLinks ring rs c ks text
+      → FromLinks limits ring rs c ks text
   from-links within (rest_last all a b rest) = last-from within all a b (at-end rest)
   from-links {ks = ks} within (rest_link {k = k} {s = s} {u = u} few a b d rest) =
       link-from a b d (from-links (omega (arith, length-append ks (link_of k s u ∷ []))) rest)
@@ -89,14 +88,14 @@ module _ (x : Sheet) where
     same : x.rows ≡ rs ++ later
     is_text : text ≡ lines_of routed_line later ++ end_text (figures_of x) x.links
     fine : FineRows limits ring.nodes (length rs) (last_of rs) (demands (sents later))
-    halves : Each RowSpelled later
-    cut : (x.cut.g < limit) × ((x.cut.h < limit) × (x.cut.across < limit))
-    behind : FromLinks ring x.rows x.cut [] (lines_of load_line x.links ++ last_line x.peak x.size)
+    halves : Each (RowSpelled limits) later
+    cut : (x.cut.g < limit limits.digits) × ((x.cut.h < limit limits.digits) × (x.cut.across < limit limits.digits))
+    behind : FromLinks limits ring x.rows x.cut [] (lines_of load_line x.links ++ last_line x.peak x.size)
 
-  cut-from : {limits : Limits} {ring : Ring} {rs : List Routed} {g h m : ℕ} {text : List ℕ} → g < limit → h < limit → m < limit
-      → FromLinks ring rs (cut_of g h m) [] text → FromRows limits ring rs (cut_line g h m ++ text)
+  cut-from : {limits : Limits} {ring : Ring} {rs : List Routed} {g h m : ℕ} {text : List ℕ} → g < limit limits.digits → h < limit limits.digits → m < limit limits.digits
+      → FromLinks limits ring rs (cut_of g h m) [] text → FromRows limits ring rs (cut_line g h m ++ text)
   unfolding lines_of end_text
-  cut-from {ring = ring} {rs = rs} {g = g} {h = h} {m = m} {text = text} p q r f =
+  cut-from {limits = limits} {ring = ring} {rs = rs} {g = g} {h = h} {m = m} {text = text} p q r f =
       let er : x.rows ≡ rs = ap (λ (y : Sheet). y.rows) f.same in
       let ec : x.cut ≡ cut_of g h m = ap (λ (y : Sheet). y.cut) f.same in
       let el : x.links ≡ f.later = ap (λ (y : Sheet). y.links) f.same in
@@ -109,12 +108,12 @@ module _ (x : Sheet) where
         halves = none;
         cut = rw ec (p, (q, r));
         behind =
-            subst (λ t. FromLinks ring x.rows x.cut [] t) et
-            (subst (λ c. FromLinks ring x.rows c [] text) (sym ec) (subst (λ l. FromLinks ring l (cut_of g h m) [] text) (sym er) f));
+            subst (λ t. FromLinks limits ring x.rows x.cut [] t) et
+            (subst (λ c. FromLinks limits ring x.rows c [] text) (sym ec) (subst (λ l. FromLinks limits ring l (cut_of g h m) [] text) (sym er) f));
       }
 
   -- what holds of a row that nothing is found against
-  row_from : {limits : Limits} {ring : Ring} {rs : List Routed} {i j d f k w : ℕ} {text : List ℕ} → SentSpelled i j d f k w → judge_next limits ring.nodes rs (demand i j d) ≡ Ok tt
+  row_from : {limits : Limits} {ring : Ring} {rs : List Routed} {i j d f k w : ℕ} {text : List ℕ} → SentSpelled limits i j d f k w → judge_next limits ring.nodes rs (demand i j d) ≡ Ok tt
       → FromRows limits ring (rs ++ routed_of i j d f k w ∷ []) text → FromRows limits ring rs (sent_line i j d f k w ++ text)
   unfolding lines_of
   row_from {limits} {ring} {rs} {i} {j} {d} {f} {k} {w} {text} spelled v from =
@@ -150,7 +149,7 @@ pub record IsSheet (limits : Limits) (t : List ℕ) (x : Sheet) : Type 0 where
   pub many : x.ring.nodes ≤ limits.nodes
   pub fibres : IsFibres x.ring.fibres
   pub fine : FineRows limits x.ring.nodes 0 None (demands (sents x.rows))
-  pub spelled : Spelled x
+  pub spelled : Spelled limits x
   pub links : length x.links ≡ x.ring.nodes
 
 sheet-from : (limits : Limits) (t : List ℕ) (x : Sheet) (ring : Ring) → RingJudged limits ring (Ok tt) → FromRows x limits ring [] t

@@ -17,17 +17,17 @@ use Rattle.sheet.proofs.Last.{judge_next, last_more}
 use Rattle.sheet.proofs.FirstReason.{HoldsAs, First, first-as}
 use Rattle.sheet.proofs.SheetSaid.{said-of-row, AgainstDemand, said, said_here}
 
-abbrev pub row_at : {t : List ℕ} {line : ℕ} {ring : Ring} {rs : List Routed} {r : Routed} → At t line (rows ring rs) → SentIs t line r → RowAt t line r
+abbrev pub row_at : {limits : Limits} {t : List ℕ} {line : ℕ} {ring : Ring} {rs : List Routed} {r : Routed} → At limits t line (rows ring rs) → SentIs limits t line r → RowAt limits t line r
 row_at {ring} {rs} at is = record { ring = ring; rs = rs; due = at; is = is }
 
 -- a row that falls has a row before it
-order-holds : {t : List ℕ} {line : ℕ} {ring : Ring} {rs : List Routed} {r : Routed} → At t line (rows ring rs) → RowAt t line r
-    → Falls (last_of rs) r.sent.demand → WrongOrder t line
+order-holds : {limits : Limits} {t : List ℕ} {line : ℕ} {ring : Ring} {rs : List Routed} {r : Routed} → At limits t line (rows ring rs) → RowAt limits t line r
+    → Falls (last_of rs) r.sent.demand → WrongOrder limits t line
 order-holds (behind_ring ring) row wrong = absurd wrong
 order-holds {r} (behind_row {line} {rs} {r = q} at is) row wrong =
     record { before = line; next = refl; q = q; above = row_at at is; r = r; row = row; wrong = rw (last_more rs q) at wrong }
 
-module _ (limits : Limits) {t : List ℕ} {line : ℕ} {ring : Ring} {rs : List Routed} {r : Routed} (at : At t line (rows ring rs)) (is : SentIs t line r) where
+module _ (limits : Limits) {t : List ℕ} {line : ℕ} {ring : Ring} {rs : List Routed} {r : Routed} (at : At limits t line (rows ring rs)) (is : SentIs limits t line r) where
   demand-first : First (λ s. AgainstDemand limits ring.nodes rs r.sent.demand s × Says limits t s line) (judge_next limits ring.nodes rs r.sent.demand)
   unfolding Says
   demand-first =

@@ -34,13 +34,13 @@ use Rattle.sheet.proofs.Places.{sent-one, place-one}
 use Rattle.sheet.proofs.RowFirst.{row_at}
 
 -- the byte that goes with the reason of a verdict is that reason's
-abbrev pub ByteOn : List ℕ → ℕ → (Reason → ℕ) → Verdict → Type 0
-ByteOn t line byte (Ok tt) = Unit {0}
-ByteOn t line byte (Err r) = ByteIs t r line (byte r)
+abbrev pub ByteOn : Limits → List ℕ → ℕ → (Reason → ℕ) → Verdict → Type 0
+ByteOn limits t line byte (Ok tt) = Unit {0}
+ByteOn limits t line byte (Err r) = ByteIs limits t r line (byte r)
 
 -- ---- R n fibres
 
-pub ring-byte : {limits : Limits} {t : List ℕ} {ring : Ring} {v : Verdict} → RingIs t ring → RingJudged limits ring v → ByteOn t 1 (λ reason. ring_byte ring.nodes ring.fibres (field_of reason 0)) v
+pub ring-byte : {limits : Limits} {t : List ℕ} {ring : Ring} {v : Verdict} → RingIs limits t ring → RingJudged limits ring v → ByteOn limits t 1 (λ reason. ring_byte ring.nodes ring.fibres (field_of reason 0)) v
 unfolding ByteIs
 ring-byte {ring} here (size_wrong w) = record { ring = ring; said = here; is = refl }
 ring-byte {ring} here (wrong_fibres l m w) = record { ring = ring; said = here; is = refl }
@@ -48,19 +48,19 @@ ring-byte here (right_ring l m f) = tt
 
 -- ---- D i j amount front back F-or-B
 
-module _ {t : List ℕ} {line : ℕ} {ring : Ring} {rs : List Routed} {r : Routed} (at : At t line (rows ring rs)) (is : SentIs t line r) where
+module _ {limits : Limits} {t : List ℕ} {line : ℕ} {ring : Ring} {rs : List Routed} {r : Routed} (at : At limits t line (rows ring rs)) (is : SentIs limits t line r) where
   -- the way of a line stands behind every field that a reason is about, so its number does not count
   module _ (w : ℕ) where
     abbrev byte : Reason → ℕ
     byte reason = sent_byte r.sent.demand.first r.sent.demand.second r.sent.demand.amount r.sent.front r.sent.back w (field_of reason (node_field ring.nodes r.sent.demand.first))
 
-    node-byte : Node ring.nodes r.sent.demand.first → NoNode ring.nodes r.sent.demand.first ⊎ NoNode ring.nodes r.sent.demand.second → NodeByte t line (byte NoSuchNode)
+    node-byte : Node ring.nodes r.sent.demand.first → NoNode ring.nodes r.sent.demand.first ⊎ NoNode ring.nodes r.sent.demand.second → NodeByte limits t line (byte NoSuchNode)
     unfolding node_field field_byte write_line
     node-byte (no_node x e) out = first_node (row_at at is) x (rw e refl)
     node-byte (has_node h e) (inl x) = absurd (no-node-there h x)
     node-byte (has_node h e) (inr x) = second_node (row_at at is) (no-node-there h) x (rw e refl)
 
-    demand-byte : {limits : Limits} {k : ℕ} {above : Option Demand} {v : Verdict} → RowJudged limits ring.nodes k above r.sent.demand v → ByteOn t line byte v
+    demand-byte : {k : ℕ} {above : Option Demand} {v : Verdict} → RowJudged limits ring.nodes k above r.sent.demand v → ByteOn limits t line byte v
     unfolding ByteIs field_byte write_line
     demand-byte (no_such_node x) = node-byte (node ring.nodes r.sent.demand.first) x
     demand-byte (not_below h p l) = refl
@@ -69,28 +69,28 @@ module _ {t : List ℕ} {line : ℕ} {ring : Ring} {rs : List Routed} {r : Route
     demand-byte (too_much h p l o c m) = record { r = r; row = row_at at is; is = refl }
     demand-byte (row_fine o up c m) = tt
 
-    pub sent-row-bytes : (limits : Limits) → ByteOn t line byte (judge_next limits ring.nodes rs r.sent.demand)
-    sent-row-bytes limits = demand-byte (row-judged limits ring.nodes (length rs) (last_of rs) r.sent.demand)
+    pub sent-row-bytes : ByteOn limits t line byte (judge_next limits ring.nodes rs r.sent.demand)
+    sent-row-bytes = demand-byte (row-judged limits ring.nodes (length rs) (last_of rs) r.sent.demand)
 
 -- ---- a line that is neither D nor C
 
-pub neither : {l : List ℕ} {q p : ℕ} → FirstFault sent_shape l q → FirstFault cut_shape l p → NeitherGoesOn l (max q p)
-neither {l} {q} {p} f g =
+pub neither : {limits : Limits} {l : List ℕ} {q p : ℕ} → FirstFault limits.digits sent_shape l q → FirstFault limits.digits cut_shape l p → NeitherGoesOn limits l (max q p)
+neither {limits} {l} {q} {p} f g =
     elim (dec_le q p) [
-      | yes h ↦ let e : max q p ≡ p = omega arith in rw e (record { before = inr g.before; no_row = λ a. f.here (fewer sent_shape l (q + 1) (p + 1) (omega arith) a); no_cut = g.here })
-      | no h ↦ let e : max q p ≡ q = omega arith in rw e (record { before = inl f.before; no_row = f.here; no_cut = λ a. g.here (fewer cut_shape l (p + 1) (q + 1) (omega arith) a) })
+      | yes h ↦ let e : max q p ≡ p = omega arith in rw e (record { before = inr g.before; no_row = λ a. f.here (fewer limits.digits limits.countable sent_shape l (q + 1) (p + 1) (omega arith) a); no_cut = g.here })
+      | no h ↦ let e : max q p ≡ q = omega arith in rw e (record { before = inl f.before; no_row = f.here; no_cut = λ a. g.here (fewer limits.digits limits.countable cut_shape l (p + 1) (q + 1) (omega arith) a) })
     ]
 
 -- ---- one byte
 
-no_later : {l : List ℕ} {p q : ℕ} → NeitherGoesOn l p → NeitherGoesOn l q → p < q → ⊥
-no_later {l} {p} {q} x y h = go y.before
+no_later : {limits : Limits} {l : List ℕ} {p q : ℕ} → NeitherGoesOn limits l p → NeitherGoesOn limits l q → p < q → ⊥
+no_later {limits} {l} {p} {q} x y h = go y.before
   where
-    go : Agrees sent_shape l q ⊎ Agrees cut_shape l q → ⊥
-    go (inl a) = x.no_row (fewer sent_shape l (p + 1) q (omega arith) a)
-    go (inr a) = x.no_cut (fewer cut_shape l (p + 1) q (omega arith) a)
+    go : Agrees limits.digits sent_shape l q ⊎ Agrees limits.digits cut_shape l q → ⊥
+    go (inl a) = x.no_row (fewer limits.digits limits.countable sent_shape l (p + 1) q (omega arith) a)
+    go (inr a) = x.no_cut (fewer limits.digits limits.countable cut_shape l (p + 1) q (omega arith) a)
 
-one-neither : {l : List ℕ} {p q : ℕ} → NeitherGoesOn l p → NeitherGoesOn l q → p ≡ q
+one-neither : {limits : Limits} {l : List ℕ} {p q : ℕ} → NeitherGoesOn limits l p → NeitherGoesOn limits l q → p ≡ q
 one-neither {p} {q} x y = let a : p < q → ⊥ = no_later x y in let b : q < p → ⊥ = no_later y x in omega arith
 
 -- what is due on a line
@@ -100,12 +100,12 @@ due (rows ring rs) = 1
 due (links ring rs c ks) = 2
 due (end x) = 3
 
-module _ {t : List ℕ} {line : ℕ} where
-  one-due : {s q : State} → At t line s → At t line q → due s ≡ due q
+module _ {limits : Limits} {t : List ℕ} {line : ℕ} where
+  one-due : {s q : State} → At limits t line s → At limits t line q → due s ≡ due q
   one-due a b = ap due (place-one a b refl)
 
   -- a link is due or the last line, by how many links were read
-  one-count : {ring other : Ring} {rs os : List Routed} {c d : Cut} {ks ls : List Link} → At t line (links ring rs c ks) → At t line (links other os d ls) → length ks < ring.nodes → other.nodes ≤ length ls → ⊥
+  one-count : {ring other : Ring} {rs os : List Routed} {c d : Cut} {ks ls : List Link} → At limits t line (links ring rs c ks) → At limits t line (links other os d ls) → length ks < ring.nodes → other.nodes ≤ length ls → ⊥
   one-count {ring} {other} {rs} {os} {c} {d} {ks} {ls} a b few all =
       let e : left (links ring rs c ks) ≡ left (links other os d ls) = ap left (place-one a b refl) in
       let f : full (links ring rs c ks) ≡ full (links other os d ls) = ap full (place-one a b refl) in
@@ -123,8 +123,8 @@ module _ {t : List ℕ} {line : ℕ} where
       full (links ring rs c ks) = ring.nodes
       full (end x) = 0
 
-  one-line-byte : {b c : ℕ} → LineByte t line b → LineByte t line c → b ≡ c
-  one-line-byte (ring_due a x) (ring_due b y) = one-shape-byte x y
+  one-line-byte : {b c : ℕ} → LineByte limits t line b → LineByte limits t line c → b ≡ c
+  one-line-byte (ring_due a x) (ring_due b y) = one-shape-byte limits x y
   one-line-byte (ring_due a x) (row_or_cut_due b y) = absurd (omega (arith, one-due a b))
   one-line-byte (ring_due a x) (link_due b g y) = absurd (omega (arith, one-due a b))
   one-line-byte (ring_due a x) (last_due b g y) = absurd (omega (arith, one-due a b))
@@ -136,13 +136,13 @@ module _ {t : List ℕ} {line : ℕ} where
   one-line-byte (row_or_cut_due a x) (none_due b y) = absurd (omega (arith, one-due a b))
   one-line-byte (link_due a f x) (ring_due b y) = absurd (omega (arith, one-due a b))
   one-line-byte (link_due a f x) (row_or_cut_due b y) = absurd (omega (arith, one-due a b))
-  one-line-byte (link_due a f x) (link_due b g y) = one-shape-byte x y
+  one-line-byte (link_due a f x) (link_due b g y) = one-shape-byte limits x y
   one-line-byte (link_due a f x) (last_due b g y) = absurd (one-count a b f g)
   one-line-byte (link_due a f x) (none_due b y) = absurd (omega (arith, one-due a b))
   one-line-byte (last_due a f x) (ring_due b y) = absurd (omega (arith, one-due a b))
   one-line-byte (last_due a f x) (row_or_cut_due b y) = absurd (omega (arith, one-due a b))
   one-line-byte (last_due a f x) (link_due b g y) = absurd (one-count b a g f)
-  one-line-byte (last_due a f x) (last_due b g y) = one-shape-byte x y
+  one-line-byte (last_due a f x) (last_due b g y) = one-shape-byte limits x y
   one-line-byte (last_due a f x) (none_due b y) = absurd (omega (arith, one-due a b))
   one-line-byte (none_due a x) (ring_due b y) = absurd (omega (arith, one-due a b))
   one-line-byte (none_due a x) (row_or_cut_due b y) = absurd (omega (arith, one-due a b))
@@ -151,7 +151,7 @@ module _ {t : List ℕ} {line : ℕ} where
   one-line-byte (none_due a x) (none_due b y) = x ∙ sym y
 
   -- a row that is due stands on one ring
-  ring-nodes : {r q : Routed} (x : RowAt t line r) (y : RowAt t line q) → x.ring.nodes ≡ y.ring.nodes
+  ring-nodes : {r q : Routed} (x : RowAt limits t line r) (y : RowAt limits t line q) → x.ring.nodes ≡ y.ring.nodes
   ring-nodes x y = ap nodes (place-one x.due y.due refl)
     where
       nodes : State → ℕ
@@ -160,7 +160,7 @@ module _ {t : List ℕ} {line : ℕ} where
       nodes (links ring rs c ks) = 0
       nodes (end x) = 0
 
-  one-node-byte : {b c : ℕ} → NodeByte t line b → NodeByte t line c → b ≡ c
+  one-node-byte : {b c : ℕ} → NodeByte limits t line b → NodeByte limits t line c → b ≡ c
   one-node-byte (first_node x w e) (first_node y v f) = e ∙ ap (λ (r : Routed). routed_byte r 1) (sent-one x.is y.is) ∙ sym f
   one-node-byte (first_node x w e) (second_node y v u f) =
       let s = sent-one x.is y.is in let n = ring-nodes x y in absurd (v (rw (s, n) at w))
@@ -168,30 +168,30 @@ module _ {t : List ℕ} {line : ℕ} where
       let s = sent-one y.is x.is in let n = ring-nodes y x in absurd (w (rw (s, n) at v))
   one-node-byte (second_node x w u e) (second_node y v z f) = e ∙ ap (λ (r : Routed). routed_byte r 2) (sent-one x.is y.is) ∙ sym f
 
-  one-amount-byte : {b c : ℕ} → AmountByte t line b → AmountByte t line c → b ≡ c
+  one-amount-byte : {b c : ℕ} → AmountByte limits t line b → AmountByte limits t line c → b ≡ c
   one-amount-byte x y = x.is ∙ ap (λ (r : Routed). routed_byte r 3) (sent-one x.row.is y.row.is) ∙ sym y.is
 
-pub one_byte : (t : List ℕ) (line b c : ℕ) (r : Reason) → ByteIs t r line b → ByteIs t r line c → b ≡ c
+pub one_byte : (limits : Limits) (t : List ℕ) (line b c : ℕ) (r : Reason) → ByteIs limits t r line b → ByteIs limits t r line c → b ≡ c
 unfolding ByteIs
-one_byte t line b c TooLong x y = x ∙ sym y
-one_byte t line b c Misshapen x y = one-line-byte x y
-one_byte t line b c RingSize x y = one-ring-field x y
-one_byte t line b c Fibres x y = one-ring-field x y
-one_byte t line b c NoSuchNode x y = one-node-byte x y
-one_byte t line b c NotBelow x y = x ∙ sym y
-one_byte t line b c OutOfOrder x y = x ∙ sym y
-one_byte t line b c TooMany x y = x ∙ sym y
-one_byte t line b c TooMuch x y = one-amount-byte x y
-one_byte t line b c WrongSum x y = absurd x
-one_byte t line b c WrongWay x y = absurd x
-one_byte t line b c WrongCut x y = absurd x
-one_byte t line b c WrongLink x y = absurd x
-one_byte t line b c WrongLast x y = absurd x
-one_byte t line b c NotTight x y = absurd x
-one_byte t line b c OverBound x y = absurd x
-one_byte t line b c NotZero x y = absurd x
-one_byte t line b c NotSymmetric x y = absurd x
-one_byte t line b c SumTooMuch x y = absurd x
-one_byte t line b c NoRow x y = absurd x
-one_byte t line b c Full x y = absurd x
-one_byte t line b c NoRoom x y = absurd x
+one_byte limits t line b c TooLong x y = x ∙ sym y
+one_byte limits t line b c Misshapen x y = one-line-byte x y
+one_byte limits t line b c RingSize x y = one-ring-field x y
+one_byte limits t line b c Fibres x y = one-ring-field x y
+one_byte limits t line b c NoSuchNode x y = one-node-byte x y
+one_byte limits t line b c NotBelow x y = x ∙ sym y
+one_byte limits t line b c OutOfOrder x y = x ∙ sym y
+one_byte limits t line b c TooMany x y = x ∙ sym y
+one_byte limits t line b c TooMuch x y = one-amount-byte x y
+one_byte limits t line b c WrongSum x y = absurd x
+one_byte limits t line b c WrongWay x y = absurd x
+one_byte limits t line b c WrongCut x y = absurd x
+one_byte limits t line b c WrongLink x y = absurd x
+one_byte limits t line b c WrongLast x y = absurd x
+one_byte limits t line b c NotTight x y = absurd x
+one_byte limits t line b c OverBound x y = absurd x
+one_byte limits t line b c NotZero x y = absurd x
+one_byte limits t line b c NotSymmetric x y = absurd x
+one_byte limits t line b c SumTooMuch x y = absurd x
+one_byte limits t line b c NoRow x y = absurd x
+one_byte limits t line b c Full x y = absurd x
+one_byte limits t line b c NoRoom x y = absurd x

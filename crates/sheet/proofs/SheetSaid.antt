@@ -29,14 +29,14 @@ use Rattle.sheet.proofs.Places.{sent-one, sent-or-cut, place-low, place-one}
 -- ---- against a line, by its place
 
 -- 2: the line does not have the shape that is due
-abbrev pub Unfit : List ℕ → ℕ → State → Type 0
-Unfit t line start = (ring : Ring) → RingIs t ring → ⊥
-Unfit t line (rows ring rs) = ((r : Routed) → SentIs t line r → ⊥) × ((c : Cut) → CutIs t line c → ⊥)
-Unfit t line (links ring rs c ks) =
-    ((length ks < ring.nodes) × ((l : Link) → LinkIs t line l → ⊥)) ⊎ ((ring.nodes ≤ length ks) × ((p z : ℕ) → LastIs t line p z → ⊥))
-Unfit t line (end x) = (l : List ℕ) × LineIs (lines t) line l
+abbrev pub Unfit : Limits → List ℕ → ℕ → State → Type 0
+Unfit limits t line start = (ring : Ring) → RingIs limits t ring → ⊥
+Unfit limits t line (rows ring rs) = ((r : Routed) → SentIs limits t line r → ⊥) × ((c : Cut) → CutIs limits t line c → ⊥)
+Unfit limits t line (links ring rs c ks) =
+    ((length ks < ring.nodes) × ((l : Link) → LinkIs limits t line l → ⊥)) ⊎ ((ring.nodes ≤ length ks) × ((p z : ℕ) → LastIs limits t line p z → ⊥))
+Unfit limits t line (end x) = (l : List ℕ) × LineIs (lines t) line l
 
-pub unfit-wrong : {t : List ℕ} {line : ℕ} {state : State} → At t line state → Unfit t line state → WrongLine t line
+pub unfit-wrong : {limits : Limits} {t : List ℕ} {line : ℕ} {state : State} → At limits t line state → Unfit limits t line state → WrongLine limits t line
 unfit-wrong {state = start} at none = no_ring at none
 unfit-wrong {state = rows ring rs} at none = no_row_no_cut at none.0 none.1
 unfit-wrong {state = links ring rs c ks} at (inl none) = no_link at none.0 none.1
@@ -48,21 +48,21 @@ abbrev pub AgainstDemand : Limits → ℕ → List Routed → Demand → Reason 
 AgainstDemand limits n rs q = AgainstRow limits n (length rs) (last_of rs) q
 
 pub data SaidAt (limits : Limits) (t : List ℕ) (line : ℕ) : State → Reason → Type 0 where
-  of_shape : {state : State} → Unfit t line state → SaidAt limits t line state Misshapen
-  of_ring : {ring : Ring} {s : Reason} → RingIs t ring → AgainstRing limits ring s → SaidAt limits t line start s
-  of_row : {ring : Ring} {rs : List Routed} {r : Routed} {s : Reason} → SentIs t line r → AgainstDemand limits ring.nodes rs r.sent.demand s → SaidAt limits t line (rows ring rs) s
+  of_shape : {state : State} → Unfit limits t line state → SaidAt limits t line state Misshapen
+  of_ring : {ring : Ring} {s : Reason} → RingIs limits t ring → AgainstRing limits ring s → SaidAt limits t line start s
+  of_row : {ring : Ring} {rs : List Routed} {r : Routed} {s : Reason} → SentIs limits t line r → AgainstDemand limits ring.nodes rs r.sent.demand s → SaidAt limits t line (rows ring rs) s
 
 -- ---- all that is said
 
-at-line : {t : List ℕ} {line k : ℕ} {state : State} → line ≡ k → At t k state → At t line state
+at-line : {limits : Limits} {t : List ℕ} {line k : ℕ} {state : State} → line ≡ k → At limits t k state → At limits t line state
 at-line e at = rw e at
 
 pub data Said (limits : Limits) (t : List ℕ) (line : ℕ) : Reason → Type 0 where
   of_text : line ≡ 0 → limits.bytes < length t → Said limits t line TooLong
-  of_line : {state : State} {s : Reason} → At t line state → SaidAt limits t line state s → Said limits t line s
+  of_line : {state : State} {s : Reason} → At limits t line state → SaidAt limits t line state s → Said limits t line s
 
 module _ {limits : Limits} {t : List ℕ} {line : ℕ} where
-  said-shape : WrongLine t line → Said limits t line Misshapen
+  said-shape : WrongLine limits t line → Said limits t line Misshapen
   said-shape (no_ring at none) = of_line at (of_shape none)
   said-shape (no_row_no_cut {ring} {rs} at none none') = of_line at (of_shape {state = rows ring rs} (none, none'))
   said-shape (no_link {ring} {rs} {c} {ks} at few none) = of_line at (of_shape {state = links ring rs c ks} (inl (few, none)))
@@ -97,12 +97,12 @@ module _ {limits : Limits} {t : List ℕ} {line : ℕ} where
   said NoRoom h = absurd h
 
   -- of a line with a place
-  pub said_here : {state : State} → At t line state → {s : Reason} → Said limits t line s → SaidAt limits t line state s
+  pub said_here : {state : State} → At limits t line state → {s : Reason} → Said limits t line s → SaidAt limits t line state s
   said_here at (of_text z long) = absurd (omega (arith, place-low at))
   said_here at {s} (of_line at' h) = subst (λ q. SaidAt limits t line q s) (place-one at' at refl) h
 
 -- only reason 1 comes before reason 2, and that stands on no line
-pub from-2 : (limits : Limits) {t : List ℕ} {line : ℕ} {state : State} → At t line state → (s : Reason) → Says limits t s line → 2 ≤ rank_of s
+pub from-2 : (limits : Limits) {t : List ℕ} {line : ℕ} {state : State} → At limits t line state → (s : Reason) → Says limits t s line → 2 ≤ rank_of s
 unfolding Says
 from-2 limits {t} {line} at s h =
     elim (dec_le 2 (rank_of s)) [
@@ -116,25 +116,25 @@ from-2 limits {t} {line} at s h =
 -- ---- what is said of a line that has been read
 
 module _ {limits : Limits} {t : List ℕ} {line : ℕ} where
-  pub said-of-ring : {ring : Ring} {s : Reason} → RingIs t ring → SaidAt limits t line start s → AgainstRing limits ring s
+  pub said-of-ring : {ring : Ring} {s : Reason} → RingIs limits t ring → SaidAt limits t line start s → AgainstRing limits ring s
   said-of-ring {ring} is (of_shape none) = absurd (none ring is)
   said-of-ring {s} is (of_ring r o) = subst (λ m. AgainstRing limits m s) (ring-one r is) o
 
   module _ {ring : Ring} {rs : List Routed} where
-    pub said-of-row : {r : Routed} {s : Reason} → SentIs t line r → SaidAt limits t line (rows ring rs) s → AgainstDemand limits ring.nodes rs r.sent.demand s
+    pub said-of-row : {r : Routed} {s : Reason} → SentIs limits t line r → SaidAt limits t line (rows ring rs) s → AgainstDemand limits ring.nodes rs r.sent.demand s
     said-of-row {r} is (of_shape none) = absurd (none.0 r is)
     said-of-row {s} is (of_row q o) = subst (λ (r : Routed). AgainstDemand limits ring.nodes rs r.sent.demand s) (sent-one q is) o
 
     -- the other lines are right by their shape
-    pub none-of-cut : {c : Cut} {s : Reason} → CutIs t line c → SaidAt limits t line (rows ring rs) s → ⊥
+    pub none-of-cut : {c : Cut} {s : Reason} → CutIs limits t line c → SaidAt limits t line (rows ring rs) s → ⊥
     none-of-cut {c} is (of_shape none) = none.1 c is
     none-of-cut is (of_row r o) = sent-or-cut r is
 
   module _ {ring : Ring} {rs : List Routed} {c : Cut} {ks : List Link} where
-    pub none-of-link : {l : Link} {s : Reason} → length ks < ring.nodes → LinkIs t line l → SaidAt limits t line (links ring rs c ks) s → ⊥
+    pub none-of-link : {l : Link} {s : Reason} → length ks < ring.nodes → LinkIs limits t line l → SaidAt limits t line (links ring rs c ks) s → ⊥
     none-of-link {l} few is (of_shape (inl none)) = none.1 l is
     none-of-link few is (of_shape (inr none)) = omega (arith, none.0)
 
-    pub none-of-last : {p z : ℕ} {s : Reason} → ring.nodes ≤ length ks → LastIs t line p z → SaidAt limits t line (links ring rs c ks) s → ⊥
+    pub none-of-last : {p z : ℕ} {s : Reason} → ring.nodes ≤ length ks → LastIs limits t line p z → SaidAt limits t line (links ring rs c ks) s → ⊥
     none-of-last all is (of_shape (inl none)) = omega (arith, none.0)
     none-of-last {p} {z} all is (of_shape (inr none)) = none.1 p z is

@@ -28,7 +28,7 @@ use Rattle.table.proofs.TableText.{ring-spelled}
 use Rattle.table.specs.Table.{LimitsSpelled}
 use Rattle.sheet.specs.WriteSheet.{routed_line, load_line, lines_of, end_text, write_sheet}
 use Rattle.sheet.specs.Range.{RowSpelled, LinkSpelled, Spelled, InRange}
-use Rattle.sheet.specs.Read.{Result, accepted, last_of, read_sheet}
+use Rattle.sheet.specs.Read.{SheetResult, accepted, last_of, read_sheet}
 use Rattle.sheet.specs.Says.{start, rows, links}
 use Rattle.sheet.proofs.SheetLines.{way_back, way_small, SentSpelled}
 use Rattle.sheet.proofs.Last.{last_more}
@@ -37,9 +37,9 @@ use Rattle.sheet.proofs.RestRead.{IsSheet, from_start}
 
 -- ---- a sheet's text is a rest
 
-module _ (limits : Limits) (x : Sheet) (spelled : Spelled x) (count : length x.links ≡ x.ring.nodes) where
+module _ (limits : Limits) (x : Sheet) (spelled : Spelled limits x) (count : length x.links ≡ x.ring.nodes) where
   -- the links ks are written, and those of `later` follow
-  to-links : (later ks : List Link) → x.links ≡ ks ++ later → Each LinkSpelled later → Rest limits x (links x.ring x.rows x.cut ks) (lines_of load_line later ++ last_line x.peak x.size)
+  to-links : (later ks : List Link) → x.links ≡ ks ++ later → Each (LinkSpelled limits) later → Rest limits x (links x.ring x.rows x.cut ks) (lines_of load_line later ++ last_line x.peak x.size)
   unfolding lines_of
   to-links [] ks e none =
       let k : x.links ≡ ks = e ∙ append-nil ks in
@@ -53,7 +53,7 @@ module _ (limits : Limits) (x : Sheet) (spelled : Spelled x) (count : length x.l
       (rest_link few s.link s.split s.unsplit (to-links later (ks ++ l ∷ []) f ss))
 
   module _ (limited : LimitsSpelled limits) (many : x.ring.nodes ≤ limits.nodes) where
-    to-rows : (later rs : List Routed) → x.rows ≡ rs ++ later → FineRows limits x.ring.nodes (length rs) (last_of rs) (demands (sents later)) → Each RowSpelled later
+    to-rows : (later rs : List Routed) → x.rows ≡ rs ++ later → FineRows limits x.ring.nodes (length rs) (last_of rs) (demands (sents later)) → Each (RowSpelled limits) later
         → Rest limits x (rows x.ring rs) (lines_of routed_line later ++ end_text (figures_of x) x.links)
     unfolding lines_of end_text
     to-rows [] rs e no_row none =
@@ -65,7 +65,7 @@ module _ (limits : Limits) (x : Sheet) (spelled : Spelled x) (count : length x.l
         let one : length (rs ++ r ∷ []) ≡ length rs + 1 = length-append rs (r ∷ []) in
         let behind = subst (λ (q : Option Demand). FineRows limits x.ring.nodes (length (rs ++ r ∷ [])) q (demands (sents later))) (sym (last_more rs r)) (rw one fine) in
         let same : way_of (way_number r.way) ≡ r.way = way_back r.way in
-        let s : SentSpelled r.sent.demand.first r.sent.demand.second r.sent.demand.amount r.sent.front r.sent.back (way_number r.way) =
+        let s : SentSpelled limits r.sent.demand.first r.sent.demand.second r.sent.demand.amount r.sent.front r.sent.back (way_number r.way) =
         record {
           first = omega (arith, on.order, on.high, limited.nodes);
           second = omega (arith, on.high, limited.nodes);
@@ -89,7 +89,7 @@ module _ (limits : Limits) (limited : LimitsSpelled limits) (t : List ℕ) (x : 
   read-written : read_sheet limits t ≡ accepted x → (t ≡ write_sheet x) × InRange limits x
   unfolding read_sheet
   read-written =
-      cond-elim (λ (r : Result). r ≡ accepted x → (t ≡ write_sheet x) × InRange limits x) _ _ _
+      cond-elim (λ (r : SheetResult). r ≡ accepted x → (t ≡ write_sheet x) × InRange limits x) _ _ _
       (λ long e. clash (cc))
       (λ short e. whole (ltb-false limits.bytes (length t) short) (from_start limits t x (subst (Rest limits x start) (join-lines t) (read-rest limits x (lines t) start 1 e))))
     where

@@ -1,14 +1,14 @@
--- Every figure of a plan has at most 7 digits, and no sheet of a plan is longer than `longest`: a plan is a true sheet, so no figure is large
--- (`figures-small`), and a line of numbers in range has at most 8 bytes for each field.
+-- Every true sheet within limits that fit can be spelled, and is no longer than `longest`: no figure of a true sheet is large (`figures-small`), and each line
+-- is no longer than the widths of its fields (`line-wide`). A plan is a true sheet.
 use Prim.Native.Nat.{ℕ, zero, suc, ◌+◌, ◌*◌, ◌≤◌, ◌<◌}
 use mathlib.Core.List.{List, [], ◌∷◌, ◌++◌}
 use mathlib.Core.Path.{◌≡◌, refl, ap, ◌∙◌, sym, subst}
 use native.Mathlib.Omega.{arith}
-use native.Mathlib.Nat.{mul-suc}
+use native.Mathlib.Nat.{mul-suc, mul-le-mul_left}
 use lib.ListN.{length, length-append, length-map}
 use Rattle.sonet.specs.Size.{sonet_sizes}
 use Rattle.sonet.proofs.Sizes.{largest_of}
-use Rattle.ring.specs.Limits.{desk}
+use Rattle.ring.specs.Limits.{Limits, desk, old}
 use Rattle.ring.specs.declared.types.Ring.{Ring}
 use Rattle.ring.specs.LineSize.{IsFibres}
 use Rattle.ring.specs.Lists.{Each, none, more}
@@ -21,85 +21,45 @@ use Rattle.ring.specs.Sheet.{Sheet, sents, demands, numbers_from, plan, figures_
 use Rattle.ring.specs.declared.types.Link.{Link}
 use Rattle.ring.specs.True.{TrueSheet}
 use Rattle.ring.proofs.Lists.{each, each_both, each-of-map}
-use Rattle.ring.proofs.Small.{SmallFigures, figures-small, demands-length}
+use Rattle.ring.proofs.Small.{SmallRow, SmallFigures, figures-small, demands-length}
 use Rattle.ring.proofs.OurPlan.{plan-true, plan-demands}
+use Rattle.text.specs.declared.field.Field.TheVariants.{Number}
+use Rattle.text.specs.Bytes.{letter_d, letter_c, letter_l, letter_z}
 use Rattle.text.specs.Number.{limit}
-use Rattle.text.specs.Shapes.{ring_shape, sent_shape, cut_shape, link_shape, last_shape, ring_line, cut_line, last_line}
-use Rattle.text.proofs.Lengths.{line-in-range-short}
+use Rattle.text.specs.Field.{spell}
+use Rattle.text.specs.Shapes.{ring_line, cut_line, last_line}
+use Rattle.text.proofs.Widths.{no-field, wide-field, line-wide, number-wide, number-most, letter-wide, way-wide}
 use Rattle.table.specs.Table as table
-use Rattle.table.proofs.TableText.{desk-spelled, ring-spelled}
+use Rattle.table.proofs.Short.{Narrow, desk-narrow, old-narrow, node-wide, amount-wide, ring-short}
 use Rattle.sheet.specs.WriteSheet.{routed_line, load_line, lines_of, end_text, write_sheet}
-use Rattle.sheet.specs.Range.{RowSpelled, LinkSpelled, Spelled, InRange, longest}
-use Rattle.sheet.proofs.SheetLines.{way_small, SentSpelled, ring-in-range, sent-in-range, cut-in-range, link-in-range, last-in-range}
+use Rattle.sheet.specs.Range.{LinkSpelled, Spelled, InRange, longest}
 
--- ---- the length of a sheet whose lines are in range
+-- limits that fit: nodes of 2 digits, amounts of 4 and figures of 8, which have as many digits as a number may have; and the longest sheet is no longer than a text
+pub record Fitting (limits : Limits) : Type 0 where
+  pub narrow : Narrow limits
+  pub digits : limits.digits ≤ 8
+  pub small : 20000 ≤ limit limits.digits
+  pub figures : 2 * limits.amount * limits.rows < limit limits.digits
+  pub bytes : longest limits ≤ limits.bytes
+
+pub desk-fits : Fitting desk
+desk-fits = record { narrow = desk-narrow; digits = omega arith; small = omega arith; figures = omega arith; bytes = omega arith }
+
+pub old-fits : Fitting old
+old-fits = record { narrow = old-narrow; digits = omega arith; small = omega arith; figures = omega arith; bytes = omega arith }
+
+-- ---- the length of a sheet, by those of its lines
 
 lines-most : {A : Type 0} (line : A → List ℕ) (most : ℕ) {l : List A} → Each (λ a. length (line a) ≤ most) l → length (lines_of line l) ≤ most * length l
 unfolding lines_of
 lines-most line most none = omega arith
 lines-most line most (more {a = a} {l = l} p e) = omega (arith, length-append (line a) (lines_of line l), mul-suc most (length l), lines-most line most e)
 
--- its demand is one of the desk's, and its halves can be spelled
-pub record RowFine (n : ℕ) (r : Routed) : Type 0 where
-  pub on : OnRing n r.sent.demand
-  pub amount : r.sent.demand.amount ≤ desk.amount
-  pub spelled : RowSpelled r
-
-module _ (n : ℕ) (many : n ≤ desk.nodes) where
-  pub row-spelled : (r : Routed) → RowFine n r → SentSpelled r.sent.demand.first r.sent.demand.second r.sent.demand.amount r.sent.front r.sent.back (way_number r.way)
-  row-spelled r h =
-      record {
-        first = omega (arith, h.on.order, h.on.high);
-        second = omega (arith, h.on.high);
-        amount = omega (arith, h.amount);
-        front = h.spelled.front;
-        back = h.spelled.back;
-        way = way_small r.way;
-      }
-
-  row-short : (r : Routed) → RowFine n r → length (routed_line r) ≤ 56
-  row-short r h =
-      line-in-range-short sent_shape (0 ∷ r.sent.demand.first ∷ r.sent.demand.second ∷ r.sent.demand.amount ∷ r.sent.front ∷ r.sent.back ∷ way_number r.way ∷ [])
-      (sent-in-range r.sent.demand.first r.sent.demand.second r.sent.demand.amount r.sent.front r.sent.back (way_number r.way) (row-spelled r h))
-
-link-short : (l : Link) → LinkSpelled l → length (load_line l) ≤ 32
-link-short l h = line-in-range-short link_shape (0 ∷ l.link ∷ l.split ∷ l.unsplit ∷ []) (link-in-range l.link l.split l.unsplit h.link h.split h.unsplit)
-
-module _ (x : Sheet) (many : x.ring.nodes ≤ desk.nodes) (fibres : IsFibres x.ring.fibres) (rows : TableRows x.ring.nodes (demands (sents x.rows))) (amounts : Each (λ (r : Demand). r.amount ≤ desk.amount) (demands (sents x.rows))) where
-  of-demands : {P : Demand → Type 0} → Each P (demands (sents x.rows)) → Each (λ (r : Routed). P r.sent.demand) x.rows
-  of-demands {P} e = each-of-map (λ (r : Routed). r.sent) {P = λ s. P s.demand} x.rows (each-of-map (λ (s : Sent). s.demand) {P = P} (sents x.rows) e)
-
-  pub rows-fine : Each RowSpelled x.rows → Each (RowFine x.ring.nodes) x.rows
-  rows-fine halves =
-      each_both {P = λ (r : Routed). OnRing x.ring.nodes r.sent.demand × (r.sent.demand.amount ≤ desk.amount)} (λ r h s. record { on = h.0; amount = h.1; spelled = s })
-      (each_both (λ r o a. (o, a)) (of-demands {P = OnRing x.ring.nodes} rows.nodes) (of-demands {P = λ r. r.amount ≤ desk.amount} amounts)) halves
-
-  pub sheet-short : length x.rows ≤ desk.rows → Spelled x → length x.links ≡ x.ring.nodes → length (write_sheet x) ≤ longest desk
-  unfolding write_sheet end_text
-  sheet-short count spelled links =
-      let n = x.ring.nodes in
-      let c = x.cut in
-      omega (
-        arith,
-        count,
-        many,
-        links,
-        length-append (ring_line n x.ring.fibres) (lines_of routed_line x.rows ++ end_text (figures_of x) x.links),
-        length-append (lines_of routed_line x.rows) (end_text (figures_of x) x.links),
-        length-append (cut_line c.g c.h c.across) (lines_of load_line x.links ++ last_line x.peak x.size),
-        length-append (lines_of load_line x.links) (last_line x.peak x.size),
-        line-in-range-short ring_shape (0 ∷ n ∷ x.ring.fibres ∷ []) (ring-in-range n x.ring.fibres (ring-spelled desk desk-spelled x.ring many fibres).0 (ring-spelled desk desk-spelled x.ring many fibres).1),
-        line-in-range-short cut_shape (0 ∷ c.g ∷ c.h ∷ c.across ∷ []) (cut-in-range c.g c.h c.across spelled.cut.0 spelled.cut.1.0 spelled.cut.1.1),
-        line-in-range-short last_shape (0 ∷ x.peak ∷ x.size ∷ []) (last-in-range x.peak x.size spelled.last.0 spelled.last.1),
-        lines-most routed_line 56 (each (row-short n many) (rows-fine spelled.halves)),
-        lines-most load_line 32 (each link-short spelled.loads),
-      )
-
 -- ---- a true sheet's figures
 
-sizes-spelled : largest_of sonet_sizes < limit
+sizes-small : largest_of sonet_sizes < 20000
 unfolding largest_of
-sizes-spelled = omega arith
+sizes-small = omega arith
 
 numbers-length : (k m : ℕ) → length (numbers_from k m) ≡ m
 unfolding numbers_from
@@ -111,68 +71,152 @@ unfolding numbers_from
 numbers-within top k zero h = none
 numbers-within top k (suc m) h = more {a = k} (omega arith) (numbers-within top (suc k) m (omega arith))
 
-module _ (x : Sheet) (t : TrueSheet x) (many : x.ring.nodes ≤ desk.nodes) (fibres : IsFibres x.ring.fibres) (rows : TableRows x.ring.nodes (demands (sents x.rows))) (count : length x.rows ≤ desk.rows)
-    (amounts : Each (λ (r : Demand). r.amount ≤ desk.amount) (demands (sents x.rows))) where
-  small : SmallFigures desk.amount x
-  small = figures-small desk.amount x t amounts
+module _ (limits : Limits) (fits : Fitting limits) (x : Sheet) (t : TrueSheet x) (many : x.ring.nodes ≤ limits.nodes) (fibres : IsFibres x.ring.fibres)
+    (rows : TableRows x.ring.nodes (demands (sents x.rows))) (count : length x.rows ≤ limits.rows) (amounts : Each (λ (r : Demand). r.amount ≤ limits.amount) (demands (sents x.rows))) where
+  small : SmallFigures limits.amount x
+  small = figures-small limits.amount x t amounts
 
-  numbers : Each (λ (l : Link). l.link < limit) x.links
-  numbers = each-of-map (λ (l : Link). l.link) {P = λ k. k < limit} x.links (subst (Each (λ k. k < limit)) (sym t.links) (numbers-within limit 1 x.ring.nodes (omega arith)))
+  figures : 2 * limits.amount * length x.rows < limit limits.digits
+  figures = omega (arith, mul-le-mul_left (2 * limits.amount) count, fits.figures)
 
-  -- every figure has at most 7 digits
-  pub true-spelled : Spelled x
+  pub numbers : Each (λ (l : Link). l.link < 100) x.links
+  numbers =
+      each-of-map (λ (l : Link). l.link) {P = λ k. k < 100} x.links (subst (Each (λ k. k < 100)) (sym t.links) (numbers-within 100 1 x.ring.nodes (omega (arith, fits.narrow.nodes))))
+
+  -- every figure has at most as many digits as a number may have
+  pub true-spelled : Spelled limits x
   true-spelled =
       record {
-        halves = each (λ r h. record { front = omega (arith, h.halves); back = omega (arith, h.halves) }) small.rows;
-        cut = (omega (arith, t.cut.order, t.cut.high), (omega (arith, t.cut.high), omega (arith, small.across, count)));
-        loads = each_both (λ l k h. record { link = k; split = omega (arith, h.split, count); unsplit = omega (arith, h.unsplit, count) }) numbers small.links;
-        last = (omega (arith, small.peak, count), omega (arith, small.size, sizes-spelled));
+        halves = each (λ r h. record { front = omega (arith, h.halves, fits.narrow.amount, fits.small); back = omega (arith, h.halves, fits.narrow.amount, fits.small) }) small.rows;
+        cut = (omega (arith, t.cut.order, t.cut.high, fits.narrow.nodes, fits.small), (omega (arith, t.cut.high, fits.narrow.nodes, fits.small), omega (arith, small.across, figures)));
+        loads = each_both (λ l k h. record { link = omega (arith, fits.small); split = omega (arith, h.split, figures); unsplit = omega (arith, h.unsplit, figures) }) numbers small.links;
+        last = (omega (arith, small.peak, figures), omega (arith, small.size, sizes-small, fits.small));
       }
 
   pub true-links : length x.links ≡ x.ring.nodes
   true-links = sym (length-map x.links (λ (l : Link). l.link)) ∙ ap length t.links ∙ numbers-length 1 x.ring.nodes
 
-  pub true-short : length (write_sheet x) ≤ longest desk
-  true-short = sheet-short x many fibres rows amounts count true-spelled true-links
+  -- ---- and its lines
 
--- ---- so a plan's
+  figure : (v : ℕ) → v < limit limits.digits → length (spell Number v) ≤ 8
+  figure v h = omega (arith, number-most limits.digits limits.countable v h, fits.digits)
 
-module _ (ring : Ring) (rs : List Demand) (h : table.InRange desk ring rs) where
+  node : (v : ℕ) → v ≤ x.ring.nodes → length (spell Number v) ≤ 2
+  node v h = node-wide limits fits.narrow v (omega (arith, many))
+
+  row-short : (r : Routed) → OnRing x.ring.nodes r.sent.demand → SmallRow limits.amount r → length (routed_line r) ≤ 27
+  row-short r on h =
+      line-wide {ws = 1 ∷ 2 ∷ 2 ∷ 4 ∷ 5 ∷ 5 ∷ 1 ∷ []}
+      (wide-field (letter-wide letter_d 0)
+      (wide-field (node r.sent.demand.first (omega (arith, on.order, on.high)))
+      (wide-field (node r.sent.demand.second (omega (arith, on.high)))
+      (wide-field (amount-wide limits fits.narrow r.sent.demand.amount h.amount)
+      (wide-field (number-wide 4 r.sent.front (omega arith) (omega (arith, h.halves, fits.narrow.amount)))
+      (wide-field (number-wide 4 r.sent.back (omega arith) (omega (arith, h.halves, fits.narrow.amount)))
+      (wide-field (way-wide (way_number r.way)) no-field)))))))
+
+  cut-short : length (cut_line x.cut.g x.cut.h x.cut.across) ≤ 17
+  cut-short =
+      line-wide {ws = 1 ∷ 2 ∷ 2 ∷ 8 ∷ []}
+      (wide-field (letter-wide letter_c 0)
+      (wide-field (node x.cut.g (omega (arith, t.cut.order, t.cut.high)))
+      (wide-field (node x.cut.h (omega (arith, t.cut.high)))
+      (wide-field (figure x.cut.across true-spelled.cut.1.1) no-field))))
+
+  link-short : (l : Link) → l.link < 100 → LinkSpelled limits l → length (load_line l) ≤ 23
+  link-short l k h =
+      line-wide {ws = 1 ∷ 2 ∷ 8 ∷ 8 ∷ []}
+      (wide-field (letter-wide letter_l 0)
+      (wide-field (number-wide 1 l.link (omega arith) (omega (arith, k)))
+      (wide-field (figure l.split h.split)
+      (wide-field (figure l.unsplit h.unsplit) no-field))))
+
+  last-short : length (last_line x.peak x.size) ≤ 20
+  last-short =
+      line-wide {ws = 1 ∷ 8 ∷ 8 ∷ []}
+      (wide-field (letter-wide letter_z 0) (wide-field (figure x.peak true-spelled.last.0) (wide-field (figure x.size true-spelled.last.1) no-field)))
+
+  of-demands : {P : Demand → Type 0} → Each P (demands (sents x.rows)) → Each (λ (r : Routed). P r.sent.demand) x.rows
+  of-demands {P} e = each-of-map (λ (r : Routed). r.sent) {P = λ s. P s.demand} x.rows (each-of-map (λ (s : Sent). s.demand) {P = P} (sents x.rows) e)
+
+  rows-short : length (lines_of routed_line x.rows) ≤ 27 * length x.rows
+  rows-short = lines-most routed_line 27 (each_both row-short (of-demands {P = OnRing x.ring.nodes} rows.nodes) small.rows)
+
+  links-short : length (lines_of load_line x.links) ≤ 23 * length x.links
+  links-short = lines-most load_line 23 (each_both link-short numbers true-spelled.loads)
+
+  pub true-short : length (write_sheet x) ≤ longest limits
+  unfolding write_sheet end_text
+  true-short =
+      omega (
+        arith,
+        count,
+        many,
+        true-links,
+        length-append (ring_line x.ring.nodes x.ring.fibres) (lines_of routed_line x.rows ++ end_text (figures_of x) x.links),
+        length-append (lines_of routed_line x.rows) (end_text (figures_of x) x.links),
+        length-append (cut_line x.cut.g x.cut.h x.cut.across) (lines_of load_line x.links ++ last_line x.peak x.size),
+        length-append (lines_of load_line x.links) (last_line x.peak x.size),
+        ring-short limits fits.narrow x.ring many fibres,
+        cut-short,
+        last-short,
+        rows-short,
+        links-short,
+      )
+
+  -- every true sheet within limits that fit is in range: its figures can be spelled, and a text holds it
+  pub true-in-range : limits.fewest ≤ x.ring.nodes → InRange limits x
+  true-in-range few =
+      record {
+        few = few;
+        many = many;
+        fibres = fibres;
+        rows = rows;
+        count = count;
+        amounts = amounts;
+        spelled = true-spelled;
+        links = true-links;
+        short = omega (arith, true-short, fits.bytes);
+      }
+
+-- ---- so is a plan
+
+module _ (limits : Limits) (fits : Fitting limits) (two : 2 ≤ limits.fewest) (ring : Ring) (rs : List Demand) (h : table.InRange limits ring rs) where
   ring-is : (plan ring rs).ring ≡ ring
   unfolding plan
   ring-is = refl
 
-  true-plan : TrueSheet (plan ring rs)
-  true-plan = plan-true ring rs h.few h.rows
+  few : 2 ≤ ring.nodes
+  few = omega (arith, two, h.few)
 
-  many : (plan ring rs).ring.nodes ≤ desk.nodes
+  true-plan : TrueSheet (plan ring rs)
+  true-plan = plan-true ring rs few h.rows
+
+  many : (plan ring rs).ring.nodes ≤ limits.nodes
   many = rw ring-is h.many
 
   fibres : IsFibres (plan ring rs).ring.fibres
   fibres = rw ring-is h.fibres
 
   rows : TableRows (plan ring rs).ring.nodes (demands (sents (plan ring rs).rows))
-  rows = let e = plan-demands ring rs h.few h.rows in rw (ring-is, e) h.rows
+  rows = let e = plan-demands ring rs few h.rows in rw (ring-is, e) h.rows
 
-  count : length (plan ring rs).rows ≤ desk.rows
-  count = omega (arith, h.count, demands-length (plan ring rs).rows, ap length (plan-demands ring rs h.few h.rows))
+  count : length (plan ring rs).rows ≤ limits.rows
+  count = omega (arith, h.count, demands-length (plan ring rs).rows, ap length (plan-demands ring rs few h.rows))
 
-  amounts : Each (λ (r : Demand). r.amount ≤ desk.amount) (demands (sents (plan ring rs).rows))
-  amounts = let e = plan-demands ring rs h.few h.rows in rw e h.amounts
+  amounts : Each (λ (r : Demand). r.amount ≤ limits.amount) (demands (sents (plan ring rs).rows))
+  amounts = let e = plan-demands ring rs few h.rows in rw e h.amounts
 
-  pub plan-short : length (write_sheet (plan ring rs)) ≤ longest desk
-  plan-short = true-short (plan ring rs) true-plan many fibres rows count amounts
+  pub plan-fits : length (write_sheet (plan ring rs)) ≤ longest limits
+  plan-fits = true-short limits fits (plan ring rs) true-plan many fibres rows count amounts
 
-  pub plan-in-range : InRange desk (plan ring rs)
-  plan-in-range =
-      record {
-        few = rw ring-is h.few;
-        many = many;
-        fibres = fibres;
-        rows = rows;
-        count = count;
-        amounts = amounts;
-        spelled = true-spelled (plan ring rs) true-plan many fibres rows count amounts;
-        links = true-links (plan ring rs) true-plan many fibres rows count amounts;
-        short = omega (arith, plan-short);
-      }
+  pub plan-within : InRange limits (plan ring rs)
+  plan-within = true-in-range limits fits (plan ring rs) true-plan many fibres rows count amounts (rw ring-is h.few)
+
+-- ---- for the desk's limits
+
+pub plan-short : (ring : Ring) (rs : List Demand) → table.InRange desk ring rs → length (write_sheet (plan ring rs)) ≤ longest desk
+plan-short = plan-fits desk desk-fits (omega arith)
+
+pub plan-in-range : (ring : Ring) (rs : List Demand) → table.InRange desk ring rs → InRange desk (plan ring rs)
+plan-in-range = plan-within desk desk-fits (omega arith)

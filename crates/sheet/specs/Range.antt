@@ -1,4 +1,4 @@
--- To believe: the values that a sheet's lines can hold: the numbers of a table, every other figure of at most 7 digits, and an L line for each link.
+-- To believe: the values that a sheet's lines can hold: the numbers of a table, every other figure of at most as many digits as a number may have, and an L line for each link.
 use Rattle.std.specs.Prelude.{ℕ, ◌+◌, ◌*◌, ◌≤◌, ◌<◌, ◌≡◌, length}
 use Rattle.ring.specs.Limits.{Limits}
 use Rattle.ring.specs.LineSize.{IsFibres}
@@ -8,27 +8,26 @@ use Rattle.ring.specs.declared.types.Demand.{Demand}
 use Rattle.ring.specs.declared.types.Routed.{Routed}
 use Rattle.ring.specs.Sheet.{Sheet, sents, demands}
 use Rattle.ring.specs.declared.types.Link.{Link}
-use Rattle.text.specs.Number.{most_digits, limit}
-use Rattle.text.specs.Shapes.{ring_shape, sent_shape, cut_shape, link_shape, last_shape}
+use Rattle.text.specs.Number.{limit}
 use Rattle.sheet.specs.WriteSheet.{write_sheet}
 
 -- the halves of a row can be spelled
-pub record RowSpelled (r : Routed) : Type 0 where
-  pub front : r.sent.front < limit
-  pub back : r.sent.back < limit
+pub record RowSpelled (limits : Limits) (r : Routed) : Type 0 where
+  pub front : r.sent.front < limit limits.digits
+  pub back : r.sent.back < limit limits.digits
 
 -- an L line's numbers can be
-pub record LinkSpelled (l : Link) : Type 0 where
-  pub link : l.link < limit
-  pub split : l.split < limit
-  pub unsplit : l.unsplit < limit
+pub record LinkSpelled (limits : Limits) (l : Link) : Type 0 where
+  pub link : l.link < limit limits.digits
+  pub split : l.split < limit limits.digits
+  pub unsplit : l.unsplit < limit limits.digits
 
--- every figure that no other limit bounds has at most 7 digits
-pub record Spelled (x : Sheet) : Type 0 where
-  pub halves : Each RowSpelled x.rows
-  pub cut : (x.cut.g < limit) × ((x.cut.h < limit) × (x.cut.across < limit))
-  pub loads : Each LinkSpelled x.links
-  pub last : (x.peak < limit) × (x.size < limit)
+-- every figure that no other limit bounds can be spelled too
+pub record Spelled (limits : Limits) (x : Sheet) : Type 0 where
+  pub halves : Each (RowSpelled limits) x.rows
+  pub cut : (x.cut.g < limit limits.digits) × ((x.cut.h < limit limits.digits) × (x.cut.across < limit limits.digits))
+  pub loads : Each (LinkSpelled limits) x.links
+  pub last : (x.peak < limit limits.digits) × (x.size < limit limits.digits)
 
 pub record InRange (limits : Limits) (x : Sheet) : Type 0 where
   -- as in a table
@@ -38,11 +37,12 @@ pub record InRange (limits : Limits) (x : Sheet) : Type 0 where
   pub rows : TableRows x.ring.nodes (demands (sents x.rows))
   pub count : length x.rows ≤ limits.rows
   pub amounts : Each (λ (r : Demand). r.amount ≤ limits.amount) (demands (sents x.rows))
-  pub spelled : Spelled x
+  pub spelled : Spelled limits x
   -- as many L lines as the ring has links
   pub links : length x.links ≡ x.ring.nodes
   pub short : length (write_sheet x) ≤ limits.bytes
 
--- no sheet of so many rows and nodes is longer: a field has at most 7 digits and the byte behind them
+-- no true sheet of so many rows and nodes is longer, within limits of at most 2 digits for a node, 4 for an amount and 8 for any number: halves have 5 digits and loads 8, and each field has the
+-- byte behind it, so the R line has at most 7 bytes, the C line 17, the Z line 20, a D line 27 and an L line 23
 abbrev pub longest : Limits → ℕ
-longest limits = (most_digits + 1) * (length ring_shape + length sent_shape * limits.rows + length cut_shape + length link_shape * limits.nodes + length last_shape)
+longest limits = 44 + 27 * limits.rows + 23 * limits.nodes

@@ -1,5 +1,5 @@
 -- Internal: reading a sheet: reason 1 first, then lines in order, and in a line the reasons in their order; nothing is judged by its figures.
-use Rattle.std.specs.Prelude.{ℕ, ◌+◌, max, cond, List, [], ◌∷◌, ◌++◌, length, get_or, ltb, Option, Some, None, Ok, Err}
+use Rattle.std.specs.Prelude.{ℕ, ◌+◌, max, cond, List, [], ◌∷◌, ◌++◌, length, get_or, ltb, Result, Option, Ok, Err}
 use Rattle.ring.specs.Routing.{way_of, routed, sent}
 use Rattle.ring.specs.declared.types.Routed.{Routed}
 use Rattle.ring.specs.declared.types.Cut.{Cut}
@@ -21,9 +21,9 @@ use Rattle.table.specs.declared.reason.Reason.TheVariants.{TooLong, Misshapen}
 use Rattle.sheet.specs.Says.{State, start, rows, links, end}
 
 -- a sheet; or a reason, a line and a byte of it
-pub data Result : Type 0 where
-  accepted : Sheet → Result
-  refused : Reason → ℕ → ℕ → Result
+pub data SheetResult : Type 0 where
+  accepted : Sheet → SheetResult
+  refused : Reason → ℕ → ℕ → SheetResult
 
 -- a line leads on to another state, or to a reason and a byte
 pub data Turn : Type 0 where
@@ -31,9 +31,9 @@ pub data Turn : Type 0 where
   stop : Reason → ℕ → Turn
 
 -- where nothing is found against the values of a line; else the byte is where the field starts
-unfoldable pub unless : List Field → List ℕ → Option Fault → State → Turn
-unless shape vs None next = on next
-unless shape vs (Some f) next = stop f.reason (field_byte shape vs f.field)
+unfoldable pub unless : List Field → List ℕ → Result Unit Fault → State → Turn
+unless shape vs (Ok tt) next = on next
+unless shape vs (Err f) next = stop f.reason (field_byte shape vs f.field)
 
 -- ---- the values of a line; that of the letter is the first
 
@@ -89,30 +89,30 @@ last_turn ring rs c ks (Err p) = stop Misshapen (p + 1)
 -- by what is due; a line behind the last is left over
 unfoldable pub turn : Limits → State → List ℕ → Turn
 unfolding ring_turn row_turn link_turn last_turn
-turn limits start l = ring_turn limits (read_line ring_shape l)
-turn limits (rows ring rs) l = row_turn limits ring rs (read_line sent_shape l) (read_line cut_shape l)
-turn limits (links ring rs c ks) l = cond (ltb (length ks) ring.nodes) (link_turn ring rs c ks (read_line link_shape l)) (last_turn ring rs c ks (read_line last_shape l))
+turn limits start l = ring_turn limits (read_line limits.digits ring_shape l)
+turn limits (rows ring rs) l = row_turn limits ring rs (read_line limits.digits sent_shape l) (read_line limits.digits cut_shape l)
+turn limits (links ring rs c ks) l = cond (ltb (length ks) ring.nodes) (link_turn ring rs c ks (read_line limits.digits link_shape l)) (last_turn ring rs c ks (read_line limits.digits last_shape l))
 turn limits (end x) l = stop Misshapen 1
 
 -- ---- the lines in order
 
 -- no line is left: the one that is due is missing
-unfoldable pub at_end : State → ℕ → Result
+unfoldable pub at_end : State → ℕ → SheetResult
 at_end (end x) line = accepted x
 at_end start line = refused Misshapen line 1
 at_end (rows ring rs) line = refused Misshapen line 1
 at_end (links ring rs c ks) line = refused Misshapen line 1
 
-unfoldable pub after : Turn → ℕ → (State → Result) → Result
+unfoldable pub after : Turn → ℕ → (State → SheetResult) → SheetResult
 after (on next) line rest = rest next
 after (stop reason byte) line rest = refused reason line byte
 
 -- from a state, the lines ls, of which the first has the number `line`
-unfoldable pub read_from : Limits → State → ℕ → List (List ℕ) → Result
+unfoldable pub read_from : Limits → State → ℕ → List (List ℕ) → SheetResult
 unfolding turn at_end after
 read_from limits state line [] = at_end state line
 read_from limits state line (l ∷ ls) = after (turn limits state l) line λ next. read_from limits next (line + 1) ls
 
-unfoldable pub read_sheet : Limits → List ℕ → Result
+unfoldable pub read_sheet : Limits → List ℕ → SheetResult
 unfolding read_from
 read_sheet limits t = cond (ltb limits.bytes (length t)) (refused TooLong 0 0) (read_from limits start 1 (lines t))

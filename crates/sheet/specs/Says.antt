@@ -21,28 +21,28 @@ use Rattle.sheet.specs.WriteSheet.{routed_line, load_line}
 -- ---- lines
 
 -- this line is D i j amount front back F-or-B
-pub record SentIs (t : List ℕ) (line : ℕ) (r : Routed) : Type 0 where
+pub record SentIs (limits : Limits) (t : List ℕ) (line : ℕ) (r : Routed) : Type 0 where
   pub text : LineIs (lines t) line (routed_line r)
-  pub nodes : (r.sent.demand.first < limit) × (r.sent.demand.second < limit)
-  pub amount : r.sent.demand.amount < limit
-  pub halves : (r.sent.front < limit) × (r.sent.back < limit)
+  pub nodes : (r.sent.demand.first < limit limits.digits) × (r.sent.demand.second < limit limits.digits)
+  pub amount : r.sent.demand.amount < limit limits.digits
+  pub halves : (r.sent.front < limit limits.digits) × (r.sent.back < limit limits.digits)
 
 -- this line is C g h across
-pub record CutIs (t : List ℕ) (line : ℕ) (c : Cut) : Type 0 where
+pub record CutIs (limits : Limits) (t : List ℕ) (line : ℕ) (c : Cut) : Type 0 where
   pub text : LineIs (lines t) line (cut_line c.g c.h c.across)
-  pub pair : (c.g < limit) × (c.h < limit)
-  pub number : c.across < limit
+  pub pair : (c.g < limit limits.digits) × (c.h < limit limits.digits)
+  pub number : c.across < limit limits.digits
 
 -- this line is L link split-load unsplit-load
-pub record LinkIs (t : List ℕ) (line : ℕ) (l : Link) : Type 0 where
+pub record LinkIs (limits : Limits) (t : List ℕ) (line : ℕ) (l : Link) : Type 0 where
   pub text : LineIs (lines t) line (load_line l)
-  pub link : l.link < limit
-  pub loads : (l.split < limit) × (l.unsplit < limit)
+  pub link : l.link < limit limits.digits
+  pub loads : (l.split < limit limits.digits) × (l.unsplit < limit limits.digits)
 
 -- this line is Z unsplit-peak size
-pub record LastIs (t : List ℕ) (line p z : ℕ) : Type 0 where
+pub record LastIs (limits : Limits) (t : List ℕ) (line p z : ℕ) : Type 0 where
   pub text : LineIs (lines t) line (last_line p z)
-  pub spelled : (p < limit) × (z < limit)
+  pub spelled : (p < limit limits.digits) × (z < limit limits.digits)
 
 -- what lines have said, and so what is due behind them: the R line; a D line or the C line; behind the C line an L line for each link, and then the Z line;
 -- behind that nothing
@@ -55,79 +55,79 @@ pub data State : Type 0 where
   end : Sheet → State
 
 -- what the lines before this one have said
-pub data At (t : List ℕ) : ℕ → State → Type 0 where
-  at_start : At t 1 start
-  behind_ring : {ring : Ring} → RingIs t ring → At t 2 (rows ring [])
-  behind_row : {line : ℕ} {ring : Ring} {rs : List Routed} {r : Routed} → At t line (rows ring rs) → SentIs t line r → At t (line + 1) (rows ring (rs ++ r ∷ []))
-  behind_cut : {line : ℕ} {ring : Ring} {rs : List Routed} {c : Cut} → At t line (rows ring rs) → CutIs t line c → At t (line + 1) (links ring rs c [])
-  behind_link : {line : ℕ} {ring : Ring} {rs : List Routed} {c : Cut} {ks : List Link} {l : Link} → At t line (links ring rs c ks) → length ks < ring.nodes → LinkIs t line l
-      → At t (line + 1) (links ring rs c (ks ++ l ∷ []))
-  behind_last : {line : ℕ} {ring : Ring} {rs : List Routed} {c : Cut} {ks : List Link} {p z : ℕ} → At t line (links ring rs c ks) → ring.nodes ≤ length ks → LastIs t line p z
-      → At t (line + 1) (end (record { ring = ring; rows = rs; cut = c; links = ks; peak = p; size = z }))
+pub data At (limits : Limits) (t : List ℕ) : ℕ → State → Type 0 where
+  at_start : At limits t 1 start
+  behind_ring : {ring : Ring} → RingIs limits t ring → At limits t 2 (rows ring [])
+  behind_row : {line : ℕ} {ring : Ring} {rs : List Routed} {r : Routed} → At limits t line (rows ring rs) → SentIs limits t line r → At limits t (line + 1) (rows ring (rs ++ r ∷ []))
+  behind_cut : {line : ℕ} {ring : Ring} {rs : List Routed} {c : Cut} → At limits t line (rows ring rs) → CutIs limits t line c → At limits t (line + 1) (links ring rs c [])
+  behind_link : {line : ℕ} {ring : Ring} {rs : List Routed} {c : Cut} {ks : List Link} {l : Link} → At limits t line (links ring rs c ks) → length ks < ring.nodes → LinkIs limits t line l
+      → At limits t (line + 1) (links ring rs c (ks ++ l ∷ []))
+  behind_last : {line : ℕ} {ring : Ring} {rs : List Routed} {c : Cut} {ks : List Link} {p z : ℕ} → At limits t line (links ring rs c ks) → ring.nodes ≤ length ks → LastIs limits t line p z
+      → At limits t (line + 1) (end (record { ring = ring; rows = rs; cut = c; links = ks; peak = p; size = z }))
 
 -- a D line that is due
-pub record RowAt (t : List ℕ) (line : ℕ) (r : Routed) : Type 0 where
+pub record RowAt (limits : Limits) (t : List ℕ) (line : ℕ) (r : Routed) : Type 0 where
   pub ring : Ring
   pub rs : List Routed
-  pub due : At t line (rows ring rs)
-  pub is : SentIs t line r
+  pub due : At limits t line (rows ring rs)
+  pub is : SentIs limits t line r
 
 -- ---- the reasons
 
 -- 2: line of the wrong shape, missing, or left over
-pub data WrongLine (t : List ℕ) (line : ℕ) : Type 0 where
-  no_ring : At t line start → ((ring : Ring) → RingIs t ring → ⊥) → WrongLine t line
-  no_row_no_cut : {ring : Ring} {rs : List Routed} → At t line (rows ring rs) → ((r : Routed) → SentIs t line r → ⊥) → ((c : Cut) → CutIs t line c → ⊥)
-      → WrongLine t line
-  no_link : {ring : Ring} {rs : List Routed} {c : Cut} {ks : List Link} → At t line (links ring rs c ks) → length ks < ring.nodes → ((l : Link) → LinkIs t line l → ⊥)
-      → WrongLine t line
-  no_last : {ring : Ring} {rs : List Routed} {c : Cut} {ks : List Link} → At t line (links ring rs c ks) → ring.nodes ≤ length ks → ((p z : ℕ) → LastIs t line p z → ⊥)
-      → WrongLine t line
-  left_over : {x : Sheet} {l : List ℕ} → At t line (end x) → LineIs (lines t) line l → WrongLine t line
+pub data WrongLine (limits : Limits) (t : List ℕ) (line : ℕ) : Type 0 where
+  no_ring : At limits t line start → ((ring : Ring) → RingIs limits t ring → ⊥) → WrongLine limits t line
+  no_row_no_cut : {ring : Ring} {rs : List Routed} → At limits t line (rows ring rs) → ((r : Routed) → SentIs limits t line r → ⊥) → ((c : Cut) → CutIs limits t line c → ⊥)
+      → WrongLine limits t line
+  no_link : {ring : Ring} {rs : List Routed} {c : Cut} {ks : List Link} → At limits t line (links ring rs c ks) → length ks < ring.nodes → ((l : Link) → LinkIs limits t line l → ⊥)
+      → WrongLine limits t line
+  no_last : {ring : Ring} {rs : List Routed} {c : Cut} {ks : List Link} → At limits t line (links ring rs c ks) → ring.nodes ≤ length ks → ((p z : ℕ) → LastIs limits t line p z → ⊥)
+      → WrongLine limits t line
+  left_over : {x : Sheet} {l : List ℕ} → At limits t line (end x) → LineIs (lines t) line l → WrongLine limits t line
 
 -- 4: a node outside 1..n
-pub record WrongNode (t : List ℕ) (line : ℕ) : Type 0 where
+pub record WrongNode (limits : Limits) (t : List ℕ) (line : ℕ) : Type 0 where
   pub r : Routed
-  pub row : RowAt t line r
+  pub row : RowAt limits t line r
   pub wrong : NoNode row.ring.nodes r.sent.demand.first ⊎ NoNode row.ring.nodes r.sent.demand.second
 
 -- 5: first node not below second
-pub record WrongPair (t : List ℕ) (line : ℕ) : Type 0 where
+pub record WrongPair (limits : Limits) (t : List ℕ) (line : ℕ) : Type 0 where
   pub r : Routed
-  pub row : RowAt t line r
+  pub row : RowAt limits t line r
   pub wrong : r.sent.demand.second ≤ r.sent.demand.first
 
 -- 6: row's nodes below the row before, by first node, then second
-pub record WrongOrder (t : List ℕ) (line : ℕ) : Type 0 where
+pub record WrongOrder (limits : Limits) (t : List ℕ) (line : ℕ) : Type 0 where
   pub before : ℕ
   pub next : line ≡ before + 1
   pub q : Routed
-  pub above : RowAt t before q
+  pub above : RowAt limits t before q
   pub r : Routed
-  pub row : RowAt t line r
+  pub row : RowAt limits t line r
   pub wrong : PairBefore r.sent.demand.first r.sent.demand.second q.sent.demand.first q.sent.demand.second
 
--- 16: more than 496 rows
+-- 16: more than 1,024 rows
 pub record WrongCount (limits : Limits) (t : List ℕ) (line : ℕ) : Type 0 where
   pub r : Routed
-  pub row : RowAt t line r
+  pub row : RowAt limits t line r
   pub wrong : limits.rows < length row.rs + 1
 
 -- 7: amount over 9,999
 pub record WrongAmount (limits : Limits) (t : List ℕ) (line : ℕ) : Type 0 where
   pub r : Routed
-  pub row : RowAt t line r
+  pub row : RowAt limits t line r
   pub wrong : limits.amount < r.sent.demand.amount
 
 -- what a reason says, with its line
 unfoldable pub Says : Limits → List ℕ → Reason → ℕ → Type 0
 Says limits t TooLong line = (line ≡ 0) × (limits.bytes < length t)
-Says limits t Misshapen line = WrongLine t line
+Says limits t Misshapen line = WrongLine limits t line
 Says limits t RingSize line = WrongRing limits t line
-Says limits t Fibres line = WrongFibres t line
-Says limits t NoSuchNode line = WrongNode t line
-Says limits t NotBelow line = WrongPair t line
-Says limits t OutOfOrder line = WrongOrder t line
+Says limits t Fibres line = WrongFibres limits t line
+Says limits t NoSuchNode line = WrongNode limits t line
+Says limits t NotBelow line = WrongPair limits t line
+Says limits t OutOfOrder line = WrongOrder limits t line
 Says limits t TooMany line = WrongCount limits t line
 Says limits t TooMuch line = WrongAmount limits t line
 -- a sheet that is read is judged by its values; and the others judge no sheet
@@ -136,50 +136,50 @@ Says limits t _ line = ⊥
 -- ---- the byte of the line that is given with a reason, counted from 1
 
 -- where a D line or the C line is due, both shapes count: p is the place of the first byte at which neither goes on
-pub record NeitherGoesOn (l : List ℕ) (p : ℕ) : Type 0 where
-  pub before : Agrees sent_shape l p ⊎ Agrees cut_shape l p
-  pub no_row : Agrees sent_shape l (p + 1) → ⊥
-  pub no_cut : Agrees cut_shape l (p + 1) → ⊥
+pub record NeitherGoesOn (limits : Limits) (l : List ℕ) (p : ℕ) : Type 0 where
+  pub before : Agrees limits.digits sent_shape l p ⊎ Agrees limits.digits cut_shape l p
+  pub no_row : Agrees limits.digits sent_shape l (p + 1) → ⊥
+  pub no_cut : Agrees limits.digits cut_shape l (p + 1) → ⊥
 
 -- 2: by the shape that is due; 1 where the line is left over
-pub data LineByte (t : List ℕ) (line byte : ℕ) : Type 0 where
-  ring_due : At t line start → ShapeByte t ring_shape line byte → LineByte t line byte
-  row_or_cut_due : {ring : Ring} {rs : List Routed} → At t line (rows ring rs) → DueByte t line NeitherGoesOn byte → LineByte t line byte
-  link_due : {ring : Ring} {rs : List Routed} {c : Cut} {ks : List Link} → At t line (links ring rs c ks) → length ks < ring.nodes → ShapeByte t link_shape line byte → LineByte t line byte
-  last_due : {ring : Ring} {rs : List Routed} {c : Cut} {ks : List Link} → At t line (links ring rs c ks) → ring.nodes ≤ length ks → ShapeByte t last_shape line byte → LineByte t line byte
-  none_due : {x : Sheet} → At t line (end x) → byte ≡ 1 → LineByte t line byte
+pub data LineByte (limits : Limits) (t : List ℕ) (line byte : ℕ) : Type 0 where
+  ring_due : At limits t line start → ShapeByte limits t ring_shape line byte → LineByte limits t line byte
+  row_or_cut_due : {ring : Ring} {rs : List Routed} → At limits t line (rows ring rs) → DueByte t line (NeitherGoesOn limits) byte → LineByte limits t line byte
+  link_due : {ring : Ring} {rs : List Routed} {c : Cut} {ks : List Link} → At limits t line (links ring rs c ks) → length ks < ring.nodes → ShapeByte limits t link_shape line byte → LineByte limits t line byte
+  last_due : {ring : Ring} {rs : List Routed} {c : Cut} {ks : List Link} → At limits t line (links ring rs c ks) → ring.nodes ≤ length ks → ShapeByte limits t last_shape line byte → LineByte limits t line byte
+  none_due : {x : Sheet} → At limits t line (end x) → byte ≡ 1 → LineByte limits t line byte
 
 -- where field k of a D line starts: the nodes are fields 1 and 2, the amount is field 3
 abbrev pub routed_byte : Routed → ℕ → ℕ
 routed_byte r k = sent_byte r.sent.demand.first r.sent.demand.second r.sent.demand.amount r.sent.front r.sent.back (way_number r.way) k
 
 -- 4: where the first of the two nodes that is outside starts
-pub data NodeByte (t : List ℕ) (line byte : ℕ) : Type 0 where
-  first_node : {r : Routed} (row : RowAt t line r) → NoNode row.ring.nodes r.sent.demand.first → byte ≡ routed_byte r 1 → NodeByte t line byte
-  second_node : {r : Routed} (row : RowAt t line r) → (NoNode row.ring.nodes r.sent.demand.first → ⊥) → NoNode row.ring.nodes r.sent.demand.second → byte ≡ routed_byte r 2 → NodeByte t line byte
+pub data NodeByte (limits : Limits) (t : List ℕ) (line byte : ℕ) : Type 0 where
+  first_node : {r : Routed} (row : RowAt limits t line r) → NoNode row.ring.nodes r.sent.demand.first → byte ≡ routed_byte r 1 → NodeByte limits t line byte
+  second_node : {r : Routed} (row : RowAt limits t line r) → (NoNode row.ring.nodes r.sent.demand.first → ⊥) → NoNode row.ring.nodes r.sent.demand.second → byte ≡ routed_byte r 2 → NodeByte limits t line byte
 
 -- 7: where the amount starts
-pub record AmountByte (t : List ℕ) (line byte : ℕ) : Type 0 where
+pub record AmountByte (limits : Limits) (t : List ℕ) (line byte : ℕ) : Type 0 where
   pub r : Routed
-  pub row : RowAt t line r
+  pub row : RowAt limits t line r
   pub is : byte ≡ routed_byte r 3
 
 -- the byte of a reason that holds on a line
-unfoldable pub ByteIs : List ℕ → Reason → ℕ → ℕ → Type 0
+unfoldable pub ByteIs : Limits → List ℕ → Reason → ℕ → ℕ → Type 0
 -- a reason with line 0
-ByteIs t TooLong line byte = byte ≡ 0
-ByteIs t Misshapen line byte = LineByte t line byte
+ByteIs limits t TooLong line byte = byte ≡ 0
+ByteIs limits t Misshapen line byte = LineByte limits t line byte
 -- a reason about one field
-ByteIs t RingSize line byte = RingField t 1 byte
-ByteIs t Fibres line byte = RingField t 2 byte
-ByteIs t NoSuchNode line byte = NodeByte t line byte
-ByteIs t TooMuch line byte = AmountByte t line byte
+ByteIs limits t RingSize line byte = RingField limits t 1 byte
+ByteIs limits t Fibres line byte = RingField limits t 2 byte
+ByteIs limits t NoSuchNode line byte = NodeByte limits t line byte
+ByteIs limits t TooMuch line byte = AmountByte limits t line byte
 -- a reason that judges the line as a whole
-ByteIs t NotBelow line byte = byte ≡ 1
-ByteIs t OutOfOrder line byte = byte ≡ 1
-ByteIs t TooMany line byte = byte ≡ 1
+ByteIs limits t NotBelow line byte = byte ≡ 1
+ByteIs limits t OutOfOrder line byte = byte ≡ 1
+ByteIs limits t TooMany line byte = byte ≡ 1
 -- a sheet that is read is judged by its values; and the others judge no sheet
-ByteIs t _ line byte = ⊥
+ByteIs limits t _ line byte = ⊥
 
 -- ---- which is given
 
@@ -187,7 +187,7 @@ ByteIs t _ line byte = ⊥
 pub record Given (limits : Limits) (t : List ℕ) (r : Reason) (line byte : ℕ) : Type 0 where
   pub holds : Says limits t r line
   pub first : (s : Reason) (other : ℕ) → Earlier s other r line → Says limits t s other → ⊥
-  pub byte_is : ByteIs t r line byte
+  pub byte_is : ByteIs limits t r line byte
 
 -- a sheet is well-formed when no reason holds that judges its own length or lines; what its figures say is not asked
 abbrev pub WellFormed : Limits → List ℕ → Type 0

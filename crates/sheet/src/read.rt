@@ -1,5 +1,5 @@
 //! A text to a sheet: its R line, its D lines, its C line, its L lines and its Z line, in this order, and nothing behind them. Nothing is judged by its figures.
-ghost use Rattle.std.specs.Prelude.{◌≡◌, ◌+◌, ◌≤◌, ◌<◌, List, [], ◌∷◌, ◌++◌, length, take, IfOk, IfErr, Ok};
+ghost use Rattle.std.specs.Prelude.{◌≡◌, ◌+◌, ◌≤◌, ◌<◌, List, [], ◌∷◌, ◌++◌, length, IfOk, IfErr, Ok};
 ghost use Rattle.ring.specs.Limits.{desk};
 ghost use Rattle.ring.specs.Sheet.{sheet_in};
 ghost use Rattle.ring.specs.declared.types.Ring.{Ring as RingOf};
@@ -9,17 +9,18 @@ ghost use Rattle.ring.specs.declared.types.Link.{Link as LinkOf};
 ghost use Rattle.text.specs.ReadLine.{read_line, Reading};
 ghost use Rattle.text.specs.Shapes.{cut_shape};
 ghost use Rattle.sheet.specs.Says.{State, rows as behind_rows, links as behind_links};
-ghost use Rattle.sheet.specs.Read.{Result as SheetResult, accepted, cut_turn, row_turn, after, read_from, read_sheet};
+ghost use Rattle.sheet.specs.Read.{SheetResult, accepted, cut_turn, row_turn, after, read_from, read_sheet};
 ghost use Rattle.sheet.specs.Answer.{with_values};
 ghost use Rattle.sheet.specs.Parts.{read_by};
 
-use ring::{Cut, Demand, Figures, LINKS, Link, Ring, Routed, Sent, Way, wide};
+use arrayvec::ArrayVec;
+use ring::{Cut, Demand, Figures, LINKS, Link, Ring, Routed, Sent, Way};
 use rows::{Columns, Rows};
-use table::{Line, Lines, Refusal, last_demand, ring_on, row_fault};
+use table::{Line, Lines, Refusal, check_next, ring_on};
 use text::{CUT, LAST, LINK, SENT};
 
 // The row of a D line by its values, behind the rows before it. Apart from `read_rows` for its proof: what is found against the row is known here alone.
-#[tactic(auto, unfolding(crate::specs::Read::row_turn, crate::specs::Read::unless, crate::specs::Read::after))]
+#[tactic(auto, using(crate::proofs::ReadSteps::has_room), unfolding(crate::specs::Read::row_turn, crate::specs::Read::unless, crate::specs::Read::after))]
 fn row_on(number: u32, values: &[u32; 7], ring: Ring, rows: &Columns) -> Result<Routed, Refusal>
     ensures leads { (other : Reading) (next : State → SheetResult) →
         read_by result (λ row. next (behind_rows ring (rows.now ++ row ∷ [])))
@@ -32,17 +33,15 @@ fn row_on(number: u32, values: &[u32; 7], ring: Ring, rows: &Columns) -> Result<
         second,
         amount,
     };
-    match row_fault(ring.nodes, rows.count(), last_demand(rows), row) {
-        None => Ok(Routed {
-            sent: Sent {
-                demand: row,
-                front,
-                back,
-            },
-            way: Way::of(way),
-        }),
-        Some(fault) => Err(fault.on(number, &SENT, values)),
-    }
+    check_next(ring.nodes, rows, row).map_err(|fault| fault.on(number, &SENT, values))?;
+    Ok(Routed {
+        sent: Sent {
+            demand: row,
+            front,
+            back,
+        },
+        way: Way::of(way),
+    })
 }
 
 // The cut of a C line. It is no D line: at the place `no_row` of it no D line goes on, and its fault is the later of the two.
@@ -51,15 +50,12 @@ fn cut_on(number: u32, line: &Line, no_row: usize) -> Result<Cut, Refusal>
     requires byte_fits { no_row ≤ desk.bytes }
     ensures { (ring : RingOf) (rs : List RoutedOf) (next : State → SheetResult) →
         read_by result (λ cut. next (behind_links ring rs cut []))
-        ≡ after (cut_turn ring rs no_row (read_line cut_shape line.now)) number next }
+        ≡ after (cut_turn ring rs no_row (read_line desk.digits cut_shape line.now)) number next }
 {
-    match line.read(&CUT) {
-        Ok(values) => {
-            let [_, g, h, across] = values;
-            Ok(Cut { g, h, across })
-        }
-        Err(no_cut) => Err(Refusal::misshapen(number, no_row.max(no_cut))),
-    }
+    let [_, g, h, across] = line
+        .read(&CUT)
+        .map_err(|no_cut| Refusal::misshapen(number, no_row.max(no_cut)))?;
+    Ok(Cut { g, h, across })
 }
 
 // The D lines, from line 2 on, and the C line that ends them.
@@ -87,26 +83,24 @@ fn read_links(
     lines: &mut Lines,
     first: u32,
     ring: Ring,
-    links: &mut [Link; LINKS],
+    links: &mut ArrayVec<Link, LINKS>,
 ) -> Result<(), Refusal>
     requires links_fit { ring.nodes ≤ desk.nodes }
     requires line_fits { first ≤ desk.rows + 3 }
-    ensures { (rs : List RoutedOf) (c : CutOf) →
-        read_by result (λ _. read_from desk (behind_links ring rs c (take ring.nodes links.new))
+    ensures leads { (rs : List RoutedOf) (c : CutOf) →
+        read_by result (λ _. read_from desk (behind_links ring rs c links.new.items)
         (first + ring.nodes) lines.new)
         ≡ read_from desk (behind_links ring rs c []) first lines.old }
+    ensures all { IfOk result (λ _. ring.nodes ≤ length links.new.items) }
 {
-    for k in 0..wide(ring.nodes) {
-        let number = first + k as u32;
-        let Some(line) = lines.next_line() else {
-            return Err(Refusal::misshapen(number, 0));
-        };
-        let [_, link, split, unsplit] = line.values(number, &LINK)?;
-        links[k] = Link {
+    links.clear();
+    for number in first..first + ring.nodes {
+        let [_, link, split, unsplit] = lines.due(number)?.values(number, &LINK)?;
+        links.push(Link {
             link,
             split,
             unsplit,
-        };
+        });
     }
     Ok(())
 }
@@ -114,58 +108,50 @@ fn read_links(
 // The Z line, which has this number, behind the ring and the cut that were read; nothing may follow it.
 fn read_last(lines: &mut Lines, number: u32, ring: Ring, cut: Cut) -> Result<Figures, Refusal>
     requires line_fits { number ≤ desk.bytes }
-    ensures leads { (rs : List RoutedOf) (ls : List LinkOf) → ring.nodes ≤ length ls →
+    ensures { (rs : List RoutedOf) (ls : List LinkOf) → ring.nodes ≤ length ls →
         read_by result (λ x. accepted (sheet_in x rs ls))
         ≡ read_from desk (behind_links ring rs cut ls) number lines.old }
-    ensures ring { IfOk result (λ x. x.ring ≡ ring) }
 {
-    let Some(line) = lines.next_line() else {
-        return Err(Refusal::misshapen(number, 0));
-    };
-    let [_, peak, size] = line.values(number, &LAST)?;
-    match lines.next_line() {
-        Some(_) => Err(Refusal::misshapen(number + 1, 0)),
-        None => Ok(Figures {
-            ring,
-            cut,
-            peak,
-            size,
-        }),
-    }
+    let [_, peak, size] = lines.due(number)?.values(number, &LAST)?;
+    lines.end(number + 1)?;
+    Ok(Figures {
+        ring,
+        cut,
+        peak,
+        size,
+    })
 }
 
 // The figures, and beside them the rows and the links as far as they go. Apart from `read_sheet` so that what a refusal leaves is cleared in one place.
 fn read_parts(
     text: &[u8],
     rows: &mut Columns,
-    links: &mut [Link; LINKS],
+    links: &mut ArrayVec<Link, LINKS>,
 ) -> Result<Figures, Refusal>
-    ensures { with_values rows.new links.new result ≡ read_sheet desk text.now }
+    ensures { with_values rows.new links.new.items result ≡ read_sheet desk text.now }
 {
     let mut lines = Lines::of(text)?;
-    let Some(first) = lines.next_line() else {
-        return Err(Refusal::misshapen(1, 0));
-    };
-    let ring = ring_on(&first)?;
+    let ring = ring_on(&lines.due(1)?)?;
     let cut = read_rows(&mut lines, ring, rows)?;
     let number = rows.count() as u32 + 3;
     read_links(&mut lines, number, ring, links)?;
     read_last(&mut lines, number + ring.nodes, ring, cut)
 }
 
-/// Reads a sheet: its figures are answered; its rows are put into the columns that are lent, and what its k-th L line says, whatever number that gives its link,
-/// to place k - 1, over what stood there before. What the figures say is not judged.
-/// A refusal names the first reason that holds, its line and its byte; then the columns hold no row, and what the places hold means nothing.
+/// Reads a sheet: its figures are answered; its rows and its links are put into what is lent, over what stood there before: the k-th link is what the k-th L line says,
+/// whatever number that gives its link. What the figures say is not judged.
+/// A refusal names the first reason that holds, its line and its byte; then no row is left, and no link.
 pub fn read_sheet(
     text: &[u8],
     rows: &mut Columns,
-    links: &mut [Link; LINKS],
+    links: &mut ArrayVec<Link, LINKS>,
 ) -> Result<Figures, Refusal>
-    ensures value { with_values rows.new links.new result ≡ read_sheet desk text.now }
-    ensures empty { IfErr result (λ _. rows.new ≡ []) }
+    ensures value { with_values rows.new links.new.items result ≡ read_sheet desk text.now }
+    ensures empty { IfErr result (λ _. (rows.new ≡ []) × (links.new.items ≡ [])) }
 {
     let read = read_parts(text, rows, links);
     if read.is_err() {
+        links.clear();
         rows.clear()
     }
     read

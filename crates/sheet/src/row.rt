@@ -6,7 +6,7 @@ ghost use Rattle.sheet.specs.WriteSheet.{routed_line};
 use ring::Routed;
 use text::{Pass, SENT, write_line};
 
-// Writes a row's line from a place on, or only measures it, and answers the place behind the line.
+/// Writes a row's line from a place on, or only measures it, and answers the place behind the line.
 pub(crate) fn write_row<P: Pass>(buffer: &mut [u8], at: usize, row: Routed) -> usize
     requires { at + length (routed_line row) ≤ P.room buffer.old }
     ensures { Passed P.after buffer.old at (routed_line row) buffer.new result }

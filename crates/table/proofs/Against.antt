@@ -94,6 +94,21 @@ fine-row-judged limits n k above r on o c m = go (row-judged limits n k above r)
     go (too_much h p l u c x) = absurd (none (by_amount x))
     go (row_fine on o c m) = refl
 
+-- where there is no room for it, a row of a table is one too many
+pub full-row-judged : (limits : Limits) (n k : ℕ) (above : Option Demand) (r : Demand) → OnRing n r → InOrder above r → limits.rows ≤ k → row_verdict limits n k above r ≡ Err TooMany
+full-row-judged limits n k above r on o c = go (row-judged limits n k above r)
+  where
+    first : RowJudged limits n k above r (Err TooMany)
+    first = too_many (on.low, omega (arith, on.order, on.high)) (omega (arith, on.order), on.high) on.order o c
+
+    go : {v : Verdict} → RowJudged limits n k above r v → v ≡ Err TooMany
+    go (no_such_node u) = absurd (omega (arith, row-least first (by_nodes u)))
+    go (not_below h p l) = absurd (omega (arith, row-least first (by_pair l)))
+    go (out_of_order h p l u) = absurd (omega (arith, row-least first (by_order u)))
+    go (too_many h p l u x) = refl
+    go (too_much h p l u x m) = absurd (omega arith)
+    go (row_fine q u x m) = absurd (omega arith)
+
 -- ---- a ring
 
 pub data AgainstRing (limits : Limits) (ring : Ring) : Reason → Type 0 where
@@ -120,3 +135,12 @@ fine-ring-judged limits ring few many fibres = go (ring-judged limits ring)
     go (size_wrong w) = absurd (has-size few many w)
     go (wrong_fibres l m w) = absurd (w fibres)
     go (right_ring l m f) = refl
+
+-- a ring of too many nodes
+pub big-ring-judged : (limits : Limits) (ring : Ring) → limits.nodes < ring.nodes → ring_verdict limits ring ≡ Err RingSize
+big-ring-judged limits ring big = go (ring-judged limits ring)
+  where
+    go : {v : Verdict} → RingJudged limits ring v → v ≡ Err RingSize
+    go (size_wrong w) = refl
+    go (wrong_fibres l m w) = absurd (omega arith)
+    go (right_ring l m f) = absurd (omega arith)

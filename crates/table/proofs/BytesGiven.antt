@@ -24,24 +24,24 @@ use Rattle.table.proofs.Against.{no-node-there}
 use Rattle.table.proofs.LineNumbers.{line-one, ring-one, row_one}
 
 -- the byte that goes with the reason of a verdict is that reason's
-abbrev pub ByteOn : List ℕ → ℕ → (Reason → ℕ) → Verdict → Type 0
-ByteOn t line byte (Ok tt) = Unit {0}
-ByteOn t line byte (Err r) = ByteIs t r line (byte r)
+abbrev pub ByteOn : Limits → List ℕ → ℕ → (Reason → ℕ) → Verdict → Type 0
+ByteOn limits t line byte (Ok tt) = Unit {0}
+ByteOn limits t line byte (Err r) = ByteIs limits t r line (byte r)
 
-pub ring-byte : {limits : Limits} {t : List ℕ} {ring : Ring} {v : Verdict} → RingIs t ring → RingJudged limits ring v → ByteOn t 1 (ring_reason_byte ring) v
+pub ring-byte : {limits : Limits} {t : List ℕ} {ring : Ring} {v : Verdict} → RingIs limits t ring → RingJudged limits ring v → ByteOn limits t 1 (ring_reason_byte ring) v
 unfolding ByteIs ring_reason_byte
 ring-byte {ring} here (size_wrong w) = record { ring = ring; said = here; is = refl }
 ring-byte {ring} here (wrong_fibres l m w) = record { ring = ring; said = here; is = refl }
 ring-byte here (right_ring l m f) = tt
 
-module _ {t : List ℕ} {ring : Ring} {line i j d : ℕ} (here : RingIs t ring) (row : RowIs t line i j d) where
-  node-byte : Node ring.nodes i → NoNode ring.nodes i ⊎ NoNode ring.nodes j → NodeByte t line (row_reason_byte ring.nodes (demand i j d) NoSuchNode)
+module _ {limits : Limits} {t : List ℕ} {ring : Ring} {line i j d : ℕ} (here : RingIs limits t ring) (row : RowIs limits t line i j d) where
+  node-byte : Node ring.nodes i → NoNode ring.nodes i ⊎ NoNode ring.nodes j → NodeByte limits t line (row_reason_byte ring.nodes (demand i j d) NoSuchNode)
   unfolding row_reason_byte node_field
   node-byte (no_node w e) out = rw e (first_node here row w)
   node-byte (has_node h e) (inl w) = absurd (no-node-there h w)
   node-byte (has_node h e) (inr w) = rw e (second_node here row (no-node-there h) w)
 
-  pub row-byte : {limits : Limits} {k : ℕ} {above : Option Demand} {v : Verdict} → RowJudged limits ring.nodes k above (demand i j d) v → ByteOn t line (row_reason_byte ring.nodes (demand i j d)) v
+  pub row-byte : {k : ℕ} {above : Option Demand} {v : Verdict} → RowJudged limits ring.nodes k above (demand i j d) v → ByteOn limits t line (row_reason_byte ring.nodes (demand i j d)) v
   unfolding ByteIs row_reason_byte field_byte write_line
   row-byte (no_such_node w) = node-byte (node ring.nodes i) w
   row-byte (not_below h p l) = refl
@@ -59,48 +59,48 @@ one-due one (line_faulty is f) (line_missing none) = absurd (none _ is)
 one-due {Fault = P} one (line_faulty {l} {p} is f) (line_faulty {l = m} {p = q} it g) =
     ap (λ p. p + 1) (one m p q (subst (λ s. P s p) (line-one is it refl) f) g)
 
-pub one-shape-byte : {t : List ℕ} {shape : List Field} {line b c : ℕ} → ShapeByte t shape line b → ShapeByte t shape line c → b ≡ c
-one-shape-byte x y = one-due (λ l p q f g. one-fault f g) x y
+pub one-shape-byte : (limits : Limits) {t : List ℕ} {shape : List Field} {line b c : ℕ} → ShapeByte limits t shape line b → ShapeByte limits t shape line c → b ≡ c
+one-shape-byte limits x y = one-due (λ l p q f g. one-fault limits.digits limits.countable f g) x y
 
-one-line-byte : {t : List ℕ} {line b c : ℕ} → LineByte t line b → LineByte t line c → b ≡ c
-one-line-byte (ring_due e x) (ring_due f y) = one-shape-byte x y
+one-line-byte : {limits : Limits} {t : List ℕ} {line b c : ℕ} → LineByte limits t line b → LineByte limits t line c → b ≡ c
+one-line-byte {limits} (ring_due e x) (ring_due f y) = one-shape-byte limits x y
 one-line-byte (ring_due e x) (row_due f y) = absurd (omega arith)
 one-line-byte (row_due e x) (ring_due f y) = absurd (omega arith)
-one-line-byte (row_due e x) (row_due f y) = one-shape-byte x y
+one-line-byte {limits} (row_due e x) (row_due f y) = one-shape-byte limits x y
 
-pub one-ring-field : {t : List ℕ} {k b c : ℕ} → RingField t k b → RingField t k c → b ≡ c
+pub one-ring-field : {limits : Limits} {t : List ℕ} {k b c : ℕ} → RingField limits t k b → RingField limits t k c → b ≡ c
 one-ring-field {k} x y = x.is ∙ ap (λ (r : Ring). ring_byte r.nodes r.fibres k) (ring-one x.said y.said) ∙ sym y.is
 
-one-node-byte : {t : List ℕ} {line b c : ℕ} → NodeByte t line b → NodeByte t line c → b ≡ c
+one-node-byte : {limits : Limits} {t : List ℕ} {line b c : ℕ} → NodeByte limits t line b → NodeByte limits t line c → b ≡ c
 one-node-byte (first_node r x w) (first_node s y v) = let e = row_one x y refl in rw (e.same_i, e.same_j, e.same_d)
 one-node-byte (first_node r x w) (second_node s y v u) = let e = row_one x y refl in let f = ring-one r s in absurd (v (rw (e.same_i, f) at w))
 one-node-byte (second_node r x w u) (first_node s y v) = let e = row_one y x refl in let f = ring-one s r in absurd (w (rw (e.same_i, f) at v))
 one-node-byte (second_node r x w u) (second_node s y v z) = let e = row_one x y refl in rw (e.same_i, e.same_j, e.same_d)
 
-one-amount-byte : {t : List ℕ} {line b c : ℕ} → AmountByte t line b → AmountByte t line c → b ≡ c
+one-amount-byte : {limits : Limits} {t : List ℕ} {line b c : ℕ} → AmountByte limits t line b → AmountByte limits t line c → b ≡ c
 one-amount-byte (at_amount x) (at_amount y) = let e = row_one x y refl in rw (e.same_i, e.same_j, e.same_d)
 
-pub one_byte : (t : List ℕ) (line b c : ℕ) (r : Reason) → ByteIs t r line b → ByteIs t r line c → b ≡ c
+pub one_byte : (limits : Limits) (t : List ℕ) (line b c : ℕ) (r : Reason) → ByteIs limits t r line b → ByteIs limits t r line c → b ≡ c
 unfolding ByteIs
-one_byte t line b c TooLong x y = x ∙ sym y
-one_byte t line b c Misshapen x y = one-line-byte x y
-one_byte t line b c RingSize x y = one-ring-field x y
-one_byte t line b c Fibres x y = one-ring-field x y
-one_byte t line b c NoSuchNode x y = one-node-byte x y
-one_byte t line b c NotBelow x y = x ∙ sym y
-one_byte t line b c OutOfOrder x y = x ∙ sym y
-one_byte t line b c TooMany x y = x ∙ sym y
-one_byte t line b c TooMuch x y = one-amount-byte x y
-one_byte t line b c WrongSum x y = absurd x
-one_byte t line b c WrongWay x y = absurd x
-one_byte t line b c WrongCut x y = absurd x
-one_byte t line b c WrongLink x y = absurd x
-one_byte t line b c WrongLast x y = absurd x
-one_byte t line b c NotTight x y = absurd x
-one_byte t line b c OverBound x y = absurd x
-one_byte t line b c NotZero x y = absurd x
-one_byte t line b c NotSymmetric x y = absurd x
-one_byte t line b c SumTooMuch x y = absurd x
-one_byte t line b c NoRow x y = absurd x
-one_byte t line b c Full x y = absurd x
-one_byte t line b c NoRoom x y = absurd x
+one_byte limits t line b c TooLong x y = x ∙ sym y
+one_byte limits t line b c Misshapen x y = one-line-byte x y
+one_byte limits t line b c RingSize x y = one-ring-field x y
+one_byte limits t line b c Fibres x y = one-ring-field x y
+one_byte limits t line b c NoSuchNode x y = one-node-byte x y
+one_byte limits t line b c NotBelow x y = x ∙ sym y
+one_byte limits t line b c OutOfOrder x y = x ∙ sym y
+one_byte limits t line b c TooMany x y = x ∙ sym y
+one_byte limits t line b c TooMuch x y = one-amount-byte x y
+one_byte limits t line b c WrongSum x y = absurd x
+one_byte limits t line b c WrongWay x y = absurd x
+one_byte limits t line b c WrongCut x y = absurd x
+one_byte limits t line b c WrongLink x y = absurd x
+one_byte limits t line b c WrongLast x y = absurd x
+one_byte limits t line b c NotTight x y = absurd x
+one_byte limits t line b c OverBound x y = absurd x
+one_byte limits t line b c NotZero x y = absurd x
+one_byte limits t line b c NotSymmetric x y = absurd x
+one_byte limits t line b c SumTooMuch x y = absurd x
+one_byte limits t line b c NoRow x y = absurd x
+one_byte limits t line b c Full x y = absurd x
+one_byte limits t line b c NoRoom x y = absurd x

@@ -5,7 +5,7 @@ use mathlib.Core.Logic.{inl, inr}
 use mathlib.Core.Path.{◌≡◌, refl, ap, sym, ◌∙◌}
 use native.Mathlib.Omega.{arith}
 use lib.ListN.{length}
-use Rattle.std.specs.Prelude.{Option, Some, None, Ok, Err, slice_get}
+use Rattle.std.specs.Prelude.{Result, Option, Some, Ok, Err, slice_get}
 use Rattle.text.proofs.Apart.{clash}
 use Rattle.ring.specs.Limits.{Limits, desk}
 use Rattle.ring.specs.declared.types.Ring.{Ring}
@@ -20,38 +20,38 @@ use Rattle.table.proofs.Judged.{RingJudged, size_wrong, wrong_fibres, right_ring
 use Rattle.table.proofs.Against.{has-nodes, in_order, has-size}
 
 module _ (field : Reason → ℕ) where
-  pub found-none : (v : Verdict) → found v field ≡ None → v ≡ Ok tt
+  pub found-none : (v : Verdict) → found v field ≡ Ok tt → v ≡ Ok tt
   unfolding found
   found-none (Ok tt) e = refl
   found-none (Err r) e = clash (cc)
 
-  pub found-some : (v : Verdict) (f : Fault) → found v field ≡ Some f → v ≡ Err f.reason
+  pub found-some : (v : Verdict) (f : Fault) → found v field ≡ Err f → v ≡ Err f.reason
   unfolding found
   found-some (Ok tt) f e = clash (cc)
   found-some (Err r) f e = let same : record { reason = r; field = field r } ≡ f = cc in ap (λ (f : Fault). Err f.reason) same
 
-module _ (ring : Ring) (o : Option Fault) (is : o ≡ ring_found desk ring) where
-  pub ring-none : o ≡ None → Ok tt ≡ ring_verdict desk ring
+module _ (ring : Ring) (o : Result Unit Fault) (is : o ≡ ring_found desk ring) where
+  pub ring-none : o ≡ Ok tt → Ok tt ≡ ring_verdict desk ring
   unfolding ring_found
   ring-none e = sym (found-none _ _ (sym is ∙ e))
 
-  pub ring-some : (f : Fault) → o ≡ Some f → Err f.reason ≡ ring_verdict desk ring
+  pub ring-some : (f : Fault) → o ≡ Err f → Err f.reason ≡ ring_verdict desk ring
   unfolding ring_found
   ring-some f e = sym (found-some _ _ f (sym is ∙ e))
 
 -- where nothing is found against a ring, it has few enough nodes
-pub ring_fits : (ring : Ring) (o : Option Fault) → o ≡ ring_found desk ring → o ≡ None → ring.nodes ≤ desk.nodes
+pub ring_fits : (ring : Ring) (o : Result Unit Fault) → o ≡ ring_found desk ring → o ≡ Ok tt → ring.nodes ≤ desk.nodes
 ring_fits ring o e f = let q = ring-none ring o e f in go (rw (← q) at (ring-judged desk ring))
   where
     go : RingJudged desk ring (Ok tt) → ring.nodes ≤ desk.nodes
     go (right_ring few many fibres) = many
 
-module _ (n k : ℕ) (above : Option Demand) (r : Demand) (o : Option Fault) (is : o ≡ row_found desk n k above r) where
-  pub row-none : o ≡ None → Ok tt ≡ row_verdict desk n k above r
+module _ (n k : ℕ) (above : Option Demand) (r : Demand) (o : Result Unit Fault) (is : o ≡ row_found desk n k above r) where
+  pub row-none : o ≡ Ok tt → Ok tt ≡ row_verdict desk n k above r
   unfolding row_found
   row-none e = sym (found-none _ _ (sym is ∙ e))
 
-  pub row-some : (f : Fault) → o ≡ Some f → Err f.reason ≡ row_verdict desk n k above r
+  pub row-some : (f : Fault) → o ≡ Err f → Err f.reason ≡ row_verdict desk n k above r
   unfolding row_found
   row-some f e = sym (found-some _ _ f (sym is ∙ e))
 
@@ -77,9 +77,12 @@ fits-ring limits ring field (size_wrong w) = inl (w, refl)
 fits-ring limits ring field (wrong_fibres l m w) = inr (has-size l m, inl (w, refl))
 fits-ring limits ring field (right_ring l m f) = inr (has-size l m, inr (λ w. w f, refl))
 
-pub ring_given : (ring : Ring) (o : Option Fault) → o ≡ ring_found desk ring → First (ring_findings desk ring) (found_at 0 o)
+pub ring-first : (limits : Limits) (ring : Ring) → First (ring_findings limits ring) (found_at 0 (ring_found limits ring))
 unfolding ring_found
-ring_given ring o is = rw is (fits-ring desk ring _ (ring-judged desk ring))
+ring-first limits ring = fits-ring limits ring _ (ring-judged limits ring)
+
+pub ring_given : (ring : Ring) (o : Result Unit Fault) → o ≡ ring_found desk ring → First (ring_findings desk ring) (found_at 0 o)
+ring_given ring o is = rw is (ring-first desk ring)
 
 fits-row : (limits : Limits) (n k : ℕ) (above : Option Demand) (r : Demand) {v : Verdict} (field : Reason → ℕ) → RowJudged limits n k above r v
     → First (demand_findings limits n (k + 1) above r) (found_at (k + 1) (found v field))
@@ -96,6 +99,9 @@ fits-row limits n k above r field (row_fine on o c w) =
       inr (λ m. omega (arith, on.order), inr (in_order o, inr (λ m. omega arith, inr (λ m. omega arith, refl)))),
     )
 
-pub row_given : (n k : ℕ) (above : Option Demand) (r : Demand) (o : Option Fault) → o ≡ row_found desk n k above r → First (demand_findings desk n (k + 1) above r) (found_at (k + 1) o)
+pub row-first : (limits : Limits) (n k : ℕ) (above : Option Demand) (r : Demand) → First (demand_findings limits n (k + 1) above r) (found_at (k + 1) (row_found limits n k above r))
 unfolding row_found
-row_given n k above r o is = rw is (fits-row desk n k above r _ (row-judged desk n k above r))
+row-first limits n k above r = fits-row limits n k above r _ (row-judged limits n k above r)
+
+pub row_given : (n k : ℕ) (above : Option Demand) (r : Demand) (o : Result Unit Fault) → o ≡ row_found desk n k above r → First (demand_findings desk n (k + 1) above r) (found_at (k + 1) o)
+row_given n k above r o is = rw is (row-first desk n k above r)

@@ -43,18 +43,18 @@ misshapen-first {limits} {t} {line} low h = record { holds = h; least = λ s k. 
     go (on_first e two) = two
     go (on_later later is two) = two
 
-pub no-ring-first : {limits : Limits} {t : List ℕ} → ((ring : Ring) → RingIs t ring → ⊥) → FirstOnLine limits t 1 (Err Misshapen)
+pub no-ring-first : {limits : Limits} {t : List ℕ} → ((ring : Ring) → RingIs limits t ring → ⊥) → FirstOnLine limits t 1 (Err Misshapen)
 unfolding Says
 no-ring-first none = misshapen-first (omega arith) (inl (record { at = refl; none = none }))
 
-pub no-row-first : {limits : Limits} {t : List ℕ} {line : ℕ} {l : List ℕ} → 2 ≤ line → LineIs (lines t) line l → ((i j d : ℕ) → RowIs t line i j d → ⊥)
+pub no-row-first : {limits : Limits} {t : List ℕ} {line : ℕ} {l : List ℕ} → 2 ≤ line → LineIs (lines t) line l → ((i j d : ℕ) → RowIs limits t line i j d → ⊥)
     → FirstOnLine limits t line (Err Misshapen)
 unfolding Says
 no-row-first {l} later is none = misshapen-first (omega arith) (inr (record { later = later; l = l; is = is; none = none }))
 
 -- ---- R n fibres
 
-module _ {limits : Limits} {t : List ℕ} {ring : Ring} (here : RingIs t ring) where
+module _ {limits : Limits} {t : List ℕ} {ring : Ring} (here : RingIs limits t ring) where
   -- what is said of the line is said of its numbers
   said-of-ring : {s : Reason} → Said limits t 1 s → AgainstRing limits ring s
   said-of-ring (too_long e long) = absurd (omega arith)
@@ -80,11 +80,11 @@ module _ {limits : Limits} {t : List ℕ} {ring : Ring} (here : RingIs t ring) w
 -- ---- D i j d
 
 -- the row before a line, where there is one
-pub data RowBefore (t : List ℕ) : ℕ → Option Demand → Type 0 where
-  no_row_before : RowBefore t 2 None
-  row_before : {line a b c : ℕ} → RowIs t line a b c → RowBefore t (line + 1) (Some (demand a b c))
+pub data RowBefore (limits : Limits) (t : List ℕ) : ℕ → Option Demand → Type 0 where
+  no_row_before : RowBefore limits t 2 None
+  row_before : {line a b c : ℕ} → RowIs limits t line a b c → RowBefore limits t (line + 1) (Some (demand a b c))
 
-order-against : {t : List ℕ} {line i j d : ℕ} {above : Option Demand} → RowIs t line i j d → RowBefore t line above → WrongOrder t line → Falls above (demand i j d)
+order-against : {limits : Limits} {t : List ℕ} {line i j d : ℕ} {above : Option Demand} → RowIs limits t line i j d → RowBefore limits t line above → WrongOrder limits t line → Falls above (demand i j d)
 order-against row no_row_before h = absurd (omega (arith, h.next, h.above.later))
 order-against row (row_before above) h =
     let q = row_one h.above above (omega (arith, h.next)) in
@@ -92,14 +92,14 @@ order-against row (row_before above) h =
     rw (q.same_i, q.same_j, r.same_i, r.same_j) at h.wrong
 
 -- a row that falls has a row before it
-order-holds : {t : List ℕ} {line i j d : ℕ} {above : Option Demand} → RowIs t line i j d → RowBefore t line above → Falls above (demand i j d) → WrongOrder t line
+order-holds : {limits : Limits} {t : List ℕ} {line i j d : ℕ} {above : Option Demand} → RowIs limits t line i j d → RowBefore limits t line above → Falls above (demand i j d) → WrongOrder limits t line
 order-holds row no_row_before wrong = absurd wrong
 order-holds {i} {j} {d} row (row_before {line} {a} {b} {c} above) wrong =
     record { before = line; next = refl; a = a; b = b; c = c; above = above; first = i; second = j; amount = d; row = row; wrong = wrong }
 
 -- the row stands behind k rows
-module _ {limits : Limits} {t : List ℕ} {ring : Ring} {line k i j d : ℕ} (here : RingIs t ring) (row : RowIs t line i j d) (place : line ≡ k + 2) where
-  said-of-row : {above : Option Demand} {s : Reason} → RowBefore t line above → Said limits t line s → AgainstRow limits ring.nodes k above (demand i j d) s
+module _ {limits : Limits} {t : List ℕ} {ring : Ring} {line k i j d : ℕ} (here : RingIs limits t ring) (row : RowIs limits t line i j d) (place : line ≡ k + 2) where
+  said-of-row : {above : Option Demand} {s : Reason} → RowBefore limits t line above → Said limits t line s → AgainstRow limits ring.nodes k above (demand i j d) s
   said-of-row before (too_long e long) = absurd (omega (arith, row.later))
   said-of-row before (no_ring_line h) = absurd (omega (arith, h.at, row.later))
   said-of-row before (no_row_line h) = absurd (h.none i j d row)
@@ -114,7 +114,7 @@ module _ {limits : Limits} {t : List ℕ} {ring : Ring} {line k i j d : ℕ} (he
   said-of-row before (wrong_count h) = by_count (omega (arith, h.wrong))
   said-of-row before (wrong_amount h) = let r = row_one h.row row refl in by_amount (rw r.same_d at h.wrong)
 
-  pub row-judged-first : {above : Option Demand} {v : Verdict} → RowBefore t line above → RowJudged limits ring.nodes k above (demand i j d) v → FirstOnLine limits t line v
+  pub row-judged-first : {above : Option Demand} {v : Verdict} → RowBefore limits t line above → RowJudged limits ring.nodes k above (demand i j d) v → FirstOnLine limits t line v
   unfolding Says
   row-judged-first {above} before judged = record { holds = go judged; least = λ s h. row-least judged (said-of-row before (said s h)) }
     where

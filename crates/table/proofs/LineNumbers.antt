@@ -5,6 +5,7 @@ use mathlib.Core.List.{List, [], ◌∷◌}
 use mathlib.Core.Path.{◌≡◌, refl, ap, ap₂, ◌∙◌, sym, subst}
 use native.Mathlib.Omega.{arith}
 use lib.ListN.{length}
+use Rattle.ring.specs.Limits.{Limits}
 use Rattle.std.specs.Prelude.{Ok}
 use Rattle.text.specs.ReadLine.{Reading, read_line}
 use Rattle.text.specs.Shapes.{ring_shape, row_shape}
@@ -25,10 +26,10 @@ line-one at_first (behind q) e = absurd (omega (arith, line_low q))
 line-one (behind p) at_first e = absurd (omega (arith, line_low p))
 line-one (behind p) (behind q) e = line-one p q (omega arith)
 
-pub ring-one : {t : List ℕ} {r s : Ring} → RingIs t r → RingIs t s → r ≡ s
-ring-one {t} {r} {s} p q =
+pub ring-one : {limits : Limits} {t : List ℕ} {r s : Ring} → RingIs limits t r → RingIs limits t s → r ≡ s
+ring-one {limits} {t} {r} {s} p q =
     let e : ◌≡◌ {A = Reading} (Ok (0 ∷ r.nodes ∷ r.fibres ∷ [])) (Ok (0 ∷ s.nodes ∷ s.fibres ∷ [])) =
-    sym (ring-values r.nodes r.fibres p.spelled) ∙ ap (read_line ring_shape) (line-one p.text q.text refl) ∙ ring-values s.nodes s.fibres q.spelled in
+    sym (ring-values limits r.nodes r.fibres p.spelled) ∙ ap (read_line limits.digits ring_shape) (line-one p.text q.text refl) ∙ ring-values limits s.nodes s.fibres q.spelled in
     ap₂ ring_of (cc) (cc)
 
 -- the same three numbers
@@ -37,10 +38,10 @@ pub record SameRow (i j d i' j' d' : ℕ) : Type 0 where
   pub same_j : j ≡ j'
   pub same_d : d ≡ d'
 
-pub row_one : {t : List ℕ} {line other i j d i' j' d' : ℕ} → RowIs t line i j d → RowIs t other i' j' d' → line ≡ other → SameRow i j d i' j' d'
-row_one {i} {j} {d} {i'} {j'} {d'} p q e =
+pub row_one : {limits : Limits} {t : List ℕ} {line other i j d i' j' d' : ℕ} → RowIs limits t line i j d → RowIs limits t other i' j' d' → line ≡ other → SameRow i j d i' j' d'
+row_one {limits} {i} {j} {d} {i'} {j'} {d'} p q e =
     let f : ◌≡◌ {A = Reading} (Ok (0 ∷ i ∷ j ∷ d ∷ [])) (Ok (0 ∷ i' ∷ j' ∷ d' ∷ [])) =
-    sym (row-values i j d p.spelled) ∙ ap (read_line row_shape) (line-one p.text q.text e) ∙ row-values i' j' d' q.spelled in
+    sym (row-values limits i j d p.spelled) ∙ ap (read_line limits.digits row_shape) (line-one p.text q.text e) ∙ row-values limits i' j' d' q.spelled in
     record { same_i = cc; same_j = cc; same_d = cc }
 
 -- ---- in order

@@ -6,7 +6,7 @@ use mathlib.Core.Path.{◌≡◌, refl, ◌∙◌, sym}
 use native.Mathlib.Omega.{arith}
 use lib.ListN.{length, length-append}
 use borrow.Author.Tests.{lt-ltb, le-ltb}
-use Rattle.std.specs.Prelude.{Result as Outcome, Ok, Err, Option, Some, None}
+use Rattle.std.specs.Prelude.{Result as Outcome, Ok, Err, Option}
 use Rattle.ring.specs.Limits.{desk}
 use Rattle.ring.specs.declared.types.Ring.{Ring}
 use Rattle.ring.specs.declared.types.Demand.{Demand}
@@ -34,14 +34,14 @@ has_room n k above r e = go (rw e at (row-judged desk n k above r))
 
 row-room : (ring : Ring) (rs : List Demand) (l : List ℕ) (r : Demand) → row_on desk ring rs l ≡ Ok r → length rs < desk.rows
 unfolding row_on judged and_then values_on passed row_found
-row-room ring rs l r e = go (read_line row_shape l) e
+row-room ring rs l r e = go (read_line desk.digits row_shape l) e
   where
-    against : List ℕ → Option Fault
+    against : List ℕ → Outcome Unit Fault
     against vs = row_found desk ring.nodes (length rs) (last_of rs) (row_in vs)
 
-    fine : (vs : List ℕ) (o : Option Fault) → against vs ≡ o → passed (length rs + 2) row_shape vs o (row_in vs) ≡ Ok r → length rs < desk.rows
-    fine vs None n e = has_room _ _ _ _ (found-none _ _ n)
-    fine vs (Some f) n e = clash (cc)
+    fine : (vs : List ℕ) (o : Outcome Unit Fault) → against vs ≡ o → passed (length rs + 2) row_shape vs o (row_in vs) ≡ Ok r → length rs < desk.rows
+    fine vs (Ok tt) n e = has_room _ _ _ _ (found-none _ _ n)
+    fine vs (Err f) n e = clash (cc)
 
     go : (y : LineReading) → and_then (values_on (length rs + 2) y) (λ vs. passed (length rs + 2) row_shape vs (against vs) (row_in vs)) ≡ Ok r → length rs < desk.rows
     go (Ok vs) e = fine vs (against vs) refl e

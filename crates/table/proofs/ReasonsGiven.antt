@@ -24,7 +24,7 @@ use Rattle.text.specs.ReadLine.{Reading}
 use Rattle.text.specs.Shapes.{ring_shape, row_shape}
 use Rattle.text.specs.declared.field.Field.{Field}
 use Rattle.table.proofs.Faults.{last-more}
-use Rattle.table.specs.ReadTable.{Result, accepted, refused, ring_in, row_in, ring_on, row_on, unless_refused, rows_of, table_lines, table_of}
+use Rattle.table.specs.ReadTable.{TableResult, accepted, refused, ring_in, row_in, ring_on, row_on, unless_refused, rows_of, table_lines, table_of}
 use Rattle.table.specs.Says.{RingIs, RowIs, Says, line_missing, line_faulty, ring_due, row_due, ByteIs, Earlier, Given, Accepted}
 use Rattle.table.specs.declared.reason.Reason.{Reason}
 use Rattle.table.specs.declared.reason.Reason.TheVariants.{TooLong}
@@ -45,12 +45,12 @@ record Clean (limits : Limits) (t : List ℕ) (line : ℕ) : Type 0 where
   pub none : (s : Reason) (other : ℕ) → other < line → Says limits t s other → ⊥
 
 -- a result that is right by what the reasons say
-data Right (limits : Limits) (t : List ℕ) : Result → Type 0 where
+data Right (limits : Limits) (t : List ℕ) : TableResult → Type 0 where
   none_holds : {ring : Ring} {rs : List Demand} → Accepted limits t → Right limits t (accepted ring rs)
   first_holds : {r : Reason} {line byte : ℕ} → Given limits t r line byte → Right limits t (refused r line byte)
 
 module _ {limits : Limits} {t : List ℕ} where
-  given-here : {line byte : ℕ} {r : Reason} → Clean limits t line → FirstOnLine limits t line (Err r) → ByteIs t r line byte → Given limits t r line byte
+  given-here : {line byte : ℕ} {r : Reason} → Clean limits t line → FirstOnLine limits t line (Err r) → ByteIs limits t r line byte → Given limits t r line byte
   given-here {line} {r} clean f b = record { holds = f.holds; first = go; byte_is = b }
     where
       go : (s : Reason) (other : ℕ) → Earlier s other r line → Says limits t s other → ⊥
@@ -67,8 +67,8 @@ module _ {limits : Limits} {t : List ℕ} where
             | no m ↦ let e : other ≡ line = omega arith in f.least s (subst (Says limits t s) e h)
           ]
 
-  judged-right : {A : Type 0} {line : ℕ} (shape : List Field) (vs : List ℕ) (field : Reason → ℕ) (y : A) (next : A → Result) (v : Verdict) → Clean limits t line → FirstOnLine limits t line v
-      → ByteOn t line (λ r. field_byte shape vs (field r)) v → (Clean limits t (line + 1) → Right limits t (next y)) → Right limits t (unless_refused (passed line shape vs (found v field) y) next)
+  judged-right : {A : Type 0} {line : ℕ} (shape : List Field) (vs : List ℕ) (field : Reason → ℕ) (y : A) (next : A → TableResult) (v : Verdict) → Clean limits t line → FirstOnLine limits t line v
+      → ByteOn limits t line (λ r. field_byte shape vs (field r)) v → (Clean limits t (line + 1) → Right limits t (next y)) → Right limits t (unless_refused (passed line shape vs (found v field) y) next)
   unfolding unless_refused passed found
   judged-right shape vs field y next (Ok tt) clean f b rest = rest (clean-next clean f)
   judged-right shape vs field y next (Err r) clean f b rest = first_holds (given-here clean f b)
@@ -90,28 +90,28 @@ module _ {limits : Limits} {t : List ℕ} where
       go (on_first e two) = clean.none s other (omega arith) h
       go (on_later m is two) = clean.none s other (no-line-left from is) h
 
-  rows_right : {ring : Ring} → RingIs t ring → (ls : List (List ℕ)) (rs : List Demand) → LinesFrom (lines t) (length rs + 2) ls → Clean limits t (length rs + 2)
-      → RowBefore t (length rs + 2) (last_of rs) → Right limits t (rows_of limits ring rs ls)
+  rows_right : {ring : Ring} → RingIs limits t ring → (ls : List (List ℕ)) (rs : List Demand) → LinesFrom (lines t) (length rs + 2) ls → Clean limits t (length rs + 2)
+      → RowBefore limits t (length rs + 2) (last_of rs) → Right limits t (rows_of limits ring rs ls)
   unfolding rows_of row_on judged and_then values_on unless_refused row_found row_reason_byte ByteIs
   rows_right here [] rs from clean before = none_holds (clean_end (omega arith) from clean)
-  rows_right {ring} here (l ∷ ls) rs from clean before = go (as-row l) (λ r. rows_right here ls (rs ++ r ∷ []))
+  rows_right {ring} here (l ∷ ls) rs from clean before = go (as-row limits l) (λ r. rows_right here ls (rs ++ r ∷ []))
     where
       line : ℕ
       line = length rs + 2
 
-      next : Demand → Result
+      next : Demand → TableResult
       next r = rows_of limits ring (rs ++ r ∷ []) ls
 
       on-next : (r : Demand) → length (rs ++ r ∷ []) + 2 ≡ line + 1
       on-next r = omega (arith, length-append rs (r ∷ []))
 
-      go : {x : Reading} → RowLine l x
+      go : {x : Reading} → RowLine limits l x
           → ((r : Demand) → LinesFrom (lines t) (length (rs ++ r ∷ []) + 2) ls → Clean limits t (length (rs ++ r ∷ []) + 2)
-          → RowBefore t (length (rs ++ r ∷ []) + 2) (last_of (rs ++ r ∷ [])) → Right limits t (next r))
+          → RowBefore limits t (length (rs ++ r ∷ []) + 2) (last_of (rs ++ r ∷ [])) → Right limits t (next r))
           → Right limits t (unless_refused (and_then (values_on line x) λ vs. passed line row_shape vs (row_found limits ring.nodes (length rs) (last_of rs) (row_in vs)) (row_in vs)) next)
       go (row_line_is {i} {j} {d} e w) rest =
           let r = demand i j d in
-          let now : RowIs t line i j d = record { later = omega arith; text = rw e at (line-here from); spelled = w } in
+          let now : RowIs limits t line i j d = record { later = omega arith; text = rw e at (line-here from); spelled = w } in
           let judged = row-judged limits ring.nodes (length rs) (last_of rs) r in
           let at = on-next r in
           let last = last-more rs r in
@@ -124,14 +124,14 @@ module _ {limits : Limits} {t : List ℕ} where
   lines-right : length t ≤ limits.bytes → (ls : List (List ℕ)) → LinesFrom (lines t) 1 ls → Right limits t (table_lines limits ls)
   unfolding table_lines ring_on judged and_then values_on unless_refused ring_found ring_reason_byte ByteIs
   lines-right short [] from = first_holds (given-here (clean-start short) (no-ring-first (λ n r. omega (arith, no-line-left from r.text))) (ring_due refl (line_missing (λ l is. omega (arith, no-line-left from is)))))
-  lines-right short (l ∷ ls) from = go (as-ring l)
+  lines-right short (l ∷ ls) from = go (as-ring limits l)
     where
-      next : Ring → Result
+      next : Ring → TableResult
       next ring = rows_of limits ring [] ls
 
-      go : {x : Reading} → RingLine l x → Right limits t (unless_refused (and_then (values_on 1 x) λ vs. passed 1 ring_shape vs (ring_found limits (ring_in vs)) (ring_in vs)) next)
+      go : {x : Reading} → RingLine limits l x → Right limits t (unless_refused (and_then (values_on 1 x) λ vs. passed 1 ring_shape vs (ring_found limits (ring_in vs)) (ring_in vs)) next)
       go (ring_line_is {n} {fibres} e w) =
-          let here : RingIs t (ring_of n fibres) = record { text = rw e at (line-here from); spelled = w } in
+          let here : RingIs limits t (ring_of n fibres) = record { text = rw e at (line-here from); spelled = w } in
           let judged = ring-judged limits (ring_of n fibres) in
           judged-right ring_shape (0 ∷ n ∷ fibres ∷ []) (λ reason. field_of reason 0) (ring_of n fibres) next _ (clean-start short) (ring-judged-first here judged) (ring-byte here judged)
           (λ c. rows_right here ls [] (from_next from) c no_row_before)
@@ -160,14 +160,14 @@ right limits t =
 
 -- a text has one first reason, with one byte
 pub one-given : {limits : Limits} {t : List ℕ} {r s : Reason} {line other byte on : ℕ} → Given limits t r line byte → Given limits t s other on → (r ≡ s) × (line ≡ other) × (byte ≡ on)
-one-given {t} {r} {s} {line} {other} {byte} {on} f g =
+one-given {limits} {t} {r} {s} {line} {other} {byte} {on} f g =
     let a : line < other → ⊥ = λ l. g.first r line (inl l) f.holds in
     let b : other < line → ⊥ = λ l. f.first s other (inl l) g.holds in
     let e : line ≡ other = omega arith in
     let c : rank_of r < rank_of s → ⊥ = λ l. g.first r line (inr (e, l)) f.holds in
     let d : rank_of s < rank_of r → ⊥ = λ l. f.first s other (inr (sym e, l)) g.holds in
     let k : r ≡ s = same_rank r s (omega arith) in
-    (k, e, one_byte t other byte on s (rw (k, e) at f.byte_is) g.byte_is)
+    (k, e, one_byte limits t other byte on s (rw (k, e) at f.byte_is) g.byte_is)
 
 pub given : (limits : Limits) (t : List ℕ) (r : Reason) (line byte : ℕ) → (table_of limits t ≡ refused r line byte) ↔ Given limits t r line byte
 given limits t r line byte = (λ e. there (subst (Right limits t) e (right limits t)), λ g. back g (right limits t))
@@ -175,7 +175,7 @@ given limits t r line byte = (λ e. there (subst (Right limits t) e (right limit
     there : Right limits t (refused r line byte) → Given limits t r line byte
     there (first_holds g) = g
 
-    back : Given limits t r line byte → {x : Result} → Right limits t x → x ≡ refused r line byte
+    back : Given limits t r line byte → {x : TableResult} → Right limits t x → x ≡ refused r line byte
     back g (none_holds none) = absurd (none r line g.holds)
     back g (first_holds f) = let o = one-given f g in rw (o.0, o.1, o.2)
 
@@ -191,6 +191,6 @@ accepted-is limits t = (λ h. there (subst (Right limits t) h.is (right limits t
     there : {ring : Ring} {rs : List Demand} → Right limits t (accepted ring rs) → Accepted limits t
     there (none_holds none) = none
 
-    back : Accepted limits t → (x : Result) → table_of limits t ≡ x → Reads limits t
+    back : Accepted limits t → (x : TableResult) → table_of limits t ≡ x → Reads limits t
     back none (accepted ring rs) e = record { ring = ring; rs = rs; is = e }
     back none (refused r line byte) e = absurd (none r line ((given limits t r line byte).0 e).holds)

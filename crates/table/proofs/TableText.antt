@@ -7,6 +7,7 @@ use mathlib.Core.Path.{◌≡◌, refl, ap, ◌∙◌, sym, subst}
 use native.Mathlib.Omega.{arith}
 use lib.ListN.{length, length-append}
 use borrow.Author.Tests.{le-ltb, ltb-false}
+use Rattle.text.proofs.Digits.{tens}
 use Rattle.ring.specs.Demand.{demand, OnRing}
 use Rattle.ring.specs.declared.types.Demand.{Demand}
 use Rattle.ring.proofs.Side.{cond-elim}
@@ -20,12 +21,12 @@ use Rattle.table.specs.Lines.{lines}
 use Rattle.table.specs.Table.{write_rows, write_table, LimitsSpelled, InRange}
 use Rattle.table.specs.Faults.{found, ring_found, row_found, last_of}
 use Rattle.table.specs.OnLine.{and_then, values_on, passed, judged}
-use Rattle.table.specs.ReadTable.{Result, accepted, refused, ring_in, row_in, ring_on, row_on, unless_refused, rows_of, table_lines, table_of}
+use Rattle.table.specs.ReadTable.{TableResult, accepted, refused, ring_in, row_in, ring_on, row_on, unless_refused, rows_of, table_lines, table_of}
 use Rattle.table.specs.declared.fault.Fault.{Fault}
 use Rattle.table.proofs.Faults.{last-more}
 use Rattle.table.specs.declared.reason.Reason.{Reason}
 use Rattle.table.specs.Verdict.{Verdict}
-use Rattle.std.specs.Prelude.{Option, Some, Ok, Err}
+use Rattle.std.specs.Prelude.{Result, Option, Some, Ok, Err}
 use Rattle.text.specs.ReadLine.{Reading}
 use Rattle.table.proofs.Judged.{RingJudged, right_ring, ring-judged, InOrder, RowJudged, row_fine, row-judged}
 use Rattle.table.proofs.Against.{fine-ring-judged, fine-row-judged}
@@ -39,14 +40,14 @@ desk-spelled = record { nodes = omega arith; amount = omega arith }
 -- ---- read, so written
 
 -- rows behind the rows rs, as the lines ls are read to them
-data RowsRead (limits : Limits) (ring : Ring) (rs : List Demand) (ls : List (List ℕ)) : Result → Type 0 where
+data RowsRead (limits : Limits) (ring : Ring) (rs : List Demand) (ls : List (List ℕ)) : TableResult → Type 0 where
   rows_are : {all : List Demand} (more : List Demand) → all ≡ rs ++ more → flatten ls ≡ write_rows more → FineRows limits ring.nodes (length rs) (last_of rs) more
       → RowsRead limits ring rs ls (accepted ring all)
   rows_refused : {r : Reason} {line byte : ℕ} → RowsRead limits ring rs ls (refused r line byte)
 
 module _ {limits : Limits} {ring : Ring} where
   -- one row more in front
-  row_more : {i j d : ℕ} {rs : List Demand} {l : List ℕ} {ls : List (List ℕ)} {x : Result} → l ≡ row_line i j d
+  row_more : {i j d : ℕ} {rs : List Demand} {l : List ℕ} {ls : List (List ℕ)} {x : TableResult} → l ≡ row_line i j d
       → RowJudged limits ring.nodes (length rs) (last_of rs) (demand i j d) (Ok tt) → RowsRead limits ring (rs ++ demand i j d ∷ []) ls x → RowsRead limits ring rs (l ∷ ls) x
   unfolding write_rows flatten
   row_more {i} {j} {d} {rs} e (row_fine o up c m) (rows_are more whole text fine) =
@@ -58,12 +59,12 @@ module _ {limits : Limits} {ring : Ring} where
   rows-read : (ls : List (List ℕ)) (rs : List Demand) → RowsRead limits ring rs ls (rows_of limits ring rs ls)
   unfolding rows_of row_on judged values_on row_found write_rows flatten
   rows-read [] rs = rows_are [] (sym (append-nil rs)) refl no_row
-  rows-read (l ∷ ls) rs = go (as-row l) (λ r. rows-read ls (rs ++ r ∷ []))
+  rows-read (l ∷ ls) rs = go (as-row limits l) (λ r. rows-read ls (rs ++ r ∷ []))
     where
-      next : Demand → Result
+      next : Demand → TableResult
       next r = rows_of limits ring (rs ++ r ∷ []) ls
 
-      against : List ℕ → Option Fault
+      against : List ℕ → Result Unit Fault
       against vs = row_found limits ring.nodes (length rs) (last_of rs) (row_in vs)
 
       judging : {i j d : ℕ} {v : Verdict} (vs : List ℕ) (field : Reason → ℕ) → l ≡ row_line i j d → RowJudged limits ring.nodes (length rs) (last_of rs) (demand i j d) v
@@ -71,18 +72,18 @@ module _ {limits : Limits} {ring : Ring} where
       judging {v = Err r} vs field e w rest = rows_refused
       judging {v = Ok tt} vs field e w rest = row_more e w rest
 
-      go : {x : Reading} → RowLine l x → ((r : Demand) → RowsRead limits ring (rs ++ r ∷ []) ls (next r))
+      go : {x : Reading} → RowLine limits l x → ((r : Demand) → RowsRead limits ring (rs ++ r ∷ []) ls (next r))
           → RowsRead limits ring rs (l ∷ ls) (unless_refused (and_then (values_on (length rs + 2) x) λ vs. passed (length rs + 2) row_shape vs (against vs) (row_in vs)) next)
       go (row_line_is {i} {j} {d} e w) rest = judging _ _ e (row-judged limits ring.nodes (length rs) (last_of rs) (demand i j d)) (rest (demand i j d))
       go (no_row_line none fault) rest = rows_refused
 
 -- what a text is read to
-data TableRead (limits : Limits) (t : List ℕ) : Result → Type 0 where
+data TableRead (limits : Limits) (t : List ℕ) : TableResult → Type 0 where
   table_is : {ring : Ring} {rs : List Demand} → t ≡ write_table ring rs → InRange limits ring rs → TableRead limits t (accepted ring rs)
   table_refused : {r : Reason} {line byte : ℕ} → TableRead limits t (refused r line byte)
 
 module _ {limits : Limits} {t : List ℕ} (short : length t ≤ limits.bytes) where
-  ring-more : {ring : Ring} {l : List ℕ} {ls : List (List ℕ)} {x : Result} → t ≡ l ++ flatten ls → l ≡ ring_line ring.nodes ring.fibres
+  ring-more : {ring : Ring} {l : List ℕ} {ls : List (List ℕ)} {x : TableResult} → t ≡ l ++ flatten ls → l ≡ ring_line ring.nodes ring.fibres
       → RingJudged limits ring (Ok tt) → RowsRead limits ring [] ls x → TableRead limits t x
   unfolding write_table
   ring-more {ring} whole e (right_ring few many fibres) (rows_are {all} rs is text fine) =
@@ -101,9 +102,9 @@ module _ {limits : Limits} {t : List ℕ} (short : length t ≤ limits.bytes) wh
   lines-read : (ls : List (List ℕ)) → t ≡ flatten ls → TableRead limits t (table_lines limits ls)
   unfolding table_lines ring_on judged values_on ring_found flatten
   lines-read [] whole = table_refused
-  lines-read (l ∷ ls) whole = go (as-ring l)
+  lines-read (l ∷ ls) whole = go (as-ring limits l)
     where
-      next : Ring → Result
+      next : Ring → TableResult
       next ring = rows_of limits ring [] ls
 
       judging : {ring : Ring} {v : Verdict} (vs : List ℕ) (field : Reason → ℕ) → l ≡ ring_line ring.nodes ring.fibres → RingJudged limits ring v
@@ -111,7 +112,7 @@ module _ {limits : Limits} {t : List ℕ} (short : length t ≤ limits.bytes) wh
       judging {v = Err r} vs field e w = table_refused
       judging {v = Ok tt} vs field e w = ring-more whole e w (rows-read ls [])
 
-      go : {x : Reading} → RingLine l x → TableRead limits t (unless_refused (and_then (values_on 1 x) λ vs. passed 1 ring_shape vs (ring_found limits (ring_in vs)) (ring_in vs)) next)
+      go : {x : Reading} → RingLine limits l x → TableRead limits t (unless_refused (and_then (values_on 1 x) λ vs. passed 1 ring_shape vs (ring_found limits (ring_in vs)) (ring_in vs)) next)
       go (ring_line_is {n} {fibres} e w) = judging _ _ e (ring-judged limits (ring_of n fibres))
       go (no_ring_line none fault) = table_refused
 
@@ -122,43 +123,43 @@ table-read limits t =
 
 -- ---- written, so read
 
-module _ (limits : Limits) (spelled : LimitsSpelled limits) (ring : Ring) (many : ring.nodes ≤ limits.nodes) where
-  -- against a fine row nothing is found
-  row-again : (rs : List Demand) (r : Demand) → RowSpelled r.first r.second r.amount → OnRing ring.nodes r → InOrder (last_of rs) r → length rs < limits.rows → r.amount ≤ limits.amount
-      → row_on limits ring rs (row_line r.first r.second r.amount) ≡ Ok r
-  unfolding row_on judged and_then values_on passed row_found found
-  row-again rs r w o up c m =
-      rw (row-values r.first r.second r.amount w, fine-row-judged limits ring.nodes (length rs) (last_of rs) r o up c m)
+-- against a fine row nothing is found
+pub row-again : (limits : Limits) (ring : Ring) (rs : List Demand) (r : Demand) → RowSpelled limits r.first r.second r.amount → OnRing ring.nodes r → InOrder (last_of rs) r → length rs < limits.rows
+    → r.amount ≤ limits.amount → row_on limits ring rs (row_line r.first r.second r.amount) ≡ Ok r
+unfolding row_on judged and_then values_on passed row_found found
+row-again limits ring rs r w o up c m =
+    rw (row-values limits r.first r.second r.amount w, fine-row-judged limits ring.nodes (length rs) (last_of rs) r o up c m)
 
+module _ (limits : Limits) (spelled : LimitsSpelled limits) (ring : Ring) (many : ring.nodes ≤ limits.nodes) where
   written-rows-read : (rs : List Demand) {k : ℕ} {above : Option Demand} {more : List Demand} → length rs ≡ k → last_of rs ≡ above → FineRows limits ring.nodes k above more
       → rows_of limits ring rs (lines (write_rows more)) ≡ accepted ring (rs ++ more)
   unfolding rows_of unless_refused write_rows lines
   written-rows-read rs e f no_row = ap (accepted ring) (sym (append-nil rs))
   written-rows-read rs {k} {above} e f (fine_row {r = r} {rs = more} o up c m fine) =
-      let w : RowSpelled r.first r.second r.amount = (omega (arith, o.order, o.high), (omega (arith, o.high), omega arith)) in
-      rw (row_first r.first r.second r.amount w (write_rows more), row-again rs r w o (rw f up) (omega arith) m)
+      let w : RowSpelled limits r.first r.second r.amount = (omega (arith, o.order, o.high), (omega (arith, o.high), omega arith)) in
+      rw (row_first limits r.first r.second r.amount w (write_rows more), row-again limits ring rs r w o (rw f up) (omega arith) m)
       (written-rows-read (rs ++ r ∷ []) (omega (arith, length-append rs (r ∷ []))) (last-more rs r) fine ∙ ap (accepted ring) (append_assoc rs (r ∷ []) more))
 
 -- fibres have one digit
-fibres-spelled : (fibres : ℕ) → IsFibres fibres → fibres < limit
-fibres-spelled fibres (inl e) = omega arith
-fibres-spelled fibres (inr e) = omega arith
+pub fibres-spelled : (limits : Limits) (fibres : ℕ) → IsFibres fibres → fibres < limit limits.digits
+fibres-spelled limits fibres (inl e) = omega (arith, tens limits.digits limits.countable)
+fibres-spelled limits fibres (inr e) = omega (arith, tens limits.digits limits.countable)
 
-pub ring-spelled : (limits : Limits) → LimitsSpelled limits → (ring : Ring) → ring.nodes ≤ limits.nodes → IsFibres ring.fibres → RingSpelled ring.nodes ring.fibres
-ring-spelled limits spelled ring many fibres = (omega (arith, many, spelled.nodes), fibres-spelled ring.fibres fibres)
+pub ring-spelled : (limits : Limits) → LimitsSpelled limits → (ring : Ring) → ring.nodes ≤ limits.nodes → IsFibres ring.fibres → RingSpelled limits ring.nodes ring.fibres
+ring-spelled limits spelled ring many fibres = (omega (arith, many, spelled.nodes), fibres-spelled limits ring.fibres fibres)
 
-ring-again : (limits : Limits) (ring : Ring) → RingSpelled ring.nodes ring.fibres → limits.fewest ≤ ring.nodes → ring.nodes ≤ limits.nodes → IsFibres ring.fibres
+pub ring-again : (limits : Limits) (ring : Ring) → RingSpelled limits ring.nodes ring.fibres → limits.fewest ≤ ring.nodes → ring.nodes ≤ limits.nodes → IsFibres ring.fibres
     → ring_on limits (ring_line ring.nodes ring.fibres) ≡ Ok ring
 unfolding ring_on judged and_then values_on passed ring_found found
-ring-again limits ring w few many fibres = rw (ring-values ring.nodes ring.fibres w, fine-ring-judged limits ring few many fibres)
+ring-again limits ring w few many fibres = rw (ring-values limits ring.nodes ring.fibres w, fine-ring-judged limits ring few many fibres)
 
 written_read : (limits : Limits) → LimitsSpelled limits → (ring : Ring) (rs : List Demand) → InRange limits ring rs → table_of limits (write_table ring rs) ≡ accepted ring rs
 unfolding table_of table_lines unless_refused write_table
 written_read limits spelled ring rs range =
-    let w : RingSpelled ring.nodes ring.fibres = ring-spelled limits spelled ring range.many range.fibres in
+    let w : RingSpelled limits ring.nodes ring.fibres = ring-spelled limits spelled ring range.many range.fibres in
     rw (
       le-ltb limits.bytes (length (write_table ring rs)) range.short,
-      ring-first ring.nodes ring.fibres w (write_rows rs),
+      ring-first limits ring.nodes ring.fibres w (write_rows rs),
       ring-again limits ring w range.few range.many range.fibres,
     ) (written-rows-read limits spelled ring range.many [] refl refl (fine-rows range.rows range.count range.amounts))
 

@@ -2,7 +2,7 @@
 use Rattle.std.specs.Prelude.{List, Result, Ok, Err}
 use Rattle.ring.specs.declared.types.Ring.{Ring}
 use Rattle.ring.specs.declared.types.Demand.{Demand}
-use Rattle.table.specs.ReadTable.{Result as TableResult, accepted, refused}
+use Rattle.table.specs.ReadTable.{TableResult, accepted, refused}
 use Rattle.table.specs.declared.reason.Refusal.{Refusal}
 
 -- the table of a ring that was read and of the rows behind it; or the refusal

@@ -1,5 +1,5 @@
 -- Internal: what is found against the values of a line: a reason, and the field that it is about.
-use Rattle.std.specs.Prelude.{ℕ, Option, Some, None, Ok, Err, List, [], ◌∷◌}
+use Rattle.std.specs.Prelude.{ℕ, Result, Option, Some, None, Ok, Err, List, [], ◌∷◌}
 use Rattle.ring.specs.Limits.{Limits}
 use Rattle.ring.specs.declared.types.Ring.{Ring}
 use Rattle.ring.specs.declared.types.Demand.{Demand}
@@ -10,17 +10,17 @@ use Rattle.table.specs.declared.reason.Reason.{Reason}
 use Rattle.table.specs.declared.fault.Fault.{Fault}
 
 -- a verdict, by which field each reason is about
-unfoldable pub found : Verdict → (Reason → ℕ) → Option Fault
-found (Ok tt) field = None
-found (Err reason) field = Some (record { reason = reason; field = field reason })
+unfoldable pub found : Verdict → (Reason → ℕ) → Result Unit Fault
+found (Ok tt) field = Ok tt
+found (Err reason) field = Err (record { reason = reason; field = field reason })
 
 -- against R n fibres
-unfoldable pub ring_found : Limits → Ring → Option Fault
+unfoldable pub ring_found : Limits → Ring → Result Unit Fault
 unfolding found
 ring_found limits ring = found (ring_verdict limits ring) (λ reason. field_of reason 0)
 
 -- against D i j amount on a ring of n nodes, behind k rows of which the last is `above`
-unfoldable pub row_found : Limits → ℕ → ℕ → Option Demand → Demand → Option Fault
+unfoldable pub row_found : Limits → ℕ → ℕ → Option Demand → Demand → Result Unit Fault
 unfolding found node_field
 row_found limits n k above r = found (row_verdict limits n k above r) (λ reason. field_of reason (node_field n r.first))
 

@@ -25,9 +25,9 @@ abbrev pub found : Reason → ℕ → Finding
 found reason place = record { reason = reason; place = place }
 
 -- a fault as what is found at a place; or nothing is found
-abbrev pub found_at : ℕ → Option Fault → Result Unit Finding
-found_at place None = Ok tt
-found_at place (Some fault) = Err (found fault.reason place)
+abbrev pub found_at : ℕ → Result Unit Fault → Result Unit Finding
+found_at place (Ok tt) = Ok tt
+found_at place (Err fault) = Err (found fault.reason place)
 
 -- a reason is given, with its place, exactly when its fact holds and none before it does; and all is well where none holds
 abbrev pub First : Findings → Result Unit Finding → Type 0
@@ -42,7 +42,7 @@ Given fs reason place = First fs (Err (found reason place))
 abbrev pub NoneHolds : Findings → Type 0
 NoneHolds fs = First fs (Ok tt)
 
--- 3 and 20, of a ring: n outside 2..32; fibres neither 2 nor 4
+-- 3 and 20, of a ring: n outside 2..64; fibres neither 2 nor 4
 abbrev pub ring_findings : Limits → Ring → Findings
 ring_findings limits ring =
     finding ((ring.nodes < limits.fewest) ⊎ (limits.nodes < ring.nodes)) RingSize 0

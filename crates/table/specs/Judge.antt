@@ -7,7 +7,7 @@ use Rattle.ring.specs.LineSize.{two_fibres, four_fibres}
 use Rattle.table.specs.declared.reason.Reason.TheVariants.{RingSize, Fibres, NoSuchNode, NotBelow, OutOfOrder, TooMany, TooMuch}
 use Rattle.table.specs.Verdict.{Verdict}
 
--- n outside 2..32
+-- n outside 2..64
 unfoldable pub wrong_size : Limits → ℕ → Bool
 wrong_size limits n = ltb n limits.fewest || ltb limits.nodes n
 

@@ -1,5 +1,5 @@
 -- Internal: what one line is read to: a value, against which nothing is found; or the refusal of the line.
-use Rattle.std.specs.Prelude.{ℕ, ◌+◌, List, Option, Some, None, Result, Ok, Err}
+use Rattle.std.specs.Prelude.{ℕ, ◌+◌, List, Result, Ok, Err}
 use Rattle.text.specs.FieldByte.{field_byte}
 use Rattle.text.specs.ReadLine.{Reading, read_line}
 use Rattle.text.specs.declared.field.Field.{Field}
@@ -22,11 +22,11 @@ values_on line (Ok vs) = Ok vs
 values_on line (Err p) = Err (refusal Misshapen line (p + 1))
 
 -- what its values say, where nothing is found against them
-unfoldable pub passed : {A : Type 0} → ℕ → List Field → List ℕ → Option Fault → A → Result A Refusal
-passed line shape vs None x = Ok x
-passed line shape vs (Some f) x = Err (refusal f.reason line (field_byte shape vs f.field))
+unfoldable pub passed : {A : Type 0} → ℕ → List Field → List ℕ → Result Unit Fault → A → Result A Refusal
+passed line shape vs (Ok tt) x = Ok x
+passed line shape vs (Err f) x = Err (refusal f.reason line (field_byte shape vs f.field))
 
--- the line l by its shape, by what its values are and what is found against that
-unfoldable pub judged : {A : Type 0} → ℕ → List Field → (List ℕ → A) → (A → Option Fault) → List ℕ → Result A Refusal
+-- the line l by its shape, its numbers of at most so many digits, by what its values are and what is found against that
+unfoldable pub judged : {A : Type 0} → ℕ → ℕ → List Field → (List ℕ → A) → (A → Result Unit Fault) → List ℕ → Result A Refusal
 unfolding and_then values_on passed
-judged line shape value fault l = and_then (values_on line (read_line shape l)) λ vs. passed line shape vs (fault (value vs)) (value vs)
+judged most line shape value fault l = and_then (values_on line (read_line most shape l)) λ vs. passed line shape vs (fault (value vs)) (value vs)

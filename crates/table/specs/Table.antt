@@ -6,8 +6,8 @@ use Rattle.ring.specs.LineSize.{IsFibres}
 use Rattle.ring.specs.Lists.{Each}
 use Rattle.ring.specs.Demand.{TableRows}
 use Rattle.ring.specs.declared.types.Demand.{Demand}
-use Rattle.text.specs.Number.{limit, most_digits}
-use Rattle.text.specs.Shapes.{ring_shape, row_shape, ring_line, row_line}
+use Rattle.text.specs.Number.{limit}
+use Rattle.text.specs.Shapes.{ring_line, row_line}
 
 -- R n fibres, then D lines
 unfoldable pub write_rows : List Demand → List ℕ
@@ -20,8 +20,8 @@ write_table ring rs = ring_line ring.nodes ring.fibres ++ write_rows rs
 
 -- limits whose numbers can be spelled
 pub record LimitsSpelled (limits : Limits) : Type 0 where
-  pub nodes : limits.nodes < limit
-  pub amount : limits.amount < limit
+  pub nodes : limits.nodes < limit limits.digits
+  pub amount : limits.amount < limit limits.digits
 
 -- what a table can hold, within limits
 pub record InRange (limits : Limits) (ring : Ring) (rs : List Demand) : Type 0 where
@@ -33,6 +33,6 @@ pub record InRange (limits : Limits) (ring : Ring) (rs : List Demand) : Type 0 w
   pub amounts : Each (λ r. r.amount ≤ limits.amount) rs
   pub short : length (write_table ring rs) ≤ limits.bytes
 
--- the R line and as many rows as there may be, each field of at most 7 digits and the byte behind them
+-- no table is longer, within limits of at most 2 digits for a node and 4 for an amount: each field has the byte behind it, so the R line has at most 7 bytes and a D line 13
 abbrev pub table_room : Limits → ℕ
-table_room limits = (most_digits + 1) * (length ring_shape + length row_shape * limits.rows)
+table_room limits = 7 + 13 * limits.rows

@@ -16,7 +16,9 @@ pub mod Local
 pub mod Begun
 -- what the code's steps say
 pub mod Lengths
+pub mod Widths
 pub mod Writing
+pub mod Going
 pub mod WritingLine
 pub mod ReadingLine
 pub mod Tests

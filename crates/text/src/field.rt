@@ -1,5 +1,6 @@
 //! One field of a line, and the byte behind it.
 ghost use Rattle.std.specs.Prelude.{◌≡◌, [], ◌∷◌, ◌++◌, ◌+◌, ◌≤◌, length};
+ghost use Rattle.ring.specs.Limits.{desk};
 ghost use Rattle.text.specs.Field.{spell};
 ghost use Rattle.text.specs.ReadLine.{field_at};
 ghost use Rattle.text.specs.Written.{Passed};
@@ -7,7 +8,7 @@ ghost use Rattle.text.specs.Written.{Passed};
 use crate::mark::read_mark;
 use crate::number::{read_number, write_number};
 use crate::pass::Pass;
-use ring::FRONT;
+use ring::Way;
 
 /// What stands in a field: one certain letter, a number, or a way, F or B, whose value is the way's number.
 #[derive(Clone, Copy, Debug, PartialEq, Eq)]
@@ -20,7 +21,7 @@ pub enum Field {
 /// Reads the field at a place, and the byte `end` behind it: its value and the place behind that byte; or the place of the first faulty byte.
 #[tactic(auto, unfolding(crate::specs::ReadLine::field_at))]
 pub fn read_field(text: &[u8], at: usize, field: Field, end: u8) -> Result<(u32, usize), usize>
-    ensures { result ≡ field_at field text.now at end }
+    ensures { result ≡ field_at desk.digits field text.now at end }
 {
     match field {
         Field::Number => read_number(text, at, end),
@@ -37,8 +38,10 @@ fn write_value<P: Pass>(buffer: &mut [u8], at: usize, field: Field, value: u32) 
     match field {
         Field::Letter(letter) => P::put(buffer, at, letter),
         Field::Number => write_number::<P>(buffer, at, value),
-        Field::Way if value == FRONT => P::put(buffer, at, b'F'),
-        Field::Way => P::put(buffer, at, b'B'),
+        Field::Way => match Way::of(value) {
+            Way::Front => P::put(buffer, at, b'F'),
+            Way::Back => P::put(buffer, at, b'B'),
+        },
     }
 }
 

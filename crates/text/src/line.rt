@@ -1,5 +1,6 @@
 //! A line of any shape: one reader and one writer, both driven by the shape.
 ghost use Rattle.std.specs.Prelude.{◌≡◌, ◌+◌, ◌≤◌, length};
+ghost use Rattle.ring.specs.Limits.{desk};
 ghost use Rattle.text.specs.WriteLine.{end_of, write_line};
 ghost use Rattle.text.specs.ReadLine.{read_line};
 ghost use Rattle.text.specs.FieldByte.{most_fields, field_byte};
@@ -19,7 +20,7 @@ pub fn end_of(left: usize) -> u8
 /// Reads a line by its shape: a value for each field, of a letter 0; or the place of the first faulty byte, counted from 0.
 #[tactic(auto, unfolding(crate::specs::ReadLine::read_line, crate::specs::ReadLine::fields_from, crate::specs::ReadLine::field_then))]
 pub fn read_line<const N: usize>(text: &[u8], shape: &[Field; N]) -> Result<[u32; N], usize>
-    ensures { result ≡ read_line shape.now text.now }
+    ensures { result ≡ read_line desk.digits shape.now text.now }
 {
     let mut values = [0; N];
     let mut at = 0;

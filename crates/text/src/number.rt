@@ -1,5 +1,6 @@
-//! Numbers: 1 to 7 digits, with no leading zero but 0 itself.
+//! Numbers: 1 to 8 digits, with no leading zero but 0 itself.
 ghost use Rattle.std.specs.Prelude.{◌≡◌, ◌+◌, ◌≤◌, ◌<◌, length, SomeIff};
+ghost use Rattle.ring.specs.Limits.{desk};
 ghost use Rattle.text.specs.Number.{base, digits};
 ghost use Rattle.text.specs.ReadNumber.{digit_of, number_at};
 ghost use Rattle.text.specs.Written.{Passed};
@@ -12,10 +13,10 @@ const BASE: u32 = 10;
 /// From here on a number has more than one digit; a name apart from BASE, as each can be wrong alone.
 const MORE: u32 = BASE;
 
-/// A number has at most 7 digits: it is below this.
-const LIMIT: u32 = 10000000;
+/// A number has at most 8 digits: it is below this.
+const LIMIT: u32 = 100000000;
 
-/// From here on a number has 7 digits, and no further digit may follow.
+/// From here on a number has all its digits, and no further digit may follow.
 const FULL: u32 = LIMIT / BASE;
 
 /// This number stands alone: no further digit may follow, so that no number has a leading zero. It has a name since no digit but 0 may be this.
@@ -36,7 +37,7 @@ fn digit_of(byte: u8) -> Option<u32>
 /// FULL on, a further digit is the fault.
 #[tactic(auto, unfolding(crate::specs::ReadNumber::number_at, crate::specs::ReadNumber::number_from, crate::specs::ReadNumber::digits_from))]
 pub(crate) fn read_number(text: &[u8], at: usize, end: u8) -> Result<(u32, usize), usize>
-    ensures { result ≡ number_at text.now at end }
+    ensures { result ≡ number_at desk.digits text.now at end }
 {
     if at >= text.len() {
         return Err(at);

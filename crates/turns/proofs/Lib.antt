@@ -4,6 +4,7 @@ pub mod Starts
 pub mod Ends
 pub mod Lowering
 pub mod Weights
+pub mod LoadsSteps
 pub mod KeySteps
 pub mod TopSteps
 pub mod RowsFit

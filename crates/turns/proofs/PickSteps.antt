@@ -10,12 +10,13 @@ use Rattle.weight.specs.Arrays.{link_at}
 use Rattle.router.specs.Arrays.{DemandsFit}
 use Rattle.turns.specs.declared.pick.Kept.{Kept}
 use Rattle.turns.specs.Turns.{peak_of, on_path, Placed, placed, placed_from, stands, falling_rows, lowers, choice}
-use Rattle.turns.specs.Figures.{off_top, lowers_by, weight_in, weight, sum_to, path_key}
+use Rattle.turns.specs.Figures.{off_top, lowers_by, weight_in, weight, path_key}
 use Rattle.turns.specs.Picks.{beats, considered, Picks}
 use Rattle.turns.specs.Arrays.{Carries}
 use Rattle.turns.proofs.InOrder.{scan, joined, first-in-order, scan-more}
 use Rattle.turns.proofs.Smaller.{not-both, chain, later-stands}
 use Rattle.turns.proofs.Lowering.{at-place, lowers-by}
+use Rattle.turns.proofs.KeySteps.{same_sum}
 use Rattle.turns.proofs.Weights.{smaller-key}
 use Rattle.turns.proofs.RowsFit.{row-fits}
 
@@ -26,11 +27,6 @@ module _ (n : ℕ) (f g : ℕ → ℕ) (same : (k : ℕ) → 1 ≤ k → k ≤ n
   unfolding peak
   same-peak a b zero h = refl
   same-peak a b (suc m) h = omega (arith, same-peak a b m (λ k p q. h k p (omega arith)), h (suc m) (omega arith) (omega arith))
-
-  same_sum : (a b : ℕ → ℕ) (m : ℕ) → ((k : ℕ) → 1 ≤ k → k ≤ m → a k ≡ b k) → sum_to a m ≡ sum_to b m
-  unfolding sum_to
-  same_sum a b zero h = refl
-  same_sum a b (suc m) h = omega (arith, same_sum a b m (λ k p q. h k p (omega arith)), h (suc m) (omega arith) (omega arith))
 
   same-weight : (v s m : ℕ) → 1 ≤ s → s + m ≤ n + 1 → weight_in f v (numbers_from s m) ≡ weight_in g v (numbers_from s m)
   unfolding weight_in numbers_from
@@ -51,9 +47,9 @@ module _ (n : ℕ) (f g : ℕ → ℕ) (same : (k : ℕ) → 1 ≤ k → k ≤ n
   unfolding considered
   same-considered top kept place r = rw (same-off r, same_key r)
 
-pub top_peak : (n : ℕ) (rs : List Routed) (loads : List ℕ) (x : ℕ) → Carries n (unsplit_load rs) loads → x ≡ peak (link_at loads) n → x ≡ peak_of n rs
+pub top_peak : (rs : List Routed) (loads : List ℕ) (x : ℕ) → Carries (unsplit_load rs) loads → x ≡ peak (link_at loads) (length loads) → x ≡ peak_of (length loads) rs
 unfolding peak_of
-top_peak n rs loads x c e = e ∙ same-peak n (link_at loads) (unsplit_load rs) c.is (link_at loads) (unsplit_load rs) n c.is
+top_peak rs loads x c e = e ∙ same-peak (length loads) (link_at loads) (unsplit_load rs) c.is (link_at loads) (unsplit_load rs) (length loads) c.is
 
 -- ---- a row beside the one that is kept
 
@@ -96,21 +92,9 @@ module _ (n : ℕ) (rs : List Routed) where
     nobody : Found t None None
     somebody : (kept : Kept) (r : Routed) → kept.place < t → slice_get rs kept.place ≡ Some r → kept.key ≡ key r → Found t (Some kept) (Some (placed kept.place r))
 
-  -- where the loop stands: the first t rows are passed
+  -- where the scan stands: the first t rows are passed
   abbrev pub Picking : Option Kept → ℕ → Type 0
   Picking best t = Found t best (found_to t)
-
-  pub pick_start : Picking None 0
-  unfolding scan placed_from
-  pick_start = nobody
-
-  pub pick_done : (best : Option Kept) (t count : ℕ) → count ≡ length rs → count ≤ t → Picking best t → Picks n rs best
-  unfolding choice falling_rows
-  pick_done best t count e l o = go best _ (rw (take_all t rs (omega arith)) at o) (first-in-order (stands n load) (not-both n load) (chain n load) (lowers n rs) (placed_from 0 rs))
-    where
-      go : (best : Option Kept) (found : Option Placed) → Found t best found → choice n rs ≡ found → Picks n rs best
-      go _ _ nobody e = e
-      go _ _ (somebody kept r a at k) e = record { row = r; at = at; is = e }
 
   module _ (best : Option Kept) (t top : ℕ) (r : Routed) (is-top : top ≡ peak_of n rs) (at : slice_get rs t ≡ Some r) (on : OnRing n r.sent.demand) (o : Picking best t) where
     -- the row's turn, by numbers
@@ -155,10 +139,33 @@ module _ (n : ℕ) (rs : List Routed) where
         go false f true g e h = rw (rw g at e, one_more, f) (later o)
         go false f false g e h = rw (rw g at e, one_more, f) (later o)
 
-  pub pick_turn : (best : Option Kept) (t : ℕ) (r : Routed) (loads : List ℕ) (top : ℕ) (z : Option Kept) → DemandsFit n (demands (sents rs)) → Carries n (unsplit_load rs) loads → top ≡ peak (link_at loads) n → slice_get rs t ≡ Some r →
-      z ≡ considered n (link_at loads) top best t r → Picking best t → Picking z (t + 1)
-  pick_turn best t r loads top z fit c e at q o =
-      turn best t top r (top_peak n rs loads top c e) at (row-fits n rs fit t r at).on o z (q ∙ same-considered n (link_at loads) (unsplit_load rs) c.is top best t r)
+-- ---- row after row
+
+pub pick_start : (n : ℕ) (rs : List Routed) → Picking n rs None 0
+unfolding scan placed_from
+pick_start n rs = nobody
+
+module _ (rs : List Routed) (loads : List ℕ) (count : ℕ) (best : Option Kept) (fit : DemandsFit (length loads) (demands (sents rs))) (o : Picking (length loads) rs best count) where
+  module _ (r : Routed) (here : slice_get rs count ≡ Some r) where
+    pub pick_on : OnRing (length loads) r.sent.demand
+    pick_on = (row-fits (length loads) rs fit count r here).on
+
+    pub pick_turn : (top : ℕ) (z : Option Kept) → Carries (unsplit_load rs) loads → top ≡ peak (link_at loads) (length loads) → z ≡ considered (length loads) (link_at loads) top best count r →
+        Picking (length loads) rs z (count + 1)
+    pick_turn top z c t q =
+        let n : ℕ = length loads in
+        turn n rs best count top r (top_peak rs loads top c t) here pick_on o z (q ∙ same-considered n (link_at loads) (unsplit_load rs) c.is top best count r)
+
+  pub pick_done : length rs ≤ count → Picks (length loads) rs best
+  unfolding choice falling_rows
+  pick_done l = go best _ (rw (take_all count rs l) at o) (first-in-order (stands n (load n rs)) (not-both n (load n rs)) (chain n (load n rs)) (lowers n rs) (placed_from 0 rs))
+    where
+      n : ℕ
+      n = length loads
+
+      go : (best : Option Kept) (found : Option Placed) → Found n rs count best found → choice n rs ≡ found → Picks n rs best
+      go _ _ nobody e = e
+      go _ _ (somebody kept r a at k) e = record { row = r; at = at; is = e }
 
 -- ---- the laws of each function
 

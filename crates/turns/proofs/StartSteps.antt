@@ -1,8 +1,8 @@
 -- A start's rows avoid its link, and each link carries what lies across the two; what it leads to is answered; and the loop over the starts keeps the best so far,
 -- from which the starts that are left give the answer.
-use Rattle.std.proofs.Common.{◌≡◌, ℕ, suc, ◌+◌, ◌-◌, ◌*◌, ◌≤◌, ◌<◌, Bool, true, false, cond, List, [], ◌∷◌, ◌++◌, Some, slice_get, length, take, get_or, set, replicate, refl, sym, ap, subst, ◌∙◌, arith, ltb, length-set, get_or-set_same, get_or-set_other}
-use Rattle.std.proofs.lemmas.List.{length-replicate, take_all, take_more, drop_more, map-append}
-use native.Mathlib.Decide.{dec_lt, ℕ_discrete}
+use Rattle.std.proofs.Common.{◌≡◌, ℕ, suc, ◌+◌, ◌-◌, ◌*◌, ◌≤◌, ◌<◌, Bool, true, false, cond, List, [], ◌∷◌, ◌++◌, Some, slice_get, length, take, get_or, set, refl, sym, ap, subst, ◌∙◌, arith, ltb}
+use Rattle.std.proofs.lemmas.List.{length-take, take-append-le, take_all, take_more, drop_more, map-append}
+use native.Mathlib.Decide.{dec_lt}
 use borrow.Author.Tests.{lt-ltb, le-ltb}
 use Rattle.std.specs.Int.{div_ceil}
 use Rattle.std.proofs.lemmas.Grind.{div_ceil_times}
@@ -22,12 +22,11 @@ use Rattle.rows.proofs.Demands.{demands-more}
 use Rattle.ring.proofs.Across.{either_order, one_link}
 use Rattle.across.specs.Triangle.{at}
 use Rattle.across.proofs.CutSteps.{same-cut}
-use Rattle.weight.specs.Limits.{most_links, most_amount}
+use Rattle.weight.specs.Limits.{most_amount, most_links}
 use Rattle.weight.specs.Arrays.{link_at}
 use Rattle.weight.proofs.Weighing.{each-at}
 use Rattle.router.specs.Arrays.{Triangle, DemandsFit}
 use Rattle.router.proofs.Zip.{Passed, passed-none, within, next-old, put-passed, put-taken}
-use Rattle.turns.specs.declared.figures.Figures.{Figures}
 use Rattle.turns.specs.declared.Turned.{Turned}
 use Rattle.turns.specs.Turns.{whole, avoiding, start, peak_of, settle, Answer, from_start, lower, best_from, least_start}
 use Rattle.turns.specs.Promised.{largest_across, LeastOfStarts, NoTurnLowers, TurnsLower, StartLoads, StartsEnd, StartsWithinM, WaysFloor}
@@ -87,27 +86,19 @@ module _ (link : ℕ) (old : List Routed) where
 
 -- ---- its loads
 
--- where the loop stands: the first k links have their loads
-pub record Loading (triangle : List ℕ) (link : ℕ) (loads : List ℕ) (k : ℕ) : Type 0 where
-  pub size : length loads ≡ most_links
+-- where the loop stands: of n links the first k have their loads
+pub record Loading (triangle : List ℕ) (link n : ℕ) (loads : List ℕ) (k : ℕ) : Type 0 where
+  pub size : length loads ≡ n
   pub is : (h : ℕ) → 1 ≤ h → h ≤ k → link_at loads h ≡ number_at triangle link h
 
-module _ (triangle : List ℕ) (link : ℕ) where
-  pub load_start : Loading triangle link (replicate {A = ℕ} most_links 0) 0
-  load_start = record { size = length-replicate {A = ℕ} most_links 0; is = λ k a b. absurd (omega arith) }
+module _ (triangle : List ℕ) (link n : ℕ) where
+  pub load_start : (loads : List ℕ) → length loads ≡ n → Loading triangle link n loads 0
+  load_start loads size = record { size = size; is = λ k a b. absurd (omega arith) }
 
-  pub load_turn : (loads : List ℕ) (n k z : ℕ) → n ≤ most_links → k < n → z ≡ number_at triangle link (k + 1) → Loading triangle link loads k → Loading triangle link (set loads k z) (k + 1)
-  load_turn loads n k z few l e o =
-      record {
-        size = length-set loads k z ∙ o.size;
-        is = λ x a b. elim (ℕ_discrete x (k + 1)) [
-          | yes s ↦ let i : (k + 1) - 1 ≡ k = omega arith in rw s (ap (λ y. get_or (set loads k z) y 0) i ∙ (get_or-set_same loads k z 0 (omega (arith, o.size)) ∙ e))
-          | no s ↦ get_or-set_other loads k (x - 1) z 0 (λ t. omega arith) ∙ o.is x a (omega arith)
-        ];
-      }
-
-  pub load_done : (loads : List ℕ) (n k : ℕ) → n ≤ k → Loading triangle link loads k → Carries n (λ h. number_at triangle link h) loads
-  load_done loads n k l o = record { is = λ x a b. o.is x a (omega arith) }
+  pub load_done : (loads rest : List ℕ) (k : ℕ) → n ≤ k → Loading triangle link n loads k → Carries (λ h. number_at triangle link h) (take n (loads ++ rest))
+  load_done loads rest k l o =
+      rw (take-append-le n loads rest (omega (arith, o.size)) ∙ take_all n loads (omega (arith, o.size)))
+      (record { is = λ x a b. o.is x a (omega (arith, o.size)) })
 
 module _ (n : ℕ) (rs : List Demand) (triangle : List ℕ) (s : Triangle n rs triangle) (link : ℕ) (low : 1 ≤ link) (high : link ≤ n) where
   number-is : (h : ℕ) → 1 ≤ h → h ≤ n → number_at triangle link h ≡ across rs link h
@@ -120,16 +111,23 @@ module _ (n : ℕ) (rs : List Demand) (triangle : List ℕ) (s : Triangle n rs t
         ]
       ]
 
-  pub start_carries : (rows : List Routed) (at : ℕ) (loads : List ℕ) → rows ≡ start link rs → at ≡ link → Carries n (λ h. number_at triangle at h) loads → Carries n (unsplit_load rows) loads
-  start_carries rows at loads e q c = record { is = λ k a b. (rw q at (c.is k a b)) ∙ (number-is k a b ∙ (sym (start-loads link k rs) ∙ (rw e))) }
+  pub start_carries : (rows : List Routed) (at : ℕ) (loads : List ℕ) → length loads ≡ n → rows ≡ start link rs → at ≡ link → Carries (λ h. number_at triangle at h) loads → Carries (unsplit_load rows) loads
+  start_carries rows at loads size e q c = record { is = λ k a b. (rw q at (c.is k a b)) ∙ (number-is k a (omega arith) ∙ (sym (start-loads link k rs) ∙ (rw e))) }
 
 -- ---- where it leads
 
-module _ (n : ℕ) (rs : List Demand) (link : ℕ) where
-  pub start_fits : (rows : List Routed) → rows ≡ start link rs → DemandsFit n rs → DemandsFit n (demands (sents rows))
-  start_fits rows e fit = rw (e, start-demands) fit
+-- the loads that are seen are as many as the links
+pub seen_long : (n : ℕ) (loads : List ℕ) → n ≤ most_links → length loads ≡ most_links → length (take n loads) ≡ n
+seen_long n loads few size = omega (arith, length-take n loads)
 
-  module _ (rows new : List Routed) (e : rows ≡ start link rs) (figures : Figures) (turns : ℕ) (o : SettlesTo n rows new figures turns) where
+module _ (n : ℕ) (rs : List Demand) (link : ℕ) where
+  pub start_fits : (rows : List Routed) (loads : List ℕ) → length loads ≡ n → rows ≡ start link rs → DemandsFit n rs → DemandsFit (length loads) (demands (sents rows))
+  start_fits rows loads size e fit = rw (size, e, start-demands) fit
+
+  module _ (rows new : List Routed) (e : rows ≡ start link rs) (first loads : List ℕ) (size : length first ≡ n) (turns : ℕ) (s : SettlesTo (length first) rows new loads turns) where
+    o : SettlesTo n rows new loads turns
+    o = rw size at s
+
     settled : settle n (peak_of n (start link rs)) 0 (start link rs) ≡ record { rows = new; turns = turns }
     settled = rw e at o.is
 
@@ -137,9 +135,9 @@ module _ (n : ℕ) (rs : List Demand) (link : ℕ) where
     unfolding from_start
     start_rows = rw settled
 
-    pub start_figures : (top : ℕ) → top ≡ peak (link_at figures.loads) n → ◌≡◌ {A = Turned} (record { peak = top; link = link; turns = turns }) (from_start n rs link).figures
+    pub start_figures : (top : ℕ) → top ≡ peak (link_at loads) (length loads) → ◌≡◌ {A = Turned} (record { peak = top; link = link; turns = turns }) (from_start n rs link).figures
     unfolding from_start
-    start_figures top e = rw (settled, top_peak n new figures.loads top o.carries e)
+    start_figures top e = rw (settled, rw o.size at (top_peak new loads top o.carries e))
 
   pub start_keeps : (new : List Routed) → new ≡ (from_start n rs link).rows → demands (sents new) ≡ rs
   start_keeps new e = rw e (each-start n rs link).demands

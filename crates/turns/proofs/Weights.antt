@@ -21,11 +21,6 @@ use Rattle.turns.specs.Figures.{weight_in, weight, sum_to, path_key}
 
 -- ---- sums
 
-sum_same : {A : Type 0} (f g : A → ℕ) → ((x : A) → f x ≡ g x) → (l : List A) → sum_of f l ≡ sum_of g l
-unfolding sum_of
-sum_same f g h [] = refl
-sum_same f g h (x ∷ l) = omega (arith, h x, sum_same f g h l)
-
 sum-most : {A : Type 0} (f g : A → ℕ) → ((x : A) → f x ≤ g x) → (l : List A) → sum_of f l ≤ sum_of g l
 unfolding sum_of
 sum-most f g h [] = omega arith

@@ -3,6 +3,7 @@ pub mod Turns
 pub mod Promised
 pub mod Figures
 pub mod Arrays
+pub mod Loads
 pub mod Picks
 pub mod Settles
 pub mod Cases

@@ -1,11 +1,9 @@
 -- Internal: what the scan over the rows keeps, and what each turn of it answers.
 use Rattle.std.specs.Prelude.{ℕ, Bool, true, ◌&&◌, cond, List, Option, Some, None, ◌≡◌, ltb, slice_get}
 use Rattle.ring.specs.declared.types.Routed.{Routed}
-use Rattle.turns.specs.declared.figures.Figures.{Figures}
 use Rattle.turns.specs.declared.pick.Kept.{Kept}
 use Rattle.turns.specs.Turns.{placed, choice}
 use Rattle.turns.specs.Figures.{off_top, lowers_by, path_key}
-use Rattle.turns.specs.Arrays.{Figured}
 
 -- a later row takes the place of the one that is kept where its number is larger
 abbrev pub beats : Option Kept → ℕ → Bool
@@ -27,9 +25,3 @@ pub record Picked (n : ℕ) (rs : List Routed) (kept : Kept) : Type 0 where
 abbrev pub Picks : ℕ → List Routed → Option Kept → Type 0
 Picks n rs None = choice n rs ≡ None
 Picks n rs (Some kept) = Picked n rs kept
-
--- with all figures made, and the loads as they were
-pub record Chosen (n : ℕ) (rs : List Routed) (old new : Figures) (kept : Option Kept) : Type 0 where
-  pub picks : Picks n rs kept
-  pub loads : new.loads ≡ old.loads
-  pub all : Figured n new

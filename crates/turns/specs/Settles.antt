@@ -1,22 +1,22 @@
 -- Internal: what a turn of the loop of turns does, where it ends, and which of two answers is kept.
-use Rattle.std.specs.Prelude.{ℕ, cond, List, ◌≡◌, ltb}
+use Rattle.std.specs.Prelude.{ℕ, cond, List, ◌≡◌, length, ltb}
 use Rattle.ring.specs.declared.types.Routed.{Routed}
 use Rattle.ring.specs.Routing.{unsplit_load}
 use Rattle.turns.specs.declared.Turned.{Turned}
-use Rattle.turns.specs.declared.figures.Figures.{Figures}
 use Rattle.turns.specs.Turns.{peak_of, turn_at, settle}
-use Rattle.turns.specs.Arrays.{Carries, Figured}
+use Rattle.turns.specs.Arrays.{Carries}
 
 -- the row at a place turned, and the loads with it
-pub record TurnsTo (n place : ℕ) (old new : List Routed) (loads : List ℕ) : Type 0 where
+pub record TurnsTo (place : ℕ) (old new : List Routed) (before after : List ℕ) : Type 0 where
   pub is : new ≡ turn_at place old
-  pub carries : Carries n (unsplit_load new) loads
+  pub size : length after ≡ length before
+  pub carries : Carries (unsplit_load new) after
 
 -- where the turns from the old rows end
-pub record SettlesTo (n : ℕ) (old new : List Routed) (figures : Figures) (turns : ℕ) : Type 0 where
+pub record SettlesTo (n : ℕ) (old new : List Routed) (loads : List ℕ) (turns : ℕ) : Type 0 where
   pub is : settle n (peak_of n old) 0 old ≡ record { rows = new; turns = turns }
-  pub carries : Carries n (unsplit_load new) figures.loads
-  pub all : Figured n figures
+  pub size : length loads ≡ n
+  pub carries : Carries (unsplit_load new) loads
 
 -- a later answer takes the place of an earlier one only where its peak is less
 abbrev pub lower_of : Turned → Turned → Turned

@@ -1,47 +1,41 @@
 //! Each load's weight, and sums of weights: with them two rows' lists of loads are compared at once.
-ghost use Rattle.std.specs.Prelude.{◌≡◌, ◌≤◌};
+ghost use Rattle.std.specs.Prelude.{◌≡◌, ◌≤◌, length, ltb};
+ghost use Rattle.std.specs.List.{count_by};
 ghost use Rattle.weight.specs.Limits.{most_links};
 ghost use Rattle.weight.specs.Arrays.{link_at};
 ghost use Rattle.turns.specs.Figures.{weight};
-ghost use Rattle.turns.specs.Arrays.{Ranks, Keys};
+ghost use Rattle.turns.specs.Arrays.{LoadOf, Keys};
 
-use crate::figures::MARKS;
-use ring::LINKS;
+use crate::loads::MARKS;
 
 // How many links have a load below v.
-#[tactic(auto, using(crate::proofs::KeySteps::rank_laws))]
-fn rank(loads: &[u32; LINKS], n: usize, v: u32) -> u32
-    requires { n ≤ most_links }
-    ensures { Ranks n (link_at loads.now) v result }
+fn rank(loads: &[u32], v: u32) -> u32
+    requires { length loads.now ≤ most_links }
+    ensures { result ≡ count_by (λ load. ltb load v) loads.now }
 {
-    let mut below: u32 = 0;
-    for k in 0..n {
-        if loads[k] < v {
-            below += 1;
-        }
-    }
-    below
+    loads.iter().map(|load| u32::from(*load < v)).sum()
 }
 
-// A load's weight: 1, doubled for each link whose load is less.
+// A load's weight: 1, doubled for each link whose load is less. There are at most 63 such links, since a load is not less than itself.
 #[tactic(auto, using(crate::proofs::KeySteps::weight_is))]
-fn weight(loads: &[u32; LINKS], n: usize, v: u32) -> u64
-    requires { n ≤ most_links }
-    ensures { result ≡ weight n (link_at loads.now) v }
+fn weight(loads: &[u32], v: u32) -> u64
+    requires few { length loads.now ≤ most_links }
+    requires load { LoadOf loads.now v }
+    ensures { result ≡ weight (length loads.now) (link_at loads.now) v }
 {
-    1 << rank(loads, n, v)
+    1 << rank(loads, v)
 }
 
-// The weights of links 1 to k together, for each k.
+/// The weights of links 1 to k together, for each k.
 #[tactic(auto, using(crate::proofs::KeySteps::sum_done))]
-pub(crate) fn fill_keys(loads: &[u32; LINKS], n: usize, keys: &mut [u64; MARKS])
-    requires { n ≤ most_links }
-    ensures { Keys n (link_at loads.now) keys.new }
+pub(crate) fn fill_keys(loads: &[u32], keys: &mut [u64; MARKS])
+    requires { length loads.now ≤ most_links }
+    ensures { Keys (length loads.now) (link_at loads.now) keys.new }
 {
     keys[0] = 0;
     let mut sum: u64 = 0;
-    for k in 0..n {
-        sum += weight(loads, n, loads[k]);
+    for (k, load) in loads.iter().enumerate() {
+        sum += weight(loads, *load);
         keys[k + 1] = sum;
     }
 }

@@ -1,7 +1,7 @@
 #![tactic(auto)]
 //! One turn at a time: from each start, at which every row avoids one link, the row of the largest loads whose turn lowers the peak is turned, until no turn lowers it.
-mod figures; // what a row is chosen by
 mod keys; // sums of weights, by which lists of loads are compared
+mod loads; // loads, and what a row is chosen by
 mod pick; // the row to turn
 mod settle; // all turns of a start
 mod start; // the start that avoids a link
@@ -26,12 +26,14 @@ ghost use Rattle.turns.specs.Promised.{
 ghost use Rattle.turns.specs.Settles.{lower_of};
 
 use across::{PAIRS, largest_cut};
-use figures::{Figures, MARKS, RUNS};
+use keys::fill_keys;
+use loads::{Loads, MARKS, RUNS};
 use ring::{LINKS, wide};
 use router::fill;
 use rows::RowsMut;
 use settle::settle;
 use start::{loads_avoiding, route_avoiding};
+use tops::fill_tops;
 
 /// The figures of an answer: its peak in units, the link that its start avoided, and how many rows were turned from there.
 #[derive(Clone, Copy)]
@@ -52,14 +54,19 @@ fn from_start<R: RowsMut>(triangle: &[u32; PAIRS], n: usize, link: u32, rows: &m
     ensures figures { result ≡ (from_start n (demands (sents (R.rows rows.old))) link).figures }
 {
     route_avoiding(rows, link);
-    let mut figures = Figures {
-        loads: loads_avoiding(triangle, n, wide(link)),
+    let avoiding = loads_avoiding(triangle, n, wide(link));
+    let mut loads = Loads {
+        links: 0,
+        loads: avoiding,
         tops: [0; RUNS],
         keys: [0; MARKS],
     };
-    let turns = settle(rows, n, &mut figures);
+    fill_tops(&avoiding[..n], &mut loads.tops);
+    fill_keys(&avoiding[..n], &mut loads.keys);
+    loads.links = n;
+    let turns = settle(rows, &mut loads);
     Turned {
-        peak: figures.peak(n),
+        peak: loads.peak(),
         link,
         turns,
     }
@@ -95,7 +102,7 @@ fn best_start<R: RowsMut>(triangle: &[u32; PAIRS], n: usize, rows: &mut R) -> Tu
     best
 }
 
-/// One turn at a time on a ring of 2 to 32 nodes: the rows go whole as the best of all starts ends, and its figures are answered. There are at most 496 rows, each on
+/// One turn at a time on a ring of 2 to 64 nodes: the rows go whole as the best of all starts ends, and its figures are answered. There are at most 1,024 rows, each on
 /// the ring, with an amount of at most 9,999; how they were sent before does not matter. The best start is made twice, so that no directions are kept aside.
 pub fn turn_rows<R: RowsMut>(nodes: u32, rows: &mut R) -> Turned
     requires two { desk.fewest ≤ nodes }

@@ -1,21 +1,19 @@
 //! The row to turn: in falling order the first whose turn lowers the peak. It is the greatest of those whose turn does, so that nothing is sorted.
-ghost use Rattle.std.specs.Prelude.{◌≡◌, ◌≤◌};
+ghost use Rattle.std.specs.Prelude.{◌≡◌, length};
 ghost use Rattle.ring.specs.Demand.{OnRing};
 ghost use Rattle.ring.specs.Routing.{unsplit_load};
 ghost use Rattle.ring.specs.Sheet.{sents, demands};
 ghost use Rattle.router.specs.Arrays.{DemandsFit};
-ghost use Rattle.weight.specs.Limits.{most_links};
 ghost use Rattle.weight.specs.Arrays.{link_at};
-ghost use Rattle.turns.specs.Turns.{peak_of};
 ghost use Rattle.turns.specs.Figures.{lowers_by};
-ghost use Rattle.turns.specs.Picks.{beats, considered, Picks, Chosen};
-ghost use Rattle.turns.specs.Arrays.{Figured, Carries};
+ghost use Rattle.turns.specs.Picks.{beats, considered, Picks};
+ghost use Rattle.turns.specs.Arrays.{Carries};
 
-use crate::figures::Figures;
+use crate::loads::Loads;
 use ring::Routed;
 use rows::Rows;
 
-// A row's place, and what stands for its list.
+/// A row's place, and what stands for its list.
 #[derive(Clone, Copy)]
 pub(crate) struct Kept {
     pub place: usize,
@@ -41,50 +39,29 @@ fn beats(kept: Option<Kept>, key: u64) -> bool
 
 // The row at a place, beside the one that is kept: most do not beat it, so that is asked first.
 #[tactic(auto, using(crate::proofs::PickSteps::consider_laws))]
-fn consider(
-    figures: &Figures,
-    n: usize,
-    peak: u32,
-    kept: Option<Kept>,
-    place: usize,
-    row: Routed,
-) -> Option<Kept>
-    requires few { n ≤ most_links }
-    requires row { OnRing n row.sent.demand }
-    requires figures { Figured n figures.now }
-    ensures { result ≡ considered n (link_at figures.now.loads) peak kept place row }
+fn consider(loads: &Loads, peak: u32, kept: Option<Kept>, place: usize, row: Routed) -> Option<Kept>
+    requires { OnRing (length loads.now) row.sent.demand }
+    ensures { result
+        ≡ considered (length loads.now) (link_at loads.now) peak kept place row }
 {
-    let key = figures.path_key(n, row);
-    if beats(kept, key) && lowers(figures.off_path(n, row), row.sent.demand.amount, peak) {
+    let key = loads.path_key(row);
+    if beats(kept, key) && lowers(loads.off_path(row), row.sent.demand.amount, peak) {
         Some(Kept { place, key })
     } else {
         kept
     }
 }
 
-// The row to turn, if there is one.
-fn pick<R: Rows>(rows: &R, n: usize, figures: &Figures) -> Option<Kept>
-    requires two { 1 ≤ n }
-    requires fit { DemandsFit n (demands (sents (R.rows rows.now))) }
-    requires figures { Figured n figures.now }
-    requires carries { Carries n (unsplit_load (R.rows rows.now)) figures.now.loads }
-    ensures { Picks n (R.rows rows.now) result }
+/// The row to turn, if there is one.
+pub(crate) fn pick<R: Rows>(rows: &R, loads: &Loads) -> Option<Kept>
+    requires fit { DemandsFit (length loads.now) (demands (sents (R.rows rows.now))) }
+    requires carries { Carries (unsplit_load (R.rows rows.now)) loads.now }
+    ensures { Picks (length loads.now) (R.rows rows.now) result }
 {
-    let peak = figures.peak(n);
+    let peak = loads.peak();
     let mut best: Option<Kept> = None;
-    for k in 0..rows.count() {
-        best = consider(figures, n, peak, best, k, rows.row(k));
+    for place in 0..rows.count() {
+        best = consider(loads, peak, best, place, rows.row(place));
     }
     best
-}
-
-// The same, with the figures made for the loads.
-pub(crate) fn choose<R: Rows>(rows: &R, n: usize, figures: &mut Figures) -> Option<Kept>
-    requires two { 1 ≤ n }
-    requires fit { DemandsFit n (demands (sents (R.rows rows.now))) }
-    requires carries { Carries n (unsplit_load (R.rows rows.now)) figures.old.loads }
-    ensures { Chosen n (R.rows rows.now) figures.old figures.new result }
-{
-    figures.fill(n);
-    pick(rows, n, figures)
 }

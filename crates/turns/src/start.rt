@@ -1,5 +1,5 @@
 //! The start that avoids a link: the rows' ways, and the loads that they make.
-ghost use Rattle.std.specs.Prelude.{◌≡◌, ◌≤◌, cond};
+ghost use Rattle.std.specs.Prelude.{◌≡◌, ◌≤◌, cond, take};
 ghost use Rattle.ring.specs.Demand.{in_front};
 ghost use Rattle.ring.specs.declared.types.Way.TheVariants.{Front, Back};
 ghost use Rattle.ring.specs.Sheet.{sents, demands};
@@ -16,14 +16,14 @@ use rows::RowsMut;
 fn way_avoiding(demand: Demand, link: u32) -> Way
     ensures { result ≡ cond (in_front demand link) Back Front }
 {
-    if demand.first <= link && link < demand.second {
+    if demand.in_front(link) {
         Way::Back
     } else {
         Way::Front
     }
 }
 
-// Every row is routed to avoid the link.
+/// Every row is routed to avoid the link.
 #[tactic(auto, using(crate::proofs::StartSteps::avoid_laws))]
 pub(crate) fn route_avoiding<R: RowsMut>(rows: &mut R, link: u32)
     requires { SmallAmounts (demands (sents (R.rows rows.old))) }
@@ -49,17 +49,17 @@ fn number(triangle: &[u32; PAIRS], g: usize, h: usize) -> u32
     }
 }
 
-// Where every row avoids a link, each link carries what lies across the two.
+/// Where every row avoids a link, each link carries what lies across the two.
 #[tactic(auto, using(crate::proofs::StartSteps::load_laws))]
 pub(crate) fn loads_avoiding(triangle: &[u32; PAIRS], n: usize, link: usize) -> [u32; LINKS]
     requires few { n ≤ most_links }
     requires low { 1 ≤ link }
     requires high { link ≤ n }
-    ensures { Carries n (λ h. number_at triangle.now link h) result }
+    ensures { Carries (λ h. number_at triangle.now link h) (take n result) }
 {
     let mut loads: [u32; LINKS] = [0; LINKS];
-    for k in 0..n {
-        loads[k] = number(triangle, link, k + 1);
+    for (k, load) in loads[..n].iter_mut().enumerate() {
+        *load = number(triangle, link, k + 1);
     }
     loads
 }

@@ -16,7 +16,9 @@ most_amount = desk.amount
 abbrev pub most_halves : ℕ
 most_halves = 2 * most_amount
 
--- what all rows together have across a cut, and on a link in halves
+-- what all rows together have across a cut, and on a link in halves: 1,024 x 19,998 at most, which a u32 holds with much to spare. That no sum passes it is shown where each grows: loads
+-- in weight/Weighing and, where a row is turned, turns/TurnSteps; across numbers in router/TriangleSteps, work/Right and judge/Across; the sum of rule D in router/WaySteps; twice a peak
+-- in `peak-fits` (weight/Weighing)
 abbrev pub most_across : ℕ
 most_across = most_rows * most_amount
 

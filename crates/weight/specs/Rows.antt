@@ -3,7 +3,7 @@ use Rattle.std.specs.Prelude.{ℕ, ◌+◌, ◌≤◌, max, cond, List, length}
 use Rattle.ring.specs.Limits.{desk}
 use Rattle.ring.specs.Lists.{Each}
 use Rattle.ring.specs.Demand.{OnRing}
-use Rattle.ring.specs.Routing.{by_way, is_split}
+use Rattle.ring.specs.Routing.{is_split}
 use Rattle.ring.specs.declared.types.Sent.{Sent}
 use Rattle.ring.specs.declared.types.Routed.{Routed}
 use Rattle.weight.specs.Limits.{most_halves}
@@ -19,10 +19,6 @@ pub record Fit (n : ℕ) (rs : List Routed) : Type 0 where
   pub links : n ≤ desk.nodes
   pub few : length rs ≤ desk.rows
   pub each : Each (RowFits n) rs
-
--- a row that goes whole sends all of its amount over its front or over its back
-abbrev pub whole : Routed → Sent
-whole r = record { demand = r.sent.demand; front = by_way r.way r.sent.demand.amount 0; back = by_way r.way 0 r.sent.demand.amount }
 
 -- the largest amount of a split row, with one row more
 unfoldable pub larger_split : ℕ → Sent → ℕ

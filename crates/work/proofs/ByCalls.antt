@@ -174,7 +174,7 @@ keeps-of {w} s =
       largest = s.largest;
     }
 
--- 496 places, the across number of every cut, the largest and its cut are kept
+-- 1,024 places, the across number of every cut, the largest and its cut are kept
 pub made-keeps : {cs : List Call} {w : Work} → Made cs w → Keeps w
 made-keeps (begun p k) = k
 made-keeps (called m p k) = k

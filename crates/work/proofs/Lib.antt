@@ -1,4 +1,3 @@
-pub mod PlaceSteps
 pub mod ChangeSteps
 pub mod RowsHeld
 pub mod Right

@@ -17,7 +17,7 @@ use Rattle.work.specs.Calls.{Call, start, add, change, remove, WorkAnswer}
 use Rattle.work.specs.declared.Work.{Work}
 use Rattle.work.specs.declared.answer.Changed.{Changed}
 
--- a ring size outside 2 to 32 counts as the nearest within
+-- a ring size outside 2 to 64 counts as the nearest within
 abbrev pub ring_size : ℕ → ℕ
 ring_size n = max desk.fewest (min n desk.nodes)
 

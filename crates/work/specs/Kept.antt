@@ -16,7 +16,7 @@ use Rattle.work.specs.declared.Work.{Work}
 abbrev pub held : Work → List Demand
 held w = rows_held (plain_of w).places
 
--- there are 496 places, and each column has them; the across number of every cut is that of the rows held, and the largest and its cut are rule A's
+-- there are 1,024 places, and each column has them; the across number of every cut is that of the rows held, and the largest and its cut are rule A's
 pub record Keeps (w : Work) : Type 0 where
   pub places : length (plain_of w).places ≡ desk.rows
   pub firsts : length w.first ≡ desk.rows

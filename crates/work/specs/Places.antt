@@ -1,4 +1,4 @@
--- To believe: a working table is a ring and a list of 496 places, each of which is empty or holds a row; and which of them a struct is.
+-- To believe: a working table is a ring and a list of 1,024 places, each of which is empty or holds a row; and which of them a struct is.
 use Rattle.std.specs.Prelude.{ℕ, zero, suc, ◌-◌, ◌≤◌, ◌<◌, List, [], ◌∷◌, ◌≡◌, length, get_or}
 use Rattle.ring.specs.declared.types.Ring.{Ring}
 use Rattle.ring.specs.Demand.{demand}

@@ -20,14 +20,15 @@ pub struct Changed {
     pub work: Work,
 }
 
-// A ring size that the triangle has room for.
+/// A ring size that the triangle has room for.
 pub(crate) fn ring_size(nodes: u32) -> u32
     ensures { result ≡ ring_size nodes }
 {
     nodes.clamp(FEWEST, NODES)
 }
 
-// The rows have changed: the largest cut is looked for among the kept numbers.
+/// The rows have changed: the largest cut is looked for among the kept numbers.
+#[tactic(auto, unfolding(crate::specs::Changes::recut_in))]
 pub(crate) fn recut(work: Work, place: u32) -> Changed
     ensures { result ≡ recut_in work place }
 {

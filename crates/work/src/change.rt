@@ -7,9 +7,10 @@ use crate::place::{free_place, index_of, row_at};
 use crate::{Changed, Work};
 use across::{put_row, take_row};
 use ring::{Demand, wide};
-use table::{Reason, row_fault};
+use table::{Reason, check_row};
 
 // A row is put at place k+1, which is free.
+#[tactic(auto, unfolding(crate::specs::Changes::put_in))]
 fn put(work: Work, k: usize, row: Demand) -> Work
     requires { Fitting k row }
     ensures { result ≡ put_in work k row }
@@ -24,6 +25,7 @@ fn put(work: Work, k: usize, row: Demand) -> Work
 }
 
 // The row at place k+1 is taken off.
+#[tactic(auto, unfolding(crate::specs::Changes::cleared_in))]
 fn cleared(work: Work, k: usize) -> Work
     requires { Occupied work k }
     ensures { result ≡ cleared_in work k }
@@ -39,28 +41,26 @@ fn cleared(work: Work, k: usize) -> Work
 }
 
 // What is found against a row, which is judged as the first row of a table is.
+#[tactic(auto, unfolding(table::specs::Faults::row_found, table::specs::Faults::found))]
 fn judge_alone(work: &Work, row: Demand) -> Result<(), Reason>
     ensures { result ≡ judged work.now row }
 {
-    match row_fault(ring_size(work.ring.nodes), 0, None, row) {
-        None => Ok(()),
-        Some(fault) => Err(fault.reason),
-    }
+    check_row(ring_size(work.ring.nodes), 0, None, row).map_err(|fault| fault.reason)
 }
 
 /// A row at the lowest free place; the amount is in units. Refused with the first that holds of 4, 5 and 7 against the row, and 21 where all places are taken.
+#[tactic(auto, unfolding(crate::specs::Changes::added_in, crate::specs::Changes::unless_fault, crate::specs::Changes::put_free))]
 pub fn added(work: Work, row: Demand) -> Result<Changed, Reason>
     ensures { result ≡ added_in work row }
 {
     judge_alone(&work, row)?;
-    let Some(k) = free_place(&work.first) else {
-        return Err(Reason::Full);
-    };
+    let k = free_place(&work.first).ok_or(Reason::Full)?;
     let w = put(work, k, row);
     Ok(recut(w, k as u32 + 1))
 }
 
 /// Another row in place of the one at a place, counted from 1. Refused with 22 where the place holds none, then with the first that holds of 4, 5 and 7.
+#[tactic(auto, unfolding(crate::specs::Changes::changed_in, crate::specs::Changes::unless_fault, crate::specs::Changes::from_row))]
 pub fn changed(work: Work, place: u32, row: Demand) -> Result<Changed, Reason>
     ensures { result ≡ changed_in work place row }
 {
@@ -72,6 +72,7 @@ pub fn changed(work: Work, place: u32, row: Demand) -> Result<Changed, Reason>
 }
 
 /// The row at a place, counted from 1, leaves it. Refused with 22 where the place holds none.
+#[tactic(auto, unfolding(crate::specs::Changes::removed_in, crate::specs::Changes::from_row))]
 pub fn removed(work: Work, place: u32) -> Result<Changed, Reason>
     ensures { result ≡ removed_in work place }
 {

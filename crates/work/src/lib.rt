@@ -1,6 +1,6 @@
 #![tactic(auto)]
 // The working table: rows at places, with the across number of every cut, the largest and its cut kept beside them. Each change is a function by value that
-// answers the table behind it, or a reason and no table; none has a `requires`. A ring size outside 2 to 32 counts as the nearest within, and sums wrap around at
+// answers the table behind it, or a reason and no table; none has a `requires`. A ring size outside 2 to 64 counts as the nearest within, and sums wrap around at
 // the type's end: neither happens to a table that was made by calls.
 mod answer; // what an accepted change answers
 mod change; // a row added, changed or removed

@@ -6,8 +6,9 @@ use crate::answer::recut;
 use crate::{Changed, Work};
 use across::PAIRS;
 use ring::{Cut, ROWS, Ring};
-use table::{Reason, ring_fault};
+use table::{Reason, check_ring};
 
+#[tactic(auto, unfolding(crate::specs::Changes::fresh_in))]
 fn fresh(ring: Ring) -> Work
     ensures { result ≡ fresh_in ring }
 {
@@ -25,12 +26,11 @@ fn fresh(ring: Ring) -> Work
     }
 }
 
-/// A table of a ring with no row. Refused with 3 where the nodes are outside 2 to 32, then with 20 where the fibres are neither 2 nor 4.
+/// A table of a ring with no row. Refused with 3 where the nodes are outside 2 to 64, then with 20 where the fibres are neither 2 nor 4.
+#[tactic(auto, unfolding(table::specs::Faults::ring_found, table::specs::Faults::found, crate::specs::Changes::started_in, crate::specs::Changes::unless_fault))]
 pub fn started(ring: Ring) -> Result<Changed, Reason>
     ensures { result ≡ started_in ring }
 {
-    match ring_fault(ring) {
-        Some(found) => Err(found.reason),
-        None => Ok(recut(fresh(ring), 0)),
-    }
+    check_ring(ring).map_err(|fault| fault.reason)?;
+    Ok(recut(fresh(ring), 0))
 }

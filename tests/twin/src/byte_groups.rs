@@ -1,5 +1,5 @@
-//! Groups for the byte of a refusal: in tables, sheets and matrices of 20
-//! and of 32 offices, each field of first, middle and last lines spelled in many
+//! Groups for the byte of a refusal: in tables, sheets and matrices of 20, of 32
+//! and of 64 offices, each field of first, middle and last lines spelled in many
 //! ways, lines missing and left over, and several faults in one line.
 
 use crate::compare::{Case, Lend, NONE};
@@ -8,6 +8,7 @@ use crate::gen::{self, Amounts};
 use crate::matrices::square;
 use crate::matrix::matrix_text;
 use crate::rng::Rng;
+use crate::said::tabbed;
 use crate::sheet::{sheet_text, table_text};
 use crate::twin::Call;
 use std::sync::LazyLock;
@@ -30,15 +31,20 @@ const OF_MATRIX: [Call; 3] = [
 ];
 
 /// Made once, as they are damaged thousands of times.
-static WHOLES: LazyLock<Vec<Whole>> = LazyLock::new(|| (0..6).map(whole).collect());
+static WHOLES: LazyLock<Vec<Whole>> = LazyLock::new(|| (0..9).map(whole).collect());
 
-/// A full table, a sheet of many rows and a full matrix, of 20 and of 32 offices.
+/// A full table, a sheet of many rows and a full matrix, of 20, of 32 and of 64 offices;
+/// of the table of 64 the rows are near ones, so that it is soon routed.
 /// Each is the same every time.
 fn whole(which: usize) -> Whole {
     let rng = &mut Rng::new(which as u64);
-    let offices = if which % 2 == 0 { 20 } else { 32 };
+    let offices = [20, 32, 64][which % 3];
     let full = |rng: &mut Rng| gen::full(rng, offices, Amounts::UpTo(9_999));
-    let (calls, text) = match which / 2 {
+    let (calls, text) = match which / 3 {
+        0 if offices == 64 => {
+            let near = gen::near(rng, offices, Amounts::UpTo(9_999));
+            (OF_TABLE, table_text(&near))
+        }
         0 => (OF_TABLE, table_text(&full(rng))),
         1 => {
             let (table, plan) = foreign::all_across(rng, offices, 190);
@@ -106,8 +112,8 @@ const SPELLINGS: [&str; 36] = [
     "",
     "0*",
     "00",
-    "10000000",
-    "*0000000",
+    "100000000",
+    "*00000000",
     "* ",
     " *",
     "x",
@@ -131,14 +137,14 @@ const SPELLINGS: [&str; 36] = [
     "*|/",
     "*x/",
     "*x$",
-    "*00000000$",
+    "*000000000$",
     "0",
-    "33",
+    "65",
     "21",
     "3",
     "9999",
     "10000",
-    "9999999",
+    "99999999",
 ];
 
 /// The fields of a line to be spelled otherwise: all but of a matrix, of which they are
@@ -211,7 +217,7 @@ pub fn lines_about(_: &mut Rng, case: u64) -> Option<Case> {
             let (line, ended) = ((number - cuts) / 2, number % 2 == 0);
             let mut bytes = whole.lines.last()?.clone();
             if let Some(line) = LEFT_OVER.get(line) {
-                bytes = [&line.replace('|', "\t"), "\n"].concat().into_bytes();
+                bytes = [tabbed(line).as_slice(), b"\n"].concat();
             }
             bytes.truncate(bytes.len() - usize::from(!ended));
             whole.lines.push(bytes);
@@ -224,7 +230,7 @@ pub fn lines_about(_: &mut Rng, case: u64) -> Option<Case> {
 
 /// Two nodes, at most one of them on the ring.
 fn nodes_outside(rng: &mut Rng, n: i64) -> (i64, i64) {
-    let outside = [0, n + 1, 99, 256 + n, 65_537, 9_999_999];
+    let outside = [0, n + 1, 99, 256 + n, 65_537, 99_999_999];
     let (inside, one, other) = (rng.between(1, n), rng.pick(&outside), rng.pick(&outside));
     match rng.below(3) {
         0 => (one, inside),
@@ -246,7 +252,7 @@ pub fn values(rng: &mut Rng, case: u64) -> Option<Case> {
     }
     let at = rng.pick(&rows);
     let (i, j) = nodes_outside(rng, n);
-    let d = rng.pick(&[10_000, 65_536, 9_999_999]);
+    let d = rng.pick(&[10_000, 65_536, 99_999_999]);
     let both = rng.chance(1, 4);
     let amount = both || rng.chance(1, 2);
     gen::change_fields(&mut whole.lines[at], |fields| {
@@ -267,7 +273,7 @@ fn entries(rng: &mut Rng, mut whole: Whole, case: u64) -> Option<Case> {
     let line = rng.pick(&[0, n / 2, n - 1]);
     for _ in 0..rng.between(1, 3) {
         let (field, new) = match large {
-            true => (rng.below(n), rng.pick(&["10000", "65536", "9999999"])),
+            true => (rng.below(n), rng.pick(&["10000", "65536", "99999999"])),
             // A last office with itself comes behind all else.
             false => (line, rng.pick(&["1", "9999"])),
         };
@@ -297,11 +303,11 @@ pub fn long_lines(_: &mut Rng, case: u64) -> Option<Case> {
         2 => (Call::ReadMatrix(4), [&zeros[..length - 1], b"\n"].concat()),
         _ => (
             Call::Rewrite,
-            [b"R\t32\t4\nD\t", vec![b'1'; length - 9].as_slice()].concat(),
+            [b"R\t64\t4\nD\t", vec![b'1'; length - 9].as_slice()].concat(),
         ),
     };
     Some(Case {
-        offices: 32,
+        offices: 64,
         text,
         trials: vec![(call, Lend::Need(1))],
     })

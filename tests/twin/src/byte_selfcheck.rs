@@ -2,6 +2,7 @@
 //! rule for a badly shaped line once more, by trying how a line might go on.
 
 use crate::rng::Rng;
+use crate::said::{barred, tabbed};
 use crate::selfcheck::{same, Outcome};
 use crate::shape::{self, first_fault};
 use crate::table::{self, Line, Refusal};
@@ -9,7 +10,7 @@ use crate::twin::{self, Call};
 
 /// Reason, line and byte; 0 where the text is accepted.
 fn refusal(call: Call, text: &str) -> (u32, u32, u32) {
-    let answer = twin::answer(call, text.replace('|', "\t").as_bytes());
+    let answer = twin::answer(call, &tabbed(text));
     answer.map_or_else(
         |Refusal { reason, line, byte }| (reason, line, byte),
         |_| (0, 0, 0),
@@ -27,7 +28,7 @@ fn last_lines(call: Call, above: &str, wanted: &[(&str, u32, u32)]) -> Outcome {
 }
 
 /// Spellings of the R line, which tables and sheets share.
-const RINGS: [(&str, u32, u32); 18] = [
+const RINGS: [(&str, u32, u32); 19] = [
     ("\n", 2, 1),
     ("X\n", 2, 1),
     ("r|4|4\n", 2, 1),
@@ -38,14 +39,15 @@ const RINGS: [(&str, u32, u32); 18] = [
     ("R|\n", 2, 3),
     ("R|4\n", 2, 4),
     ("R|007|4\n", 2, 4),
-    ("R|12345678|4\n", 2, 10),
+    ("R|123456789|4\n", 2, 11),
+    ("R|12345678|4\n", 3, 3),
     ("R|4|\n", 2, 5),
     ("R|4|4", 2, 6),
     ("R|4|4|\n", 2, 6),
-    ("R|33|4\n", 3, 3),
+    ("R|65|4\n", 3, 3),
     ("R|1|3\n", 3, 3),
     ("R|4|3\n", 20, 5),
-    ("R|32|24\n", 20, 6),
+    ("R|64|24\n", 20, 6),
 ];
 
 /// Rows of a table of four offices.
@@ -68,7 +70,7 @@ const ROWS: [(&str, u32, u32); 22] = [
     ("D|0|2|1\n", 4, 3),
     ("D|1|5|1\n", 4, 5),
     ("D|5|6|10000\n", 4, 3),
-    ("D|12|9999999|1\n", 4, 3),
+    ("D|12|99999999|1\n", 4, 3),
     ("D|1|2|10000\n", 7, 7),
     ("D|3|3|10000\n", 5, 1),
     ("D|1|2|00\n", 2, 8),
@@ -183,7 +185,7 @@ pub fn by_ends(seed: u64) -> Outcome {
         let wanted = (1..=whole.len()).find(|length| !goes_on(&whole[..*length]));
         let bytes = bytes.as_slice();
         let got = first_fault(&Line { bytes, ended }, std::slice::from_ref(&shape)) as usize;
-        let words = String::from_utf8_lossy(&whole).replace('\t', "|");
+        let words = barred(&whole);
         same(&words, got, wanted.unwrap_or(whole.len() + 1))?;
     }
     Ok(())

@@ -140,7 +140,7 @@ pub fn judge_asking(sheet: &Sheet, questions: &Questions) -> Result<(), Finding>
 
 /// 3, then 20.
 pub fn judge_ring(sheet: &Sheet) -> Result<(), Finding> {
-    if !(2..=32).contains(&sheet.table.n) {
+    if !table::known_size(sheet.table.n) {
         return found(3, 0);
     }
     if !table::known_fibres(sheet.table.fibres) {

@@ -5,6 +5,8 @@ use crate::twin::{self, Answer, Call, Said};
 
 /// Bytes on both sides of the lent buffer that no call may change.
 pub const GUARD: usize = 32;
+/// More than any table, sheet or matrix needs.
+pub const ROOM: usize = 32_768;
 
 /// The length of the lent buffer.
 #[derive(Clone, Copy, Debug)]
@@ -58,6 +60,13 @@ pub fn pattern(length: usize, salt: u64) -> Vec<u8> {
     bytes
 }
 
+/// Bytes as words of 4, the lowest first.
+pub fn words_of(bytes: &[u8]) -> Vec<u32> {
+    let fours = bytes.chunks_exact(4);
+    let words = fours.map(|four| u32::from_le_bytes([four[0], four[1], four[2], four[3]]));
+    words.collect()
+}
+
 /// Makes one call both ways. The reply when they agree.
 pub fn compare(
     kit: Kit,
@@ -96,9 +105,33 @@ fn first_difference(expected: &[u8], got: &[u8]) -> Option<(i64, Vec<u8>, Vec<u8
     Some((place, expected[from..to].to_vec(), got[from..to].to_vec()))
 }
 
-/// A smaller text on which the same call still differs: lines are left out,
-/// many at a time and then one by one, with a limit on the tries. The buffer
-/// is large where that shows a difference too.
+/// Fewer of a list's items on which the two still differ, and how; None where none can
+/// be left out. They are left out behind so many first ones, many at a time and then
+/// one by one, with a limit on the tries.
+pub fn fewer<T: Clone, D>(
+    mut items: Vec<T>,
+    kept: usize,
+    differs: impl Fn(&[T]) -> Option<D>,
+) -> (Vec<T>, Option<D>) {
+    let (mut least, mut chunk, mut tries) = (None, items.len() / 2, 0);
+    while chunk > 0 {
+        let mut at = kept;
+        while at < items.len() && tries < 600 {
+            tries += 1;
+            let end = (at + chunk).min(items.len());
+            let tried = [&items[..at], &items[end..]].concat();
+            match differs(&tried) {
+                None => at = end,
+                differing => (items, least) = (tried, differing),
+            }
+        }
+        chunk /= 2;
+    }
+    (items, least)
+}
+
+/// A smaller text on which the same call still differs. The buffer is large where that
+/// shows a difference too.
 pub fn shrink(kit: Kit, text: &[u8], found: Box<Mismatch>) -> (Vec<u8>, Box<Mismatch>) {
     let differs = |lines: &[&[u8]], lend| {
         let text = lines.concat();
@@ -106,29 +139,20 @@ pub fn shrink(kit: Kit, text: &[u8], found: Box<Mismatch>) -> (Vec<u8>, Box<Mism
         compare(kit, (found.call, lend), &text, &answer, 7).err()
     };
     let split = text.split_inclusive(|byte| *byte == b'\n');
-    let mut lines: Vec<&[u8]> = split.collect();
+    let lines: Vec<&[u8]> = split.collect();
     let roomy = differs(&lines, Lend::Need(5_000));
     let lend = roomy.as_ref().map_or(found.lend, |roomy| roomy.lend);
-    let mut chunk = lines.len() / 2;
-    let mut tries = 0;
-    let mut best = None;
-    while chunk > 0 {
-        let mut at = 1;
-        while at < lines.len() && tries < 600 {
-            tries += 1;
-            let end = (at + chunk).min(lines.len());
-            let fewer: Vec<&[u8]> = [&lines[..at], &lines[end..]].concat();
-            match differs(&fewer, lend) {
-                None => at = end,
-                differing => {
-                    lines = fewer;
-                    best = differing;
-                }
-            }
-        }
-        chunk /= 2;
+    let (lines, least) = fewer(lines, 1, |lines| differs(lines, lend));
+    (lines.concat(), least.or(roomy).unwrap_or(found))
+}
+
+/// What a call writes, or what it says where it writes nothing.
+pub fn written(kit: Kit, call: Call, text: &[u8]) -> Result<Vec<u8>, String> {
+    let (mut handed, mut area) = (text.to_vec(), vec![0; ROOM]);
+    match kit.call(call, &mut handed, &mut area, 0..ROOM) {
+        Said::Reply(reply) if reply.reason == 0 => Ok(area[..reply.length].to_vec()),
+        said => Err(format!("{call:?}: {said:?}\n{}", shown(text, 40))),
     }
-    (lines.concat(), best.or(roomy).unwrap_or(found))
 }
 
 /// A text with tabs shown as |, and bytes that do not print as \xNN.

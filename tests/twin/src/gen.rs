@@ -1,5 +1,6 @@
 //! Random tables and damaged texts.
 
+use crate::limits::ROWS;
 use crate::rng::Rng;
 use crate::table::{Row, Table};
 
@@ -74,17 +75,34 @@ fn any_fibres(rng: &mut Rng) -> i64 {
     rng.pick(&[2, 4])
 }
 
-/// Every pair of nodes is a row.
+/// Rows left out until there are no more than there may be.
+fn fit(rng: &mut Rng, mut table: Table) -> Table {
+    while table.rows.len() > ROWS {
+        let at = rng.below(table.rows.len());
+        table.rows.remove(at);
+    }
+    table
+}
+
+/// Every pair of nodes is a row, or of more pairs as many as there may be rows.
 pub fn full(rng: &mut Rng, n: i64, amounts: Amounts) -> Table {
-    keep(rng, n, amounts, |_, _| true)
+    let table = keep(rng, n, amounts, |_, _| true);
+    fit(rng, table)
+}
+
+/// As many rows as there may be, or all, of pairs that are near each other, so that
+/// they are soon routed.
+pub fn near(rng: &mut Rng, n: i64, amounts: Amounts) -> Table {
+    let table = keep(rng, n, amounts, |i, j| j - i <= 19);
+    fit(rng, table)
 }
 
 /// Each pair is a row `part` times out of `whole`.
 pub fn dense(rng: &mut Rng, n: i64, part: usize, whole: usize) -> Table {
     let amounts = any_amounts(rng);
-    let mut table = full(rng, n, amounts);
+    let mut table = keep(rng, n, amounts, |_, _| true);
     table.rows.retain(|_| rng.chance(part, whole));
-    table
+    fit(rng, table)
 }
 
 /// About `count` rows, whatever the ring.
@@ -126,11 +144,12 @@ pub fn circuits(rng: &mut Rng, n: i64, count: usize) -> Table {
     table
 }
 
-/// All pairs of 20 offices or most of 32, with more circuits, up to 496 rows.
+/// All pairs of 20 offices or most of 32, with more circuits, up to as many as there
+/// may be.
 pub fn full_with_circuits(rng: &mut Rng) -> Table {
     let (n, part) = rng.pick(&[(20, 10), (32, 9)]);
     let mut table = dense(rng, n, part, 10);
-    let count = rng.between(table.rows.len() as i64, 496);
+    let count = rng.between(table.rows.len() as i64, ROWS as i64);
     more_circuits(rng, &mut table, count as usize);
     table
 }
@@ -152,7 +171,7 @@ pub fn shaped(rng: &mut Rng, n: i64) -> Table {
     let amounts = any_amounts(rng);
     let half = n / 2;
     let hub = rng.between(1, n);
-    match rng.below(8) {
+    let table = match rng.below(8) {
         0 => keep(rng, n, amounts, |i, j| j - i == half),
         1 => keep(rng, n, amounts, |i, j| j - i == half || j - i == half + 1),
         2 => keep(rng, n, amounts, |i, j| i <= half && half < j),
@@ -161,7 +180,8 @@ pub fn shaped(rng: &mut Rng, n: i64) -> Table {
         5 => keep(rng, n, amounts, |i, j| j - i == 1 || j - i == n - 1),
         6 => keep(rng, n, amounts, |i, j| j - i <= 2),
         _ => keep(rng, n, amounts, |i, j| j - i >= half),
-    }
+    };
+    fit(rng, table)
 }
 
 /// A byte that a table or a sheet could hold, or any byte.
@@ -196,11 +216,12 @@ pub fn lines_of(text: &[u8]) -> Vec<Vec<u8>> {
     lines.map(|line| line.to_vec()).collect()
 }
 
-/// One of the lines; where they are about as many as a table of 496 rows has,
-/// half of the time one about the last of these.
+/// One of the lines; where they are more than a table's rows, half of the time one
+/// about the last of these.
 fn any_line(rng: &mut Rng, lines: &[Vec<u8>]) -> usize {
-    if lines.len() > 496 && rng.chance(1, 2) {
-        return rng.between(495, lines.len().min(500) as i64 - 1) as usize;
+    let end = lines.len().min(ROWS + 4) as i64;
+    if lines.len() > ROWS && rng.chance(1, 2) {
+        return rng.between(ROWS as i64 - 1, end - 1) as usize;
     }
     rng.below(lines.len())
 }
@@ -267,11 +288,33 @@ pub fn sequence<'a>(choices: &[&'a str], longest: u32, mut number: u64) -> Optio
 
 /// Numbers at the boundaries of what is allowed, good and bad spellings.
 pub const BOUNDARY: [&str; 11] = [
-    "0", "1", "2", "32", "33", "9999", "10000", "19998", "9999999", "10000000", "00",
+    "0",
+    "1",
+    "2",
+    "64",
+    "65",
+    "9999",
+    "10000",
+    "19998",
+    "99999999",
+    "100000000",
+    "00",
 ];
 
-pub const ODD: [&str; 12] = [
-    "", "01", "-1", "+1", "1 ", " 1", "1.", "0x1", "31", "17", "9998", "99999999",
+pub const ODD: [&str; 13] = [
+    "",
+    "01",
+    "-1",
+    "+1",
+    "1 ",
+    " 1",
+    "1.",
+    "0x1",
+    "63",
+    "33",
+    "9998",
+    "9999999",
+    "999999999",
 ];
 
 /// One field of one line replaced by a boundary number, or fields doubled,
@@ -317,8 +360,8 @@ pub fn change_fields(line: &mut Vec<u8>, change: impl FnOnce(&mut Vec<Vec<u8>>))
 
 /// Two nodes, many of them on one side or the other of a limit.
 fn drawn_nodes(rng: &mut Rng) -> (i64, i64) {
-    let i = rng.pick(&[0, 1, 1, 2, 3, 8, 16, 31, 32, 33, 9_999_999]);
-    let j = rng.pick(&[0, 1, 2, 3, 4, 9, 17, 31, 32, 33, 9_999_999]);
+    let i = rng.pick(&[0, 1, 1, 2, 3, 8, 16, 32, 33, 63, 64, 65, 99_999_999]);
+    let j = rng.pick(&[0, 1, 2, 3, 4, 9, 17, 32, 33, 63, 64, 65, 99_999_999]);
     (i, j)
 }
 
@@ -330,7 +373,7 @@ pub fn damage_row(rng: &mut Rng, text: &mut Vec<u8>) {
     }
     let at = any_line(rng, &lines);
     let (i, j) = drawn_nodes(rng);
-    let d = rng.pick(&[0, 1, 9_999, 10_000, 10_000, 9_999_999]);
+    let d = rng.pick(&[0, 1, 9_999, 10_000, 10_000, 99_999_999]);
     lines[at] = format!("D\t{i}\t{j}\t{d}\n").into_bytes();
     *text = lines.concat();
 }
@@ -344,12 +387,12 @@ pub fn damage_sheet_row(rng: &mut Rng, text: &mut Vec<u8>) {
     }
     let at = any_line(rng, &lines);
     let (i, j) = drawn_nodes(rng);
-    let d = rng.pick(&[0, 1, 2, 9_999, 9_999, 10_000, 9_999_999]);
+    let d = rng.pick(&[0, 1, 2, 9_999, 9_999, 10_000, 99_999_999]);
     let mut front = rng.pick(&[0, 1, d, 2 * d, 19_998]);
     let mut back = (2 * d - front).max(0);
     if rng.chance(1, 4) {
-        front = rng.pick(&[0, 1, 19_998, 9_999_999]);
-        back = rng.pick(&[0, 1, 19_998, 9_999_999]);
+        front = rng.pick(&[0, 1, 19_998, 99_999_999]);
+        back = rng.pick(&[0, 1, 19_998, 99_999_999]);
     }
     let way = rng.pick(b"FB") as char;
     lines[at] = format!("D\t{i}\t{j}\t{d}\t{front}\t{back}\t{way}\n").into_bytes();
@@ -365,7 +408,7 @@ pub fn pad(rng: &mut Rng, text: &mut Vec<u8>, length: usize) {
         b" ",
         b"\t",
         b"D\t1\t2\t1\n",
-        b"D\t31\t32\t9999\n",
+        b"D\t63\t64\t9999\n",
         b"R\t2\t4\n",
         b"D\t1\t2\t0\t0\t0\tF\n",
         b"L\t1\t0\t0\n",

@@ -4,54 +4,38 @@
 use crate::byte_groups;
 use crate::compare::{Case, Lend};
 use crate::gen::{self, Amounts};
+use crate::limits::ROWS;
 use crate::matrices;
 use crate::rng::Rng;
+use crate::said::{group, tabbed, Group};
 use crate::sheet::table_text;
 use crate::sheets;
 use crate::table::{Row, Table};
 use crate::twin::Call;
 
-/// A group of cases. A group with share 0 is a list: it runs until `make`
-/// gives None. Any other runs until it has its share, out of all `SHARES`, of
-/// the number of random comparisons.
-pub struct Group {
-    pub name: &'static str,
-    pub share: u64,
-    pub make: fn(&mut Rng, u64) -> Option<Case>,
-}
+/// The case with a number; None where the list has ended.
+pub type Make = fn(&mut Rng, u64) -> Option<Case>;
 
-const fn group(name: &'static str, share: u64, make: fn(&mut Rng, u64) -> Option<Case>) -> Group {
-    Group { name, share, make }
-}
-
-/// What the shares of all groups add up to.
-pub const SHARES: u64 = {
-    let (mut at, mut sum) = (0, 0);
-    while at < GROUPS.len() {
-        sum += GROUPS[at].share;
-        at += 1;
-    }
-    sum
-};
-
-pub const GROUPS: [Group; 73] = [
+pub const GROUPS: [Group<Make>; 77] = [
     group("stated tables", 0, stated),
     group("all small tables", 0, all_small),
-    group("about 496 rows", 0, about_496),
+    group("about as many rows as there may be", 0, about_most),
     group("every byte of the square", 0, every_byte),
     group("boundary numbers in two fields", 0, two_fields),
     group("every buffer length", 0, every_length),
     group("random tables, 2 to 15 offices", 430, small),
     group("random tables, 16 to 32 offices", 136, large),
-    group("thin tables, 16 to 32 offices", 700, thin),
+    group("thin tables, 16 to 64 offices", 700, thin),
+    group("tables of near offices, 33 to 64", 40, near),
     group("shaped tables", 500, shaped),
     group("circuits, 2 to 15 offices", 200, circuits_small),
-    group("circuits, 16 to 32 offices", 160, circuits_large),
+    group("circuits, 16 to 64 offices", 160, circuits_large),
     group("full tables with more circuits", 12, full_circuits),
-    group("tables of 496 rows", 20, most_rows),
-    group("tables of 497 rows and more", 108, too_many_rows),
+    group("tables of 1,024 rows", 14, most_rows),
+    group("tables of 1,025 rows and more", 108, too_many_rows),
     group("full tables, 20 offices", 96, full_20),
     group("full tables, 32 offices", 24, full_32),
+    group("full tables, 40, 48, 56 and 64 offices", 0, full_larger),
     group("full tables of 0, 1, 9999", 24, full_ends),
     group("damaged bytes", 360, damaged_bytes),
     group("damaged lines", 360, damaged_lines),
@@ -68,7 +52,11 @@ pub const GROUPS: [Group; 73] = [
         0,
         sheets::every_field,
     ),
-    group("sheets: about 496 rows", 0, sheets::about_496),
+    group(
+        "sheets: about as many rows as there may be",
+        0,
+        sheets::about_most,
+    ),
     group("sheets: every buffer length", 0, sheets::every_length),
     group("sheets of ours", 700, sheets::ours),
     group("sheets of ours, full rings", 100, sheets::ours_full),
@@ -78,19 +66,20 @@ pub const GROUPS: [Group; 73] = [
         sheets::foreign_small,
     ),
     group(
-        "foreign sheets, 16 to 32 offices",
+        "foreign sheets, 16 to 64 offices",
         1000,
         sheets::foreign_large,
     ),
     group("foreign sheets, full rings", 100, sheets::foreign_full),
+    group("sheets of 40 to 64 offices, full", 0, sheets::full_larger),
     group("foreign sheets, rows that cross", 500, sheets::crossing),
     group(
         "foreign sheets, rows across one cut",
         400,
         sheets::all_across,
     ),
-    group("sheets of 496 rows", 60, sheets::most_rows),
-    group("sheets of 497 rows and more", 140, sheets::too_many_rows),
+    group("sheets of 1,024 rows", 40, sheets::most_rows),
+    group("sheets of 1,025 rows and more", 140, sheets::too_many_rows),
     group("sheets with a figure off by one", 700, sheets::off_by_one),
     group("sheets with two figures off", 250, sheets::two_off),
     group("damaged sheets: bytes", 400, sheets::damaged_bytes),
@@ -107,6 +96,7 @@ pub const GROUPS: [Group; 73] = [
     group("matrices: all small sums", 0, matrices::small_sums),
     group("matrices", 250, matrices::any),
     group("matrices, full rings", 150, matrices::full),
+    group("matrices of about 1,024 rows", 60, matrices::about_most),
     group("matrices with faulty entries", 400, matrices::spoiled),
     group("matrices turned about", 100, matrices::turned),
     group("damaged matrices: bytes", 300, matrices::damaged_bytes),
@@ -210,7 +200,7 @@ pub fn of_table(table: &Table, trials: Vec<(Call, Lend)>) -> Option<Case> {
 pub fn of_text(text: &str, trials: Vec<(Call, Lend)>) -> Option<Case> {
     Some(Case {
         offices: 4,
-        text: text.replace('|', "\t").into_bytes(),
+        text: tabbed(text),
         trials,
     })
 }
@@ -229,8 +219,8 @@ pub const NUMBERS: [&str; 42] = [
     "R|8|4\nD|1|5|1\nD|2|6|1\nD|3|7|1\nD|4|8|1\n",
     "R|4|4\nD|1|2|0\n",
     "R|1|4\n",
-    "R|33|4\n",
-    "R|32|4\n",
+    "R|65|4\n",
+    "R|64|4\n",
     "R|2|4\nD|1|2|9999\n",
     "R|2|4\nD|1|2|10000\n",
     "R|4|4\nD|5|2|10000\n",
@@ -258,7 +248,7 @@ pub const NUMBERS: [&str; 42] = [
     "R|2|2\nD|1|2|385\n",
     "R|4\nD|1|3|1\n",
     "R|4|3\nD|1|3|1\n",
-    "R|33|3\n",
+    "R|65|3\n",
     "R|4|3\nx\n",
 ];
 
@@ -329,8 +319,8 @@ pub fn all_small(_: &mut Rng, case: u64) -> Option<Case> {
 }
 
 /// Tables of 3 offices that end with one, two or three rows of every kind, the
-/// first of which is the 496th row.
-pub fn about_496(_: &mut Rng, case: u64) -> Option<Case> {
+/// first of which is the last row that there may be.
+pub fn about_most(_: &mut Rng, case: u64) -> Option<Case> {
     let ends = [
         "D|2|3|1\n",
         "D|2|3|10000\n",
@@ -341,7 +331,7 @@ pub fn about_496(_: &mut Rng, case: u64) -> Option<Case> {
         "D|2|3\n",
     ];
     let end = gen::sequence(&ends, 3, case)?.concat();
-    let rows = ["D|1|2|1\n".repeat(200), "D|2|3|1\n".repeat(295)].concat();
+    let rows = ["D|1|2|1\n".repeat(200), "D|2|3|1\n".repeat(ROWS - 201)].concat();
     let trials = vec![(one_call(case), Lend::Need(1))];
     of_text(&format!("R|3|4\n{rows}{end}"), trials)
 }
@@ -349,10 +339,9 @@ pub fn about_496(_: &mut Rng, case: u64) -> Option<Case> {
 /// The square with each byte given each value, then with bytes put in before
 /// it, then with it dropped or the text cut short there.
 pub fn every_byte(_: &mut Rng, case: u64) -> Option<Case> {
-    let square = NUMBERS[0].replace('|', "\t").into_bytes();
     Some(Case {
         offices: 4,
-        text: gen::byte_changed(square, case)?,
+        text: gen::byte_changed(tabbed(NUMBERS[0]), case)?,
         trials: vec![(one_call(case), Lend::Need(3))],
     })
 }
@@ -397,13 +386,13 @@ fn every_length(rng: &mut Rng, case: u64) -> Option<Case> {
         0..=5 => of_text(NUMBERS[case as usize], trials),
         6 => of_text("R|4|4\nD|1|3|1\nD|2|2|1\n", trials),
         7 => of_table(&gen::sparse(rng, 16, 9), trials),
-        8 => of_table(&gen::sparse(rng, 32, 20), trials),
+        8 => of_table(&gen::sparse(rng, 64, 20), trials),
         9 => of_table(&gen::full(rng, 9, Amounts::Mixed), trials),
         _ => None,
     }
 }
 
-fn small(rng: &mut Rng, _: u64) -> Option<Case> {
+pub fn small(rng: &mut Rng, _: u64) -> Option<Case> {
     let n = rng.between(2, 15);
     of_table(&gen::any(rng, n), all_trials())
 }
@@ -415,7 +404,7 @@ fn large(rng: &mut Rng, _: u64) -> Option<Case> {
 }
 
 fn thin(rng: &mut Rng, _: u64) -> Option<Case> {
-    let n = rng.between(16, 32);
+    let n = rng.between(16, 64);
     let count = rng.between(0, 40) as usize;
     let trials = some_trials(rng);
     of_table(&gen::sparse(rng, n, count), trials)
@@ -435,15 +424,25 @@ fn shaped(rng: &mut Rng, _: u64) -> Option<Case> {
     of_table(&table, trials)
 }
 
-fn circuits_small(rng: &mut Rng, _: u64) -> Option<Case> {
+pub fn circuits_small(rng: &mut Rng, _: u64) -> Option<Case> {
     let (n, count) = (rng.between(2, 15), rng.between(2, 40));
     of_table(&gen::circuits(rng, n, count as usize), all_trials())
 }
 
 fn circuits_large(rng: &mut Rng, _: u64) -> Option<Case> {
-    let (n, count) = (rng.between(16, 32), rng.between(2, 60));
+    let (n, count) = (rng.between(16, 64), rng.between(2, 60));
     let trials = some_trials(rng);
     of_table(&gen::circuits(rng, n, count as usize), trials)
+}
+
+/// Many rows whose fronts are short.
+fn near(rng: &mut Rng, _: u64) -> Option<Case> {
+    let (n, amounts) = (rng.between(33, 64), gen::any_amounts(rng));
+    let mut table = gen::near(rng, n, amounts);
+    let part = rng.pick(&[10, 30, 60]);
+    table.rows.retain(|_| rng.chance(part, 100));
+    let trials = some_trials(rng);
+    of_table(&table, trials)
 }
 
 fn full_circuits(rng: &mut Rng, _: u64) -> Option<Case> {
@@ -452,19 +451,19 @@ fn full_circuits(rng: &mut Rng, _: u64) -> Option<Case> {
 }
 
 fn most_rows(rng: &mut Rng, _: u64) -> Option<Case> {
-    let n = rng.pick(&[2, 3, 4, 7, 12, 16, 20, 32]);
+    let n = rng.pick(&[2, 3, 4, 7, 12, 16, 20, 64]);
     let trials = some_trials(rng);
-    of_table(&gen::circuits(rng, n, 496), trials)
+    of_table(&gen::circuits(rng, n, ROWS), trials)
 }
 
-/// 497 rows and more; two times out of three a row has another reason, or
+/// 1,025 rows and more; two times out of three a row has another reason, or
 /// several.
 pub fn too_many_rows(rng: &mut Rng, case: u64) -> Option<Case> {
-    let n = rng.between(2, 32);
-    let count = rng.pick(&[497, 497, 498, 500, 700, 2_000]);
-    let mut table = gen::circuits(rng, n, count);
+    let n = rng.between(2, 64);
+    let more = rng.pick(&[1, 1, 2, 4, 200, 1_000]);
+    let mut table = gen::circuits(rng, n, ROWS + more);
     if case % 3 == 0 {
-        gen::spoil_row(rng, &mut table.rows[496]);
+        gen::spoil_row(rng, &mut table.rows[ROWS]);
     }
     let mut made = of_table(&table, two_trials(rng))?;
     if case % 3 == 1 {
@@ -477,6 +476,15 @@ fn full_20(rng: &mut Rng, _: u64) -> Option<Case> {
     let amounts = gen::any_amounts(rng);
     let trials = some_trials(rng);
     of_table(&gen::full(rng, 20, amounts), trials)
+}
+
+/// As many pairs as there may be rows, of rings as large as there may be. The twin
+/// routes them slowly.
+fn full_larger(rng: &mut Rng, case: u64) -> Option<Case> {
+    let n = *[40, 48, 56, 64].get(case as usize)?;
+    let amounts = rng.pick(&[Amounts::UpTo(9_999), Amounts::Mixed]);
+    let trials = vec![(Call::Route, Lend::Need(1)), (Call::Rewrite, Lend::Need(0))];
+    of_table(&gen::full(rng, n, amounts), trials)
 }
 
 fn full_32(rng: &mut Rng, _: u64) -> Option<Case> {
@@ -496,13 +504,14 @@ fn whole(rng: &mut Rng) -> Table {
     let n = if rng.chance(1, 6) {
         rng.between(2, 15)
     } else {
-        rng.between(16, 32)
+        let most = rng.pick(&[32, 64]);
+        rng.between(16, most)
     };
     let count = rng.between(0, 30) as usize;
     match rng.below(40) {
-        0 => gen::full(rng, n, Amounts::UpTo(9_999)),
-        1 => gen::any(rng, n),
-        2 => gen::circuits(rng, n, 496),
+        0 => gen::full(rng, n.min(32), Amounts::UpTo(9_999)),
+        1 => gen::any(rng, n.min(32)),
+        2 => gen::circuits(rng, n, ROWS),
         3..=12 => gen::circuits(rng, n, count),
         _ => gen::sparse(rng, n, count),
     }
@@ -563,7 +572,7 @@ pub fn padded_length(rng: &mut Rng, text: &mut Vec<u8>) {
     gen::pad(rng, text, length);
 }
 
-fn noise(rng: &mut Rng, _: u64) -> Option<Case> {
+pub fn noise(rng: &mut Rng, _: u64) -> Option<Case> {
     Some(Case {
         offices: 2,
         text: gen::noise(rng),

@@ -3,6 +3,7 @@
 
 use crate::check::{self, found, Finding, Question, Questions, Sheet, QUESTIONS};
 use crate::checking_faults::{sum_short, yes};
+use crate::limits::ROWS;
 use crate::mutant::{judging, Mutant};
 use crate::row_faults::MANY_LATE;
 use crate::values::{answer, judge, HeldRow, Values};
@@ -83,16 +84,16 @@ pub static JUDGING_FAULTS: [Mutant; 32] = [
         asking(values, &Questions { rows, ..QUESTIONS })
     }),
     judging("judging: 16 before any row is judged", |values| {
-        match (judge(values), values.rows.len() > 496) {
+        match (judge(values), values.rows.len() > ROWS) {
             (due, true) if due.place > 0 && due.reason < 10 || due.reason == 16 => {
-                answer(found(16, 497))
+                answer(found(16, ROWS + 1))
             }
             (due, _) => due,
         }
     }),
-    judging("judging: rows beyond 496 left out", |values| {
+    judging("judging: rows beyond 1,024 left out", |values| {
         let mut fewer = values.clone();
-        fewer.rows.truncate(496);
+        fewer.rows.truncate(ROWS);
         judge(&fewer)
     }),
     judging("judging: 11 before 10", |values| {

@@ -4,105 +4,83 @@
 
 use crate::check;
 use crate::compare::Case;
+use crate::groups::Make;
+use crate::limits::ROWS;
 use crate::rng::Rng;
+use crate::said::{group, Group};
 use crate::sheets;
 use crate::values::{HeldRow, Values};
 
-type Make = fn(&mut Rng, u64) -> Option<Case>;
-
-/// A group of values: those of the texts that `make` gives, changed by `change`. A
-/// group with share 0 is a list, any other runs until it has its share, out of all
-/// `JUDGING_SHARES`, of the number of comparisons.
-pub struct JudgingGroup {
-    pub name: &'static str,
-    pub share: u64,
+/// The values of the texts that `make` gives, changed by `change`.
+pub struct Changed {
     make: Make,
     change: fn(&mut Rng, &mut Values),
 }
 
-/// The next values of a group: none where the list has ended, or where the text's
-/// lines have not their shape.
-pub enum Made {
-    Ended,
-    NoValues,
-    Values(Values),
-}
-
-impl JudgingGroup {
-    pub fn values(&self, rng: &mut Rng, case: u64) -> Made {
-        let Some(made) = (self.make)(rng, case) else {
-            return Made::Ended;
-        };
-        let Ok(sheet) = check::read_values(&made.text, &[]) else {
-            return Made::NoValues;
-        };
-        let mut values = Values::of(&sheet);
-        (self.change)(rng, &mut values);
-        Made::Values(values)
+impl Changed {
+    /// The next values: none where the list has ended, and none where the text's lines
+    /// have not their shape.
+    pub fn values(&self, rng: &mut Rng, case: u64) -> Option<Option<Values>> {
+        let text = (self.make)(rng, case)?.text;
+        Some(check::read_values(&text, &[]).ok().map(|sheet| {
+            let mut values = Values::of(&sheet);
+            (self.change)(rng, &mut values);
+            values
+        }))
     }
 }
 
-const fn group(name: &'static str, share: u64, make: Make) -> JudgingGroup {
+const fn as_read(name: &'static str, share: u64, make: Make) -> Group<Changed> {
     let change = as_they_are;
-    JudgingGroup {
-        name,
-        share,
-        make,
-        change,
-    }
+    group(name, share, Changed { make, change })
 }
 
 const fn changed(
     name: &'static str,
     share: u64,
     change: fn(&mut Rng, &mut Values),
-) -> JudgingGroup {
+) -> Group<Changed> {
     let make = any_sheet;
-    JudgingGroup {
-        name,
-        share,
-        make,
-        change,
-    }
+    group(name, share, Changed { make, change })
 }
 
-pub const JUDGING_SHARES: u64 = {
-    let (mut at, mut sum) = (0, 0);
-    while at < JUDGING_GROUPS.len() {
-        sum += JUDGING_GROUPS[at].share;
-        at += 1;
-    }
-    sum
-};
-
-pub const JUDGING_GROUPS: [JudgingGroup; 19] = [
-    group("judging: the stated sheets", 0, sheets::stated),
-    group("judging: all small sheets", 0, sheets::all_small),
-    group("judging: about 496 rows", 0, sheets::about_496),
-    group("judging: sheets of ours", 80, sheets::ours),
-    group("judging: sheets of ours, full rings", 6, sheets::ours_full),
-    group(
+pub const JUDGING_GROUPS: [Group<Changed>; 20] = [
+    as_read("judging: the stated sheets", 0, sheets::stated),
+    as_read("judging: all small sheets", 0, sheets::all_small),
+    as_read(
+        "judging: about as many rows as there may be",
+        0,
+        sheets::about_most,
+    ),
+    as_read("judging: sheets of ours", 80, sheets::ours),
+    as_read("judging: sheets of ours, full rings", 6, sheets::ours_full),
+    as_read(
         "judging: foreign sheets, 2 to 15 offices",
         40,
         sheets::foreign_small,
     ),
-    group(
-        "judging: foreign sheets, 16 to 32 offices",
+    as_read(
+        "judging: foreign sheets, 16 to 64 offices",
         90,
         sheets::foreign_large,
     ),
-    group(
+    as_read(
         "judging: foreign sheets, full rings",
         6,
         sheets::foreign_full,
     ),
-    group("judging: rows that cross", 50, sheets::crossing),
-    group("judging: 496 rows", 12, sheets::most_rows),
-    group("judging: 497 rows and more", 24, sheets::too_many_rows),
-    group("judging: a figure off by one", 100, sheets::off_by_one),
-    group("judging: two figures off", 60, sheets::two_off),
-    group("judging: fields damaged", 60, sheets::damaged_fields),
-    group("judging: rows damaged", 60, sheets::damaged_rows),
+    as_read(
+        "judging: sheets of 40 to 64 offices, full",
+        0,
+        sheets::full_larger,
+    ),
+    as_read("judging: rows that cross", 50, sheets::crossing),
+    as_read("judging: 1,024 rows", 4, sheets::most_rows),
+    as_read("judging: 1,025 rows and more", 24, sheets::too_many_rows),
+    as_read("judging: a figure off by one", 100, sheets::off_by_one),
+    as_read("judging: two figures off", 60, sheets::two_off),
+    as_read("judging: fields damaged", 60, sheets::damaged_fields),
+    as_read("judging: rows damaged", 60, sheets::damaged_rows),
     changed("judging: numbers that no text can spell", 120, any_numbers),
     changed("judging: sums that wrap", 60, wrapping),
     changed("judging: rows and links moved", 90, moved),
@@ -123,7 +101,7 @@ fn any_sheet(rng: &mut Rng, case: u64) -> Option<Case> {
         sheets::off_by_one,
         sheets::most_rows,
     ];
-    // Sheets of 496 rows are dear.
+    // Sheets of 1,024 rows are dear.
     let kinds = if case % 16 == 0 { 8 } else { 7 };
     makes[rng.below(kinds)](rng, case)
 }
@@ -140,26 +118,11 @@ fn any_number(rng: &mut Rng, number: u32) -> u32 {
         5 => number.wrapping_add(1),
         6 => number.wrapping_sub(1),
         7 => rng.next() as u32,
-        8 => rng.pick(&[0, 1, 2, 32, 33, 9_999, 10_000]),
+        8 => rng.pick(&[0, 1, 2, 64, 65, 9_999, 10_000]),
         9 => number.wrapping_mul(2),
         10 => number.wrapping_add(3 << 30),
         _ => 0,
     }
-}
-
-/// All numbers of the values, each to be changed in place.
-fn numbers(values: &mut Values) -> Vec<&mut u32> {
-    let mut all: Vec<&mut u32> = Vec::new();
-    for row in &mut values.rows {
-        all.extend([&mut row.first, &mut row.second, &mut row.amount]);
-        all.extend([&mut row.front, &mut row.back, &mut row.way]);
-    }
-    for link in &mut values.links {
-        all.extend([&mut link.link, &mut link.split, &mut link.unsplit]);
-    }
-    all.extend([&mut values.g, &mut values.h, &mut values.across]);
-    all.extend([&mut values.peak, &mut values.size]);
-    all
 }
 
 /// One number changed, or several; seldom those of the ring, behind which nothing is
@@ -172,7 +135,7 @@ fn any_numbers(rng: &mut Rng, values: &mut Values) {
         values.fibres = any_number(rng, values.fibres);
     }
     let times = rng.pick(&[1, 1, 1, 2, 3]);
-    let mut all = numbers(values);
+    let mut all = values.numbers();
     let behind_rows = all.len().min(40);
     for _ in 0..times {
         let anywhere = rng.below(all.len());
@@ -254,7 +217,7 @@ fn moved(rng: &mut Rng, values: &mut Values) {
 
 /// The last row again and again, and sometimes a fault in one of them.
 fn lengthened(rng: &mut Rng, values: &mut Values) {
-    let length = rng.pick(&[495, 496, 497, 498, 1_000, 5_000]);
+    let length = rng.pick(&[ROWS - 1, ROWS, ROWS + 1, ROWS + 2, 496, 5_000]);
     let last = values.rows.last().copied().unwrap_or(HeldRow {
         first: 1,
         second: 2,
@@ -263,7 +226,7 @@ fn lengthened(rng: &mut Rng, values: &mut Values) {
     values.rows.resize(length, last);
     if rng.chance(1, 2) {
         let anywhere = rng.below(length);
-        let at = rng.pick(&[0, 494, length - 1, anywhere, 496]);
+        let at = rng.pick(&[0, ROWS - 2, length - 1, anywhere, ROWS]);
         if let Some(row) = values.rows.get_mut(at.min(length - 1)) {
             row.back = any_number(rng, row.back);
             row.amount = any_number(rng, row.amount);

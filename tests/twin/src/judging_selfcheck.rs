@@ -5,6 +5,7 @@
 use crate::check::{self, Finding};
 use crate::checking_faults::judged_early;
 use crate::rng::Rng;
+use crate::said::tabbed;
 use crate::selfcheck::{holds, same, Outcome};
 use crate::sheets;
 use crate::table::{Refusal, ROW_REASONS};
@@ -12,8 +13,7 @@ use crate::values::{self, Values};
 
 /// The values of a stated sheet, by its number.
 fn stated(at: usize) -> Result<Values, String> {
-    let text = sheets::SHEETS[at].replace('|', "\t");
-    let read = check::read_values(text.as_bytes(), &[]);
+    let read = check::read_values(&tabbed(sheets::SHEETS[at]), &[]);
     let sheet = read.map_err(|refusal| format!("{}: {refusal:?}", sheets::SHEETS[at]))?;
     Ok(Values::of(&sheet))
 }
@@ -30,7 +30,7 @@ pub fn by_hand() -> Outcome {
     finds("14", &stated(9)?, 14, 0)?;
     type Change = fn(&mut Values);
     let changes: [(Change, u32, u32); 21] = [
-        (|x| x.n = 33, 3, 0),
+        (|x| x.n = 65, 3, 0),
         (|x| (x.n, x.fibres) = (u32::MAX, 3), 3, 0),
         (|x| (x.fibres, x.rows[0].first) = (3, 0), 20, 0),
         (|x| x.rows[0].second = 5, 4, 1),
@@ -50,7 +50,7 @@ pub fn by_hand() -> Outcome {
         (|x| x.links[3].link = 3, 11, 4),
         (|x| (x.links[1].split, x.peak) = (1, 0), 11, 2),
         (|x| x.peak = 3, 12, 0),
-        (|x| x.rows = vec![x.rows[1]; 497], 16, 497),
+        (|x| x.rows = vec![x.rows[1]; 1_025], 16, 1_025),
     ];
     for (at, (change, reason, place)) in changes.into_iter().enumerate() {
         let mut values = square.clone();

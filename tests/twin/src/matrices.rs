@@ -4,8 +4,10 @@
 use crate::compare::{Case, Lend, NONE};
 use crate::gen::{self, Amounts};
 use crate::groups::{of_table, of_text, padded_length, ENOUGH, LENDS, SHORT};
+use crate::limits::ROWS;
 use crate::matrix::{self, matrix_text, Matrix};
 use crate::rng::Rng;
+use crate::said::tabbed;
 use crate::table::{Row, Table};
 use crate::twin::Call;
 
@@ -69,7 +71,7 @@ pub const MATRICES: [&str; 36] = [
     "0|00\n0|0\n",
     "0|10000\n10000|0\n",
     "0|9999\n10000|0\n",
-    "0|10000000\n0|0\n",
+    "0|100000000\n0|0\n",
     "1|0\n0|0\n",
     "0|0\n0|1\n",
     "0|1\n0|0\n",
@@ -126,7 +128,7 @@ pub fn all_small(_: &mut Rng, case: u64) -> Option<Case> {
 /// put in before it, then with it dropped or the text cut short there.
 pub fn every_byte(_: &mut Rng, case: u64) -> Option<Case> {
     let text = "0|1|20\n1|0|9999\n20|9999|0\n";
-    let text = gen::byte_changed(text.replace('|', "\t").into_bytes(), case)?;
+    let text = gen::byte_changed(tabbed(text), case)?;
     Some(Case {
         offices: 3,
         text,
@@ -161,7 +163,7 @@ pub fn every_length(rng: &mut Rng, case: u64) -> Option<Case> {
         1 => gen::sparse(rng, 5, 0),
         2 => gen::full(rng, 6, Amounts::Mixed),
         3 => gen::full(rng, 20, Amounts::Always(9_999)),
-        4 => gen::full(rng, 32, Amounts::UpTo(9_999)),
+        4 => gen::full(rng, 64, Amounts::UpTo(9_999)),
         _ => return None,
     };
     if call == Call::WriteMatrix {
@@ -184,7 +186,8 @@ fn offices(rng: &mut Rng) -> i64 {
     if rng.chance(1, 4) {
         return rng.between(2, 15);
     }
-    rng.between(16, 32)
+    let most = rng.pick(&[32, 32, 64]);
+    rng.between(16, most)
 }
 
 fn any_matrix(rng: &mut Rng) -> Matrix {
@@ -197,10 +200,10 @@ pub fn any(rng: &mut Rng, _: u64) -> Option<Case> {
     of_matrix(&matrix, read_trials(rng))
 }
 
-/// Every pair of 20 offices, or of 32, and of these some with the largest
-/// amounts only.
+/// Every pair of 20 offices, or of 32, or as many of 64 as there may be, and of these
+/// some with the largest amounts only.
 pub fn full(rng: &mut Rng, case: u64) -> Option<Case> {
-    let n = if case % 2 == 0 { 20 } else { 32 };
+    let n = [20, 32, 20, 32, 64][case as usize % 5];
     let amounts = rng.pick(&[
         Amounts::Always(1),
         Amounts::Always(9_999),
@@ -210,12 +213,35 @@ pub fn full(rng: &mut Rng, case: u64) -> Option<Case> {
     of_matrix(&matrix, read_trials(rng))
 }
 
+/// Of 46 to 64 offices, about as many entries above 0 as there may be rows, or all of
+/// them; and then one entry made another two times out of three.
+pub fn about_most(rng: &mut Rng, case: u64) -> Option<Case> {
+    let n = rng.between(46, 64);
+    let amounts = rng.pick(&[Amounts::Always(1), Amounts::Always(9_999)]);
+    let mut matrix = square(&gen::full(rng, n, amounts));
+    let mut more = match rng.below(5) {
+        0 => usize::MAX,
+        more => more - 1,
+    };
+    for (i, j) in gen::pairs(n) {
+        let free = matrix.lines[i as usize - 1][j as usize - 1] == 0;
+        if free && more > 0 {
+            matrix::set(&mut matrix, i, j, 7);
+            more -= 1;
+        }
+    }
+    if case % 3 > 0 {
+        spoil(rng, &mut matrix);
+    }
+    of_matrix(&matrix, read_trials(rng))
+}
+
 /// One entry made another: on the diagonal, in one half alone, in both halves
 /// with the limit passed in one of them, or in both alike.
 fn spoil(rng: &mut Rng, matrix: &mut Matrix) {
     let n = matrix.lines.len();
     let (i, j) = (rng.below(n), rng.below(n));
-    let other = rng.pick(&[0, 1, 256, 8_192, 9_999, 10_000, 65_536, 9_999_999]);
+    let other = rng.pick(&[0, 1, 256, 8_192, 9_999, 10_000, 65_536, 99_999_999]);
     let entry = matrix.lines[i][j];
     let near = if rng.chance(1, 2) {
         entry + 1
@@ -286,7 +312,7 @@ fn damage_fields(rng: &mut Rng, text: &mut Vec<u8>) {
 
 /// So many zeros on the first line, with something else at one place.
 fn long_line(rng: &mut Rng, text: &mut Vec<u8>) {
-    let count = rng.pick(&[1, 2, 31, 33, 34, 300, 4_000, 16_384, 16_385]);
+    let count = rng.pick(&[1, 2, 63, 65, 66, 300, 4_000, 16_384, 16_385]);
     let mut fields = vec!["0"; count];
     let place = rng.pick(&[0, count / 2, count - 1]);
     fields[place] = rng.pick(&["0", "0", "1", "10000", "x"]);
@@ -346,7 +372,7 @@ pub fn padded(rng: &mut Rng, _: u64) -> Option<Case> {
 /// Circuits whose sums are small, or now and then pass.
 fn circuits(rng: &mut Rng) -> Table {
     let n = offices(rng);
-    let count = rng.pick(&[0, 3, 20, 60, 200, 496]);
+    let count = rng.pick(&[0, 3, 20, 60, 200, ROWS]);
     let mut table = gen::circuits(rng, n, count);
     let top = rng.pick(&[0, 3, 20, 20, 400, 4_999]);
     for row in &mut table.rows {
@@ -414,7 +440,7 @@ pub fn damaged_tables(rng: &mut Rng, _: u64) -> Option<Case> {
 
 /// Tables that are too long, or have too many rows.
 pub fn long_tables(rng: &mut Rng, _: u64) -> Option<Case> {
-    let (n, count) = (offices(rng), rng.pick(&[497, 498, 600, 2_000]));
+    let (n, count) = (offices(rng), ROWS + rng.pick(&[1, 2, 100, 1_000]));
     let mut case = of_table(
         &gen::circuits(rng, n, count),
         some_trials(rng, Call::WriteMatrix),

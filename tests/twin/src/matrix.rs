@@ -1,5 +1,6 @@
 //! A matrix, read into a table and written from one (Rules, matrices).
 
+use crate::limits::ROWS;
 use crate::shape;
 use crate::table::{self, misshapen, refuse, start_of, Line, Refusal, Row, Table};
 
@@ -10,19 +11,21 @@ pub struct Matrix {
     pub lines: Vec<Vec<i64>>,
 }
 
-/// The questions behind the reasons 3 and 7, where a yes is the refusal, and
+/// The questions behind the reasons 3, 7 and 16, where a yes is the refusal, and
 /// the search for the first faulty entry.
 #[derive(Clone, Copy)]
 pub struct Questions {
     pub off_size: fn(usize) -> bool,
     pub too_much: fn(i64) -> bool,
     pub faulty: fn(&Matrix) -> Option<Refusal>,
+    pub too_many: fn(&Matrix) -> bool,
 }
 
 pub const QUESTIONS: Questions = Questions {
-    off_size: |n| !(2..=32).contains(&n),
+    off_size: |n| !table::known_size(n as i64),
     too_much: |entry| entry > 9_999,
     faulty,
+    too_many: |matrix| rows(matrix).len() > ROWS,
 };
 
 /// At the first faulty entry in reading order 17, diagonal not 0, or 18, not
@@ -64,7 +67,8 @@ pub fn read(text: &[u8]) -> Result<Matrix, Refusal> {
     read_asking(text, &QUESTIONS)
 }
 
-/// 1, 2, 3 and 7 by lines as before, then the first faulty entry.
+/// 1, 2, 3 and 7 by lines as before, then the first faulty entry, then 16, line 0,
+/// where more rows are made than a table may have.
 pub fn read_asking(text: &[u8], questions: &Questions) -> Result<Matrix, Refusal> {
     table::read_length(text)?;
     let mut matrix = Matrix { lines: Vec::new() };
@@ -79,6 +83,7 @@ pub fn read_asking(text: &[u8], questions: &Questions) -> Result<Matrix, Refusal
     }
     match (questions.faulty)(&matrix) {
         Some(refusal) => Err(refusal),
+        None if (questions.too_many)(&matrix) => refuse(16, 0, 0),
         None => Ok(matrix),
     }
 }
@@ -113,9 +118,8 @@ pub fn entries(line: &Line) -> Option<Vec<i64>> {
     read.filter(|_| line.ended)
 }
 
-/// One row for each pair whose entry is above 0. The ring size is the number of
-/// fields of the first line.
-pub fn table_of(matrix: &Matrix, fibres: u32) -> Table {
+/// One row for each pair whose entry is above 0.
+pub fn rows(matrix: &Matrix) -> Vec<Row> {
     let n = matrix.lines.len();
     let mut rows = Vec::new();
     for i in 0..n {
@@ -127,7 +131,13 @@ pub fn table_of(matrix: &Matrix, fibres: u32) -> Table {
             }
         }
     }
-    let (n, fibres) = (n as i64, i64::from(fibres));
+    rows
+}
+
+/// Its rows. The ring size is the number of fields of the first line.
+pub fn table_of(matrix: &Matrix, fibres: u32) -> Table {
+    let (n, fibres) = (matrix.lines.len() as i64, i64::from(fibres));
+    let rows = rows(matrix);
     Table { n, fibres, rows }
 }
 

@@ -1,6 +1,7 @@
 //! Faults of reading a matrix and of writing one: what mutant.rs lists behind
 //! its own.
 
+use crate::limits::{OFFICES, ROWS};
 use crate::matrix::{self, Matrix, Questions, QUESTIONS};
 use crate::mutant::{pairs, read_matrix, says_fibres, square, sums, told, Mutant};
 use crate::table::{self, refuse, Line, Refusal, Row, Table};
@@ -8,12 +9,12 @@ use crate::text_faults::*;
 
 type Read = Result<Matrix, Refusal>;
 
-pub static MATRIX_FAULTS: [Mutant; 63] = [
+pub static MATRIX_FAULTS: [Mutant; 71] = [
     read_matrix("matrix: leading zeros", |text| {
         matrix::read(&without_leading_zeros(text))
     }),
-    read_matrix("matrix: 8 digits", |text| {
-        matrix::read(&without_eighth_digit(text))
+    read_matrix("matrix: 9 digits", |text| {
+        matrix::read(&without_ninth_digit(text))
     }),
     read_matrix("matrix: final LF not asked for", |text| {
         matrix::read(&with_final_lf(text))
@@ -28,10 +29,10 @@ pub static MATRIX_FAULTS: [Mutant; 63] = [
         matrix::read(&within_limit(text))
     }),
     read_matrix("matrix: a tab at a line's end taken", without_last_tabs),
-    read_matrix("matrix: one office taken", |text| sized(text, 1, 32)),
-    read_matrix("matrix: two offices refused", |text| sized(text, 3, 32)),
-    read_matrix("matrix: 32 offices refused", |text| sized(text, 2, 31)),
-    read_matrix("matrix: 33 offices taken", |text| sized(text, 2, 33)),
+    read_matrix("matrix: one office taken", |text| sized(text, 1, 64)),
+    read_matrix("matrix: two offices refused", |text| sized(text, 3, 64)),
+    read_matrix("matrix: 64 offices refused", |text| sized(text, 2, 63)),
+    read_matrix("matrix: 65 offices taken", |text| sized(text, 2, 65)),
     read_matrix("matrix: 9,999 refused", |text| {
         limited(text, |entry| entry >= 9_999)
     }),
@@ -77,6 +78,24 @@ pub static MATRIX_FAULTS: [Mutant; 63] = [
     read_matrix("17, 18: the last faulty entry", |text| {
         searched(text, last_faulty)
     }),
+    read_matrix("matrix: 16 never", |text| counted(text, |_| false)),
+    read_matrix("matrix: 16 at 1,024 rows already", |text| {
+        counted(text, |matrix| matrix::rows(matrix).len() >= ROWS)
+    }),
+    read_matrix("matrix: 16 at 497 rows", |text| {
+        counted(text, |matrix| matrix::rows(matrix).len() > 496)
+    }),
+    read_matrix("matrix: 16 of both halves", |text| {
+        counted(text, |matrix| 2 * matrix::rows(matrix).len() > ROWS)
+    }),
+    read_matrix("matrix: 16 of all pairs", |text| {
+        counted(text, |matrix| zeros_kept(matrix).rows.len() > ROWS)
+    }),
+    read_matrix("matrix: 16 before 17 and 18", |text| {
+        searched(text, many_or_faulty)
+    }),
+    read_matrix("matrix: 16 on line 1", |text| many_at(text, 1, 0)),
+    read_matrix("matrix: 16 with byte 1", |text| many_at(text, 0, 1)),
     told("matrix: 20 never", |text, _| matrix::read(text)),
     told("matrix: 20 after 1", twenty_after_1),
     told("matrix: 20 last of all", twenty_last),
@@ -168,10 +187,10 @@ fn three_before_2(text: &[u8]) -> Read {
 
 fn sized(text: &[u8], low: usize, high: usize) -> Read {
     let off_size: fn(usize) -> bool = match (low, high) {
-        (1, _) => |n| !(1..=32).contains(&n),
-        (3, _) => |n| !(3..=32).contains(&n),
-        (_, 31) => |n| !(2..=31).contains(&n),
-        (_, 33) => |n| !(2..=33).contains(&n),
+        (1, _) => |n| !(1..=64).contains(&n),
+        (3, _) => |n| !(3..=64).contains(&n),
+        (_, 63) => |n| !(2..=63).contains(&n),
+        (_, 65) => |n| !(2..=65).contains(&n),
         _ => |_| false,
     };
     matrix::read_asking(
@@ -291,7 +310,11 @@ fn missing_is_last(text: &[u8]) -> Read {
 fn with_lines(text: &[u8]) -> Read {
     let (lines, n) = (table::lines(text).len(), first_fields(text));
     let zeros = vec!["0"; n].join("\t") + "\n";
-    let missing = if n <= 32 { n.saturating_sub(lines) } else { 0 };
+    let missing = if n <= OFFICES as usize {
+        n.saturating_sub(lines)
+    } else {
+        0
+    };
     matrix::read(&[text, zeros.repeat(missing).as_bytes()].concat())
 }
 
@@ -320,7 +343,7 @@ fn fitted(text: &[u8], shorter: bool) -> Read {
         }
         _ => line.to_vec(),
     };
-    if n > 32 || text.len() > 32_768 {
+    if n > OFFICES as usize || text.len() > 32_768 {
         return matrix::read(text);
     }
     matrix::read(&map_lines(text, fit))
@@ -336,6 +359,35 @@ fn searched(text: &[u8], faulty: fn(&Matrix) -> Option<Refusal>) -> Read {
             ..QUESTIONS
         },
     )
+}
+
+fn counted(text: &[u8], too_many: fn(&Matrix) -> bool) -> Read {
+    matrix::read_asking(
+        text,
+        &Questions {
+            too_many,
+            ..QUESTIONS
+        },
+    )
+}
+
+/// Too many rows by the upper half, whatever stands below it.
+fn many_or_faulty(matrix: &Matrix) -> Option<Refusal> {
+    if (QUESTIONS.too_many)(matrix) {
+        return refuse::<Matrix>(16, 0, 0).err();
+    }
+    (QUESTIONS.faulty)(matrix)
+}
+
+fn many_at(text: &[u8], line: u32, byte: u32) -> Read {
+    matrix::read(text).map_err(|refusal| match refusal {
+        Refusal { reason: 16, .. } => Refusal {
+            reason: 16,
+            line,
+            byte,
+        },
+        _ => refusal,
+    })
 }
 
 /// All entries, in reading order.

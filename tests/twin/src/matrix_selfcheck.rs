@@ -1,14 +1,15 @@
 //! The twin's own checks of matrices, by hand: which refusal a matrix and a table
 //! get, and what is made of those that are accepted.
 
+use crate::said::{barred, tabbed};
 use crate::selfcheck::{same, Outcome};
 use crate::twin::{self, Call};
 
 /// What a text gets with room enough: the text made of it, or the refusal; tabs
 /// are shown as |.
 fn made(call: Call, text: &str) -> Result<String, (u32, u32)> {
-    let answer = twin::answer(call, text.replace('|', "\t").as_bytes());
-    let text = answer.map(|granted| String::from_utf8_lossy(&granted.text).replace('\t', "|"));
+    let answer = twin::answer(call, &tabbed(text));
+    let text = answer.map(|granted| barred(&granted.text));
     text.map_err(crate::selfcheck::place)
 }
 
@@ -23,8 +24,8 @@ fn all(call: Call, wanted: &[(&str, Result<&str, (u32, u32)>)]) -> Outcome {
 pub fn matrices() -> Outcome {
     let five = "0|2|0|5|0\n2|0|9|11|0\n0|9|0|4|3\n5|11|4|0|0\n0|0|3|0|0\n";
     let rows = "D|1|2|2\nD|1|4|5\nD|2|3|9\nD|2|4|11\nD|3|4|4\nD|3|5|3\n";
-    let most = vec!["0"; 32].join("|") + "\n";
-    let many = vec!["0"; 33].join("|") + "\n";
+    let most = vec!["0"; 64].join("|") + "\n";
+    let many = vec!["0"; 65].join("|") + "\n";
     let long = vec!["0"; 16_384].join("|") + "\n";
     let longer = vec!["0"; 16_385].join("|") + "\n";
     let wanted = [
@@ -35,15 +36,15 @@ pub fn matrices() -> Outcome {
             Ok("R|2|4\n"),
         ),
         (
-            &most.repeat(32),
-            Ok("R|32|4\n".into()),
+            &most.repeat(64),
+            Ok("R|64|4\n".into()),
             "0|1\n1|0\n",
             Ok("R|2|4\nD|1|2|1\n"),
         ),
         (
-            &most.repeat(31),
-            Err((2, 32)),
-            &many.repeat(33),
+            &most.repeat(63),
+            Err((2, 64)),
+            &many.repeat(65),
             Err((3, 1)),
         ),
         (&long, Err((3, 1)), &longer, Err((1, 0))),

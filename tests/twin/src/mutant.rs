@@ -6,6 +6,7 @@ use crate::check::{self, Finding, Question, Questions, Sheet, QUESTIONS};
 use crate::checking_faults::*;
 use crate::foreign::cuts;
 use crate::judging_faults::JUDGING_FAULTS;
+use crate::limits::ROWS;
 use crate::matrix::{self, Matrix};
 use crate::matrix_faults::{self, MATRIX_FAULTS};
 use crate::row_faults::*;
@@ -374,7 +375,7 @@ pub const fn square(name: &'static str, square: fn(&Matrix) -> Vec<u8>) -> Mutan
 }
 
 /// Faults that change some sheet or reply: each must be caught.
-static FAULTS: [Mutant; 149] = [
+static FAULTS: [Mutant; 153] = [
     write("one byte after the text changed", after_text),
     write("one byte after the buffer changed", after_buffer),
     write("one byte before the buffer changed", before_buffer),
@@ -382,6 +383,7 @@ static FAULTS: [Mutant; 149] = [
     write("15 writes what fits", short_writes),
     write("15 at exactly the need", short_at_need),
     write("15 before the table reasons", short_first),
+    write("15 before the 16 of a matrix", short_before_many),
     write("length of a refusal is the need", refusal_length),
     write("length one more", length_more),
     write("line off by one", line_off),
@@ -439,8 +441,8 @@ static FAULTS: [Mutant; 149] = [
     read("reading: leading zeros", |text| {
         table::read(&without_leading_zeros(text))
     }),
-    read("reading: 8 digits", |text| {
-        table::read(&without_eighth_digit(text))
+    read("reading: 9 digits", |text| {
+        table::read(&without_ninth_digit(text))
     }),
     read("reading: final LF not asked for", |text| {
         table::read(&with_final_lf(text))
@@ -454,19 +456,24 @@ static FAULTS: [Mutant; 149] = [
     read("reading: 32,769 bytes read", |text| {
         table::read(&within_limit(text))
     }),
-    read("reading: 32 offices refused", ring_32),
-    read("reading: 33 offices taken for 32", ring_33),
+    read("reading: 64 offices refused", ring_64),
+    read("reading: 65 offices taken for 64", ring_65),
+    read("reading: 33 offices refused", ring_33),
+    read("reading: 8 digits refused", |text| {
+        table::read(&without_eight_digits(text))
+    }),
     rows("reading: 5 before 4", &FIVE_FIRST),
     rows("reading: 7 before 6", &SEVEN_FIRST),
     rows("reading: 16 before 6", &MANY_EARLY),
     rows("reading: 16 after 7", &MANY_LATE),
-    rows("reading: 16 at 496 rows already", &MANY_AT_496),
+    rows("reading: 16 at 1,024 rows already", &MANY_AT_MOST),
+    rows("reading: 16 at 497 rows", &MANY_AT_497),
     rows("reading: 16 never", &MANY_NEVER),
     rows("reading: nodes of the row before refused", &NOT_ABOVE),
     rows("reading: a row like the one before refused", &NOT_OTHER),
     rows("reading: 6 by first node alone", &BY_FIRST),
     read("reading: 16 before any row is judged", many_first),
-    read("reading: rows beyond 496 left out", without_many),
+    read("reading: rows beyond 1,024 left out", without_many),
     read("reading: a doubled row taken once", doubled),
     rows("reading: amount 9,999 refused", &MUCH_LOW),
     rows("reading: amount 10,000 taken", &MUCH_HIGH),
@@ -497,14 +504,14 @@ static FAULTS: [Mutant; 149] = [
     sheet_rows("checking: 7 before 6", &SEVEN_FIRST),
     sheet_rows("checking: 16 before 6", &MANY_EARLY),
     sheet_rows("checking: 16 after 7", &MANY_LATE),
-    sheet_rows("checking: 16 at 496 rows already", &MANY_AT_496),
+    sheet_rows("checking: 16 at 1,024 rows already", &MANY_AT_MOST),
     sheet_rows("checking: 16 never", &MANY_NEVER),
     sheet_rows("checking: nodes of the row before refused", &NOT_ABOVE),
     sheet_rows("checking: a row like the one before refused", &NOT_OTHER),
     sheet_rows("checking: 6 by first node alone", &BY_FIRST),
     read_sheet("checking: 16 after 8 and 9", many_after_9),
     read_sheet("checking: 16 before any row is judged", sheet_many_first),
-    read_sheet("checking: rows beyond 496 left out", sheet_without_many),
+    read_sheet("checking: rows beyond 1,024 left out", sheet_without_many),
     say("checking: a yes has the text's length", yes_with_length),
     say("parallel: a refused sheet has its pair", refused_with_pair),
     on_sum("8: sum not compared", yes),
@@ -635,6 +642,17 @@ fn short_at_need(answer: &Answer, area: &mut [u8], lent: Range<usize>) -> Reply 
 
 fn short_first(answer: &Answer, area: &mut [u8], lent: Range<usize>) -> Reply {
     if lent.is_empty() {
+        return twin::refused(&twin::NO_ROOM);
+    }
+    twin::reply(answer, &mut area[lent])
+}
+
+/// The refusal without a line is that of a matrix that makes too many rows.
+fn short_before_many(answer: &Answer, area: &mut [u8], lent: Range<usize>) -> Reply {
+    let many = answer
+        .as_ref()
+        .is_err_and(|refusal| (refusal.reason, refusal.line) == (16, 0));
+    if many && lent.len() < 7 + 13 * ROWS {
         return twin::refused(&twin::NO_ROOM);
     }
     twin::reply(answer, &mut area[lent])
@@ -1081,16 +1099,23 @@ fn old_ring(text: &[u8]) -> Result<Table, Refusal> {
     table::read(&with_fibres(text))
 }
 
-fn ring_32(text: &[u8]) -> Result<Table, Refusal> {
+fn ring_64(text: &[u8]) -> Result<Table, Refusal> {
     match table::read(text) {
-        Ok(table) if table.n == 32 => refuse(3, 1, 3),
+        Ok(table) if table.n == 64 => refuse(3, 1, 3),
         other => other,
     }
 }
 
 fn ring_33(text: &[u8]) -> Result<Table, Refusal> {
-    match text.strip_prefix(b"R\t33\t4\n") {
-        Some(rest) => table::read(&[b"R\t32\t4\n", rest].concat()),
+    match table::read(text) {
+        Ok(table) if table.n > 32 => refuse(3, 1, 3),
+        other => other,
+    }
+}
+
+fn ring_65(text: &[u8]) -> Result<Table, Refusal> {
+    match text.strip_prefix(b"R\t65\t4\n") {
+        Some(rest) => table::read(&[b"R\t64\t4\n", rest].concat()),
         None => table::read(text),
     }
 }
@@ -1115,7 +1140,7 @@ fn doubled(text: &[u8]) -> Result<Table, Refusal> {
 fn shape_first(text: &[u8]) -> Result<Table, Refusal> {
     let lines = text.split_inclusive(|byte| *byte == b'\n');
     for (at, line) in lines.enumerate().skip(1) {
-        let alone = table::read(&[b"R\t32\t4\n", line].concat());
+        let alone = table::read(&[b"R\t64\t4\n", line].concat());
         match alone {
             Err(refusal) if text.len() <= 32_768 && refusal.reason == 2 => {
                 return refuse(2, at as u32 + 1, refusal.byte);

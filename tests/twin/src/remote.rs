@@ -3,9 +3,10 @@
 //! says what goes over the pipes) makes the calls; it is started by the first.
 
 use crate::check::Finding;
+use crate::compare::words_of;
 use crate::turns::TurnReply;
 use crate::twin::{Call, Pair, Reply, Said};
-use crate::values::{HeldLink, HeldRow, Values};
+use crate::values::Values;
 use crate::working::{Ask, RowReply, Told, WorkReply, ASK_NAMES};
 use crate::working_compare::GUARD_WORDS;
 use std::io::{BufReader, BufWriter, Error, Read, Result, Write};
@@ -23,52 +24,47 @@ static SERVER: LazyLock<Mutex<Server>> = LazyLock::new(|| match Server::start() 
     Err(error) => give_up("does not start", &error),
 });
 
+/// What the server answers; where it answers nothing, this was lost.
+fn answered<T>(what: String, ask: impl FnOnce(&mut Server) -> Result<T>) -> T {
+    let mut server = SERVER.lock().expect("the twin has one thread");
+    match ask(&mut server) {
+        Ok(answer) => answer,
+        Err(error) => give_up(&format!("was lost in {what}"), &error),
+    }
+}
+
 /// One call, of which text and area come back as the library left them.
 pub fn library(call: Call, text: &mut [u8], area: &mut [u8], lent: Range<usize>) -> Said {
-    let mut server = SERVER.lock().expect("the twin has one thread");
-    match server.ask(call, text, area, lent) {
-        Ok(said) => said,
-        Err(error) => give_up(&format!("was lost in the call {call:?}"), &error),
-    }
+    answered(format!("the call {call:?}"), |server| {
+        server.ask(call, text, area, lent)
+    })
 }
 
 /// One call of the working table, of which words and area come back as the
 /// library left them.
 pub fn library_work(ask: &Ask, words: &mut [u32], area: &mut [u8], lent: Range<usize>) -> Told {
-    let mut server = SERVER.lock().expect("the twin has one thread");
-    match server.ask_work(ask, words, area, lent) {
-        Ok(told) => told,
-        Err(error) => give_up(&format!("was lost in the call {ask:?}"), &error),
-    }
+    answered(format!("the call {ask:?}"), |server| {
+        server.ask_work(ask, words, area, lent)
+    })
 }
 
 /// Circuits sent one turn at a time; text and area come back as the library left them.
 pub fn library_turn(text: &mut [u8], area: &mut [u8], lent: Range<usize>) -> TurnReply {
-    let mut server = SERVER.lock().expect("the twin has one thread");
-    match server.made("Turn", [0; 4], (text, 0), area, lent) {
-        Ok(said) => {
-            let [reason, line, byte, peak, link, turns, _] = said.map(|number| number as u32);
-            TurnReply {
-                reason,
-                line,
-                byte,
-                peak,
-                link,
-                turns,
-                rows: said[6] as usize,
-            }
-        }
-        Err(error) => give_up("was lost in turning circuits", &error),
-    }
+    let said = answered("turning circuits".to_owned(), |server| {
+        server.made("Turn", [0; 4], (text, 0), area, lent)
+    });
+    TurnReply::of(said.map(|number| number as u32))
 }
 
 /// One judging of values, which come back as the library left them.
 pub fn library_judge(values: &mut Values) -> Finding {
-    let mut server = SERVER.lock().expect("the twin has one thread");
-    match server.ask_judge(values) {
-        Ok(finding) => finding,
-        Err(error) => give_up("was lost in judging values", &error),
-    }
+    answered("judging values".to_owned(), |server| {
+        server.ask_judge(values)
+    })
+}
+
+fn bytes_of(words: &[u32]) -> Vec<u8> {
+    words.iter().flat_map(|word| word.to_le_bytes()).collect()
 }
 
 /// Without the library there is nothing to compare.
@@ -127,12 +123,10 @@ impl Server {
         area: &mut [u8],
         lent: Range<usize>,
     ) -> Result<Told> {
-        let mut bytes: Vec<u8> = words.iter().flat_map(|word| word.to_le_bytes()).collect();
+        let mut bytes = bytes_of(words);
         let (name, work) = (ASK_NAMES[ask.place()], 4 * GUARD_WORDS);
         let said = self.made(name, ask.told(), (&mut bytes, work), area, lent)?;
-        for (word, four) in words.iter_mut().zip(bytes.chunks_exact(4)) {
-            *word = u32::from_le_bytes([four[0], four[1], four[2], four[3]]);
-        }
+        words.copy_from_slice(&words_of(&bytes));
         let [reason, line, byte, one, two, three, four] = said.map(|number| number as u32);
         Ok(match ask {
             Ask::Row(_) => Told::Row(RowReply {
@@ -159,49 +153,17 @@ impl Server {
         })
     }
 
-    /// The values go as a text of words, the rows first, then the links, then the
-    /// other figures; the counts of rows and links are told beside it.
+    /// The values go as a text of words, those of the ring last; the counts of rows and
+    /// links are told beside it.
     fn ask_judge(&mut self, values: &mut Values) -> Result<Finding> {
-        let rows = values.rows.iter().flat_map(|row| {
-            let HeldRow {
-                first,
-                second,
-                amount,
-                front,
-                back,
-                way,
-            } = *row;
-            [first, second, amount, front, back, way]
-        });
-        let links = values.links.iter();
-        let links = links.flat_map(|link| [link.link, link.split, link.unsplit]);
-        let (n, fibres) = (values.n, values.fibres);
-        let (g, h, across) = (values.g, values.h, values.across);
-        let last = [n, fibres, g, h, across, values.peak, values.size];
-        let words: Vec<u32> = rows.chain(links).chain(last).collect();
-        let mut bytes: Vec<u8> = words.iter().flat_map(|word| word.to_le_bytes()).collect();
+        let ring = [values.n, values.fibres];
+        let numbers = values.numbers().into_iter().map(|number| *number);
+        let words: Vec<u32> = numbers.chain(ring).collect();
+        let mut bytes = bytes_of(&words);
         let told = [values.rows.len() as u32, values.links.len() as u32, 0, 0];
         let said = self.made("Judge", told, (&mut bytes, 0), &mut [], 0..0)?;
-        let mut back = bytes
-            .chunks_exact(4)
-            .map(|four| u32::from_le_bytes([four[0], four[1], four[2], four[3]]));
-        let mut next = || back.next().unwrap_or_default();
-        for row in &mut values.rows {
-            *row = HeldRow {
-                first: next(),
-                second: next(),
-                amount: next(),
-                front: next(),
-                back: next(),
-                way: next(),
-            };
-        }
-        for link in &mut values.links {
-            *link = HeldLink {
-                link: next(),
-                split: next(),
-                unsplit: next(),
-            };
+        for (number, word) in values.numbers().into_iter().zip(words_of(&bytes)) {
+            *number = word;
         }
         let (reason, place) = (said[0] as u32, said[3] as u32);
         Ok(Finding { reason, place })

@@ -2,7 +2,7 @@
 //! Matrix to table to matrix gives the same bytes; table to matrix to table gives
 //! the same table where it has at most one row per pair and no row of amount 0.
 
-use crate::compare::shown;
+use crate::compare::{shown, written};
 use crate::gen::{self, Amounts};
 use crate::kit::Kit;
 use crate::matrices;
@@ -11,20 +11,9 @@ use crate::rng::Rng;
 use crate::selfcheck::Outcome;
 use crate::sheet::table_text;
 use crate::table::Table;
-use crate::twin::{Call, Said};
+use crate::twin::Call;
 
 const CASES: u64 = 600;
-/// More than any table or matrix needs.
-const ROOM: usize = 20_000;
-
-/// What a call writes.
-fn written(kit: Kit, call: Call, text: &[u8]) -> Result<Vec<u8>, String> {
-    let (mut handed, mut area) = (text.to_vec(), vec![0; ROOM + 2]);
-    match kit.call(call, &mut handed, &mut area, 1..ROOM + 1) {
-        Said::Reply(reply) if reply.reason == 0 => Ok(area[1..1 + reply.length].to_vec()),
-        said => Err(format!("{call:?}: {said:?}\n{}", shown(text, 40))),
-    }
-}
 
 /// The text through both calls is the text, and what stands between them is
 /// written afresh as it is where it is a table.
@@ -41,10 +30,10 @@ fn there_and_back(kit: Kit, text: &[u8], there: Call, back: Call) -> Outcome {
 
 /// A table with one row a pair at most and no row of 0; every fourth is full.
 fn table(rng: &mut Rng, case: u64) -> Table {
-    let n = rng.between(2, 32);
+    let n = rng.between(2, 64);
     let mut table = match case % 8 {
         0 => gen::full(rng, 20, Amounts::UpTo(9_999)),
-        4 => gen::full(rng, 32, Amounts::Ends),
+        4 => gen::full(rng, 64, Amounts::Ends),
         _ => gen::any(rng, n),
     };
     table.rows.retain(|row| row.d > 0);

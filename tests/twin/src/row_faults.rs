@@ -1,6 +1,7 @@
 //! Faults of judging a row, of a table or of a sheet: reasons asked in another
 //! order or with another limit. What mutant.rs lists for both.
 
+use crate::limits::ROWS;
 use crate::table::{Refusal, RowReason};
 use crate::table::{FALLEN, NOT_BELOW, OFF_RING, TOO_MANY, TOO_MUCH};
 
@@ -10,9 +11,14 @@ pub const MANY_EARLY: [RowReason; 5] = [OFF_RING, NOT_BELOW, TOO_MANY, FALLEN, T
 pub const MANY_LATE: [RowReason; 5] = [OFF_RING, NOT_BELOW, FALLEN, TOO_MUCH, TOO_MANY];
 pub const MANY_NEVER: [RowReason; 4] = [OFF_RING, NOT_BELOW, FALLEN, TOO_MUCH];
 
-pub const MANY_AT_496: [RowReason; 5] = {
-    let at_496: RowReason = (16, |_, above| above.rows.len() + 1 >= 496);
-    [OFF_RING, NOT_BELOW, FALLEN, at_496, TOO_MUCH]
+pub const MANY_AT_MOST: [RowReason; 5] = {
+    let at_most: RowReason = (16, |_, above| above.rows.len() + 1 >= ROWS);
+    [OFF_RING, NOT_BELOW, FALLEN, at_most, TOO_MUCH]
+};
+
+pub const MANY_AT_497: [RowReason; 5] = {
+    let at_497: RowReason = (16, |_, above| above.rows.len() + 1 >= 497);
+    [OFF_RING, NOT_BELOW, FALLEN, at_497, TOO_MUCH]
 };
 
 /// Reason 6 of circuits between the same two offices too.
@@ -57,16 +63,16 @@ pub const MUCH_HIGH: [RowReason; 5] = {
 pub fn too_many_lines(text: &[u8], refusal: Refusal) -> Refusal {
     let lines = text.split(|byte| *byte == b'\n');
     let rows = lines.filter(|line| line.starts_with(b"D")).count();
-    let (reason, line, byte) = (16, 498, 1);
-    if refusal.line > 1 && rows > 496 {
+    let (reason, line, byte) = (16, ROWS as u32 + 2, 1);
+    if refusal.line > 1 && rows > ROWS {
         return Refusal { reason, line, byte };
     }
     refusal
 }
 
-/// The text without the rows that stand beyond the 496th.
+/// The text without the rows that stand beyond the last that there may be.
 pub fn first_rows(text: &[u8]) -> Vec<u8> {
     let lines = text.split_inclusive(|byte| *byte == b'\n').enumerate();
-    let kept = lines.filter(|(at, line)| *at < 497 || !line.starts_with(b"D"));
+    let kept = lines.filter(|(at, line)| *at <= ROWS || !line.starts_with(b"D"));
     kept.flat_map(|(_, line)| line.to_vec()).collect()
 }

@@ -8,6 +8,7 @@ use crate::foreign;
 use crate::gen;
 use crate::rng::Rng;
 use crate::rules::{self, Plan, Sent, Way};
+use crate::said::{barred, tabbed};
 use crate::sheet;
 use crate::sheets;
 use crate::table::{self, Refusal, Table};
@@ -30,8 +31,8 @@ pub fn holds(what: &str, true_here: bool) -> Outcome {
 }
 
 /// A table given with tabs shown as |.
-fn table(text: &str) -> Result<Table, String> {
-    let read = table::read(text.replace('|', "\t").as_bytes());
+pub fn table(text: &str) -> Result<Table, String> {
+    let read = table::read(&tabbed(text));
     read.map_err(|refusal| format!("{text}: {refusal:?}"))
 }
 
@@ -40,7 +41,7 @@ fn splits(sent: &[Sent]) -> Vec<(i64, i64)> {
     sent.iter().map(|sent| (sent.front, sent.back)).collect()
 }
 
-fn letters(ways: &[Way]) -> String {
+pub fn letters(ways: &[Way]) -> String {
     let letter = |way: &Way| if *way == Way::F { 'F' } else { 'B' };
     ways.iter().map(letter).collect()
 }
@@ -55,7 +56,7 @@ pub fn square() -> Outcome {
     let wanted = "R|4|4\nD|1|3|1|1|1|F\nD|2|4|1|1|1|B\nC|1|3|2\nL|1|2|2\nL|2|2|1\nL|3|2|0\n\
                   L|4|2|1\nZ|2|3\n";
     let answer = twin::answer(Call::Route, text.as_bytes());
-    let got = answer.map(|granted| String::from_utf8_lossy(&granted.text).replace('\t', "|"));
+    let got = answer.map(|granted| barred(&granted.text));
     same("the square", got, Ok(wanted.to_string()))?;
     theorems(&table(text)?)
 }
@@ -125,20 +126,20 @@ pub fn refusals() -> Outcome {
     let wanted = [
         ("", 2, 1),
         ("R|1|4\n", 3, 1),
-        ("R|33|4\n", 3, 1),
-        ("R|32|4\n", 0, 0),
+        ("R|65|4\n", 3, 1),
+        ("R|64|4\n", 0, 0),
         ("R|4|4\nD|1|2|9999\n", 0, 0),
         ("R|4|4\nD|1|2|10000\n", 7, 2),
         ("R|4|4\nD|5|2|10000\n", 4, 2),
         ("R|4|4\nD|1|2|0\n", 15, 0),
         ("R|4|2\n", 0, 0),
         ("R|4|3\nD|5|2|1\n", 20, 1),
-        ("R|33|3\n", 3, 1),
+        ("R|65|3\n", 3, 1),
         ("R|4\n", 2, 1),
         ("R|4|4|4\n", 2, 1),
     ];
     for (text, reason, line) in wanted {
-        let answer = twin::answer(Call::Route, text.replace('|', "\t").as_bytes());
+        let answer = twin::answer(Call::Route, &tabbed(text));
         let need = answer.as_ref().map_or(0, |granted| granted.text.len());
         let short = if reason == 15 { 1 } else { 0 };
         let reply = twin::reply(&answer, &mut vec![0; need - short]);
@@ -167,14 +168,15 @@ pub fn sheets() -> Outcome {
         (31, 3, 1, 3),
         (32, 2, 1, 4),
         (33, 2, 1, 6),
+        (34, 12, 5, 1),
     ];
     let yes = accepted.map(|at| (at, 0, 0, 0, 0, 0));
     let no = refused.map(|(at, reason, line, byte)| (at, reason, line, byte, 0, 0));
     let pairs = [(19, 1, 2), (21, 1, 2), (22, 2, 3), (23, 2, 3)];
     let pairs = pairs.map(|(at, first, second)| (at, 0, 0, 0, first, second));
     for (at, reason, line, byte, first, second) in [yes.as_slice(), &no, &pairs].concat() {
-        let text = sheets::SHEETS[at].replace('|', "\t");
-        let got = twin::pair(&twin::answer(Call::Parallel, text.as_bytes()));
+        let text = tabbed(sheets::SHEETS[at]);
+        let got = twin::pair(&twin::answer(Call::Parallel, &text));
         let wanted = Pair {
             reason,
             line,
@@ -194,26 +196,24 @@ pub fn place(refusal: Refusal) -> (u32, u32) {
 /// The rows of a ring of 3, each with the same end.
 fn text_of(rows: &str, end: &str) -> Vec<u8> {
     let rows = rows.replace(' ', &format!("{end}\nD|"));
-    format!("R|3|4\nD|{rows}{end}\n")
-        .replace('|', "\t")
-        .into_bytes()
+    tabbed(&format!("R|3|4\nD|{rows}{end}\n"))
 }
 
-/// Rows with the same nodes, the order of 6, 16 and 7, and 496 rows.
+/// Rows with the same nodes, the order of 6, 16 and 7, and as many as there may be.
 pub fn circuits() -> Outcome {
     let wanted = [
         ("1|2|1 1|2|1 1|2|0", 0, None),
         ("1|3|1 1|3|1 1|2|1", 0, Some((6, 4))),
         ("2|3|1 1|3|1", 0, Some((6, 3))),
-        ("1|3|1 2|3|1", 494, None),
-        ("1|3|1 2|3|1", 495, Some((16, 498))),
-        ("2|3|1 2|3|1 1|2|1", 495, Some((16, 498))),
-        ("2|3|1 2|3|10000", 495, Some((16, 498))),
-        ("2|3|1 1|3|10000", 495, Some((6, 498))),
-        ("2|3|1 3|3|10000", 495, Some((5, 498))),
-        ("2|3|1 2|4|10000", 495, Some((4, 498))),
-        ("2|3|1 2|3", 495, Some((2, 498))),
-        ("2|3|10000 2|3|1", 495, Some((7, 497))),
+        ("1|3|1 2|3|1", 1_022, None),
+        ("1|3|1 2|3|1", 1_023, Some((16, 1_026))),
+        ("2|3|1 2|3|1 1|2|1", 1_023, Some((16, 1_026))),
+        ("2|3|1 2|3|10000", 1_023, Some((16, 1_026))),
+        ("2|3|1 1|3|10000", 1_023, Some((6, 1_026))),
+        ("2|3|1 3|3|10000", 1_023, Some((5, 1_026))),
+        ("2|3|1 2|4|10000", 1_023, Some((4, 1_026))),
+        ("2|3|1 2|3", 1_023, Some((2, 1_026))),
+        ("2|3|10000 2|3|1", 1_023, Some((7, 1_025))),
     ];
     for (end, before, refusal) in wanted {
         let rows = ["1|2|1 ".repeat(before).as_str(), end].concat();
@@ -334,17 +334,17 @@ pub fn theorems(table: &Table) -> Outcome {
 pub fn random_theorems(seed: u64) -> Outcome {
     for case in 0..600 {
         let mut rng = Rng::for_case(seed, 1_000, case);
-        let n = rng.between(2, 32);
+        let n = rng.between(2, 64);
         let table = match case % 4 {
-            0 => gen::shaped(&mut rng, n),
-            1 => gen::any(&mut rng, n),
+            0 => gen::shaped(&mut rng, n / 2 + 1),
+            1 => gen::any(&mut rng, n / 2 + 1),
             2 => gen::circuits(&mut rng, n, 40),
             _ => gen::sparse(&mut rng, n, 30),
         };
         let plan = foreign::plan(&mut rng, &table);
         let both = theorems(&table).and_then(|()| theorem_accepted(&table, &plan));
         both.map_err(|what| {
-            let text = String::from_utf8_lossy(&sheet::table_text(&table)).replace('\t', "|");
+            let text = barred(&sheet::table_text(&table));
             format!("seed {seed}, table {case}: {what}\n{text}")
         })?;
     }

@@ -5,8 +5,10 @@ use crate::compare::{Case, Lend, NONE};
 use crate::foreign;
 use crate::gen::{self, Amounts};
 use crate::groups::{of_text, ENOUGH, LENDS, SHORT};
+use crate::limits::ROWS;
 use crate::rng::Rng;
 use crate::rules::{self, Plan, Sent, Way};
+use crate::said::tabbed;
 use crate::sheet::{sheet_text, table_text};
 use crate::table::{Row, Table};
 use crate::twin::Call;
@@ -50,10 +52,11 @@ fn of_plan(table: &Table, plan: &Plan, trials: Vec<(Call, Lend)>) -> Option<Case
 
 /// The square, two offices with no rows and with 1-2 of 5, four with 1-2 of 1,
 /// the ring of five and the ring of eight; sizes 768 and 0; 13 and 14; amount 0
-/// with F and with B; rings of 1, 33 and 32; a parallel pair. Then circuits of
+/// with F and with B; rings of 1, 65 and 64; a parallel pair. Then circuits of
 /// the same offices: two whole, both split, split behind a whole one and behind
-/// a row that crosses them; and a row below them.
-pub const SHEETS: [&str; 34] = [
+/// a row that crosses them; and a row below them. Then fibres, and a size that is large
+/// enough but not the smallest.
+pub const SHEETS: [&str; 35] = [
     "R|4|4\nD|1|3|1|1|1|F\nD|2|4|1|1|1|B\nC|1|3|2\nL|1|2|2\nL|2|2|1\nL|3|2|0\nL|4|2|1\nZ|2|3\n",
     "R|2|4\nC|1|2|0\nL|1|0|0\nL|2|0|0\nZ|0|3\n",
     "R|2|4\nD|1|2|5|5|5|F\nC|1|2|5\nL|1|5|5\nL|2|5|0\nZ|5|12\n",
@@ -70,7 +73,7 @@ pub const SHEETS: [&str; 34] = [
     "R|2|4\nD|1|2|0|0|0|F\nC|1|2|0\nL|1|0|0\nL|2|0|0\nZ|0|3\n",
     "R|2|4\nD|1|2|0|0|0|B\nC|1|2|0\nL|1|0|0\nL|2|0|0\nZ|0|3\n",
     "R|1|4\nC|1|1|0\nL|1|0|0\nZ|0|3\n",
-    "R|33|4\nC|1|2|0\nL|1|0|0\nL|2|0|0\nZ|0|3\n",
+    "R|65|4\nC|1|2|0\nL|1|0|0\nL|2|0|0\nZ|0|3\n",
     "R|2|4\nD|1|2|9999|9999|9999|F\nC|1|2|9999\nL|1|9999|9999\nL|2|9999|0\nZ|9999|0\n",
     "R|2|4\nD|1|2|10000|10000|10000|F\nC|1|2|10000\nL|1|10000|10000\nL|2|10000|0\nZ|10000|0\n",
     "R|4|4\nD|5|2|10000|0|0|B\nC|1|2|0\nL|1|0|0\n",
@@ -88,10 +91,11 @@ pub const SHEETS: [&str; 34] = [
     "R|2|2\nD|1|2|385|385|385|F\nC|1|2|385\nL|1|385|385\nL|2|385|0\nZ|385|0\n",
     "R|2|2\nD|1|2|2|2|2|F\nC|1|2|2\nL|1|2|2\nL|2|2|0\nZ|2|3\n",
     "R|2|3\nC|1|2|0\nL|1|0|0\nL|2|0|0\nZ|0|3\n",
-    "R|33|3\nC|1|2|0\nL|1|0|0\nL|2|0|0\nZ|0|3\n",
+    "R|65|3\nC|1|2|0\nL|1|0|0\nL|2|0|0\nZ|0|3\n",
     "R|1|0\nC|1|1|0\nL|1|0|0\nZ|0|3\n",
     "R|2\nC|1|2|0\nL|1|0|0\nL|2|0|0\nZ|0|3\n",
     "R|2|4|4\nC|1|2|0\nL|1|0|0\nL|2|0|0\nZ|0|3\n",
+    "R|2|4\nC|1|2|0\nL|1|0|0\nL|2|0|0\nZ|0|12\n",
 ];
 
 pub fn stated(_: &mut Rng, case: u64) -> Option<Case> {
@@ -153,9 +157,9 @@ fn small_of_4(mut code: usize) -> Option<Case> {
     of_plan(&table, &plan, vec![(Call::Parallel, NONE)])
 }
 
-/// Our sheet of 496 rows on 3 offices, the last of which is replaced by one or
-/// two rows of every kind. The first kind is our own last row.
-pub fn about_496(_: &mut Rng, case: u64) -> Option<Case> {
+/// Our sheet of as many rows as there may be on 3 offices, the last of which is
+/// replaced by one or two rows of every kind. The first kind is our own last row.
+pub fn about_most(_: &mut Rng, case: u64) -> Option<Case> {
     let ends = [
         "D|2|3|1|0|2|B\n",
         "D|2|3|1|0|1|B\n",
@@ -168,12 +172,12 @@ pub fn about_496(_: &mut Rng, case: u64) -> Option<Case> {
     ];
     let end = gen::sequence(&ends, 2, case)?.concat();
     let mut rows = vec![Row { i: 1, j: 2, d: 1 }; 200];
-    rows.resize(496, Row { i: 2, j: 3, d: 1 });
+    rows.resize(ROWS, Row { i: 2, j: 3, d: 1 });
     let (n, fibres) = (3, 4);
     let table = Table { n, fibres, rows };
     let text = sheet_text(&table, &rules::plan(&table));
     let mut lines = gen::lines_of(&text);
-    lines[496] = end.replace('|', "\t").into_bytes();
+    lines[ROWS] = tabbed(&end);
     Some(Case {
         offices: 3,
         text: lines.concat(),
@@ -189,7 +193,7 @@ pub fn about_496(_: &mut Rng, case: u64) -> Option<Case> {
 /// it, it dropped, or the text cut short there.
 pub fn every_byte(_: &mut Rng, case: u64) -> Option<Case> {
     let new = *b"RDCLZFBfb\t\n\r 0129\0\xff.-";
-    let mut text = SHEETS[0].replace('|', "\t").into_bytes();
+    let mut text = tabbed(SHEETS[0]);
     let each = 2 * new.len() + 2;
     let (at, what) = (case as usize / each, case as usize % each);
     if at >= text.len() {
@@ -237,19 +241,21 @@ pub fn every_length(rng: &mut Rng, case: u64) -> Option<Case> {
         6 => return of_text(SHEETS[9], trials),
         7 => gen::sparse(rng, 16, 12),
         8 => gen::sparse(rng, 24, 30),
-        9 => gen::sparse(rng, 32, 20),
+        9 => gen::sparse(rng, 64, 20),
         10 => gen::full(rng, 20, Amounts::UpTo(9_999)),
         _ => return None,
     };
     of_plan(&table, &rules::plan(&table), trials)
 }
 
-/// A ring of 2 to 15 offices one time out of `whole`, else of 16 to 32.
+/// A ring of 2 to 15 offices one time out of `whole`, else of 16 to 64, half of the
+/// time of 32 at most.
 fn offices(rng: &mut Rng, whole: usize) -> i64 {
     if rng.chance(1, whole) {
         return rng.between(2, 15);
     }
-    rng.between(16, 32)
+    let most = rng.pick(&[32, 64]);
+    rng.between(16, most)
 }
 
 /// A table whose routing is quick: few rows, or a small ring.
@@ -278,6 +284,29 @@ fn full_ring(rng: &mut Rng, case: u64) -> Table {
     let n = if case % 4 == 3 { 32 } else { 20 };
     let amounts = gen::any_amounts(rng);
     gen::full(rng, n, amounts)
+}
+
+/// Sheets of large rings with as many rows as there may be: rows across one cut, each
+/// halved, and rows of near offices, ours and another tool's; true, and with a figure
+/// off by one.
+pub fn full_larger(rng: &mut Rng, case: u64) -> Option<Case> {
+    let n = *[40, 48, 56, 64].get(case as usize / 6)?;
+    let (mut table, mut plan) = match case % 3 {
+        0 => foreign::all_across(rng, n, ROWS),
+        kind => {
+            let table = gen::near(rng, n, Amounts::UpTo(9_999));
+            let plan = if kind == 1 {
+                rules::plan(&table)
+            } else {
+                foreign::plan(rng, &table)
+            };
+            (table, plan)
+        }
+    };
+    if case % 6 >= 3 {
+        foreign::off_by_one(rng, &mut table, &mut plan);
+    }
+    of_plan(&table, &plan, all_trials())
 }
 
 pub fn ours_full(rng: &mut Rng, case: u64) -> Option<Case> {
@@ -313,14 +342,14 @@ pub fn all_across(rng: &mut Rng, _: u64) -> Option<Case> {
     of_plan(&table, &plan, some_trials(rng))
 }
 
-/// 496 rows: all halved, or sent by us or by another tool.
+/// 1,024 rows: all halved, or sent by us or by another tool.
 pub fn most_rows(rng: &mut Rng, case: u64) -> Option<Case> {
-    let n = rng.pick(&[2, 3, 4, 7, 12, 20, 32]);
+    let n = rng.pick(&[2, 3, 4, 7, 12, 20, 64]);
     if case % 2 == 0 {
-        let (table, plan) = foreign::all_across(rng, n, 496);
+        let (table, plan) = foreign::all_across(rng, n, ROWS);
         return of_plan(&table, &plan, some_trials(rng));
     }
-    let table = gen::circuits(rng, n, 496);
+    let table = gen::circuits(rng, n, ROWS);
     let plan = if case % 4 == 1 {
         rules::plan(&table)
     } else {
@@ -329,15 +358,14 @@ pub fn most_rows(rng: &mut Rng, case: u64) -> Option<Case> {
     of_plan(&table, &plan, some_trials(rng))
 }
 
-/// 497 rows and more, halved; three times out of four a row has another reason,
+/// 1,025 rows and more, halved; three times out of four a row has another reason,
 /// or several.
 pub fn too_many_rows(rng: &mut Rng, case: u64) -> Option<Case> {
-    let n = rng.between(2, 32);
-    let count = rng.pick(&[497, 497, 498, 500, 700]);
-    let (mut table, mut plan) = foreign::all_across(rng, n, count);
+    let (n, more) = (rng.between(2, 64), rng.pick(&[1, 1, 2, 4, 60]));
+    let (mut table, mut plan) = foreign::all_across(rng, n, ROWS + more);
     match case % 4 {
-        0 => gen::spoil_row(rng, &mut table.rows[496]),
-        1 => foreign::row_off(rng, 494, &mut table, &mut plan),
+        0 => gen::spoil_row(rng, &mut table.rows[ROWS]),
+        1 => foreign::row_off(rng, ROWS - 2, &mut table, &mut plan),
         _ => (),
     }
     let mut made = of_plan(&table, &plan, some_trials(rng))?;

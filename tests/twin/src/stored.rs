@@ -205,20 +205,11 @@ fn next_table(cases: &[u8]) -> Option<(TurnReply, [u8; WAYS], &[u8], &[u8])> {
     let end = cases.iter().position(|byte| *byte == b'\n')?;
     let line = std::str::from_utf8(&cases[..end]).ok()?;
     let (numbers, letters) = line.strip_prefix("turn ")?.rsplit_once(' ')?;
-    let [length, reason, line, byte, peak, link, turns, rows] = numbers_of(numbers)?;
+    let [length, reply @ ..]: [u32; 8] = numbers_of(numbers)?;
     let (text, after) = cases[end + 1..].split_at_checked(length as usize)?;
     let mut ways = [PATTERN; WAYS];
     for (way, letter) in ways.iter_mut().zip(letters.trim_matches('-').bytes()) {
         *way = u8::from(letter == b'B');
     }
-    let due = TurnReply {
-        reason,
-        line,
-        byte,
-        peak,
-        link,
-        turns,
-        rows: rows as usize,
-    };
-    Some((due, ways, text, after))
+    Some((TurnReply::of(reply), ways, text, after))
 }

@@ -1,6 +1,7 @@
 //! A table and its reading: reasons 1 to 7, 16 and 20, with their bytes, in their
 //! order (Rules, the order of reasons).
 
+use crate::limits::{DIGITS, OFFICES, ROWS};
 use crate::shape::{self, first_fault, Shape};
 
 /// A demand has nodes i < j and an amount d.
@@ -68,8 +69,8 @@ pub const FALLEN: RowReason = (6, |row, above| {
     let before = above.rows.last().map(|before| (before.i, before.j));
     before.is_some_and(|before| (row[0], row[1]) < before)
 });
-/// More than 496 rows.
-pub const TOO_MANY: RowReason = (16, |_, above| above.rows.len() + 1 > 496);
+/// More rows than there may be.
+pub const TOO_MANY: RowReason = (16, |_, above| above.rows.len() + 1 > ROWS);
 /// Amount over 9,999.
 pub const TOO_MUCH: RowReason = (7, |row, _| row[2] > 9_999);
 
@@ -131,10 +132,10 @@ pub fn numbers(line: &Line, letter: &[u8], count: usize) -> Option<Vec<i64>> {
     fields[1..].iter().map(|field| number(field)).collect()
 }
 
-/// Numbers are 1 to 7 digits with no leading zero but 0 itself.
+/// Numbers are 1 to 8 digits with no leading zero but 0 itself.
 pub fn number(field: &[u8]) -> Option<i64> {
     let digits = field.iter().all(|byte| byte.is_ascii_digit());
-    if field.is_empty() || field.len() > 7 || !digits {
+    if field.is_empty() || field.len() > DIGITS || !digits {
         return None;
     }
     if field[0] == b'0' && field.len() > 1 {
@@ -154,13 +155,18 @@ pub fn read_ring(line: &Line) -> Result<(i64, i64), Refusal> {
         return misshapen(line, 1, &[shape::lettered(b"R", 2)]);
     };
     let (n, fibres) = (numbers[0], numbers[1]);
-    if !(2..=32).contains(&n) {
+    if !known_size(n) {
         return refuse(3, 1, start_of(line, 1));
     }
     if !known_fibres(fibres) {
         return refuse(20, 1, start_of(line, 2));
     }
     Ok((n, fibres))
+}
+
+/// 3 is given where this is not so.
+pub fn known_size(n: i64) -> bool {
+    (2..=OFFICES).contains(&n)
 }
 
 /// 20 is given where this is not so.

@@ -20,8 +20,16 @@ pub fn without_leading_zeros(text: &[u8]) -> Vec<u8> {
     })
 }
 
-pub fn without_eighth_digit(text: &[u8]) -> Vec<u8> {
-    with_fields(text, |field| field.replace("10000000", "9999999"))
+pub fn without_ninth_digit(text: &[u8]) -> Vec<u8> {
+    with_fields(text, |field| field.replace("100000000", "99999999"))
+}
+
+/// Numbers of eight digits made longer than any may be.
+pub fn without_eight_digits(text: &[u8]) -> Vec<u8> {
+    with_fields(text, |field| {
+        let eight = field.len() == 8 && field.bytes().all(|byte| byte.is_ascii_digit());
+        field.to_string() + if eight { "00" } else { "" }
+    })
 }
 
 pub fn with_final_lf(text: &[u8]) -> Vec<u8> {

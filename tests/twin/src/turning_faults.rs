@@ -8,67 +8,17 @@ use crate::turns::{avoid, compare, lowers, on_path, other, path_loads};
 use crate::turns::{Sentences, TurnReply, Turned, SENTENCES, WAYS};
 use std::cmp::Ordering;
 
-/// The other readings, by name.
-const fn lists(list: fn(&Row, Way, &[i64]) -> Vec<i64>) -> Sentences {
-    Sentences { list, ..SENTENCES }
-}
-
-const fn comparing(compare: fn(&[i64], &[i64]) -> Ordering) -> Sentences {
-    Sentences {
-        compare,
-        ..SENTENCES
-    }
-}
-
-const fn starting(avoid: fn(&Row, i64) -> Way) -> Sentences {
-    Sentences { avoid, ..SENTENCES }
-}
-
-const fn tried(starts: fn(&Table) -> Vec<i64>) -> Sentences {
-    Sentences {
-        starts,
-        ..SENTENCES
-    }
-}
-
-const fn taken(lowers: fn(&Row, &[i64], &[i64]) -> bool) -> Sentences {
-    Sentences {
-        lowers,
-        ..SENTENCES
-    }
-}
-
-const fn choosing(choose: fn(&[usize], &dyn Fn(usize) -> bool) -> Option<usize>) -> Sentences {
-    Sentences {
-        choose,
-        ..SENTENCES
-    }
-}
-
-const fn winning(better: fn(&Turned, &Turned) -> bool) -> Sentences {
-    Sentences {
-        better,
-        ..SENTENCES
-    }
-}
-
-const fn counting(turns: fn(&[u32], &[u32]) -> u32) -> Sentences {
-    Sentences { turns, ..SENTENCES }
-}
-
-const fn ending(enough: fn(&Table, &Turned) -> bool) -> Sentences {
-    Sentences {
-        enough,
-        ..SENTENCES
-    }
-}
-
-const fn saying(say: fn(&Table, Turned) -> Turned) -> Sentences {
-    Sentences { say, ..SENTENCES }
-}
-
-const fn reading(rows: fn(&Table) -> Vec<Row>) -> Sentences {
-    Sentences { rows, ..SENTENCES }
+/// One sentence read otherwise, as a fault with this name.
+macro_rules! reading {
+    ($name:literal, $sentence:ident: $other:expr) => {
+        turning(
+            $name,
+            Sentences {
+                $sentence: $other,
+                ..SENTENCES
+            },
+        )
+    };
 }
 
 /// A longer list is the smaller where the shorter one is its beginning.
@@ -110,178 +60,121 @@ fn first_circuits(table: &Table) -> Vec<Row> {
 }
 
 pub static TURNING_FAULTS: [Mutant; 45] = [
-    turning(
+    reading! {
         "turning: the last that lowers, not the first",
-        choosing(|rows, may| rows.iter().copied().rev().find(|row| may(*row))),
-    ),
-    turning(
+        choose: |rows, may| rows.iter().copied().rev().find(|row| may(*row))
+    },
+    reading! {
         "turning: the first in falling order alone",
-        choosing(|rows, may| rows.first().copied().filter(|row| may(*row))),
-    ),
-    turning(
+        choose: |rows, may| rows.first().copied().filter(|row| may(*row))
+    },
+    reading! {
         "turning: the first in table order",
-        choosing(|rows, may| rows.iter().copied().filter(|row| may(*row)).min()),
-    ),
-    turning(
-        "turning: in rising order",
-        comparing(|one, two| compare(two, one)),
-    ),
-    turning(
-        "turning: ties to the later row",
-        Sentences {
-            ties: |one, two| two.cmp(one),
-            ..SENTENCES
-        },
-    ),
-    turning(
-        "turning: a list that runs out first is the larger",
-        comparing(longer_smaller),
-    ),
-    turning(
+        choose: |rows, may| rows.iter().copied().filter(|row| may(*row)).min()
+    },
+    reading! { "turning: in rising order", compare: |one, two| compare(two, one) },
+    reading! { "turning: ties to the later row", ties: |one, two| two.cmp(one) },
+    reading! { "turning: a list that runs out first is the larger", compare: longer_smaller },
+    reading! {
         "turning: by the largest load alone",
-        comparing(|one, two| one.first().cmp(&two.first())),
-    ),
-    turning(
+        compare: |one, two| one.first().cmp(&two.first())
+    },
+    reading! {
         "turning: by the two largest loads alone",
-        comparing(|one, two| compare(&one[..one.len().min(2)], &two[..two.len().min(2)])),
-    ),
-    turning(
+        compare: |one, two| compare(&one[..one.len().min(2)], &two[..two.len().min(2)])
+    },
+    reading! {
         "turning: by the sum of the loads",
-        lists(|row, way, loads| vec![path_loads(row, way, loads).iter().sum()]),
-    ),
-    turning(
+        list: |row, way, loads| vec![path_loads(row, way, loads).iter().sum()]
+    },
+    reading! {
         "turning: equal loads listed once",
-        lists(|row, way, loads| {
+        list: |row, way, loads| {
             let mut list = path_loads(row, way, loads);
             list.dedup();
             list
-        }),
-    ),
-    turning(
+        }
+    },
+    reading! {
         "turning: loads from smallest to largest",
-        lists(|row, way, loads| {
+        list: |row, way, loads| {
             let mut list = path_loads(row, way, loads);
             list.reverse();
             list
-        }),
-    ),
-    turning("turning: loads by their links", lists(by_links)),
-    turning("turning: loads of the other path", lists(other_path)),
-    turning(
+        }
+    },
+    reading! { "turning: loads by their links", list: by_links },
+    reading! { "turning: loads of the other path", list: other_path },
+    reading! {
         "turning: loads in 16 bits",
-        lists(|row, way, loads| in_bits(16, path_loads(row, way, loads))),
-    ),
-    turning(
+        list: |row, way, loads| in_bits(16, path_loads(row, way, loads))
+    },
+    reading! {
         "turning: loads in 8 bits",
-        lists(|row, way, loads| in_bits(8, path_loads(row, way, loads))),
-    ),
-    turning(
-        "turning: a start over its link",
-        starting(|row, a| other(avoid(row, a))),
-    ),
-    turning(
+        list: |row, way, loads| in_bits(8, path_loads(row, way, loads))
+    },
+    reading! { "turning: a start over its link", avoid: |row, a| other(avoid(row, a)) },
+    reading! {
         "turning: a start avoids the link behind the front too",
-        starting(|row, a| {
-            if row.i <= a && a <= row.j {
-                Way::B
-            } else {
-                Way::F
-            }
-        }),
-    ),
-    turning(
-        "turning: a start avoids the link before",
-        starting(|row, a| avoid(row, a - 1)),
-    ),
-    turning(
+        avoid: |row, a| if row.i <= a && a <= row.j { Way::B } else { Way::F }
+    },
+    reading! { "turning: a start avoids the link before", avoid: |row, a| avoid(row, a - 1) },
+    reading! {
         "turning: rows of amount 0 start F",
-        starting(|row, a| if row.d == 0 { Way::F } else { avoid(row, a) }),
-    ),
-    turning("turning: the first start alone", tried(|_| vec![1])),
-    turning(
-        "turning: the start of link n left out",
-        tried(|table| (1..table.n).collect()),
-    ),
-    turning(
-        "turning: the start of link 1 left out",
-        tried(|table| (2..=table.n).collect()),
-    ),
-    turning(
-        "turning: the largest link wins ties",
-        winning(|new, best| new.peak <= best.peak),
-    ),
-    turning(
+        avoid: |row, a| if row.d == 0 { Way::F } else { avoid(row, a) }
+    },
+    reading! { "turning: the first start alone", starts: |_| vec![1] },
+    reading! { "turning: the start of link n left out", starts: |table| (1..table.n).collect() },
+    reading! { "turning: the start of link 1 left out", starts: |table| (2..=table.n).collect() },
+    reading! { "turning: the largest link wins ties", better: |new, best| new.peak <= best.peak },
+    reading! {
         "turning: fewer turns win ties",
-        winning(|new, best| (new.peak, new.turns) < (best.peak, best.turns)),
-    ),
-    turning("turning: the last start wins", winning(|_, _| true)),
-    turning(
-        "turning: the largest peak wins",
-        winning(|new, best| new.peak > best.peak),
-    ),
-    turning(
-        "turning: turns up to the answer's start",
-        counting(|before, _| before.iter().sum()),
-    ),
-    turning(
-        "turning: turns of all starts",
-        counting(|_, all| all.iter().sum()),
-    ),
-    turning(
+        better: |new, best| (new.peak, new.turns) < (best.peak, best.turns)
+    },
+    reading! { "turning: the last start wins", better: |_, _| true },
+    reading! { "turning: the largest peak wins", better: |new, best| new.peak > best.peak },
+    reading! { "turning: turns up to the answer's start", turns: |before, _| before.iter().sum() },
+    reading! { "turning: turns of all starts", turns: |_, all| all.iter().sum() },
+    reading! {
         "turning: turns of the last start",
-        counting(|_, all| all.last().copied().unwrap_or(0)),
-    ),
-    turning(
+        turns: |_, all| all.last().copied().unwrap_or(0)
+    },
+    reading! {
         "turning: one turn more",
-        counting(|before, _| before.last().copied().unwrap_or(0) + 1),
-    ),
-    turning(
+        turns: |before, _| before.last().copied().unwrap_or(0) + 1
+    },
+    reading! {
         "turning: a turn that keeps the peak taken",
-        taken(|row, before, after| {
+        lowers: |row, before, after| {
             // from a front that is short to a longer back alone, so that it ends
             let more = after.iter().sum::<i64>() > before.iter().sum();
             lowers(row, before, after) || row.d > 0 && more && peak(after) == peak(before)
-        }),
-    ),
-    turning(
+        }
+    },
+    reading! {
         "turning: a turn that lowers the peak by less than a tenth not taken",
-        taken(|row, before, after| {
+        lowers: |row, before, after| {
             lowers(row, before, after) && 10 * peak(after) <= 9 * peak(before)
-        }),
-    ),
-    turning(
+        }
+    },
+    reading! {
         "turning: ends one above the floor",
-        ending(|table, best| best.peak <= floor(table) + 1),
-    ),
-    turning(
-        "turning: ends at a start that has no turns",
-        ending(|_, best| best.turns == 0),
-    ),
-    turning(
+        enough: |table, best| best.peak <= floor(table) + 1
+    },
+    reading! { "turning: ends at a start that has no turns", enough: |_, best| best.turns == 0 },
+    reading! {
         "turning: the peak of rule D",
-        saying(|table, answer| Turned {
-            peak: answer.peak.max(rules::plan(table).peak),
-            ..answer
-        }),
-    ),
-    turning(
+        say: |table, answer| Turned { peak: answer.peak.max(rules::plan(table).peak), ..answer }
+    },
+    reading! {
         "turning: the ways of rule D",
-        saying(|table, answer| Turned {
-            ways: rules::plan(table).ways,
-            ..answer
-        }),
-    ),
-    turning(
+        say: |table, answer| Turned { ways: rules::plan(table).ways, ..answer }
+    },
+    reading! {
         "turning: the floor for the peak",
-        saying(|table, answer| Turned {
-            peak: floor(table),
-            ..answer
-        }),
-    ),
-    turning(
-        "turning: circuits of one pair taken once",
-        reading(first_circuits),
-    ),
+        say: |table, answer| Turned { peak: floor(table), ..answer }
+    },
+    reading! { "turning: circuits of one pair taken once", rows: first_circuits },
     answering("turning: the way behind the rows cleared", |reply, ways| {
         if let Some(way) = ways.get_mut(reply.rows).filter(|_| reply.reason == 0) {
             *way = 0;
@@ -298,7 +191,7 @@ pub static TURNING_FAULTS: [Mutant; 45] = [
             .for_each(|way| *way = 1 - *way);
         reply
     }),
-    answering("turning: all 496 rows said", |reply, _| TurnReply {
+    answering("turning: all 1,024 rows said", |reply, _| TurnReply {
         rows: reply.rows.max(WAYS),
         ..reply
     }),
@@ -328,14 +221,11 @@ fn holds_all_largest(row: &Row, before: &[i64], after: &[i64]) -> bool {
 
 /// Readings that come to the same.
 pub static TURNING_SAME: [Mutant; 2] = [
-    turning(
-        "turning: ends at the floor",
-        ending(|table, best| best.peak <= floor(table)),
-    ),
-    turning(
+    reading! { "turning: ends at the floor", enough: |table, best| best.peak <= floor(table) },
+    reading! {
         "turning: rows that miss a link of the largest load passed over",
-        taken(|row, before, after| {
+        lowers: |row, before, after| {
             holds_all_largest(row, before, after) && lowers(row, before, after)
-        }),
-    ),
+        }
+    },
 ];

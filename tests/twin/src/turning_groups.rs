@@ -1,93 +1,67 @@
 //! The groups of texts of which the circuits are sent one turn at a time: tables of
-//! every kind, full rings of 8, 16, 20 and 32 offices among them, and texts that are
+//! every kind, full rings of 8 to 32 offices and one of 64 among them, and texts that are
 //! damaged or no tables at all. Where many lists are equal, ties decide.
 
 use crate::compare::Case;
 use crate::gen::{self, Amounts};
-use crate::groups;
+use crate::groups::{self, of_table, of_text, Make};
+use crate::limits::ROWS;
 use crate::matrices;
 use crate::rng::Rng;
-use crate::sheet::table_text;
+use crate::said::{group, Group};
 use crate::sheets;
 use crate::table::{Row, Table};
 use crate::turning_selfcheck::BY_HAND;
 
-/// A group of texts. A group with share 0 is a list: it runs until `make` gives
-/// None. Any other runs until it has its share, out of all `TURNING_SHARES`, of the
-/// number of comparisons.
-pub struct TurningGroup {
-    pub name: &'static str,
-    pub share: u64,
-    pub make: fn(&mut Rng, u64) -> Option<Vec<u8>>,
-}
-
-type Make = fn(&mut Rng, u64) -> Option<Vec<u8>>;
-
-const fn group(name: &'static str, share: u64, make: Make) -> TurningGroup {
-    TurningGroup { name, share, make }
-}
-
-pub const TURNING_SHARES: u64 = {
-    let (mut at, mut sum) = (0, 0);
-    while at < TURNING_GROUPS.len() {
-        sum += TURNING_GROUPS[at].share;
-        at += 1;
-    }
-    sum
-};
-
-pub const TURNING_GROUPS: [TurningGroup; 21] = [
+pub const TURNING_GROUPS: [Group<Make>; 21] = [
     group("turning: by hand", 0, by_hand),
-    group("turning: the stated tables", 0, stated),
-    group("turning: all small tables", 0, all_small),
-    group("turning: about 496 rows", 0, about_496),
-    group("turning: every byte of the square", 0, every_byte),
+    group("turning: the stated tables", 0, groups::stated),
+    group("turning: all small tables", 0, groups::all_small),
+    group(
+        "turning: about as many rows as there may be",
+        0,
+        groups::about_most,
+    ),
+    group("turning: every byte of the square", 0, groups::every_byte),
     group("turning: full rings", 0, full),
-    group("turning: 496 circuits", 0, most_circuits),
+    group("turning: 1,024 circuits", 0, most_circuits),
     group("turning: equal lists", 250, equal_lists),
     group("turning: rows of amount 0", 100, nothing_sent),
-    group("turning: random tables, 2 to 15 offices", 120, small),
+    group(
+        "turning: random tables, 2 to 15 offices",
+        120,
+        groups::small,
+    ),
     group("turning: shaped tables", 100, shaped),
-    group("turning: circuits, 2 to 15 offices", 150, circuits_small),
-    group("turning: circuits, 16 to 32 offices", 40, circuits_large),
-    group("turning: thin tables, 16 to 32 offices", 100, thin),
+    group(
+        "turning: circuits, 2 to 15 offices",
+        150,
+        groups::circuits_small,
+    ),
+    group("turning: circuits, 16 to 64 offices", 40, circuits_large),
+    group("turning: thin tables, 16 to 64 offices", 100, thin),
     group("turning: damaged tables", 160, damaged),
     group("turning: damaged rows", 60, damaged_rows),
-    group("turning: 497 rows and more", 20, too_many_rows),
-    group("turning: padded texts", 20, padded),
+    group("turning: 1,025 rows and more", 20, groups::too_many_rows),
+    group("turning: padded texts", 20, groups::padded),
     group("turning: sheets", 30, of_sheets),
-    group("turning: matrices", 20, of_matrices),
-    group("turning: noise", 20, noise),
+    group("turning: matrices", 20, matrices::any),
+    group("turning: noise", 20, groups::noise),
 ];
 
-fn text_of(made: Option<Case>) -> Option<Vec<u8>> {
-    made.map(|case| case.text)
+/// No call of texts is made with what a group gives.
+fn alone(table: &Table) -> Option<Case> {
+    of_table(table, Vec::new())
 }
 
-fn by_hand(_: &mut Rng, case: u64) -> Option<Vec<u8>> {
+fn by_hand(_: &mut Rng, case: u64) -> Option<Case> {
     let (text, _) = BY_HAND.get(case as usize)?;
-    Some(text.replace('|', "\t").into_bytes())
-}
-
-fn stated(rng: &mut Rng, case: u64) -> Option<Vec<u8>> {
-    text_of(groups::stated(rng, case))
-}
-
-fn all_small(rng: &mut Rng, case: u64) -> Option<Vec<u8>> {
-    text_of(groups::all_small(rng, case))
-}
-
-fn about_496(rng: &mut Rng, case: u64) -> Option<Vec<u8>> {
-    text_of(groups::about_496(rng, case))
-}
-
-fn every_byte(rng: &mut Rng, case: u64) -> Option<Vec<u8>> {
-    text_of(groups::every_byte(rng, case))
+    of_text(text, Vec::new())
 }
 
 /// All pairs of 8, 16, 20 and 32 offices, with amounts of every kind; the larger of
-/// them are dear.
-fn full(rng: &mut Rng, case: u64) -> Option<Vec<u8>> {
+/// them are dear. Of 64 as many as there may be rows, few of which have an amount.
+fn full(rng: &mut Rng, case: u64) -> Option<Case> {
     let mixed = [Amounts::UpTo(9_999), Amounts::Mixed, Amounts::UpTo(9)];
     let even = [Amounts::Always(9_999), Amounts::Always(1), Amounts::Ends];
     let kinds = [mixed, even].concat();
@@ -96,25 +70,35 @@ fn full(rng: &mut Rng, case: u64) -> Option<Vec<u8>> {
         48..66 => 16,
         66..78 => 20,
         78..82 => 32,
+        82 => return alone(&mostly_nothing(rng, 64)),
         _ => return None,
     };
     let amounts = kinds[case as usize % kinds.len()];
-    Some(table_text(&gen::full(rng, n, amounts)))
+    alone(&gen::full(rng, n, amounts))
 }
 
-/// 496 circuits of one pair, of two opposite ones, of neighbours, and of few pairs.
-fn most_circuits(rng: &mut Rng, case: u64) -> Option<Vec<u8>> {
-    let n = [2, 3, 8, 32][case as usize % 4];
+/// A full table, one in twenty of whose rows has an amount, so that it is soon turned.
+fn mostly_nothing(rng: &mut Rng, n: i64) -> Table {
+    let mut table = gen::full(rng, n, Amounts::UpTo(9_999));
+    for row in &mut table.rows {
+        row.d *= i64::from(rng.chance(1, 20));
+    }
+    table
+}
+
+/// 1,024 circuits of one pair, of two opposite ones, of neighbours, and of few pairs.
+fn most_circuits(rng: &mut Rng, case: u64) -> Option<Case> {
+    let n = [2, 3, 8, 16][case as usize % 4];
     let half = (n / 2).max(1);
     let pairs = match case {
         0..4 => vec![(1, 1 + half)],
         4..8 => vec![(1, 1 + half), (half, n)],
         8..12 => vec![(1, 2), (1, n)],
-        12..14 => return Some(table_text(&gen::circuits(rng, n, 496))),
+        12..14 => return alone(&gen::circuits(rng, n, ROWS)),
         _ => return None,
     };
     let rows = pairs.iter().flat_map(|(i, j)| {
-        let count = 496 / pairs.len();
+        let count = ROWS / pairs.len();
         vec![
             Row {
                 i: *i,
@@ -126,11 +110,11 @@ fn most_circuits(rng: &mut Rng, case: u64) -> Option<Vec<u8>> {
     });
     let mut rows: Vec<Row> = rows.filter(|row| row.i < row.j).collect();
     rows.sort_by_key(|row| (row.i, row.j));
-    Some(table_text(&Table { n, fibres: 4, rows }))
+    alone(&Table { n, fibres: 4, rows })
 }
 
 /// Few sizes, so that lists are often equal, or one the beginning of another.
-fn equal_lists(rng: &mut Rng, _: u64) -> Option<Vec<u8>> {
+fn equal_lists(rng: &mut Rng, _: u64) -> Option<Case> {
     let (n, count) = (rng.between(2, 9), rng.between(1, 14));
     let mut table = match rng.below(3) {
         0 => gen::shaped(rng, n),
@@ -141,81 +125,55 @@ fn equal_lists(rng: &mut Rng, _: u64) -> Option<Vec<u8>> {
     for row in &mut table.rows {
         row.d = rng.between(1, most);
     }
-    Some(table_text(&table))
+    alone(&table)
 }
 
 /// Every other row or so has amount 0.
-fn nothing_sent(rng: &mut Rng, _: u64) -> Option<Vec<u8>> {
+fn nothing_sent(rng: &mut Rng, _: u64) -> Option<Case> {
     let (n, count) = (rng.between(2, 16), rng.between(1, 30));
     let mut table = gen::circuits(rng, n, count as usize);
     for row in &mut table.rows {
         row.d *= i64::from(rng.chance(1, 2));
     }
-    Some(table_text(&table))
+    alone(&table)
 }
 
-fn small(rng: &mut Rng, _: u64) -> Option<Vec<u8>> {
-    let n = rng.between(2, 15);
-    Some(table_text(&gen::any(rng, n)))
-}
-
-fn shaped(rng: &mut Rng, _: u64) -> Option<Vec<u8>> {
+fn shaped(rng: &mut Rng, _: u64) -> Option<Case> {
     let n = rng.between(2, 24);
     let mut table = gen::shaped(rng, n);
     table.rows.truncate(80);
-    Some(table_text(&table))
+    alone(&table)
 }
 
-fn circuits_small(rng: &mut Rng, _: u64) -> Option<Vec<u8>> {
-    let (n, count) = (rng.between(2, 15), rng.between(2, 40));
-    Some(table_text(&gen::circuits(rng, n, count as usize)))
+fn circuits_large(rng: &mut Rng, _: u64) -> Option<Case> {
+    let (n, count) = (rng.between(16, 64), rng.between(2, 60));
+    alone(&gen::circuits(rng, n, count as usize))
 }
 
-fn circuits_large(rng: &mut Rng, _: u64) -> Option<Vec<u8>> {
-    let (n, count) = (rng.between(16, 32), rng.between(2, 60));
-    Some(table_text(&gen::circuits(rng, n, count as usize)))
-}
-
-fn thin(rng: &mut Rng, _: u64) -> Option<Vec<u8>> {
-    let (n, count) = (rng.between(16, 32), rng.between(0, 40));
-    Some(table_text(&gen::sparse(rng, n, count as usize)))
+fn thin(rng: &mut Rng, _: u64) -> Option<Case> {
+    let (n, count) = (rng.between(16, 64), rng.between(0, 40));
+    alone(&gen::sparse(rng, n, count as usize))
 }
 
 /// A table of a size that is soon turned, damaged once or several times.
-fn damaged(rng: &mut Rng, _: u64) -> Option<Vec<u8>> {
-    let (n, count) = (rng.between(2, 32), rng.between(0, 30));
-    let mut text = table_text(&gen::circuits(rng, n, count as usize));
+fn damaged(rng: &mut Rng, _: u64) -> Option<Case> {
+    let (n, count) = (rng.between(2, 64), rng.between(0, 30));
+    let mut made = alone(&gen::circuits(rng, n, count as usize))?;
     for _ in 0..rng.pick(&[1, 1, 2, 4]) {
-        gen::damage_any(rng, &mut text, gen::damage_row);
+        gen::damage_any(rng, &mut made.text, gen::damage_row);
     }
-    Some(text)
+    Some(made)
 }
 
-fn damaged_rows(rng: &mut Rng, _: u64) -> Option<Vec<u8>> {
-    let (n, count) = (rng.between(2, 32), rng.between(1, 30));
-    let mut text = table_text(&gen::circuits(rng, n, count as usize));
-    gen::damage_row(rng, &mut text);
-    Some(text)
-}
-
-fn too_many_rows(rng: &mut Rng, case: u64) -> Option<Vec<u8>> {
-    text_of(groups::too_many_rows(rng, case))
-}
-
-fn padded(rng: &mut Rng, case: u64) -> Option<Vec<u8>> {
-    text_of(groups::padded(rng, case))
+fn damaged_rows(rng: &mut Rng, _: u64) -> Option<Case> {
+    let (n, count) = (rng.between(2, 64), rng.between(1, 30));
+    let mut made = alone(&gen::circuits(rng, n, count as usize))?;
+    gen::damage_row(rng, &mut made.text);
+    Some(made)
 }
 
 /// Sheets are no tables, whichever tool made them.
-fn of_sheets(rng: &mut Rng, case: u64) -> Option<Vec<u8>> {
+fn of_sheets(rng: &mut Rng, case: u64) -> Option<Case> {
     let makes = [sheets::ours, sheets::foreign_small, sheets::foreign_large];
-    text_of(makes[case as usize % makes.len()](rng, case))
-}
-
-fn of_matrices(rng: &mut Rng, case: u64) -> Option<Vec<u8>> {
-    text_of(matrices::any(rng, case))
-}
-
-fn noise(rng: &mut Rng, _: u64) -> Option<Vec<u8>> {
-    Some(gen::noise(rng))
+    makes[case as usize % makes.len()](rng, case)
 }

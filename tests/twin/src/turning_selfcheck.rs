@@ -5,20 +5,11 @@
 use crate::gen;
 use crate::rng::Rng;
 use crate::rules::{self, Way};
-use crate::selfcheck::{holds, same, Outcome};
+use crate::said::barred;
+use crate::selfcheck::{holds, letters, same, table, Outcome};
 use crate::sheet::table_text;
-use crate::table::{self, Row, Table};
+use crate::table::{Row, Table};
 use crate::turns::{self, avoid, from_start, going, loads_turned, Turned, SENTENCES};
-
-fn read(text: &str) -> Result<Table, String> {
-    let read = table::read(text.replace('|', "\t").as_bytes());
-    read.map_err(|refusal| format!("{text}: {refusal:?}"))
-}
-
-fn letters(ways: &[Way]) -> String {
-    let letter = |way: &Way| if *way == Way::F { 'F' } else { 'B' };
-    ways.iter().map(letter).collect()
-}
 
 type Figures<'a> = (i64, i64, u32, &'a str);
 
@@ -30,7 +21,7 @@ fn figures(turned: &Turned) -> (i64, i64, u32, String) {
 }
 
 fn gives(text: &str, (peak, link, turns, ways): Figures) -> Outcome {
-    let got = figures(&turns::answer(&read(text)?));
+    let got = figures(&turns::answer(&table(text)?));
     same(text, got, (peak, link, turns, ways.to_owned()))
 }
 
@@ -72,7 +63,7 @@ pub fn by_hand() -> Outcome {
     for (text, due) in BY_HAND {
         gives(text, due)?;
     }
-    let table = read(BY_HAND[0].0)?;
+    let table = table(BY_HAND[0].0)?;
     let steps = [
         ("FBBBFF", vec![22, 0, 16, 28, 25]),
         ("FBFBFF", vec![13, 9, 7, 19, 16]),
@@ -169,7 +160,7 @@ pub fn random_theorems(seed: u64) -> Outcome {
                 .and_then(|()| holds("what is proved is the least", !proved || peak == least));
         }
         outcome.map_err(|what| {
-            let text = String::from_utf8_lossy(&table_text(&table)).replace('\t', "|");
+            let text = barred(&table_text(&table));
             format!("seed {seed}, table {case}: {what}\n{text}")
         })?;
     }

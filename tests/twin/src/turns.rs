@@ -1,6 +1,7 @@
 //! Whole circuits, one turn at a time (Rules, one turn at a time), sentence by
 //! sentence: lists are made and sorted, every start is tried, and none ends early.
 
+use crate::limits::ROWS;
 use crate::rules::{front_holds, peak, unsplit_load, Way};
 use crate::table::{self, Refusal, Row, Table};
 use std::cmp::Ordering;
@@ -205,8 +206,23 @@ pub struct TurnReply {
     pub rows: usize,
 }
 
+impl TurnReply {
+    /// From its numbers, in their order.
+    pub fn of([reason, line, byte, peak, link, turns, rows]: [u32; 7]) -> TurnReply {
+        TurnReply {
+            reason,
+            line,
+            byte,
+            peak,
+            link,
+            turns,
+            rows: rows as usize,
+        }
+    }
+}
+
 /// The bytes of the ways that are lent, whatever the table.
-pub const WAYS: usize = 496;
+pub const WAYS: usize = ROWS;
 
 /// A way as a byte.
 pub fn byte(way: &Way) -> u8 {

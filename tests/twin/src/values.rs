@@ -66,6 +66,21 @@ impl Values {
         }
     }
 
+    /// All numbers but those of the ring, each to be changed in place.
+    pub fn numbers(&mut self) -> Vec<&mut u32> {
+        let mut all: Vec<&mut u32> = Vec::new();
+        for row in &mut self.rows {
+            all.extend([&mut row.first, &mut row.second, &mut row.amount]);
+            all.extend([&mut row.front, &mut row.back, &mut row.way]);
+        }
+        for link in &mut self.links {
+            all.extend([&mut link.link, &mut link.split, &mut link.unsplit]);
+        }
+        all.extend([&mut self.g, &mut self.h, &mut self.across]);
+        all.extend([&mut self.peak, &mut self.size]);
+        all
+    }
+
     /// The same as a sheet, whose numbers have room for every sum.
     pub fn sheet(&self) -> Sheet {
         let row = |row: &HeldRow| Row {

@@ -1,15 +1,16 @@
-//! The working table in the plainest way: a list of 496 places, each
+//! The working table in the plainest way: a list of 1,024 places, each
 //! with a row or with none. Nothing is kept beside the rows: the cut is rule A's
 //! over the rows held, summed afresh for every reply.
 
 use crate::compare::Lend;
+use crate::limits::ROWS;
 use crate::rules::{self, Cut};
 use crate::sheet::table_text;
 use crate::table::{self, Row, Table};
 use crate::twin::{self, Answer, Reply};
 
-/// With 496 places, counted from 1.
-pub const PLACES: usize = 496;
+/// With so many places, counted from 1.
+pub const PLACES: usize = ROWS;
 
 /// A row as it is asked for: first node, second node, amount.
 pub type Wanted = [u32; 3];
@@ -136,7 +137,7 @@ pub const TOO_MUCH: Question = (7, |_, _, row| row[2] > 9_999);
 /// No room, exactly when all places are taken.
 pub const NO_PLACE: Question = (21, |table, _, _| table.places.iter().all(Option::is_some));
 /// For a fresh table 3 and 20.
-pub const RING_SIZE: Question = (3, |_, _, ring| ring[0] < 2 || ring[0] > 32);
+pub const RING_SIZE: Question = (3, |_, _, ring| !table::known_size(i64::from(ring[0])));
 pub const FIBRES: Question = (20, |_, _, ring| !table::known_fibres(i64::from(ring[1])));
 
 /// The reasons of each altering call, in their order.
@@ -173,7 +174,7 @@ impl Working {
         Working { n, fibres, places }
     }
 
-    /// The row at a place; none at 0 and at 497.
+    /// The row at a place; none at 0 and behind the last.
     pub fn at(&self, place: u32) -> Option<Row> {
         let before = (place as usize).checked_sub(1)?;
         *self.places.get(before)?

@@ -3,15 +3,13 @@
 //! one fixed answer, so every call is made twice on equal bytes, and must answer
 //! and leave the same; a refused call changes nothing here too.
 
-use crate::compare::{pattern, Lend};
+use crate::compare::{pattern, Lend, GUARD};
 use crate::kit::Kit;
 use crate::rng::Rng;
 use crate::twin::Reply;
 use crate::working::{Ask, Told, PLACES};
 use crate::working_compare::{noise, Compared, Desk, GUARD_WORDS, WORDS};
 use crate::working_groups::{bad, fibres, good};
-
-const GUARD: usize = 32;
 
 /// What a call said and left.
 #[derive(PartialEq)]
@@ -87,9 +85,9 @@ fn table(desk: &Desk, rng: &mut Rng) -> Vec<u32> {
 }
 
 fn ask(rng: &mut Rng) -> Ask {
-    let n = rng.between(2, 32) as u32;
+    let n = rng.between(2, 64) as u32;
     let place = match rng.below(6) {
-        0 => rng.pick(&[0, 497, u32::MAX]),
+        0 => rng.pick(&[0, PLACES as u32 + 1, u32::MAX]),
         _ => rng.between(1, PLACES as i64) as u32,
     };
     let wanted = if rng.chance(1, 6) {
@@ -107,7 +105,7 @@ fn ask(rng: &mut Rng) -> Ask {
             Ask::Write(Lend::Exactly(length))
         }
         _ => Ask::Start {
-            n: rng.pick(&[0, 33]),
+            n: rng.pick(&[0, 65]),
             fibres: fibres(rng),
         },
     }

@@ -4,28 +4,24 @@
 //! is known what they are: a refused call changes none, nor does one that only
 //! reads.
 
-use crate::compare::{pattern, Lend};
+use crate::compare::{fewer, pattern, words_of, written, Lend, GUARD, ROOM};
 use crate::kit::Kit;
+use crate::limits::OFFICES;
 use crate::rules::Cut;
-use crate::twin::{Call, Said};
+use crate::twin::Call;
 use crate::working::{Ask, Told, WorkReply, Working, ASK_NAMES, PLACES};
 
-/// The lent struct in words of 4 bytes, of which it has no part.
-pub const WORDS: usize = 997;
-/// Words on both sides of it, and bytes on both sides of a buffer, that no call
-/// may change.
+/// The lent struct in words of 4 bytes, of which it has no part: a number for each two
+/// links, five more, and a word for each place.
+pub const WORDS: usize = CUTS + 5 + PLACES;
+/// So many pairs of links there are.
+pub const CUTS: usize = (OFFICES * (OFFICES - 1) / 2) as usize;
+/// Words on both sides of it that no call may change.
 pub const GUARD_WORDS: usize = 8;
-const GUARD: usize = 32;
-/// More than any table or sheet needs.
-const ROOM: usize = 32_768;
 
 /// Words that nobody has made by calls.
 pub fn noise(salt: u64) -> Vec<u32> {
-    let bytes = pattern(4 * (WORDS + 2 * GUARD_WORDS), salt);
-    let words = bytes.chunks_exact(4);
-    words
-        .map(|four| u32::from_le_bytes([four[0], four[1], four[2], four[3]]))
-        .collect()
+    words_of(&pattern(4 * (WORDS + 2 * GUARD_WORDS), salt))
 }
 
 /// What has been counted.
@@ -36,7 +32,7 @@ pub struct WorkTally {
     pub large: u64,
     /// By call.
     pub reasons: [[u64; 23]; ASK_NAMES.len()],
-    /// Calls after which all places of 20, and of 32 offices were taken.
+    /// Calls after which all places of 20, and of 64 offices were taken.
     pub full: [u64; 2],
     /// Tables written, read and routed.
     pub routed: u64,
@@ -51,7 +47,7 @@ impl WorkTally {
         self.reasons[ask.place()][told.reason() as usize] += 1;
         if !matches!(ask, Ask::Row(_)) && table.places.iter().all(Option::is_some) {
             self.full[0] += u64::from(table.n == 20);
-            self.full[1] += u64::from(table.n == 32);
+            self.full[1] += u64::from(table.n == OFFICES);
         }
     }
 }
@@ -185,15 +181,6 @@ fn touched(before: &[u32], after: &[u32], alters: bool) -> bool {
     around || !alters && before != after
 }
 
-/// What a call writes.
-fn written(kit: Kit, call: Call, text: &[u8]) -> Compared<Vec<u8>> {
-    let (mut handed, mut area) = (text.to_vec(), vec![0; ROOM]);
-    match kit.call(call, &mut handed, &mut area, 0..ROOM) {
-        Said::Reply(reply) if reply.reason == 0 => Ok(area[..reply.length].to_vec()),
-        said => Err(format!("{call:?} of what was written: {said:?}")),
-    }
-}
-
 /// The C line of a sheet.
 fn cut_of(sheet: &[u8]) -> Option<Cut> {
     let text = String::from_utf8_lossy(sheet);
@@ -218,25 +205,10 @@ fn replay(kit: Kit, salt: u64, asked: &[Ask]) -> Option<String> {
     asked[1..].iter().find_map(|ask| desk.ask(*ask).err())
 }
 
-/// Fewer calls that still end in a difference, in words: calls are left out
-/// behind the start, many at a time and then one by one, with a limit on the
-/// tries.
+/// Fewer calls behind the start that still end in a difference, in words.
 pub fn shrunk(kit: Kit, salt: u64, asked: &[Ask], found: String) -> String {
-    let (mut calls, mut words) = (asked.to_vec(), found);
-    let (mut chunk, mut tries) = (calls.len() / 2, 0);
-    while chunk > 0 {
-        let mut at = 1;
-        while at < calls.len() && tries < 400 {
-            tries += 1;
-            let end = (at + chunk).min(calls.len());
-            let fewer = [&calls[..at], &calls[end..]].concat();
-            match replay(kit, salt, &fewer) {
-                None => at = end,
-                Some(differing) => (calls, words) = (fewer, differing),
-            }
-        }
-        chunk /= 2;
-    }
+    let (calls, less) = fewer(asked.to_vec(), 1, |calls| replay(kit, salt, calls));
+    let words = less.unwrap_or(found);
     let last = calls.len().saturating_sub(30);
     let shown: Vec<String> = calls[last..].iter().map(|ask| format!("{ask:?}")).collect();
     format!("  {last} calls, then {}\n  {words}\n", shown.join(", "))

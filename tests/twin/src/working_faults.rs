@@ -1,6 +1,7 @@
 //! Faults of the working table: the stand-in with another way in one place. What
 //! mutant.rs lists last.
 
+use crate::limits::OFFICES;
 use crate::mutant::{working, Mutant};
 use crate::rules::Cut;
 use crate::table::{Row, Table};
@@ -81,7 +82,7 @@ fn left_on(kept: &mut Kept, ask: &Ask, kind: fn(&Ask) -> bool) -> u32 {
 /// A later start that leaves some of the old table, where calls have made it.
 fn starting(kept: &mut Kept, ask: &Ask, keep_rows: bool) -> u32 {
     let (rows, across) = (kept.table.places.clone(), kept.across.clone());
-    let later = (1..=32).contains(&kept.cut.g);
+    let later = (1..=OFFICES).contains(&kept.cut.g);
     let place = keep(kept, ask);
     match ask {
         Ask::Start { .. } if later && keep_rows => kept.table.places = rows,
@@ -181,10 +182,10 @@ const fn writing(write: fn(&Answer, &mut [u8]) -> Reply) -> Habits {
     Habits { write, ..SOUND }
 }
 
-const FULL_AT_495: Question = (21, |table, _, _| table.taken().len() >= PLACES - 1);
+const FULL_EARLY: Question = (21, |table, _, _| table.taken().len() >= PLACES - 1);
 const TOO_MUCH_LATE: Question = (7, |_, _, row| row[2] > 10_000);
-const TWO_OFFICES: Question = (3, |_, _, ring| ring[0] < 3 || ring[0] > 32);
-const MORE_OFFICES: Question = (3, |_, _, ring| ring[0] < 2 || ring[0] > 33);
+const TWO_OFFICES: Question = (3, |_, _, ring| ring[0] < 3 || ring[0] > 64);
+const MORE_OFFICES: Question = (3, |_, _, ring| ring[0] < 2 || ring[0] > 65);
 const NO_ROW_OF_0: Question = (22, |table, place, _| {
     table.at(place).is_none_or(|row| row.d == 0)
 });
@@ -275,8 +276,8 @@ pub static WORKING_FAULTS: [Mutant; 39] = [
         added(&[NO_PLACE, OFF_RING, NOT_BELOW, TOO_MUCH]),
     ),
     working(
-        "working: 21 at 495 rows",
-        added(&[OFF_RING, NOT_BELOW, TOO_MUCH, FULL_AT_495]),
+        "working: 21 at 1,023 rows",
+        added(&[OFF_RING, NOT_BELOW, TOO_MUCH, FULL_EARLY]),
     ),
     working(
         "working: adding, 5 before 4",
@@ -321,7 +322,7 @@ pub static WORKING_FAULTS: [Mutant; 39] = [
         started(&[TWO_OFFICES, FIBRES]),
     ),
     working(
-        "working: 33 offices taken",
+        "working: 65 offices taken",
         started(&[MORE_OFFICES, FIBRES]),
     ),
     working(

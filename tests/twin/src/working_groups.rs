@@ -3,71 +3,79 @@
 
 use crate::compare::Lend;
 use crate::rng::Rng;
+use crate::said::{group, Group};
 use crate::working::{Ask, Wanted, Working, PLACES};
 use crate::working_bytes;
 use crate::working_compare::{Compared, Desk};
 
-/// A group of sequences, each on a table that has been started with the ring
-/// that `ring` gives. A list has as many as `cases` says; any other runs until
-/// it has its share, out of all `SHARES`, of the number of comparisons.
-pub struct WorkingGroup {
-    pub name: &'static str,
+/// Sequences of calls, each on a table that has been started with the ring that `ring`
+/// gives: as many as `cases` says.
+pub struct Sequences {
     pub cases: u64,
-    pub share: u64,
-    pub ring: fn(&mut Rng, u64) -> (u32, u32),
-    pub play: fn(&mut Desk, &mut Rng) -> Compared<()>,
+    pub ring: Ring,
+    pub play: Play,
 }
 
-pub const WORKING_SHARES: u64 = 100;
-
-pub const WORKING_GROUPS: [WorkingGroup; 9] = [
-    list("working: refusals and their ranks", 6, refusals),
-    list("working: every place", 2, every_place),
-    list("working: every buffer length", 2, every_length),
-    WorkingGroup {
-        ring: |rng, _| (rng.between(2, 15) as u32, fibres(rng)),
-        ..random("working: random calls, 2 to 15 offices", 20, short)
-    },
-    WorkingGroup {
-        ring: |rng, _| (rng.between(16, 32) as u32, fibres(rng)),
-        ..random("working: random calls, 16 to 32 offices", 24, short)
-    },
-    WorkingGroup {
-        ring: |rng, _| (rng.between(2, 32) as u32, fibres(rng)),
-        ..random("working: equal cuts", 10, equal_cuts)
-    },
-    WorkingGroup {
-        ring: |rng, _| (20, fibres(rng)),
-        ..random("working: long, on full tables of 20 offices", 18, long)
-    },
-    WorkingGroup {
-        ring: |rng, _| (32, fibres(rng)),
-        ..random("working: long, on full tables of 32 offices", 18, long)
-    },
-    WorkingGroup {
-        ring: |rng, _| (rng.between(2, 32) as u32, fibres(rng)),
-        ..random("working: tables of random bytes", 10, working_bytes::play)
-    },
-];
-
+type Ring = fn(&mut Rng, u64) -> (u32, u32);
 type Play = fn(&mut Desk, &mut Rng) -> Compared<()>;
 
-const fn list(name: &'static str, cases: u64, play: Play) -> WorkingGroup {
-    WorkingGroup {
-        name,
-        cases,
-        share: 0,
-        ring: |_, case| ([32, 2, 20][case as usize % 3], [2, 4][case as usize % 2]),
-        play,
-    }
+pub const WORKING_GROUPS: [Group<Sequences>; 9] = [
+    list("working: refusals and their ranks", 6, any_size, refusals),
+    list("working: every place", 2, small_size, every_place),
+    list("working: every buffer length", 2, any_size, every_length),
+    random(
+        "working: random calls, 2 to 15 offices",
+        20,
+        |rng, _| (rng.between(2, 15) as u32, fibres(rng)),
+        short,
+    ),
+    random(
+        "working: random calls, 16 to 64 offices",
+        24,
+        |rng, _| (rng.between(16, 64) as u32, fibres(rng)),
+        short,
+    ),
+    random("working: equal cuts", 10, any_ring, equal_cuts),
+    random(
+        "working: long, on full tables of 20 offices",
+        18,
+        |rng, _| (20, fibres(rng)),
+        long,
+    ),
+    random(
+        "working: long, on full tables of 64 offices",
+        6,
+        |rng, _| (64, fibres(rng)),
+        long,
+    ),
+    random(
+        "working: tables of random bytes",
+        10,
+        any_ring,
+        working_bytes::play,
+    ),
+];
+
+const fn list(name: &'static str, cases: u64, ring: Ring, play: Play) -> Group<Sequences> {
+    group(name, 0, Sequences { cases, ring, play })
 }
 
-const fn random(name: &'static str, share: u64, play: Play) -> WorkingGroup {
-    WorkingGroup {
-        share,
-        cases: u64::MAX,
-        ..list(name, 0, play)
-    }
+const fn random(name: &'static str, share: u64, ring: Ring, play: Play) -> Group<Sequences> {
+    let cases = u64::MAX;
+    group(name, share, Sequences { cases, ring, play })
+}
+
+fn any_size(_: &mut Rng, case: u64) -> (u32, u32) {
+    ([64, 2, 20][case as usize % 3], [2, 4][case as usize % 2])
+}
+
+/// Of many calls on a full table the twin sums soonest on few offices.
+fn small_size(_: &mut Rng, case: u64) -> (u32, u32) {
+    ([20, 2][case as usize % 2], [2, 4][case as usize % 2])
+}
+
+fn any_ring(rng: &mut Rng, _: u64) -> (u32, u32) {
+    (rng.between(2, 64) as u32, fibres(rng))
 }
 
 pub fn fibres(rng: &mut Rng) -> u32 {
@@ -132,7 +140,7 @@ fn no_places(table: &Working) -> Vec<u32> {
     let mut places = vec![
         0,
         last + 1,
-        512,
+        2_048,
         65_536 + 1,
         65_536 + last,
         u32::MAX,
@@ -149,15 +157,15 @@ fn no_places(table: &Working) -> Vec<u32> {
 const NO_RINGS: [(u32, u32); 16] = [
     (0, 4),
     (1, 2),
-    (33, 4),
+    (65, 4),
     (u32::MAX, 2),
     (256 + 4, 4),
     (65_536 + 4, 4),
     (1, 3),
-    (33, 0),
+    (65, 0),
     (0, u32::MAX),
     (2, 0),
-    (32, 1),
+    (64, 1),
     (20, 3),
     (4, 5),
     (4, 8),
@@ -224,7 +232,7 @@ fn refusals(desk: &mut Desk, rng: &mut Rng) -> Compared<()> {
     all_refusals(desk, rng)?;
     let row = good(rng, desk.table.n as u32);
     desk.ask(Ask::Add(row))?;
-    let (n, fibres) = (rng.between(2, 32) as u32, fibres(rng));
+    let (n, fibres) = (rng.between(2, 64) as u32, fibres(rng));
     desk.ask(Ask::Start { n, fibres })?;
     all_refusals(desk, rng)?;
     fill(desk, rng, 3)?;
@@ -265,7 +273,7 @@ fn every_length(desk: &mut Desk, rng: &mut Rng) -> Compared<()> {
         desk.ask(Ask::Write(Lend::Need(more)))?;
     }
     for _ in 0..6 {
-        fill(desk, rng, 82)?;
+        fill(desk, rng, PLACES / 6)?;
         for lend in LENDS {
             desk.ask(Ask::Write(lend))?;
         }
@@ -276,10 +284,10 @@ fn every_length(desk: &mut Desk, rng: &mut Rng) -> Compared<()> {
 
 /// The longest text there is, and the largest across number.
 fn longest(desk: &mut Desk) -> Compared<()> {
-    let (n, fibres) = (32, 4);
+    let (n, fibres) = (64, 4);
     desk.ask(Ask::Start { n, fibres })?;
     for _ in 0..PLACES {
-        desk.ask(Ask::Add([31, 32, 9_999]))?;
+        desk.ask(Ask::Add([63, 64, 9_999]))?;
     }
     for lend in LENDS {
         desk.ask(Ask::Write(lend))?;
@@ -339,7 +347,7 @@ fn short(desk: &mut Desk, rng: &mut Rng) -> Compared<()> {
             desk.ask(ask)?;
         }
         if rng.chance(1, 4) {
-            let (n, fibres) = (rng.between(2, 32) as u32, fibres(rng));
+            let (n, fibres) = (rng.between(2, 64) as u32, fibres(rng));
             desk.ask(Ask::Start { n, fibres })?;
         }
     }

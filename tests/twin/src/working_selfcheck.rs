@@ -1,6 +1,7 @@
 //! The twin's own checks of the working table, by hand.
 
 use crate::compare::Lend;
+use crate::said::barred;
 use crate::selfcheck::{same, Outcome};
 use crate::working::{Ask, Told, Working};
 
@@ -16,7 +17,7 @@ fn cut(table: &mut Working, ask: Ask) -> [u32; 5] {
 fn text(table: &mut Working) -> String {
     let mut buffer = [0; 200];
     match table.tell(&Ask::Write(Lend::Exactly(200)), &mut buffer) {
-        Told::Text(reply) => String::from_utf8_lossy(&buffer[..reply.length]).replace('\t', "|"),
+        Told::Text(reply) => barred(&buffer[..reply.length]),
         _ => String::new(),
     }
 }
@@ -40,7 +41,7 @@ pub fn square() -> Outcome {
         (Ask::Remove(1), [22, 0, 0, 0, 0]),
         (Ask::Add([1, 2, 4]), [0, 1, 1, 3, 12]),
         (Ask::Remove(0), [22, 0, 0, 0, 0]),
-        (Ask::Remove(497), [22, 0, 0, 0, 0]),
+        (Ask::Remove(1_025), [22, 0, 0, 0, 0]),
     ];
     for (ask, wanted) in calls {
         same(&format!("{ask:?}"), cut(table, ask), wanted)?;
@@ -52,7 +53,7 @@ pub fn square() -> Outcome {
 /// A full table has no room for a good row, and names what is wrong of a bad one.
 pub fn full() -> Outcome {
     let table = &mut Working::fresh(2, 4);
-    for place in 1..=496 {
+    for place in 1..=1_024 {
         same(
             "filling",
             cut(table, Ask::Add([1, 2, 1])),
@@ -67,6 +68,14 @@ pub fn full() -> Outcome {
     ] {
         same("full", cut(table, Ask::Add(row)), [reason, 0, 0, 0, 0])?;
     }
-    same("the place", cut(table, Ask::Remove(77)), [0, 77, 1, 2, 495])?;
-    same("again", cut(table, Ask::Add([1, 2, 5])), [0, 77, 1, 2, 500])
+    same(
+        "the place",
+        cut(table, Ask::Remove(77)),
+        [0, 77, 1, 2, 1_023],
+    )?;
+    same(
+        "again",
+        cut(table, Ask::Add([1, 2, 5])),
+        [0, 77, 1, 2, 1_028],
+    )
 }

@@ -2,12 +2,13 @@
 //! It keeps what it knows in the lent words: the across number of every cut, the
 //! ring, the last cut and the places, so that faults of keeping can be tried.
 
+use crate::limits::OFFICES;
 use crate::rules::{front_holds, Cut};
 use crate::sheet::table_text;
 use crate::table::{Row, Table};
 use crate::twin::{self, Answer, Reply};
-use crate::working::{Ask, Questions, Told, WorkReply, Working, PLACES, QUESTIONS};
-use crate::working_compare::GUARD_WORDS;
+use crate::working::{Ask, Questions, Told, WorkReply, Working, QUESTIONS};
+use crate::working_compare::{CUTS, GUARD_WORDS};
 
 /// A table with the numbers kept beside it.
 pub struct Kept {
@@ -43,14 +44,14 @@ pub const SOUND: Habits = Habits {
 
 /// All cuts of the largest ring, those of a smaller one among them.
 pub fn cuts() -> impl Iterator<Item = (i64, i64)> {
-    (1..=32).flat_map(|g| (g + 1..=32).map(move |h| (g, h)))
+    (1..=OFFICES).flat_map(|g| (g + 1..=OFFICES).map(move |h| (g, h)))
 }
 
 impl Kept {
     fn read(words: &[u32]) -> Kept {
-        let number = |at: usize| i64::from(words[PLACES + at]);
-        let mut table = Working::fresh(number(0).clamp(2, 32), number(1));
-        for (place, word) in table.places.iter_mut().zip(&words[PLACES + 5..]) {
+        let number = |at: usize| i64::from(words[CUTS + at]);
+        let mut table = Working::fresh(number(0).clamp(2, OFFICES), number(1));
+        for (place, word) in table.places.iter_mut().zip(&words[CUTS + 5..]) {
             let [i, j, low, high] = word.to_le_bytes();
             let d = i64::from(u16::from_le_bytes([low, high]));
             let (i, j) = (i64::from(i), i64::from(j));
@@ -58,10 +59,7 @@ impl Kept {
         }
         Kept {
             table,
-            across: words[..PLACES]
-                .iter()
-                .map(|word| i64::from(*word))
-                .collect(),
+            across: words[..CUTS].iter().map(|word| i64::from(*word)).collect(),
             cut: Cut {
                 g: number(2),
                 h: number(3),
@@ -76,10 +74,10 @@ impl Kept {
             *word = *across as u32;
         }
         let numbers = [table.n, table.fibres, cut.g, cut.h, cut.across];
-        for (word, number) in words[PLACES..].iter_mut().zip(numbers) {
+        for (word, number) in words[CUTS..].iter_mut().zip(numbers) {
             *word = number as u32;
         }
-        for (word, place) in words[PLACES + 5..].iter_mut().zip(&table.places) {
+        for (word, place) in words[CUTS + 5..].iter_mut().zip(&table.places) {
             *word = place.map_or(0, |row| {
                 let [low, high] = (row.d as u16).to_le_bytes();
                 u32::from_le_bytes([row.i as u8, row.j as u8, low, high])
@@ -144,7 +142,7 @@ pub fn stand_in(habits: &Habits, ask: &Ask, words: &mut [u32], buffer: &mut [u8]
 pub fn keep(kept: &mut Kept, ask: &Ask) -> u32 {
     let old = match *ask {
         Ask::Start { .. } => {
-            kept.across = vec![0; PLACES];
+            kept.across = vec![0; CUTS];
             None
         }
         Ask::Change(place, _) | Ask::Remove(place) => kept.table.at(place),

@@ -1,6 +1,7 @@
 -- A table's fault of a ring is what is found against it.
-use Rattle.table.proofs.Faults.{ring_given}
+use Rattle.std.proofs.Common.{rules}
+use Rattle.judge.proofs.Judging.{ring_first}
 use Rattle.judge.proofs.judge_ring.Goals as goal
 
 pub returns : goal.returns
-returns c = rw c.found_at.ensures (ring_given _ _ c.ring_fault.ensures.first)
+returns c = ring_first _ _ c.check_ring.ensures.first _ (λ f g p. search rules) c.map_err.ensures.cases

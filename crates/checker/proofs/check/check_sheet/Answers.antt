@@ -1,5 +1,4 @@
 -- Checking a text: each way out by what reading and judging answer (`CheckSteps`).
-use Rattle.std.proofs.Common.{arith}
 use Rattle.std.proofs.lemmas.Result.{err_from_is_err_and}
 use Rattle.checker.proofs.CheckSteps.{read-refused, links-there, fine-so, found-so}
 use Rattle.checker.proofs.check.check_sheet.Goals as goal
@@ -9,14 +8,13 @@ returns-in_err-x-clause-value c =
     let p = err_from_is_err_and c.from_residual.result c.from_residual.ensures.1 in
     rw (p.1, p.2) (read-refused c.args.text.now _ _ _ c.read_sheet.ensures.value _ c.in_err-x.was)
 
-pub shared_ref_as_front-held : goal.shared_ref_as_front-held
-shared_ref_as_front-held c = let l = links-there c.args.text.now _ _ _ c.read_sheet.ensures.value _ c.in_ok-x.was in omega (arith, l, c.wide.ensures)
+pub line_of-line-requires-clause-links : goal.line_of-line-requires-clause-links
+line_of-line-requires-clause-links c = links-there c.args.text.now _ _ _ c.read_sheet.ensures.value _ c.in_ok-x.was
 
 pub returns-in-Ok-clause-value : goal.returns-in-Ok-clause-value
-returns-in-Ok-clause-value c =
-    fine-so c.args.text.now _ _ _ c.read_sheet.ensures.value _ c.in_ok-x.was _ c.wide.ensures _ c.judge.ensures.first _ c.in-Ok.is
+returns-in-Ok-clause-value c = fine-so c.args.text.now _ _ _ c.read_sheet.ensures.value _ c.in_ok-x.was _ c.as_slice.ensures.value _ c.judge.ensures.first _ c.in-Ok.is
 
 pub returns-in-Err-clause-value : goal.returns-in-Err-clause-value
 returns-in-Err-clause-value c =
-    found-so c.args.text.now _ _ _ c.read_sheet.ensures.value _ c.in_ok-x.was _ c.wide.ensures _ c.judge.ensures.first _ c.in-Err.is _ _ _
+    found-so c.args.text.now _ _ _ c.read_sheet.ensures.value _ c.in_ok-x.was _ c.as_slice.ensures.value _ c.judge.ensures.first _ c.in-Err.is _ _ _
     c.count.ensures.is c.line_of-line.ensures c.min.ensures

@@ -3,7 +3,7 @@ use Rattle.text.proofs.LineLaws.{one-line, faulty-is}
 use Rattle.laws.proofs.texts.lines_of_a_shape.Goals as goal
 
 pub returns-clause-one : goal.returns-clause-one
-returns-clause-one c = one-line
+returns-clause-one c = λ limits. one-line limits.digits limits.countable
 
 pub returns-clause-faulty : goal.returns-clause-faulty
-returns-clause-faulty c = faulty-is
+returns-clause-faulty c = λ limits. faulty-is limits.digits limits.countable

@@ -13,7 +13,7 @@ pub loop-second-preserved-then-amount-eq0 : goal.loop-second-preserved-then-amou
 loop-second-preserved-then-amount-eq0 c = search (no-demand, rules)
 
 pub push_unsent-requires : goal.push_unsent-requires
-push_unsent-requires c = search (has-room, rules)
+push_unsent-requires c = has-room _ _ _ _ _ c.loop-second.invariant c.loop-second-test.true _ c.get-amount.ensures (λ e. omega arith) (rw c.nodes-nodes.ensures.is c.requires.few)
 
 pub loop-second-preserved : goal.loop-second-preserved
 loop-second-preserved c = adds-row _ _ _ _ _ c.loop-second.invariant c.loop-second-test.true _ c.get-amount.ensures (λ e. omega arith) _ c.push_unsent.ensures

@@ -1,10 +1,29 @@
--- The rows before k are added up (`Summing`).
-use Rattle.std.proofs.Common.{rules}
-use Rattle.matrix.proofs.SumSteps.{summing-starts, sums-row}
+-- The first rows are read as a list, and each adds its part.
+use Rattle.std.proofs.Common.{◌∙◌, drop, take, rules, arith}
+use borrow.Author.Tests.{tests}
+use Rattle.std.specs.Iterator.{YieldsFirst}
+use Rattle.std.specs.Iterator.Adapters.{take_steps}
+use Rattle.std.proofs.lemmas.Iterator.{YieldsList, YieldsList-from_take, YieldsList-from_map}
+use Rattle.std.proofs.lemmas.Iterator.Adapters.{at_most_from_yields_List, fits_from_length}
+use Rattle.std.proofs.lemmas.Iterator.Consumers.{YieldsList-at, YieldsList-from_first, sum_by_from_yields_List}
+use Rattle.std.proofs.lemmas.List.{length-take}
+use Rattle.ring.specs.Limits.{desk}
+use Rattle.matrix.proofs.SumSteps.{sums-parts}
+use Rattle.matrix.proofs.sums.sum_of.Given as given
+use Rattle.matrix.proofs.sums.sum_of.Goals.{After-map}
 use Rattle.matrix.proofs.sums.sum_of.Goals as goal
 
-pub loop-k-init : goal.loop-k-init
-loop-k-init g c = search summing-starts
+first_rows : (g : given.Over) (c : After-map g) → YieldsList (take_steps (YieldsFirst (λ e. drop e.seen (g.R.Rows.rows e.rows.now)))) (λ r. r) c.map.result.iter (take c.args.count (g.R.Rows.rows c.args.rows.now))
+first_rows g c =
+    let left = YieldsList-from_first (λ r. r) (λ e. drop e.seen (g.R.Rows.rows e.rows.now)) _ c.each.ensures in
+    YieldsList-at c.map.ensures.source (YieldsList-from_take _ (YieldsList-at c.take.ensures.source left) c.take.ensures.count)
 
-pub loop-k-preserved : goal.loop-k-preserved
-loop-k-preserved g c = sums-row (g.R.Rows.rows c.args.rows.now) _ _ _ _ c.loop-k.invariant _ c.row.ensures _ (search rules) (search rules)
+pub sum-requires-clause-fits : goal.sum-requires-clause-fits
+sum-requires-clause-fits g c =
+    let few = length-take c.args.count (g.R.Rows.rows c.args.rows.now) in
+    fits_from_length _ _ desk.rows _ (at_most_from_yields_List (first_rows g c) (omega arith)) c.map.ensures.closure (omega arith) (λ x r q k. search rules)
+
+pub returns : goal.returns
+returns g c =
+    let parts = YieldsList-from_map _ _ (first_rows g (goal.at.returns g c).After-map) c.map.ensures.closure (λ x r q k. search (rules, tests)) in
+    sum_by_from_yields_List _ _ c.map.result _ c.sum.ensures.ran parts ∙ sums-parts c.args.i c.args.j c.args.count (g.R.Rows.rows c.args.rows.now)

@@ -1,7 +1,8 @@
 -- The sums of the nodes before j stand one behind the other (`WriteSteps`).
-use Rattle.std.proofs.Common.{arith, sym}
-use Rattle.ring.proofs.Listed.{listed_nil}
+use Rattle.std.proofs.Common.{◌-◌, length, ap, arith, sym}
+use Rattle.ring.proofs.Listed.{listed_nil, listed-length}
 use Rattle.ring.specs.Sheet.{sents, demands}
+use Rattle.matrix.specs.Demands.{sum_of}
 use Rattle.matrix.proofs.WriteSteps.{sum-fits, whole-sum, sums_more}
 use Rattle.matrix.proofs.write.sums_of.Goals as goal
 
@@ -14,7 +15,12 @@ overflow_cast-sum_of g c =
     let e = whole-sum rows _ c.count.ensures c.args.i c.loop-j.j in
     omega (arith, sum-fits (demands (sents rows)) c.requires.amounts c.args.i c.loop-j.j)
 
+pub push-requires : goal.push-requires
+push-requires g c =
+    let n = listed-length (sum_of (demands (sents (g.R.Rows.rows c.args.rows.now))) c.args.i) 1 (c.loop-j.j - 1) in
+    omega (arith, n, ap length c.loop-j.invariant, c.requires.few_nodes)
+
 pub loop-j-preserved : goal.loop-j-preserved
 loop-j-preserved g c =
     let rows = g.R.Rows.rows c.args.rows.now in
-    sums_more rows c.args.i c.args.ring.nodes c.loop-j.j _ _ _ c.loop-j.invariant (omega arith) (omega arith) c.requires.few_nodes c.count.ensures _ c.sum_of.ensures c.push.ensures
+    sums_more rows c.args.i c.loop-j.j c.count.result _ c.push.new.self.items c.loop-j.invariant (omega arith) c.count.ensures _ c.sum_of.ensures c.push.ensures.items

@@ -1,4 +1,4 @@
--- The sorted rows are written as a table is (`WorkSteps`); they are due to every struct, since each column has 496 places, and a node is a byte.
+-- The sorted rows are written as a table is (`WorkSteps`); they are due to every struct, since each column has 1,024 places, and a node is a byte.
 use Rattle.std.proofs.Common.{rules}
 use Rattle.ringkit.proofs.WorkSteps.{rows-have-room, rows_written}
 use Rattle.ringkit.proofs.WorkCalls.{work-write-promise}

@@ -3,13 +3,13 @@ use Rattle.ringkit_c.proofs.Told.{told-only, told-success, told-length, told-rea
 use Rattle.ringkit_c.proofs.texts.ringkit_read_matrix.Goals as goal
 
 pub returns-clause-only : goal.returns-clause-only
-returns-clause-only c = told-only _ _ c.of.ensures c.ringkit_read_matrix.ensures.only
+returns-clause-only c = told-only _ _ c.from.ensures c.ringkit_read_matrix.ensures.only
 
 pub returns-clause-accepted : goal.returns-clause-accepted
-returns-clause-accepted c = told-success _ _ _ c.of.ensures c.ringkit_read_matrix.ensures.accepted
+returns-clause-accepted c = told-success _ _ _ c.from.ensures c.ringkit_read_matrix.ensures.accepted
 
 pub returns-clause-fits : goal.returns-clause-fits
-returns-clause-fits c = told-length _ _ c.of.ensures c.ringkit_read_matrix.ensures.fits
+returns-clause-fits c = told-length _ _ c.from.ensures c.ringkit_read_matrix.ensures.fits
 
 pub returns-clause-room : goal.returns-clause-room
-returns-clause-room c = λ two fit room. told-reason _ _ c.of.ensures (c.ringkit_read_matrix.ensures.room two fit room)
+returns-clause-room c = λ two fit room. told-reason _ _ c.from.ensures (c.ringkit_read_matrix.ensures.room two fit room)

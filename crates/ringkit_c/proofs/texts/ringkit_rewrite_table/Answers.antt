@@ -3,4 +3,4 @@ use Rattle.ringkit_c.proofs.Told.{told-only}
 use Rattle.ringkit_c.proofs.texts.ringkit_rewrite_table.Goals as goal
 
 pub returns-clause-only : goal.returns-clause-only
-returns-clause-only c = told-only _ _ c.of.ensures c.ringkit_rewrite_table.ensures.only
+returns-clause-only c = told-only _ _ c.from.ensures c.ringkit_rewrite_table.ensures.only

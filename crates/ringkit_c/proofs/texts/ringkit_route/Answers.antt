@@ -3,10 +3,10 @@ use Rattle.ringkit_c.proofs.Told.{told-only, told-length, told-reason}
 use Rattle.ringkit_c.proofs.texts.ringkit_route.Goals as goal
 
 pub returns-clause-only : goal.returns-clause-only
-returns-clause-only c = told-only _ _ c.of.ensures c.ringkit_route.ensures.only
+returns-clause-only c = told-only _ _ c.from.ensures c.ringkit_route.ensures.only
 
 pub returns-clause-fits : goal.returns-clause-fits
-returns-clause-fits c = told-length _ _ c.of.ensures c.ringkit_route.ensures.fits
+returns-clause-fits c = told-length _ _ c.from.ensures c.ringkit_route.ensures.fits
 
 pub returns-clause-room : goal.returns-clause-room
-returns-clause-room c = λ fit room. told-reason _ _ c.of.ensures (c.ringkit_route.ensures.room fit room)
+returns-clause-room c = λ fit room. told-reason _ _ c.from.ensures (c.ringkit_route.ensures.room fit room)

@@ -13,32 +13,34 @@ returns-in_err-lines c =
     let p = err_from_is_err_and c.from_residual.result c.from_residual.ensures.1 in
     rw (p.1, p.2, c.in_err-lines.ensures.refused.0) (too_long _ c.in_err-lines.ensures.refused.1)
 
-pub returns-in_default : goal.returns-in_default
-returns-in_default c = rw c.misshapen.ensures (no_line _ c.in_ok-lines.ensures.read.1 (sym c.in_ok-lines.ensures.read.0 ∙ c.in_default.ensures))
+pub returns-in_err-due : goal.returns-in_err-due
+returns-in_err-due c =
+    let p = err_from_is_err_and c.from_residual-in_err-due.result c.from_residual-in_err-due.ensures.1 in
+    rw (p.1, p.2, c.in_err-due.ensures.missing.0) (no_line _ c.in_ok-lines.ensures.read.1 (sym c.in_ok-lines.ensures.read.0 ∙ c.in_err-due.ensures.missing.1))
 
 pub returns-in_err-ring : goal.returns-in_err-ring
 returns-in_err-ring c =
     let p = err_from_is_err_and c.from_residual-in_err-ring.result c.from_residual-in_err-ring.ensures.1 in
-    ring-refused _ c.in_ok-lines.ensures.read.1 _ _ (sym c.in_ok-lines.ensures.read.0 ∙ c.in-Some.ensures) _ c.ring_on.ensures.value _ _ _ c.in_err-ring.was (rw (p.1, p.2))
+    ring-refused _ c.in_ok-lines.ensures.read.1 _ _ (sym c.in_ok-lines.ensures.read.0 ∙ c.in_ok-due.ensures.read) _ c.ring_on.ensures.value _ _ _ c.in_err-ring.was (rw (p.1, p.2))
 
 pub loop-line-init : goal.loop-line-init
 loop-line-init c =
-    ring-read _ c.in_ok-lines.ensures.read.1 _ _ (sym c.in_ok-lines.ensures.read.0 ∙ c.in-Some.ensures) _ c.ring_on.ensures.value _ c.in_ok-ring.was _ (search rules)
+    ring-read _ c.in_ok-lines.ensures.read.1 _ _ (sym c.in_ok-lines.ensures.read.0 ∙ c.in_ok-due.ensures.read) _ c.ring_on.ensures.value _ c.in_ok-ring.was _ (search rules)
 
 pub returns-in_err-row : goal.returns-in_err-row
 returns-in_err-row c =
     let p = err_from_is_err_and c.from_residual-in_err-row.result c.from_residual-in_err-row.ensures.1 in
-    row-refused _ _ _ _ c.loop-line.invariant _ _ c.in-Some-next_line.ensures _ c.row_on.ensures _ _ _ c.in_err-row.was (rw (p.1, p.2))
+    row-refused _ _ _ _ c.loop-line.invariant _ _ c.in-Some.ensures _ c.row_on.ensures _ _ _ c.in_err-row.was (rw (p.1, p.2))
 
 pub push_unsent-requires : goal.push_unsent-requires
 push_unsent-requires c =
     let l = demands-length c.loop-line.rows in
-    omega (arith, room _ _ _ _ c.loop-line.invariant _ _ c.in-Some-next_line.ensures _ c.row_on.ensures _ c.in_ok-row.was)
+    omega (arith, room _ _ _ _ c.loop-line.invariant _ _ c.in-Some.ensures _ c.row_on.ensures _ c.in_ok-row.was)
 
 pub loop-line-preserved : goal.loop-line-preserved
 loop-line-preserved c =
-    row-read _ _ _ _ c.loop-line.invariant _ _ c.in-Some-next_line.ensures _ c.row_on.ensures _ _ c.in_ok-row.was
+    row-read _ _ _ _ c.loop-line.invariant _ _ c.in-Some.ensures _ c.row_on.ensures _ _ c.in_ok-row.was
     (ap (λ (l : List Routed). demands (sents l)) c.push_unsent.ensures ∙ demands-more _ _)
 
 pub returns : goal.returns
-returns c = all_read _ _ _ _ c.loop-line.invariant c.in_default-next_line.ensures
+returns c = all_read _ _ _ _ c.loop-line.invariant c.in_default.ensures

@@ -1,16 +1,16 @@
 -- `pick` keeps the best of the rows passed.
-use Rattle.turns.proofs.PickSteps.{pick_start, pick_turn, pick_done}
-use Rattle.turns.proofs.RowsFit.{row-fits}
+use Rattle.std.proofs.Common.{arith}
+use Rattle.turns.proofs.PickSteps.{pick_start, pick_on, pick_turn, pick_done}
 use Rattle.turns.proofs.pick.pick.Goals as goal
 
-pub loop-k-init : goal.loop-k-init
-loop-k-init g c = search pick_start
+pub loop-place-init : goal.loop-place-init
+loop-place-init g c = pick_start _ _
 
-pub consider-best-requires-clause-row : goal.consider-best-requires-clause-row
-consider-best-requires-clause-row g c = (row-fits _ _ c.requires.fit _ _ c.row.ensures).on
+pub consider-best-requires : goal.consider-best-requires
+consider-best-requires g c = pick_on _ _ _ _ c.requires.fit c.loop-place.invariant _ c.row.ensures
 
-pub loop-k-preserved : goal.loop-k-preserved
-loop-k-preserved g c = search pick_turn
+pub loop-place-preserved : goal.loop-place-preserved
+loop-place-preserved g c = pick_turn _ _ _ _ c.requires.fit c.loop-place.invariant _ c.row.ensures _ _ c.requires.carries c.peak-peak.ensures c.consider-best.ensures
 
 pub returns : goal.returns
-returns g c = search pick_done
+returns g c = pick_done _ _ _ _ c.requires.fit c.loop-place.invariant (omega (arith, c.loop-place-test.false, c.count-place-end.ensures))

@@ -1,10 +1,11 @@
 -- `settle` ends where the definition's turns end; each turn lowers the peak.
+use Rattle.std.proofs.Common.{length}
 use Rattle.turns.specs.Turns.{peak_of}
 use Rattle.turns.proofs.SettleSteps.{Settling}
 use Rattle.turns.proofs.settle.settle.Given as goal
 
 abbrev pub invariant-loop-kept : goal.invariant-loop-kept
-invariant-loop-kept g l = Settling l.n (g.R.Rows.rows l.initial.rows) (g.R.Rows.rows l.rows) l.figures.loads l.turns
+invariant-loop-kept g l = Settling (length l.initial.loads) (g.R.Rows.rows l.initial.rows) (g.R.Rows.rows l.rows) l.loads l.turns
 
 abbrev pub decreases-loop-kept : goal.decreases-loop-kept
-decreases-loop-kept g l = peak_of l.n (g.R.Rows.rows l.rows)
+decreases-loop-kept g l = peak_of (length l.initial.loads) (g.R.Rows.rows l.rows)

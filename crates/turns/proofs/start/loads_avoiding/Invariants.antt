@@ -3,4 +3,4 @@ use Rattle.turns.proofs.StartSteps.{Loading}
 use Rattle.turns.proofs.start.loads_avoiding.Given as goal
 
 abbrev pub invariant-loop-k : goal.invariant-loop-k
-invariant-loop-k l = Loading l.triangle l.link l.loads l.k
+invariant-loop-k l = Loading l.triangle l.link l.n l.load-items l.k

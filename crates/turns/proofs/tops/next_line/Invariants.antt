@@ -3,4 +3,4 @@ use Rattle.turns.proofs.TopSteps.{Filling}
 use Rattle.turns.proofs.tops.next_line.Given as goal
 
 abbrev pub invariant-loop-p : goal.invariant-loop-p
-invariant-loop-p l = Filling l.loads l.q l.initial.tops l.tops l.p
+invariant-loop-p l = Filling l.load l.q l.initial.tops l.tops l.p

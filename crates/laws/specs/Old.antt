@@ -1,0 +1,63 @@
+-- To believe: what the desk of the limits before these answers, 32 nodes, 496 rows and numbers of 7 digits. A table that it accepts is routed to the same bytes; a sheet that it accepts is accepted,
+-- and each of its refusals but 2, 3 and 16 is given; and an accepted sheet beyond its limits it refuses by 3 or 16.
+use Rattle.std.specs.Prelude.{ℕ, ◌+◌, ◌≤◌, ◌<◌, List, ◌≡◌, length}
+use Rattle.ring.specs.Limits.{Limits, old, desk}
+use Rattle.ring.specs.declared.types.Ring.{Ring}
+use Rattle.ring.specs.declared.types.Demand.{Demand}
+use Rattle.ring.specs.Sheet.{Sheet, plan}
+use Rattle.table.specs.Findings as found
+use Rattle.table.specs.Says as table
+use Rattle.table.specs.Table.{InRange, write_table}
+use Rattle.table.specs.declared.reason.Reason.{Reason}
+use Rattle.table.specs.declared.reason.Reason.TheVariants.{Misshapen, RingSize, TooMany}
+use Rattle.judge.specs.Findings.{findings}
+use Rattle.sheet.specs.WriteSheet.{write_sheet}
+use Rattle.checker.specs.Says.{ReadTo, Given}
+
+-- ---- tables
+
+-- within limits the text is the table of values in range, and this is the sheet that the four rules give for them
+pub record RoutedBy (limits : Limits) (t text : List ℕ) : Type 0 where
+  pub ring : Ring
+  pub rs : List Demand
+  pub table : t ≡ write_table ring rs
+  pub range : InRange limits ring rs
+  pub is : text ≡ write_sheet (plan ring rs)
+
+-- within the limits before and within these a sheet is due, and each that is due within the one is each that is due within the other
+pub record SameText (t : List ℕ) : Type 0 where
+  pub text : List ℕ
+  pub before : RoutedBy old t text
+  pub now : RoutedBy desk t text
+  pub same : (a b : List ℕ) → RoutedBy old t a → RoutedBy desk t b → a ≡ b
+
+-- so it is for every table that the old desk accepts
+abbrev pub SameBytes : Type 0
+SameBytes = (t : List ℕ) → table.Accepted old t → SameText t
+
+-- ---- sheets
+
+-- the text is accepted as this sheet
+pub record AcceptedAs (limits : Limits) (t : List ℕ) (x : Sheet) : Type 0 where
+  pub is : ReadTo limits t x
+  pub none : found.NoneHolds (findings limits x)
+
+-- what the old desk answers to a text that is accepted as this sheet: 3 at n where it has too many nodes, which stand at byte 3 of line 1; else 16 at the first row too many,
+-- where it has such a row; else it accepts it
+pub record OldAnswers (t : List ℕ) (x : Sheet) : Type 0 where
+  pub nodes : old.nodes < x.ring.nodes → Given old t RingSize 1 3
+  pub rows : x.ring.nodes ≤ old.nodes → old.rows < length x.rows → Given old t TooMany (old.rows + 2) 1
+  pub within : x.ring.nodes ≤ old.nodes → length x.rows ≤ old.rows → AcceptedAs old t x
+
+abbrev pub BeyondOld : Type 0
+BeyondOld = (t : List ℕ) (x : Sheet) → AcceptedAs desk t x → OldAnswers t x
+
+-- what it accepts is accepted as the same sheet
+abbrev pub OldAccepted : Type 0
+OldAccepted = (t : List ℕ) (x : Sheet) → AcceptedAs old t x → AcceptedAs desk t x
+
+-- what it refuses by another reason than 2, 3 and 16 is refused by that reason, with that line and byte
+abbrev pub OldRefused : Type 0
+OldRefused =
+    (t : List ℕ) (r : Reason) (line byte : ℕ) → Given old t r line byte → (r ≡ Misshapen → ⊥) → (r ≡ RingSize → ⊥) → (r ≡ TooMany → ⊥) →
+    Given desk t r line byte

@@ -1,6 +1,0 @@
--- `choose` is rule D: the ways so far, and those that the rule gives to what is left, are the ways of all.
-use Rattle.router.proofs.WaySteps.{Choosing}
-use Rattle.router.proofs.ways.choose.Given as goal
-
-abbrev pub invariant-loop-t : goal.invariant-loop-t
-invariant-loop-t g l = Choosing (g.R.Rows.rows l.initial.rows) (g.R.Rows.rows l.rows) l.most l.added l.taken l.t

@@ -1,0 +1,6 @@
+-- `send_whole` is rule D: the ways so far, and those that the rule gives to what is left, are the ways of all.
+use Rattle.router.proofs.WaySteps.{Choosing}
+use Rattle.router.proofs.ways.send_whole.Given as goal
+
+abbrev pub invariant-loop-t : goal.invariant-loop-t
+invariant-loop-t g l = Choosing (g.R.Rows.rows l.initial.rows) (g.R.Rows.rows l.rows) l.most l.gain l.t

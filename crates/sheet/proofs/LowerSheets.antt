@@ -1,0 +1,288 @@
+-- A desk of lower limits, asked of a sheet's text: what it reads, one of higher limits reads too; what it refuses but by 2, 3 or 16, the other refuses alike. And of
+-- a true sheet that one of higher limits reads: it refuses the R line where the ring has more nodes than it knows, else the first row that it has no room for, and
+-- else reads the same sheet, whose figures it can spell since the sheet is true.
+use Prim.Native.Nat.{ℕ, ◌+◌, ◌≤◌, ◌<◌}
+use mathlib.Core.List.{List, [], ◌∷◌, ◌++◌, append_assoc}
+use mathlib.Core.Path.{◌≡◌, refl, ap, ◌∙◌, sym, subst}
+use native.Mathlib.Omega.{arith}
+use native.Mathlib.Decide.{dec_lt}
+use lib.ListN.{length, length-append}
+use borrow.Author.Tests.{le-ltb}
+use Rattle.std.specs.Prelude.{Bool, true, false, cond, ltb, Option, Ok, Err}
+use Rattle.ring.specs.Limits.{Limits, desk, old}
+use Rattle.ring.specs.LineSize.{IsFibres}
+use Rattle.ring.specs.Lists.{Each, none, more}
+use Rattle.ring.specs.declared.types.Ring.{Ring}
+use Rattle.ring.specs.declared.types.Demand.{Demand}
+use Rattle.ring.specs.declared.types.Routed.{Routed}
+use Rattle.ring.specs.declared.types.Cut.{Cut}
+use Rattle.ring.specs.declared.types.Link.{Link}
+use Rattle.ring.specs.Demand.{OnRing}
+use Rattle.ring.specs.Routing.{way_number}
+use Rattle.ring.specs.Sheet.{Sheet, sents, demands, plan, figures_of}
+use Rattle.ring.specs.True.{TrueSheet}
+use Rattle.ring.proofs.Small.{SmallRow, figures-small, demands-length}
+use Rattle.text.specs.declared.field.Field.{Field}
+use Rattle.text.specs.FieldByte.{field_byte}
+use Rattle.text.specs.WriteLine.{write_line}
+use Rattle.text.specs.Field.{spell}
+use Rattle.text.specs.WriteLine.{end_of}
+use Rattle.text.specs.ReadLine.{Reading, read_line}
+use Rattle.text.specs.Shapes.{ring_shape, sent_shape, cut_shape, link_shape, last_shape, ring_line, cut_line}
+use Rattle.text.proofs.Apart.{clash}
+use Rattle.text.proofs.LineLaws.{line-wider}
+use Rattle.table.specs.Lines.{lines}
+use Rattle.table.specs.Faults.{found, ring_found, row_found}
+use Rattle.table.specs.ReadTable.{table_of, accepted as table-accepted, ring_in}
+use Rattle.table.specs.Verdict.{Verdict}
+use Rattle.table.specs.declared.reason.Reason.{Reason}
+use Rattle.table.specs.declared.reason.Reason.TheVariants.{TooLong, RingSize, TooMany}
+use Rattle.table.proofs.Against.{fine-ring-judged, big-ring-judged, fine-row-judged, full-row-judged}
+use Rattle.table.proofs.FineRows.{FineRows, fine_row, fine-rows}
+use Rattle.table.proofs.Judged.{InOrder}
+use Rattle.table.proofs.LineRead.{RingSpelled, ring-values}
+use Rattle.table.proofs.LinesOf.{ring-first}
+use Rattle.table.proofs.LowerLimits.{Lower, old-table-accepted, Lost, lost_shape, VerdictAlike, same_verdict, lost_verdict, ring-alike, row-alike, wider, low-spelled, high-spelled}
+use Rattle.table.proofs.TableText.{fibres-spelled}
+use Rattle.sheet.specs.WriteSheet.{routed_line, lines_of, end_text, write_sheet}
+use Rattle.sheet.specs.Range.{InRange}
+use Rattle.sheet.specs.Read.{SheetResult, accepted, refused, Turn, on, stop, unless, row_in, last_of, ring_turn, row_turn, cut_turn, link_turn, last_turn, turn, after, read_from, read_sheet}
+use Rattle.sheet.specs.Says.{State, start, rows, links, end}
+use Rattle.sheet.proofs.Last.{last_more}
+use Rattle.sheet.proofs.Rest.{sent-first, cut-not-sent}
+use Rattle.sheet.proofs.SheetLines.{way_small, way_back, SentSpelled, sent-in-range, line-back, sent-read, CutRead, is_cut, no_cut, cut-read}
+use Rattle.sheet.proofs.SheetText.{sheet-text}
+use Rattle.sheet.proofs.Short.{Fitting, true-in-range}
+
+-- ---- what it answers of any text
+
+-- the same turn, or a refusal by 2, 3 or 16
+data TurnAlike : Turn → Turn → Type 0 where
+  same_turn : {x : Turn} → TurnAlike x x
+  lost_turn : {r : Reason} {byte : ℕ} {x : Turn} → Lost r → TurnAlike (stop r byte) x
+
+-- the same result, or a refusal by these
+pub data Alike : SheetResult → SheetResult → Type 0 where
+  same_result : {x : SheetResult} → Alike x x
+  lost_result : {r : Reason} {line byte : ℕ} {x : SheetResult} → Lost r → Alike (refused r line byte) x
+
+-- what is read is read alike
+data LineAlike : Reading → Reading → Type 0 where
+  same_line : {vs : List ℕ} → LineAlike (Ok vs) (Ok vs)
+  lost_line : {p : ℕ} {x : Reading} → LineAlike (Err p) x
+
+unless-alike : (shape : List Field) (vs : List ℕ) (field : Reason → ℕ) (next : State) {v u : Verdict} → VerdictAlike v u
+    → TurnAlike (unless shape vs (found v field) next) (unless shape vs (found u field) next)
+unfolding unless found
+unless-alike shape vs field next same_verdict = same_turn
+unless-alike shape vs field next (lost_verdict l) = lost_turn l
+
+module _ {low high : Limits} (lower : Lower low high) where
+  line-again : (shape : List Field) (l vs : List ℕ) → read_line low.digits shape l ≡ Ok vs → read_line high.digits shape l ≡ Ok vs
+  line-again shape l vs e = line-wider low.digits high.digits low.countable high.countable (wider lower) shape l vs e
+
+  line-alike : (shape : List Field) (l : List ℕ) → LineAlike (read_line low.digits shape l) (read_line high.digits shape l)
+  line-alike shape l = go (read_line low.digits shape l) refl
+    where
+      go : (x : Reading) → read_line low.digits shape l ≡ x → LineAlike x (read_line high.digits shape l)
+      go (Ok vs) e = let f = line-again shape l vs e in rw f same_line
+      go (Err p) e = lost_line
+
+  ring-turn-alike : {x y : Reading} → LineAlike x y → TurnAlike (ring_turn low x) (ring_turn high y)
+  unfolding ring_turn ring_found
+  ring-turn-alike (same_line {vs}) = unless-alike ring_shape vs _ (rows (ring_in vs) []) (ring-alike lower (ring_in vs))
+  ring-turn-alike lost_line = lost_turn lost_shape
+
+  row-turn-alike : (ring : Ring) (rs : List Routed) (l : List ℕ) {x y z : Reading} → LineAlike x y → y ≡ read_line high.digits sent_shape l → CutRead low l z → z ≡ read_line low.digits cut_shape l
+      → TurnAlike (row_turn low ring rs x z) (row_turn high ring rs y (read_line high.digits cut_shape l))
+  unfolding row_turn row_found cut_turn
+  row-turn-alike ring rs l (same_line {vs}) sent cut is = unless-alike sent_shape vs _ (rows ring (rs ++ row_in vs ∷ [])) (row-alike lower ring.nodes (length rs) (last_of rs) (row_in vs).sent.demand)
+  row-turn-alike ring rs l lost_line sent (no_cut misread fault) is = lost_turn lost_shape
+  row-turn-alike ring rs l lost_line sent (is_cut {g} {h} {m} e a b c) is =
+      let again = line-again cut_shape l (0 ∷ g ∷ h ∷ m ∷ []) (sym is) in
+      let other = cut-not-sent high g h m (sent-read high (cut_line g h m)) ring rs (Ok (0 ∷ g ∷ h ∷ m ∷ [])) in
+      rw (again, sent, e, other.1) same_turn
+
+  link-turn-alike : (ring : Ring) (rs : List Routed) (c : Cut) (ks : List Link) {x y : Reading} → LineAlike x y → TurnAlike (link_turn ring rs c ks x) (link_turn ring rs c ks y)
+  unfolding link_turn
+  link-turn-alike ring rs c ks same_line = same_turn
+  link-turn-alike ring rs c ks lost_line = lost_turn lost_shape
+
+  last-turn-alike : (ring : Ring) (rs : List Routed) (c : Cut) (ks : List Link) {x y : Reading} → LineAlike x y → TurnAlike (last_turn ring rs c ks x) (last_turn ring rs c ks y)
+  unfolding last_turn
+  last-turn-alike ring rs c ks same_line = same_turn
+  last-turn-alike ring rs c ks lost_line = lost_turn lost_shape
+
+  turn-alike : (state : State) (l : List ℕ) → TurnAlike (turn low state l) (turn high state l)
+  unfolding turn
+  turn-alike start l = ring-turn-alike (line-alike ring_shape l)
+  turn-alike (rows ring rs) l = row-turn-alike ring rs l (line-alike sent_shape l) refl (cut-read low l) refl
+  turn-alike (links ring rs c ks) l = go (ltb (length ks) ring.nodes)
+    where
+      go : (t : Bool) → TurnAlike (cond t (link_turn ring rs c ks (read_line low.digits link_shape l)) (last_turn ring rs c ks (read_line low.digits last_shape l)))
+          (cond t (link_turn ring rs c ks (read_line high.digits link_shape l)) (last_turn ring rs c ks (read_line high.digits last_shape l)))
+      go true = link-turn-alike ring rs c ks (line-alike link_shape l)
+      go false = last-turn-alike ring rs c ks (line-alike last_shape l)
+  turn-alike (end x) l = same_turn
+
+  read-alike : (ls : List (List ℕ)) (state : State) (line : ℕ) → Alike (read_from low state line ls) (read_from high state line ls)
+  unfolding read_from after
+  read-alike [] state line = same_result
+  read-alike (l ∷ ls) state line = go (turn-alike state l) (λ next. read-alike ls next (line + 1))
+    where
+      go : {x y : Turn} → TurnAlike x y → ((next : State) → Alike (read_from low next (line + 1) ls) (read_from high next (line + 1) ls))
+          → Alike (after x line (λ next. read_from low next (line + 1) ls)) (after y line (λ next. read_from high next (line + 1) ls))
+      go (same_turn {x = on next}) rest = rest next
+      go (same_turn {x = stop r byte}) rest = same_result
+      go (lost_turn l) rest = lost_result l
+
+  -- what the lower answer the higher answer too, but for 2, 3 and 16
+  pub sheet-alike : (t : List ℕ) → Alike (read_sheet low t) (read_sheet high t)
+  unfolding read_sheet
+  sheet-alike t = subst (λ b. Alike (read_sheet low t) (cond b (refused TooLong 0 0) (read_from high start 1 (lines t)))) (ap (λ b. ltb b (length t)) lower.bytes) (go (ltb low.bytes (length t)))
+    where
+      go : (b : Bool) → Alike (cond b (refused TooLong 0 0) (read_from low start 1 (lines t))) (cond b (refused TooLong 0 0) (read_from high start 1 (lines t)))
+      go true = same_result
+      go false = read-alike (lines t) start 1
+
+  -- so what the lower read the higher read, as the same sheet
+  pub higher-sheet : (t : List ℕ) (x : Sheet) → read_sheet low t ≡ accepted x → read_sheet high t ≡ accepted x
+  higher-sheet t x e = go (rw e at (sheet-alike t)) refl
+    where
+      go : {y z : SheetResult} → Alike y z → y ≡ accepted x → z ≡ accepted x
+      go same_result f = f
+      go (lost_result l) f = clash (cc)
+
+-- ---- what it answers of a true sheet
+
+-- what a desk of these limits answers to this sheet, which one of higher limits accepts
+pub data LowerSheet (low : Limits) (x : Sheet) : SheetResult → Type 0 where
+  more-nodes : low.nodes < x.ring.nodes → LowerSheet low x (refused RingSize 1 3)
+  more-rows : x.ring.nodes ≤ low.nodes → low.rows < length x.rows → LowerSheet low x (refused TooMany (low.rows + 2) 1)
+  same : x.ring.nodes ≤ low.nodes → length x.rows ≤ low.rows → LowerSheet low x (accepted x)
+
+-- ---- each line
+
+module _ (low : Limits) where
+  ring-turned : (ring : Ring) → RingSpelled low ring.nodes ring.fibres → low.fewest ≤ ring.nodes → ring.nodes ≤ low.nodes → IsFibres ring.fibres
+      → turn low start (ring_line ring.nodes ring.fibres) ≡ on (rows ring [])
+  unfolding turn ring_turn unless ring_found found
+  ring-turned ring w few many fibres = rw (ring-values low ring.nodes ring.fibres w, fine-ring-judged low ring few many fibres)
+
+  -- too many nodes: n is at byte 3
+  ring-refused : (ring : Ring) → RingSpelled low ring.nodes ring.fibres → low.nodes < ring.nodes → turn low start (ring_line ring.nodes ring.fibres) ≡ stop RingSize 3
+  unfolding turn ring_turn unless ring_found found field_byte write_line spell end_of
+  ring-refused ring w big = rw (ring-values low ring.nodes ring.fibres w, big-ring-judged low ring big)
+
+  -- a row is spelled
+  abbrev Spells : Routed → Type 0
+  Spells r = SentSpelled low r.sent.demand.first r.sent.demand.second r.sent.demand.amount r.sent.front r.sent.back (way_number r.way)
+
+  row-turned : (ring : Ring) (rs : List Routed) (r : Routed) → Spells r → OnRing ring.nodes r.sent.demand → InOrder (last_of rs) r.sent.demand → length rs < low.rows → r.sent.demand.amount ≤ low.amount
+      → turn low (rows ring rs) (routed_line r) ≡ on (rows ring (rs ++ r ∷ []))
+  unfolding turn row_turn unless row_found found
+  row-turned ring rs r s o up room most =
+      let w = way_back r.way in
+      rw (line-back low sent_shape _ (sent-in-range low _ _ _ _ _ _ s), fine-row-judged low ring.nodes (length rs) (last_of rs) r.sent.demand o up room most, w)
+
+  -- no room for it: it is refused as a whole
+  row-refused : (ring : Ring) (rs : List Routed) (r : Routed) → Spells r → OnRing ring.nodes r.sent.demand → InOrder (last_of rs) r.sent.demand → low.rows ≤ length rs
+      → turn low (rows ring rs) (routed_line r) ≡ stop TooMany 1
+  unfolding turn row_turn unless row_found found field_byte write_line
+  row-refused ring rs r s o up full =
+      rw (line-back low sent_shape _ (sent-in-range low _ _ _ _ _ _ s), full-row-judged low ring.nodes (length rs) (last_of rs) r.sent.demand o up full)
+
+module _ {low high : Limits} (lower : Lower low high) (fits : Fitting low) where
+  -- ---- rows beyond the lower limits
+
+  module _ (ring : Ring) (many : ring.nodes ≤ high.nodes) (rest : List ℕ) where
+    many-rows : (rs later : List Routed) {k : ℕ} {above : Option Demand} → length rs ≡ k → last_of rs ≡ above → k ≤ low.rows → low.rows < k + length later
+        → FineRows high ring.nodes k above (demands (sents later)) → Each (SmallRow low.amount) later
+        → read_from low (rows ring rs) (length rs + 2) (lines (lines_of routed_line later ++ rest)) ≡ refused TooMany (low.rows + 2) 1
+    unfolding read_from after lines_of lines
+    many-rows rs [] e f l m fine none = absurd (omega arith)
+    many-rows rs (r ∷ later) {k} {above} e f l m (fine_row o up c d fine) (more h hs) =
+        elim (dec_lt k low.rows) [
+          | yes room ↦
+              let count : length rs + 2 + 1 ≡ length (rs ++ r ∷ []) + 2 = omega (arith, length-append rs (r ∷ [])) in
+              rw (text, row-turned low ring rs r s o (rw f up) (omega arith) (omega (arith, d, lower.amount)), count)
+              (many-rows (rs ++ r ∷ []) later (omega (arith, length-append rs (r ∷ []))) (last_more rs r) (omega arith) (omega arith) fine hs)
+          | no full ↦
+              let q : length rs ≡ low.rows = omega arith in
+              rw (text, row-refused low ring rs r s o (rw f up) (omega arith), q) refl
+        ]
+      where
+        s : Spells low r
+        s =
+            record {
+              first = omega (arith, o.order, o.high, lower.spelled.0);
+              second = omega (arith, o.high, lower.spelled.0);
+              amount = omega (arith, d, lower.spelled.1);
+              front = omega (arith, h.halves, fits.narrow.amount, fits.small);
+              back = omega (arith, h.halves, fits.narrow.amount, fits.small);
+              way = way_small r.way;
+            }
+
+        text : lines ((routed_line r ++ lines_of routed_line later) ++ rest) ≡ routed_line r ∷ lines (lines_of routed_line later ++ rest)
+        text =
+            ap lines (append_assoc (routed_line r) (lines_of routed_line later) rest)
+            ∙ sent-first low r.sent.demand.first r.sent.demand.second r.sent.demand.amount r.sent.front r.sent.back (way_number r.way) s (lines_of routed_line later ++ rest)
+
+  -- ---- the sheet
+
+  -- in range of the higher limits, true, and within the lower ones
+  narrow : {x : Sheet} → InRange high x → TrueSheet x → x.ring.nodes ≤ low.nodes → length x.rows ≤ low.rows → InRange low x
+  narrow {x} range t n r =
+      let e = lower.amount in
+      true-in-range low fits x t n range.fibres range.rows r (rw e range.amounts) (omega (arith, range.few, lower.fewest))
+
+  -- a true sheet that the higher read, the lower refuse by 3 or 16, or read too
+  pub lower-sheet : (t : List ℕ) (x : Sheet) → read_sheet high t ≡ accepted x → TrueSheet x → LowerSheet low x (read_sheet low t)
+  unfolding read_sheet read_from after write_sheet
+  lower-sheet t x e true_sheet =
+      elim (dec_lt low.nodes x.ring.nodes) [
+        | yes big ↦ rw (is, le-ltb low.bytes (length (write_sheet x)) short, first, ring-refused low x.ring w big) (more-nodes big)
+        | no small ↦ elim (dec_lt low.rows (length x.rows)) [
+          | yes over ↦
+              let n : x.ring.nodes ≤ low.nodes = omega arith in
+              let fine = ring-turned low x.ring w (omega (arith, range.few, lower.fewest)) n range.fibres in
+              let refusal =
+              many-rows x.ring range.many (end_text (figures_of x) x.links) [] x.rows refl refl (omega arith) (omega arith)
+              (fine-rows range.rows (omega (arith, range.count, demands-length x.rows)) range.amounts) (figures-small low.amount x true_sheet amounts).rows in
+              rw (is, le-ltb low.bytes (length (write_sheet x)) short, first, fine, refusal) (more-rows n over)
+          | no few ↦
+              let n : x.ring.nodes ≤ low.nodes = omega arith in
+              let r : length x.rows ≤ low.rows = omega arith in
+              let a : read_sheet low t ≡ accepted x = (sheet-text low (low-spelled lower) t x).1 (is, narrow range true_sheet n r) in
+              rw a (same n r)
+        ]
+      ]
+    where
+      is : t ≡ write_sheet x
+      is = ((sheet-text high (high-spelled lower) t x).0 e).0
+
+      range : InRange high x
+      range = ((sheet-text high (high-spelled lower) t x).0 e).1
+
+      amounts : Each (λ (r : Demand). r.amount ≤ low.amount) (demands (sents x.rows))
+      amounts = let q = lower.amount in rw q range.amounts
+
+      short : length (write_sheet x) ≤ low.bytes
+      short = omega (arith, range.short, lower.bytes)
+
+      w : RingSpelled low x.ring.nodes x.ring.fibres
+      w = (omega (arith, range.many, lower.spelled.0), fibres-spelled low x.ring.fibres range.fibres)
+
+      first : lines (ring_line x.ring.nodes x.ring.fibres ++ (lines_of routed_line x.rows ++ end_text (figures_of x) x.links))
+          ≡ ring_line x.ring.nodes x.ring.fibres ∷ lines (lines_of routed_line x.rows ++ end_text (figures_of x) x.links)
+      first = ring-first low x.ring.nodes x.ring.fibres w (lines_of routed_line x.rows ++ end_text (figures_of x) x.links)
+
+-- ---- a table that the old desk accepts is routed to the same bytes: the rules and the writer take no limits, and both desks read the same ring and rows
+
+pub same-bytes : (t : List ℕ) (ring other : Ring) (rs ss : List Demand) → table_of old t ≡ table-accepted ring rs → table_of desk t ≡ table-accepted other ss
+    → write_sheet (plan ring rs) ≡ write_sheet (plan other ss)
+same-bytes t ring other rs ss e f =
+    let g : table-accepted ring rs ≡ table-accepted other ss = sym (old-table-accepted t ring rs e) ∙ f in
+    let a : ring ≡ other = cc in
+    let b : rs ≡ ss = cc in
+    rw (a, b) refl

@@ -1,0 +1,8 @@
+//! The limits of rings, tables and numbers, each named once (Rules, limits).
+
+/// A ring has so many offices at most; two at least.
+pub const OFFICES: i64 = 64;
+/// So many rows a table has at most, and places a working table.
+pub const ROWS: usize = 1_024;
+/// A number has so many digits at most.
+pub const DIGITS: usize = 8;
