@@ -22,7 +22,8 @@ pub(crate) fn tabs(line: &Line) -> usize
 /// Reads a line of so many numbers, of which the first are kept, as far as there is room for them; or answers the place of its first faulty byte. They take the place of
 /// those that were there, which hold whatever where the line is refused.
 fn numbers_in(text: &[u8], count: usize, read: &mut Numbers) -> Result<(), usize>
-    ensures { read_as result read.new.items ≡ first_numbers (read_line desk.digits (numbers count) text.now) }
+    ensures { read_as result read.new.items
+        ≡ first_numbers (read_line desk.digits (numbers count) text.now) }
 {
     read.clear();
     let mut at: usize = 0;
