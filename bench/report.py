@@ -162,9 +162,9 @@ def turned_row(n, some):
     )
 
 
-def times(results):
+def times(results, family="pairs"):
     head = "offices", "rows", "glpsol / ours, time", "instructions", "without reading the model", "cbc / ours, time", "at most"
-    return grid(head, *(times_row(n, some) for n, some in by_size(results, "pairs").items()))
+    return grid(head, *(times_row(n, some) for n, some in by_size(results, family).items()))
 
 
 def times_row(n, some):
@@ -242,30 +242,31 @@ def turned_above(some):
 
 
 def larger(results):
+    """Peaks, then times."""
     head = (
-        *("offices", "rows", "split peak = LP", "one turn over best", "at most", "= best", "proved best by the floor", "rule D over best", "at most", "best proved"),
-        *("glpsol / ours, time", "instructions", "cbc / ours, time", "at most"),
+        *("offices", "rows", "split peak = LP", "one turn over best", "at most", "in units", "at most", "= best", "proved best by the floor"),
+        *("rule D over best", "at most", "in units", "at most", "best proved"),
     )
-    return grid(head, *(larger_row(n, some) for n, some in by_size(results, "larger").items()))
+    reached = grid(head, *(larger_row(n, some) for n, some in by_size(results, "larger").items()))
+    return f"{reached}\n\n{times(results, 'larger')}"
 
 
 def larger_row(n, some):
-    counted = some[0]
     return (
         n,
-        counted.rows,
+        some[0].rows,
         f"all {len(some)}",
         percent(mean(r.turned_over for r in some), 3),
         percent(max(r.turned_over for r in some), 3),
+        f"{mean(r.turned - r.best for r in some):.2f}",
+        max(r.turned - r.best for r in some),
         share_of(some, lambda r: r.turned == r.best),
         share_of(some, lambda r: r.turned == r.least),
         percent(mean(r.over for r in some)),
         percent(max(r.over for r in some)),
+        f"{mean(r.ours - r.best for r in some):.1f}",
+        max(r.ours - r.best for r in some),
         f"{sum(r.proved for r in some)} of {len(some)}",
-        f"{median(r.glpsol_time / r.ours_time for r in some):.1f}",
-        f"{counted.glpsol_count / counted.ours_count:.1f}",
-        f"{median(r.cbc_time / r.ours_time for r in some):.0f}",
-        f"{max(r.cbc_time / r.ours_time for r in some):.0f}",
     )
 
 
@@ -313,8 +314,11 @@ def text(results):
 
 
 def plot(results, folder):
-    folder.mkdir(parents=True, exist_ok=True)
     sizes = by_size(results, "pairs")
+    if not sizes:
+        # the plots are of rings of 32 offices and fewer, which were not tried
+        return
+    folder.mkdir(parents=True, exist_ok=True)
     plots.chart(
         folder / "over-best-pairs.svg",
         "Unsplit peak over the best, all pairs",

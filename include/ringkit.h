@@ -76,7 +76,7 @@ extern "C" {
 #define RINGKIT_TABLE_BYTES 13319
 #define RINGKIT_MATRIX_BYTES 20480
 
-/* Enough stack for each call, with some to spare for binding memcpy and memset when they are first called: the deepest, turning, takes some 43,300 bytes. */
+/* Enough stack for each call, with some to spare for binding memcpy and memset when they are first called: the deepest, routing, takes some 36,600 bytes. */
 #define RINGKIT_STACK_BYTES 57344
 
 /* Why a text is refused. Each is given exactly when it holds and nothing before it in this order does: the fibres that a matrix is read with; RINGKIT_TOO_LONG; then line by line,

@@ -1,4 +1,4 @@
--- To believe: a row is put on a triangle, or taken off it: each pair's number is raised or lowered by the row's share of it.
+-- Internal: a row is put on a triangle, or taken off it: each pair's number is raised or lowered by the row's share of it.
 use Rattle.std.specs.Prelude.{ℕ, ◌+◌, ◌-◌, ◌%◌, cond, List, nat_le}
 use Rattle.ring.specs.declared.types.Demand.{Demand}
 use Rattle.ring.specs.Cut.{part}

@@ -137,13 +137,13 @@ fn answer_filled<W: Write>(
 // One case; false at the end of the input and at an unknown letter.
 fn one_case<R: Read, W: Write>(alloc: Global, input: &mut R, output: &mut W) -> io::Result<bool> {
     let header = next_bytes(alloc, input, 12)?;
-    let [letter, a, b, c, d, e, f, g, h, i, j, _] = header.as_slice() else {
+    if header.len() < 12 {
+        return Ok(false);
+    }
+    let Some(call) = call_of(header[0]) else {
         return Ok(false);
     };
-    let Some(call) = call_of(*letter) else {
-        return Ok(false);
-    };
-    let size = number(&[*a, *b, *c, *d, *e]);
+    let size = number(&header[1..6]);
     let text = next_bytes(alloc, input, size)?;
     if text.len() < size {
         return Ok(false);
@@ -151,9 +151,7 @@ fn one_case<R: Read, W: Write>(alloc: Global, input: &mut R, output: &mut W) -> 
     match call {
         Call::Check => answer_check(output, &text)?,
         Call::Parallel => answer_parallel(output, &text)?,
-        Call::Filling(call) => {
-            answer_filled(alloc, output, call, &text, number(&[*f, *g, *h, *i, *j]))?
-        }
+        Call::Filling(call) => answer_filled(alloc, output, call, &text, number(&header[6..11]))?,
     }
     Ok(true)
 }

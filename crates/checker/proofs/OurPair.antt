@@ -6,7 +6,7 @@ use mathlib.Core.List.{List}
 use mathlib.Core.Path.{◌≡◌, sym, ◌∙◌, subst}
 use Rattle.ring.specs.Lists.{Each, more, Pairs, no_pair, and_pairs, none}
 use Rattle.ring.specs.declared.types.Ring.{Ring}
-use Rattle.ring.specs.Demand.{TableRows}
+use Rattle.ring.specs.TableRows.{TableRows}
 use Rattle.ring.specs.declared.types.Demand.{Demand}
 use Rattle.ring.specs.declared.types.Sent.{Sent}
 use Rattle.ring.specs.Sheet.{sents, plan}

@@ -8,7 +8,7 @@ use mathlib.Core.Path.{◌≡◌, refl, sym, ◌∙◌, subst, ap₂}
 use native.Mathlib.Omega.{arith}
 use native.Mathlib.Decide.{dec_lt}
 use native.Mathlib.Nat.{le_refl}
-use Rattle.ring.specs.Demand.{PairBefore}
+use Rattle.ring.specs.TableRows.{PairBefore}
 use Rattle.ring.specs.declared.types.Sent.{Sent}
 use Rattle.ring.specs.Crossing.{parallel}
 use Rattle.ring.specs.RuleC.{clash}

@@ -20,7 +20,7 @@ use Rattle.table.proofs.ReasonNumbers.{same-reason}
 use Rattle.table.specs.declared.finding.Finding.{Finding}
 use Rattle.table.specs.declared.reason.Reason.{Reason}
 use Rattle.judge.specs.Findings.{findings, Fits}
-use Rattle.judge.specs.Tests.{judged}
+use Rattle.judge.specs.Tests.{sheet_judged}
 use Rattle.judge.proofs.Tests.{first-judged, first-is-judged}
 use Rattle.judge.proofs.Accepted.{fine-accepted, true-fine}
 use Rattle.table.proofs.TableText.{desk-spelled}
@@ -84,7 +84,7 @@ module _ (limits : Limits) (spelled : LimitsSpelled limits) (t : List ℕ) where
   -- ---- refusals
 
   module _ (r : Reason) (line byte : ℕ) where
-    found-on : (x : Sheet) → ReadTo limits t x → (v : Result Unit Finding) → judged limits x ≡ v → judged_on x v ≡ refused r line byte → Given limits t r line byte
+    found-on : (x : Sheet) → ReadTo limits t x → (v : Result Unit Finding) → sheet_judged limits x ≡ v → judged_on x v ≡ refused r line byte → Given limits t r line byte
     unfolding judged_on
     found-on x is (Ok _) q h = absurd (cc)
     found-on x is (Err f) q h =
@@ -99,7 +99,7 @@ module _ (limits : Limits) (spelled : LimitsSpelled limits) (t : List ℕ) where
     refused-is : (y : SheetResult) → read_sheet limits t ≡ y → check_read limits y ≡ refused r line byte → Given limits t r line byte
     unfolding check_read
     refused-is (refused a b c) e h = of_form ((read-given limits t r line byte).0 (e ∙ h))
-    refused-is (accepted x) e h = found-on x ((read-by x).0 e) (judged limits x) refl h
+    refused-is (accepted x) e h = found-on x ((read-by x).0 e) (sheet_judged limits x) refl h
 
     is-refused-by : Given limits t r line byte → check limits t ≡ refused r line byte
     unfolding check check_read judged_on
@@ -120,7 +120,7 @@ module _ (limits : Limits) (spelled : LimitsSpelled limits) (t : List ℕ) where
   unfolding check check_read judged_on
   accepted-by x = (λ e. there (read_sheet limits t) refl e, λ h. ap (check_read limits) ((read-by x).1 h.0) ∙ ap (judged_on x) (sym (first-is-judged limits x (Ok tt) h.1)))
     where
-      judged-there : (y : Sheet) → ReadTo limits t y → (v : Result Unit Finding) → judged limits y ≡ v → judged_on y v ≡ accepted x → ReadTo limits t x × First (findings limits x) (Ok tt)
+      judged-there : (y : Sheet) → ReadTo limits t y → (v : Result Unit Finding) → sheet_judged limits y ≡ v → judged_on y v ≡ accepted x → ReadTo limits t x × First (findings limits x) (Ok tt)
       judged-there y is (Ok _) q h =
           let e : y ≡ x = cc in
           let first : First (findings limits y) (Ok tt) = subst (First (findings limits y)) q (first-judged limits y) in
@@ -128,7 +128,7 @@ module _ (limits : Limits) (spelled : LimitsSpelled limits) (t : List ℕ) where
       judged-there y is (Err f) q h = absurd (cc)
 
       there : (y : SheetResult) → read_sheet limits t ≡ y → check_read limits y ≡ accepted x → ReadTo limits t x × First (findings limits x) (Ok tt)
-      there (accepted y) e h = judged-there y ((read-by y).0 e) (judged limits y) refl h
+      there (accepted y) e h = judged-there y ((read-by y).0 e) (sheet_judged limits y) refl h
       there (refused a b c) e h = absurd (cc)
 
 -- ---- of the desk's

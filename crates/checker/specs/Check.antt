@@ -5,7 +5,7 @@ use Rattle.ring.specs.Sheet.{Sheet}
 use Rattle.table.specs.declared.finding.Finding.{Finding}
 use Rattle.table.specs.declared.reason.Reason.{Reason}
 use Rattle.table.specs.declared.reason.Reason.TheVariants.{WrongSum, WrongWay, WrongCut, WrongLink, WrongLast}
-use Rattle.judge.specs.Tests.{judged}
+use Rattle.judge.specs.Tests.{sheet_judged}
 use Rattle.sheet.specs.Read.{SheetResult, accepted, refused, read_sheet}
 
 -- the line of a finding in a sheet of so many rows and nodes, by its reason and its place; 0 where it is against the sheet as a whole, and no other reason is found against
@@ -32,8 +32,8 @@ judged_on x (Ok tt) = accepted x
 judged_on x (Err f) = on_line x f
 
 unfoldable pub check_read : Limits → SheetResult → SheetResult
-unfolding judged_on judged
-check_read limits (accepted x) = judged_on x (judged limits x)
+unfolding judged_on sheet_judged
+check_read limits (accepted x) = judged_on x (sheet_judged limits x)
 check_read limits (refused reason line byte) = refused reason line byte
 
 unfoldable pub check : Limits → List ℕ → SheetResult

@@ -1,6 +1,6 @@
 -- To believe: the first parallel pair of split rows (Rules, the parallel question), or that none is.
 use Rattle.std.specs.Prelude.{ℕ, ◌+◌, ◌<◌, true, List, ◌∷◌, ◌≡◌}
-use Rattle.ring.specs.Demand.{PairBefore}
+use Rattle.ring.specs.TableRows.{PairBefore}
 use Rattle.ring.specs.Routing.{Split}
 use Rattle.ring.specs.declared.types.Sent.{Sent}
 use Rattle.ring.specs.Crossing.{parallel}

@@ -14,19 +14,19 @@ use table::{Finding, Reason, Refusal};
 // The line on which a finding against the values of a sheet of so many rows and nodes stands, counted from 1: behind the R line stand the rows, the C line, a line for
 // each link, and the Z line. 0 where the finding is against the sheet as a whole; other reasons than these are not found against values that were read.
 #[tactic(auto, unfolding(crate::specs::Check::line_of))]
-fn line_of(rows: usize, nodes: u32, found: Finding) -> u32
-    requires few { rows ≤ desk.rows }
+fn line_of(count: usize, nodes: u32, found: Finding) -> u32
+    requires few { count ≤ desk.rows }
     requires links { nodes ≤ desk.nodes }
     requires near { found.place ≤ desk.rows + 1 }
-    ensures { result ≡ line_of rows nodes found.reason found.place }
+    ensures { result ≡ line_of count nodes found.reason found.place }
 {
-    let rows = rows as u32;
+    let count = count as u32;
     let place = found.place as u32;
     match found.reason {
         Reason::WrongSum | Reason::WrongWay => place + 1,
-        Reason::WrongCut => rows + 2,
-        Reason::WrongLink => rows + 2 + place,
-        Reason::WrongLast => rows + nodes + 3,
+        Reason::WrongCut => count + 2,
+        Reason::WrongLink => count + 2 + place,
+        Reason::WrongLast => count + nodes + 3,
         _ => 0,
     }
 }
@@ -42,11 +42,11 @@ pub fn check_sheet(
     ensures value { with_values rows.new links.new.items result ≡ check desk text.now }
     ensures empty { IfErr result (λ _. (rows.new ≡ []) × (links.new.items ≡ [])) }
 {
-    let x = read_sheet(text, rows, links)?;
-    match judge(x, rows, links.as_slice()) {
-        Ok(()) => Ok(x),
+    let figures = read_sheet(text, rows, links)?;
+    match judge(figures, rows, links.as_slice()) {
+        Ok(()) => Ok(figures),
         Err(found) => {
-            let line = line_of(rows.count(), x.ring.nodes, found);
+            let line = line_of(rows.count(), figures.ring.nodes, found);
             links.clear();
             rows.clear();
             Err(Refusal {

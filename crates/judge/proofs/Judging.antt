@@ -7,7 +7,7 @@ use Rattle.ring.specs.declared.types.Ring.{Ring}
 use Rattle.ring.specs.declared.types.Routed.{Routed}
 use Rattle.ring.specs.Limits.{Limits, desk}
 use Rattle.ring.specs.LineSize.{IsFibres, two_fibres, four_fibres}
-use Rattle.ring.specs.Sheet.{Sheet, figures_of, true_link}
+use Rattle.ring.specs.Sheet.{Sheet, figures_of, true_link, largest_split_of}
 use Rattle.ring.proofs.Lists.{each}
 use Rattle.table.specs.Faults.{ring_found}
 use Rattle.table.specs.Findings.{First, found, found_at, ring_findings}
@@ -87,10 +87,10 @@ module _ (x : Sheet) where
         pub at-links : (f : Finding) → First (loads_findings x.ring.nodes (weighed_link w) x.links) (Err f) → First (findings desk x) (Err f)
         at-links f h = then-on _ _ _ a (then-on _ _ _ b (then-on _ _ _ c (then-stop _ _ f (links-of-rows (Err f) h))))
 
-        pub carries : 2 * w.peak < 2 ^ 32
+        pub carries : 2 * w.unsplit_peak < 2 ^ 32
         carries = omega (arith, peak-fits x.ring.nodes x.rows (rows-fit x.ring x.rows a b) w weighs)
 
-        pub at-last : First (loads_findings x.ring.nodes (weighed_link w) x.links) fine → (r : Result Unit Finding) →
-            First (last_findings (figures_of x) w.split_peak w.peak w.largest) r → First (findings desk x) r
+        pub at-last : First (loads_findings x.ring.nodes (weighed_link w) x.links) fine → (largest : ℕ) → largest ≡ largest_split_of x → (r : Result Unit Finding) →
+            First (last_findings (figures_of x) w.split_peak w.unsplit_peak largest) r → First (findings desk x) r
         unfolding weight_in
-        at-last d r h = then-on _ _ _ a (then-on _ _ _ b (then-on _ _ _ c (then-on _ _ _ (links-of-rows fine d) (rw weighs at h))))
+        at-last d largest is r h = then-on _ _ _ a (then-on _ _ _ b (then-on _ _ _ c (then-on _ _ _ (links-of-rows fine d) (rw (weighs, is) at h))))

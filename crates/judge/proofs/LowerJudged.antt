@@ -4,13 +4,13 @@ use Rattle.ring.specs.Limits.{Limits}
 use Rattle.ring.specs.Sheet.{Sheet}
 use Rattle.ring.specs.declared.types.Demand.{Demand}
 use Rattle.ring.specs.declared.types.Routed.{Routed}
-use Rattle.table.specs.Faults.{found, ring_found, row_found}
+use Rattle.table.specs.Faults.{verdict_found, ring_found, row_found}
 use Rattle.table.specs.Findings.{found_at}
 use Rattle.table.specs.Verdict.{Verdict}
 use Rattle.table.specs.declared.finding.Finding.{Finding}
 use Rattle.table.specs.declared.reason.Reason.{Reason}
 use Rattle.table.proofs.LowerLimits.{Lower, Lost, VerdictAlike, same_verdict, lost_verdict, ring-alike, row-alike, ring-same, row-same}
-use Rattle.judge.specs.Tests.{or_else, row_judged, rows_judged, judged}
+use Rattle.judge.specs.Tests.{or_else, row_judged, rows_judged, sheet_judged}
 
 -- the same finding, or none; or one that higher limits may lose
 pub data FindingAlike : Result Unit Finding → Result Unit Finding → Type 0 where
@@ -23,8 +23,8 @@ or-alike (same_finding {x = Ok tt}) h = h
 or-alike (same_finding {x = Err f}) h = same_finding
 or-alike (lost_finding l) h = lost_finding l
 
-found-alike : (place : ℕ) (field : Reason → ℕ) {v u : Verdict} → VerdictAlike v u → FindingAlike (found_at place (found v field)) (found_at place (found u field))
-unfolding found
+found-alike : (place : ℕ) (field : Reason → ℕ) {v u : Verdict} → VerdictAlike v u → FindingAlike (found_at place (verdict_found v field)) (found_at place (verdict_found u field))
+unfolding verdict_found
 found-alike place field same_verdict = same_finding
 found-alike place field (lost_verdict l) = lost_finding l
 
@@ -38,8 +38,8 @@ module _ {low high : Limits} (lower : Lower low high) where
   rows-judged-alike n k above [] = same_finding
   rows-judged-alike n k above (r ∷ rs) = or-alike (row-judged-alike n k above r) (rows-judged-alike n (k + 1) (Some r.sent.demand) rs)
 
-  pub judged-alike : (x : Sheet) → FindingAlike (judged low x) (judged high x)
-  unfolding judged ring_found
+  pub judged-alike : (x : Sheet) → FindingAlike (sheet_judged low x) (sheet_judged high x)
+  unfolding sheet_judged ring_found
   judged-alike x = or-alike (found-alike 0 _ (ring-alike lower x.ring)) (or-alike (rows-judged-alike x.ring.nodes 0 None x.rows) same_finding)
 
   -- within the lower limits the same is found
@@ -49,6 +49,6 @@ module _ {low high : Limits} (lower : Lower low high) where
   rows-judged-same n k above (r ∷ rs) few =
       rw (row-same lower n k above r.sent.demand (omega arith), rows-judged-same n (k + 1) (Some r.sent.demand) rs (omega arith))
 
-  pub judged-same : (x : Sheet) → low.fewest ≤ x.ring.nodes → x.ring.nodes ≤ low.nodes → length x.rows ≤ low.rows → judged low x ≡ judged high x
-  unfolding judged ring_found
+  pub judged-same : (x : Sheet) → low.fewest ≤ x.ring.nodes → x.ring.nodes ≤ low.nodes → length x.rows ≤ low.rows → sheet_judged low x ≡ sheet_judged high x
+  unfolding sheet_judged ring_found
   judged-same x few many count = rw (ring-same lower x.ring few many, rows-judged-same x.ring.nodes 0 None x.rows (omega arith))

@@ -1,6 +1,6 @@
 -- Row by row: what is given of the rows that are left is given of all; and nothing is found against rows exactly where each is fine and none falls.
 use Rattle.std.proofs.Common.{ℕ, ◌+◌, ◌<◌, ◌≤◌, List, [], ◌∷◌, Option, Some, None, Result, Err, ◌⊎◌, inl, inr, ◌≡◌, max, refl, ap, ◌∙◌, length, drop, slice_get, arith}
-use Rattle.std.proofs.lemmas.List.{drop_more, drop_all}
+use Rattle.std.proofs.lemmas.List.{drop_more}
 use Rattle.std.proofs.lemmas.Option.{get_or_from_slice_get, slice_get_within}
 use native.Mathlib.Decide.{ℕ_discrete, dec_lt}
 use Rattle.ring.specs.declared.types.Demand.{Demand}
@@ -9,7 +9,8 @@ use Rattle.ring.specs.declared.types.Way.{Way}
 use Rattle.ring.specs.declared.types.Way.TheVariants.{Front, Back}
 use Rattle.ring.specs.Limits.{Limits, desk}
 use Rattle.ring.specs.Lists.{Each, none, more, Steps, no_member, one_member, step}
-use Rattle.ring.specs.Demand.{OnRing, PairBefore, InTableOrder}
+use Rattle.ring.specs.Demand.{OnRing}
+use Rattle.ring.specs.TableRows.{PairBefore, InTableOrder}
 use Rattle.ring.specs.Sheet.{sents, demands}
 use Rattle.ring.specs.True.{SumsTo2d, GoesByRuleD}
 use Rattle.table.specs.Says.{NoNode}
@@ -27,19 +28,15 @@ use Rattle.judge.specs.Findings.{sending_findings, row_findings, rows_findings}
 abbrev pub RowsLeft : Limits → ℕ → List Routed → Option Demand → ℕ → Type 0
 RowsLeft limits n rs above t = (r : Result Unit Finding) → First (rows_findings limits n (t + 1) above (drop t rs)) r → First (rows_findings limits n 1 None rs) r
 
-module _ (limits : Limits) (n : ℕ) (rs : List Routed) where
-  pub rows-done : (t : ℕ) (above : Option Demand) → length rs ≤ t → RowsLeft limits n rs above t → First (rows_findings limits n 1 None rs) fine
-  rows-done t above l left = left fine (rw (drop_all t rs l) refl)
+module _ (limits : Limits) (n : ℕ) (rs : List Routed) (t : ℕ) (above : Option Demand) (x : Routed) (at : slice_get rs t ≡ Some x) (left : RowsLeft limits n rs above t) where
+  next : drop t rs ≡ x ∷ drop (t + 1) rs
+  next = drop_more rs t x (slice_get_within rs t x at) ∙ ap (λ y. y ∷ drop (t + 1) rs) (get_or_from_slice_get rs t x x at)
 
-  module _ (t : ℕ) (above : Option Demand) (x : Routed) (at : slice_get rs t ≡ Some x) (left : RowsLeft limits n rs above t) where
-    next : drop t rs ≡ x ∷ drop (t + 1) rs
-    next = drop_more rs t x (slice_get_within rs t x at) ∙ ap (λ y. y ∷ drop (t + 1) rs) (get_or_from_slice_get rs t x x at)
+  pub rows-on : First (row_findings limits n (t + 1) above x) fine → RowsLeft limits n rs (Some x.sent.demand) (t + 1)
+  rows-on h r k = left r (rw next (then-on _ _ r h k))
 
-    pub rows-on : First (row_findings limits n (t + 1) above x) fine → RowsLeft limits n rs (Some x.sent.demand) (t + 1)
-    rows-on h r k = left r (rw next (then-on _ _ r h k))
-
-    pub rows-stop : (f : Finding) → First (row_findings limits n (t + 1) above x) (Err f) → First (rows_findings limits n 1 None rs) (Err f)
-    rows-stop f h = left (Err f) (rw next (then-stop _ _ f h))
+  pub rows-stop : (f : Finding) → First (row_findings limits n (t + 1) above x) (Err f) → First (rows_findings limits n 1 None rs) (Err f)
+  rows-stop f h = left (Err f) (rw next (then-stop _ _ f h))
 
 -- one row: a table's fault of its demand is what is found; or nothing is found so far, and what is found of its halves and its way is what is found of it
 module _ (n k : ℕ) (above : Option Demand) (r : Routed) (o : Result Unit Fault) (is : o ≡ row_found desk n k above r.sent.demand) (v : Result Unit Finding) (e : v ≡ found_at (k + 1) o) where

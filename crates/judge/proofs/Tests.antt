@@ -21,7 +21,7 @@ use Rattle.table.proofs.Faults.{ring-first, row-first}
 use Rattle.table.proofs.Tested.{Tested, is_so, not_so, test_of, test-or, test-and, test-less, test-most, test-same, test-other}
 use Rattle.judge.specs.Findings.{row_findings, rows_findings, cut_findings, links_findings, loads_findings, last_findings, findings}
 use Rattle.judge.proofs.Rows.{same-number}
-use Rattle.judge.specs.Tests.{Test, first_of, or_else, strays, row_tests, row_judged, rows_judged, cut_tests, differs, links_tests, loads_tests, last_tests, figures_tests, judged}
+use Rattle.judge.specs.Tests.{Test, first_of, or_else, strays, row_tests, row_judged, rows_judged, cut_tests, differs, links_tests, loads_tests, last_tests, figures_tests, sheet_judged}
 
 -- ---- test by test
 
@@ -132,8 +132,8 @@ last-tested x split unsplit largest =
 
 -- ---- all of them
 
-pub first-judged : (limits : Limits) (x : Sheet) → First (findings limits x) (judged limits x)
-unfolding judged figures_tests
+pub first-judged : (limits : Limits) (x : Sheet) → First (findings limits x) (sheet_judged limits x)
+unfolding sheet_judged figures_tests
 first-judged limits x =
     first-or (ring_findings limits x.ring) _ _ _ (ring-first limits x.ring)
     (first-or (rows_findings limits x.ring.nodes 1 None x.rows) _ _ _ (rows-tested limits x.ring.nodes 0 None x.rows)
@@ -143,13 +143,13 @@ first-judged limits x =
     (last-tested (figures_of x) (split_peak x) (unsplit_peak x) (largest_split_of x))))))
 
 -- so an answer that is the first is that of the tests
-pub first-is-judged : (limits : Limits) (x : Sheet) (r : Result Unit Finding) → First (findings limits x) r → r ≡ judged limits x
-first-is-judged limits x r h = one-answer (findings limits x) r (judged limits x) h (first-judged limits x)
+pub first-is-judged : (limits : Limits) (x : Sheet) (r : Result Unit Finding) → First (findings limits x) r → r ≡ sheet_judged limits x
+first-is-judged limits x r h = one-answer (findings limits x) r (sheet_judged limits x) h (first-judged limits x)
 
 -- ---- of the desk's limits
 
-pub judged-first : (x : Sheet) → First (findings desk x) (judged desk x)
+pub judged-first : (x : Sheet) → First (findings desk x) (sheet_judged desk x)
 judged-first = first-judged desk
 
-pub judged-is : (x : Sheet) (r : Result Unit Finding) → First (findings desk x) r → r ≡ judged desk x
+pub judged-is : (x : Sheet) (r : Result Unit Finding) → First (findings desk x) r → r ≡ sheet_judged desk x
 judged-is = first-is-judged desk

@@ -96,6 +96,6 @@ figures_tests x =
     last_tests (figures_of x) (split_peak x) (unsplit_peak x) (largest_split_of x))
 
 -- what judging a sheet answers (`judged-first`)
-unfoldable pub judged : Limits → Sheet → Result Unit Finding
+unfoldable pub sheet_judged : Limits → Sheet → Result Unit Finding
 unfolding or_else first_of ring_found rows_judged figures_tests
-judged limits x = or_else (found_at 0 (ring_found limits x.ring)) (or_else (rows_judged limits x.ring.nodes 0 None x.rows) (first_of (figures_tests x)))
+sheet_judged limits x = or_else (found_at 0 (ring_found limits x.ring)) (or_else (rows_judged limits x.ring.nodes 0 None x.rows) (first_of (figures_tests x)))

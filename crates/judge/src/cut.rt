@@ -18,13 +18,13 @@ fn is_cut(nodes: u32, cut: Cut) -> bool
 
 // What a row adds to the across number of g and h.
 #[tactic(auto, unfolding(ring::specs::Cut::part, ring::specs::Cut::if_one))]
-fn part(row: Demand, g: u32, h: u32) -> u32
-    ensures { result ≡ part row g h }
+fn part(demand: Demand, g: u32, h: u32) -> u32
+    ensures { result ≡ part demand g h }
 {
-    if row.in_front(g) == row.in_front(h) {
+    if demand.in_front(g) == demand.in_front(h) {
         0
     } else {
-        row.amount
+        demand.amount
     }
 }
 

@@ -8,21 +8,21 @@ use sonet::Sonet;
 use table::{Finding, Reason};
 use weight::Weight;
 
-/// 12: unsplit peak or size false; 13: the split peak, in halves, is not the across number; 14: twice the unsplit peak is above the split peak and 3D.
+/// 12: unsplit peak or size false; 13: the split peak, in halves, is not the across number; 14: twice the unsplit peak is above the split peak and 3D, where D is `largest`, in units.
 #[tactic(auto, unfolding(ring::specs::LineSize::line_size))]
-pub(crate) fn judge_last(figures: Figures, weight: &Weight) -> Result<(), Finding>
-    requires { 2 * weight.now.peak < 2 ^ 32 }
-    ensures { First (last_findings figures weight.now.split_peak weight.now.peak
-        weight.now.largest) result }
+pub(crate) fn judge_last(figures: Figures, weight: &Weight, largest: u32) -> Result<(), Finding>
+    requires { 2 * weight.now.unsplit_peak < 2 ^ 32 }
+    ensures { First (last_findings figures weight.now.split_peak weight.now.unsplit_peak largest)
+        result }
 {
-    let size = Sonet::size(must_carry(figures.ring.fibres, weight.peak));
-    if figures.peak != weight.peak || figures.size != size {
+    let size = Sonet::size(must_carry(figures.ring.fibres, weight.unsplit_peak));
+    if figures.peak != weight.unsplit_peak || figures.size != size {
         return Err(Finding::at(Reason::WrongLast, 0));
     }
     if weight.split_peak != figures.cut.across {
         return Err(Finding::at(Reason::NotTight, 0));
     }
-    if wide(weight.split_peak) + 3 * wide(weight.largest) < 2 * wide(weight.peak) {
+    if wide(weight.split_peak) + 3 * wide(largest) < 2 * wide(weight.unsplit_peak) {
         return Err(Finding::at(Reason::OverBound, 0));
     }
     Ok(())

@@ -19,9 +19,9 @@ use crate::row::judge_rows;
 use ring::{Figures, Link, Ring};
 use rows::Rows;
 use table::{Finding, check_ring};
-use weight::weigh;
+use weight::{largest_split, weigh};
 
-// 3 and 20.
+// How many nodes the ring has, and then its fibres.
 fn judge_ring(ring: Ring) -> Result<(), Finding>
     ensures { First (ring_findings desk ring) result }
 {
@@ -39,7 +39,7 @@ fn judge_parts<R: Rows>(figures: Figures, rows: &R, links: &[Link]) -> Result<()
     judge_cut(nodes, rows, figures.cut)?;
     let weight = weigh(nodes, rows);
     judge_links(nodes, &weight, links)?;
-    judge_last(figures, &weight)
+    judge_last(figures, &weight, largest_split(rows))
 }
 
 /// Judges a sheet by its values, however its rows are held: accepted, or the first reason that holds, with its place, counted from 1: that of the row for 4 to 9 and

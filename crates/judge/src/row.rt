@@ -27,14 +27,17 @@ fn goes_by_rule_d(row: Routed) -> bool
     }
 }
 
-// The row behind k rows, of which the last is `above`; its place is counted from 1.
+// The row behind so many others, of which the last is `above`; its place is counted from 1.
 #[tactic(auto, using(crate::proofs::Rows::row_stop, crate::proofs::Rows::row_rest))]
-fn judge_row(nodes: u32, k: usize, above: Option<Demand>, row: Routed) -> Result<(), Finding>
-    requires { k + 1 < 2 ^ 64 }
-    ensures { First (row_findings desk nodes (k + 1) above row) result }
+fn judge_row(nodes: u32, before: usize, above: Option<Demand>, row: Routed) -> Result<(), Finding>
+    requires { before + 1 < 2 ^ 64 }
+    ensures { First (row_findings desk nodes (before + 1) above row) result }
 {
-    let place = k + 1;
-    check_row(nodes, k, above, row.sent.demand).map_err(|fault| Finding::at(fault.reason, place))?;
+    let place = before + 1;
+    check_row(nodes, before, above, row.sent.demand).map_err(|fault| Finding::at(
+        fault.reason,
+        place,
+    ))?;
     if !sums(row.sent) {
         return Err(Finding::at(Reason::WrongSum, place));
     }

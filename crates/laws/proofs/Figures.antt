@@ -19,7 +19,7 @@ use Rattle.judge.specs.Findings.{Fits}
 use Rattle.sheet.specs.Range.{Spelled}
 use Rattle.sheet.proofs.Short.{desk-fits, numbers, true-short, true-spelled}
 use Rattle.checker.proofs.Promised.{judged-in-range, true-accepted}
-use Rattle.laws.specs.Figures.{Digits, ShortNodes, ShortAmounts, ShortHalves, ShortLoads, FitsText, WrittenAccepted, RoomsFit}
+use Rattle.laws.specs.Figures.{Digits, ShortNodes, ShortAmounts, ShortHalves, ShortLoads, FitsText, WrittenAccepted}
 
 few-digits : (k v : ℕ) → k ≤ 9 → v < base ^ suc k → Digits (suc k) v
 unfolding spell
@@ -71,6 +71,3 @@ module _ (x : Sheet) (f : Fits desk x) (t : TrueSheet x) where
   -- values that judging accepts are in range, and true (`judged-in-range`, `true-accepted`)
   pub written-accepted : WrittenAccepted x
   written-accepted = true-accepted x (judged-in-range x f t) t
-
-pub rooms-fit : RoomsFit
-rooms-fit = record { table = omega arith; matrix = omega arith }

@@ -3,7 +3,8 @@
 use Rattle.std.specs.Prelude.{ℕ, ◌+◌, ◌*◌, ◌≤◌, true, not, List, ◌⊎◌, ◌↔◌, ◌≡◌}
 use Rattle.sonet.specs.Size.{sonet_sizes, sonet_size, rises, Answers}
 use Rattle.ring.specs.Lists.{Pairs}
-use Rattle.ring.specs.Demand.{OnRing, in_front, Leads, TableRows}
+use Rattle.ring.specs.Demand.{OnRing, in_front, Leads}
+use Rattle.ring.specs.TableRows.{TableRows}
 use Rattle.ring.specs.declared.types.Demand.{Demand}
 use Rattle.ring.specs.Cut.{IsCut, across}
 use Rattle.ring.specs.declared.types.Cut.{Cut}

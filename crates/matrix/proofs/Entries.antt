@@ -6,25 +6,27 @@ use mathlib.Core.Logic.{inl, inr}
 use native.Mathlib.Omega.{arith}
 use native.Mathlib.Decide.{dec_lt, ℕ_discrete}
 use borrow.Author.Tests.{eq-eqb, ne_eqb}
-use Rattle.std.specs.Prelude.{Ok, Option, Some, None}
-use Rattle.ring.specs.Demand.{PairBefore}
+use Rattle.std.specs.Prelude.{Ok, Err}
+use Rattle.ring.specs.TableRows.{PairBefore}
+use Rattle.table.specs.OnLine.{and_then}
+use Rattle.table.specs.Verdict.{Verdict}
 use Rattle.table.specs.declared.reason.Reason.{Reason}
 use Rattle.table.specs.declared.reason.Reason.TheVariants.{NotZero, NotSymmetric}
 use Rattle.matrix.specs.Matrix.{entry, Node}
-use Rattle.matrix.specs.Read.{Found, refusing, entry_fault, unless_fault, byte_of, judge_across, judge_down}
+use Rattle.matrix.specs.Read.{Found, refusing, check_entry, on_entry, byte_of, judge_across, judge_down}
 
 -- what is wrong with an entry
 pub data WrongEntry (m : List (List ℕ)) (i j : ℕ) : Reason → Type 0 where
   not_zero : i ≡ j → (entry m i j ≡ 0 → ⊥) → WrongEntry m i j NotZero
   not_mirror : (i ≡ j → ⊥) → (entry m i j ≡ entry m j i → ⊥) → WrongEntry m i j NotSymmetric
 
-data EntryJudged (m : List (List ℕ)) (i j : ℕ) : Option Reason → Type 0 where
-  entry_wrong : {r : Reason} → WrongEntry m i j r → EntryJudged m i j (Some r)
-  entry_right : ((r : Reason) → WrongEntry m i j r → ⊥) → EntryJudged m i j None
+data EntryJudged (m : List (List ℕ)) (i j : ℕ) : Verdict → Type 0 where
+  entry_wrong : {r : Reason} → WrongEntry m i j r → EntryJudged m i j (Err r)
+  entry_right : ((r : Reason) → WrongEntry m i j r → ⊥) → EntryJudged m i j (Ok tt)
 
 module _ (m : List (List ℕ)) where
-  entry-judged : (i j : ℕ) → EntryJudged m i j (entry_fault i j (entry m i j) (entry m j i))
-  unfolding entry_fault
+  entry-judged : (i j : ℕ) → EntryJudged m i j (check_entry i j (entry m i j) (entry m j i))
+  unfolding check_entry
   entry-judged i j =
       elim (ℕ_discrete i j) [
         | yes e ↦ elim (ℕ_discrete (entry m i j) 0) [
@@ -52,7 +54,7 @@ module _ (m : List (List ℕ)) where
     across_right : ((x : ℕ) (s : Reason) → j ≤ x → x < j + k → WrongEntry m i x s → ⊥) → AcrossJudged i j k next next
 
   across-judged : (i j k : ℕ) (next : Found) → AcrossJudged i j k next (judge_across m i j k next)
-  unfolding judge_across unless_fault
+  unfolding judge_across on_entry and_then
   across-judged i j zero next = across_right (λ x s l h w. omega arith)
   across-judged i j (suc k) next = go (entry-judged i j) (across-judged i (j + 1) k next)
     where
@@ -63,7 +65,7 @@ module _ (m : List (List ℕ)) where
             | no e ↦ later (omega arith) w
           ]
 
-      go : {v : Option Reason} {w : Found} → EntryJudged m i j v → AcrossJudged i (j + 1) k next w → AcrossJudged i j (suc k) next (unless_fault v i (byte_of m i j) w)
+      go : {v : Verdict} {w : Found} → EntryJudged m i j v → AcrossJudged i (j + 1) k next w → AcrossJudged i j (suc k) next (and_then (on_entry v i (byte_of m i j)) λ u. w)
       go (entry_wrong h) rest = across_wrong j (omega arith) (omega arith) h (λ x s l m w. omega arith)
       go (entry_right none) (across_wrong at l m h first) = across_wrong at (omega arith) (omega arith) h (λ x s p q. first-right none x s (λ u. first x s u q) p)
       go (entry_right none) (across_right all) = across_right (λ x s p q. first-right none x s (λ u. all x s u (omega arith)) p)

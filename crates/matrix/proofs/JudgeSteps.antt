@@ -3,10 +3,12 @@ use Prim.Native.Nat.{ℕ, suc, ◌+◌, ◌-◌, ◌≤◌, ◌<◌}
 use mathlib.Core.List.{List}
 use mathlib.Core.Path.{◌≡◌, ◌∙◌, sym}
 use native.Mathlib.Omega.{arith}
-use Rattle.std.specs.Prelude.{Ok, Option, Some, None}
-use Rattle.table.specs.declared.reason.Reason.{Reason}
+use Rattle.std.specs.Prelude.{Ok, Err}
+use Rattle.table.specs.OnLine.{and_then}
+use Rattle.table.specs.Verdict.{Verdict}
+use Rattle.table.specs.declared.reason.Refusal.{Refusal}
 use Rattle.matrix.specs.Matrix.{entry}
-use Rattle.matrix.specs.Read.{refusing, entry_fault, unless_fault, byte_of, judge_across, judge_down}
+use Rattle.matrix.specs.Read.{Found, check_entry, on_entry, byte_of, judge_across, judge_down}
 
 module _ (m : List (List ℕ)) (n : ℕ) where
   -- the lines before i are fine
@@ -25,18 +27,18 @@ module _ (m : List (List ℕ)) (n : ℕ) where
       record { rest = down.rest ∙ rw (e, f) }
 
   module _ (i j : ℕ) (across : Across i j) where
-    module _ (l : j < n + 1) (x y : ℕ) (ex : x ≡ entry m i j) (ey : y ≡ entry m j i) (v : Option Reason) (ev : v ≡ entry_fault i j x y) where
-      next-entry : judge_down m n 1 n ≡ unless_fault v i (byte_of m i j) (judge_across m i (j + 1) (n + 1 - (j + 1)) (judge_down m n (i + 1) (n + 1 - (i + 1))))
+    module _ (l : j < n + 1) (x y : ℕ) (ex : x ≡ entry m i j) (ey : y ≡ entry m j i) (v : Verdict) (ev : v ≡ check_entry i j x y) (f : Found) (ef : f ≡ on_entry v i (byte_of m i j)) where
+      next-entry : judge_down m n 1 n ≡ and_then f (λ u. judge_across m i (j + 1) (n + 1 - (j + 1)) (judge_down m n (i + 1) (n + 1 - (i + 1))))
       unfolding judge_across
-      next-entry = let e : n + 1 - j ≡ suc (n + 1 - (j + 1)) = omega arith in across.rest ∙ rw (e, ← ex, ← ey, ← ev)
+      next-entry = let e : n + 1 - j ≡ suc (n + 1 - (j + 1)) = omega arith in across.rest ∙ rw (e, ← ex, ← ey, ← ev, ← ef)
 
-      pub entry-faulty : (reason : Reason) (byte : ℕ) → v ≡ Some reason → byte ≡ byte_of m i j → refusing reason i byte ≡ judge_down m n 1 n
-      unfolding unless_fault
-      entry-faulty reason byte f b = sym (next-entry ∙ rw (f, b))
+      pub entry-faulty : (r : Refusal) → f ≡ Err r → Err r ≡ judge_down m n 1 n
+      unfolding and_then
+      entry-faulty r e = sym (next-entry ∙ rw e)
 
-      pub entry-fine : v ≡ None → Across i (j + 1)
-      unfolding unless_fault
-      entry-fine f = record { rest = next-entry ∙ rw f }
+      pub entry-fine : f ≡ Ok tt → Across i (j + 1)
+      unfolding and_then
+      entry-fine e = record { rest = next-entry ∙ rw e }
 
     pub line-fine : n + 1 ≤ j → Down (i + 1)
     unfolding judge_across

@@ -1,13 +1,12 @@
 -- The numbers of a line in their array, and the lines of a square in its own: what a read gives, what a write makes of them, and how a line is written.
 use Prim.Native.Nat.{ℕ, zero, suc, ◌+◌, ◌-◌, ◌≤◌, ◌<◌}
 use mathlib.Core.List.{List, [], ◌∷◌, ◌++◌, map}
-use mathlib.Core.Path.{◌≡◌, refl, ap, ◌∙◌, sym}
+use mathlib.Core.Path.{◌≡◌, refl, ap, ◌∙◌}
 use native.Mathlib.Omega.{arith}
-use lib.ListN.{length, get_or, set, take, length-set, length-map}
+use lib.ListN.{length, get_or, set, take, length-map}
 use lib.Seq.{take-set-lt, length-take-le, map-set}
 use mir.Syntax.{w16}
 use mir.Val.{Fits}
-use Rattle.std.proofs.lemmas.List.{take_more, take_more_set}
 use Rattle.ring.specs.Limits.{desk}
 use Rattle.ring.specs.Lists.{Each}
 use Rattle.text.specs.Field.{spell}
@@ -35,14 +34,19 @@ first-written zero values l = refl
 first-written (suc n) [] l = absurd (omega arith)
 first-written (suc n) (v ∷ values) l = ap (λ m. spell Number v ++ end_of (length (numbers n)) ∷ m) (first-written n values (omega arith))
 
-pub line-is : (values : List ℕ) → length values ≤ desk.nodes → write_line (take (length values) (numbers desk.nodes)) values ≡ numbers_line values
-line-is values few = rw (take-numbers (length values) desk.nodes few)
+-- the slice of the numbers, n in all
+module _ (values slice : List ℕ) (n : ℕ) (es : slice ≡ values) (en : n ≡ length values) (few : length slice ≤ desk.nodes) where
+  longest : take (length values) (numbers desk.nodes) ≡ numbers (length values)
+  longest = take-numbers (length values) desk.nodes (rw es at few)
 
-pub byte-is : (values : List ℕ) (k : ℕ) → length values ≤ desk.nodes → k ≤ length values → field_byte (take (length values) (numbers desk.nodes)) values k ≡ entry_byte values k
-unfolding field_byte
-byte-is values k few there =
-    let e : length (take k values) ≡ k = length-take-le k values there in
-    rw (take-numbers (length values) desk.nodes few, take-numbers k (length values) there, e) (ap (λ l. length l + 1) (first-written k values there))
+  pub line-is : write_line (take n (numbers desk.nodes)) slice ≡ numbers_line values
+  line-is = rw (en, es, longest)
+
+  pub byte-is : (k : ℕ) → k ≤ length values → field_byte (take n (numbers desk.nodes)) slice k ≡ entry_byte values k
+  unfolding field_byte
+  byte-is k there =
+      let e : length (take k values) ≡ k = length-take-le k values there in
+      rw (en, es, longest, take-numbers k (length values) there, e) (ap (λ l. length l + 1) (first-written k values there))
 
 -- ---- numbers to entries: those before k are there
 
@@ -53,14 +57,6 @@ pub record Putting (numbers entries : List ℕ) (k : ℕ) : Type 0 where
 module _ (numbers : List ℕ) (k : ℕ) (l : k < length numbers) where
   pub entry-fits : Each (λ v. v ≤ desk.amount) numbers → Fits w16 (get_or numbers k 0)
   entry-fits each = omega (arith, each_at each 0 k l)
-
-  pub entry-put : (entries : List ℕ) → length numbers ≤ desk.nodes → Putting numbers entries k → Putting numbers (set entries k (get_or numbers k 0)) (k + 1)
-  entry-put entries few put =
-      let more = take_more numbers k 0 l in
-      record {
-        before = take_more_set entries k (get_or numbers k 0) (omega (arith, put.room)) ∙ rw put.before (sym more);
-        room = length-set entries k (get_or numbers k 0) ∙ put.room;
-      }
 
 -- ---- the lines of a square
 

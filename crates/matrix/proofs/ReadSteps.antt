@@ -3,11 +3,9 @@ use Prim.Native.Nat.{ℕ, suc, ◌+◌, ◌-◌, ◌≤◌, ◌<◌}
 use mathlib.Core.List.{List, [], ◌∷◌, ◌++◌}
 use mathlib.Core.Path.{◌≡◌, refl, ap, ◌∙◌, sym, subst}
 use native.Mathlib.Omega.{arith}
-use mathlib.Core.Bool.{Bool, true, false, cond}
-use lib.Dec.{ltb}
 use lib.ListN.{length, set, take, length-set}
 use lib.Seq.{take_all}
-use borrow.Author.Tests.{lt-ltb, le-ltb, ltb-false}
+use borrow.Author.Tests.{lt-ltb, le-ltb}
 use Rattle.std.specs.Prelude.{Ok, Err, IfOk, IfErr}
 use Rattle.std.proofs.lemmas.List.{take_more_set}
 use Rattle.ring.specs.Limits.{desk}
@@ -16,14 +14,14 @@ use Rattle.ring.specs.declared.types.Demand.{Demand}
 use Rattle.text.specs.ReadLine.{read_line}
 use Rattle.text.specs.Shapes.{numbers}
 use Rattle.table.specs.Lines.{lines}
-use Rattle.table.specs.Judge.{judge_size}
+use Rattle.table.specs.Judge.{check_size}
 use Rattle.table.specs.Verdict as of_table
-use Rattle.table.specs.declared.reason.Reason.TheVariants.{TooLong, Misshapen, TooMany}
+use Rattle.table.specs.declared.reason.Reason.TheVariants.{TooLong, Misshapen}
 use Rattle.table.specs.declared.reason.Refusal.{Refusal}
 use Rattle.table.proofs.Judged.{SizeJudged, right_size, size-judged}
 use Rattle.matrix.specs.Demands.{rows_of_matrix}
 use Rattle.table.specs.OnLine.{refusal, and_then, values_on}
-use Rattle.matrix.specs.Read.{SquareRead, Found, refusing, Numbers, fields_in, first_numbers, amounts_in, lines_of, judge_down, judge_count, square_judged, on_first, matrix_of}
+use Rattle.matrix.specs.Read.{SquareRead, Found, Numbers, fields_in, first_numbers, amounts_in, lines_of, judge_down, judge_count, square_judged, on_first, matrix_of}
 use Rattle.matrix.specs.Answer.{read_to, IsMatrix, IsGiven}
 use Rattle.matrix.proofs.LineSteps.{told-bad, told-good}
 use Rattle.matrix.proofs.LinesText.{LineRead, line_is, line-read, LinesRead, lines_are, lines-read}
@@ -32,7 +30,7 @@ use Rattle.matrix.proofs.ReasonsGiven.{given}
 
 -- ---- the first line
 
-pub ring-few : (n : ℕ) (v : of_table.Verdict) → v ≡ judge_size desk n → (y : Found) → y ≡ on_first v → y ≡ Ok tt → n ≤ desk.nodes
+pub ring-few : (n : ℕ) (v : of_table.Verdict) → v ≡ check_size desk n → (y : Found) → y ≡ on_first v → y ≡ Ok tt → n ≤ desk.nodes
 unfolding on_first
 ring-few n v e y ey f = go v (rw (← e) at (size-judged desk n)) (sym ey ∙ f)
   where
@@ -56,7 +54,7 @@ module _ (s : List ℕ) where
         unfolding matrix_of and_then
         first-misshapen r f = rw (le-ltb desk.bytes (length s) short, left, ← ec, told-bad count 1 first x ex r f)
 
-        module _ (read : List ℕ) (f : x ≡ Ok read) (v : of_table.Verdict) (ev : v ≡ judge_size desk count) (y : Found) (ey : y ≡ on_first v) where
+        module _ (read : List ℕ) (f : x ≡ Ok read) (v : of_table.Verdict) (ev : v ≡ check_size desk count) (y : Found) (ey : y ≡ on_first v) where
           size-told : matrix_of desk s ≡ and_then y (λ u. square_judged desk (lines_of desk count 1 count [] (lines s)))
           unfolding matrix_of and_then values_on
           size-told = rw (le-ltb desk.bytes (length s) short, left, ← ec, (told-good count 1 first x ex read f).is, ← ev, ← ey)
@@ -68,14 +66,6 @@ module _ (s : List ℕ) where
           pub then-square : y ≡ Ok tt → matrix_of desk s ≡ square_judged desk (lines_of desk count 1 count [] (lines s))
           unfolding and_then
           then-square g = size-told ∙ rw g
-
--- a square that is not refused by 16 has as many rows as a table can have
-pub count-few : (n : ℕ) (m : List (List ℕ)) (w : Found) → w ≡ judge_count desk n m → w ≡ Ok tt → length (rows_of_matrix n m) ≤ desk.rows
-count-few n m w ew h = go (ltb desk.rows (length (rows_of_matrix n m))) refl (sym ew ∙ h)
-  where
-    go : (b : Bool) → ltb desk.rows (length (rows_of_matrix n m)) ≡ b → cond b (refusing TooMany 0 0) (Ok tt) ≡ Ok tt → length (rows_of_matrix n m) ≤ desk.rows
-    go true e f = absurd (cc)
-    go false e f = ltb-false desk.rows (length (rows_of_matrix n m)) e
 
 -- ---- line by line: those before `line` are read, and `left` are left of the lines ls
 

@@ -11,7 +11,7 @@ use lib.Seq.{get_or-append_seam}
 use borrow.Author.Tests.{ltb-true, ltb-false}
 use Rattle.ring.specs.Limits.{Limits}
 use Rattle.ring.specs.Lists.{Each, none, more, Some, here, there}
-use Rattle.ring.specs.Demand.{PairBefore}
+use Rattle.ring.specs.TableRows.{PairBefore}
 use Rattle.ring.proofs.Side.{cond-elim}
 use Rattle.text.specs.ReadLine.{Reading}
 use Rattle.text.specs.Shapes.{numbers, numbers_line}
@@ -31,7 +31,7 @@ use Rattle.table.proofs.ReasonNumbers.{same_rank, no-rank-0}
 use Rattle.matrix.specs.Matrix.{entry, entry_byte, Node}
 use Rattle.matrix.specs.Demands.{pairs_from, above_zero, rows_by, rows_of_matrix}
 use Rattle.matrix.specs.Read.{SquareRead, Numbers, Found, fields_in, lines_of, byte_of, judge_count, square_judged, on_first, matrix_lines, matrix_of}
-use Rattle.matrix.specs.Says.{NumbersAre, EntryIs, NoFirstLine, NoLaterLine, LeftOver, WrongSize, WrongAmount, WrongEntry, not_zero, not_mirror, FirstFaulty, ManyRows, Says, LineByte, first_due, later_due, none_due, EntryStarts, FaultyByte, ByteIs, stage, Earlier, Given, Accepted}
+use Rattle.matrix.specs.Says.{NumbersAre, EntryIs, NoFirstLine, NoLaterLine, LeftOver, SaysRingSize, SaysTooMuch, WrongEntry, not_zero, not_mirror, FirstFaulty, SaysTooMany, Says, LineByte, first_due, later_due, none_due, EntryStarts, FaultyByte, ByteIs, stage, Earlier, Given, Accepted}
 use Rattle.matrix.proofs.LinesText.{NumbersRead, are_numbers, no_numbers, numbers-read, FirstOver, LineRead, line_is, line_over, line_not, line-read, Spelled, each_by, each_at}
 use Rattle.matrix.proofs.MatrixText.{fields-are}
 use Rattle.matrix.proofs.RoundTrip.{same-lines}
@@ -46,14 +46,14 @@ data Said (limits : Limits) (t : List ℕ) (line : ℕ) : Reason → Type 0 wher
   no_first : NoFirstLine limits t line → Said limits t line Misshapen
   no_later : NoLaterLine limits t line → Said limits t line Misshapen
   left_over : LeftOver limits t line → Said limits t line Misshapen
-  wrong_n : WrongSize limits t line → Said limits t line RingSize
-  wrong_amount : WrongAmount limits t line → Said limits t line TooMuch
+  wrong_n : SaysRingSize limits t line → Said limits t line RingSize
+  wrong_amount : SaysTooMuch limits t line → Said limits t line TooMuch
 
 -- it is said of a line, or of the whole square, or of its rows
 data Told (limits : Limits) (t : List ℕ) (line : ℕ) (r : Reason) : Type 0 where
   of_line : stage r ≡ 0 → Said limits t line r → Told limits t line r
   of_square : stage r ≡ 1 → FirstFaulty limits t r line → Told limits t line r
-  of_rows : r ≡ TooMany → ManyRows limits t line → Told limits t line r
+  of_rows : r ≡ TooMany → SaysTooMany limits t line → Told limits t line r
 
 told : {limits : Limits} {t : List ℕ} {line : ℕ} (r : Reason) → Says limits t r line → Told limits t line r
 unfolding Says
@@ -152,12 +152,12 @@ module _ (limits : Limits) (t : List ℕ) (us : List ℕ) (first : NumbersAre li
     abbrev n : ℕ
     n = length us
 
-    wrong-n-not : {line : ℕ} → WrongSize limits t line → ⊥
+    wrong-n-not : {line : ℕ} → SaysRingSize limits t line → ⊥
     wrong-n-not h = let e : length h.us ≡ n = ap length (numbers-one h.first first refl) in ⊎_elim (λ l. omega arith) (λ l. omega arith) h.wrong
 
     -- of a line that is due and has n numbers only 7 can be said
     module _ (line : ℕ) (low : 1 ≤ line) (due : line ≤ n) (vs : List ℕ) (is : NumbersAre limits t line vs) (wide : length vs ≡ n) where
-      only-amount : {s : Reason} → Said limits t line s → (s ≡ TooMuch) × WrongAmount limits t line
+      only-amount : {s : Reason} → Said limits t line s → (s ≡ TooMuch) × SaysTooMuch limits t line
       only-amount (too_long e long) = absurd (omega arith)
       only-amount (no_first h) = absurd (h.none us first)
       only-amount (no_later h) =
@@ -273,7 +273,7 @@ module _ (limits : Limits) (t : List ℕ) (us : List ℕ) (first : NumbersAre li
       starts-at i j p = record { vs = get_or m (i - 1) []; is = held.at i p.0 (omega (arith, p.1)); at = refl }
 
       -- a text has one square
-      one-size : {other : ℕ} (h : ManyRows limits t other) → h.n ≡ n
+      one-size : {other : ℕ} (h : SaysTooMany limits t other) → h.n ≡ n
       unfolding rows_by pairs_from above_zero
       one-size h =
           elim (dec_lt 0 h.n) [
@@ -284,12 +284,12 @@ module _ (limits : Limits) (t : List ℕ) (us : List ℕ) (first : NumbersAre li
             | no l ↦ let e : h.n ≡ 0 = omega arith in let w = rw e at h.wrong in omega (arith, w)
           ]
 
-      one-square : {other : ℕ} (h : ManyRows limits t other) → h.m ≡ m
+      one-square : {other : ℕ} (h : SaysTooMany limits t other) → h.m ≡ m
       one-square h =
           let e = one-size h in
           same-lines n h.m m (omega (arith, h.square.tall)) tall (λ i p. numbers-one (h.lines i (p.0, omega (arith, p.1))) (held.at i p.0 (omega (arith, p.1))) refl)
 
-      few-rows : {other : ℕ} → length (rows_of_matrix n m) ≤ limits.rows → ManyRows limits t other → ⊥
+      few-rows : {other : ℕ} → length (rows_of_matrix n m) ≤ limits.rows → SaysTooMany limits t other → ⊥
       few-rows l h = let e = one-size h in let f = one-square h in let w = rw (e, f) at h.wrong in omega arith
 
       -- 16, where nothing is wrong with an entry

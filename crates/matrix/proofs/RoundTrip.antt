@@ -11,7 +11,8 @@ use Rattle.ring.specs.LineSize.{IsFibres}
 use Rattle.ring.specs.Ring.{ring_of}
 use Rattle.ring.specs.Limits.{Limits, desk}
 use Rattle.ring.specs.Lists.{listed, Each, none, more, Steps, no_member, one_member, step, Pairs, no_pair, and_pairs}
-use Rattle.ring.specs.Demand.{OnRing, PairBefore, PairUpTo, InTableOrder, TableRows}
+use Rattle.ring.specs.Demand.{OnRing}
+use Rattle.ring.specs.TableRows.{PairBefore, PairUpTo, InTableOrder, TableRows}
 use Rattle.ring.specs.declared.types.Demand.{Demand}
 use Rattle.ring.proofs.Listed.{listed_same, listed-shift}
 use Rattle.table.specs.Table.{write_table, table_room, InRange as TableInRange}

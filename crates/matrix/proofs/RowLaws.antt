@@ -1,5 +1,5 @@
 -- The rows of a matrix: they rise, are in a table's range, and add up to its entries; by the recursion over the pairs in table order.
-use Prim.Native.Nat.{ℕ, zero, suc, ◌+◌, ◌-◌, ◌≤◌, ◌<◌}
+use Prim.Native.Nat.{ℕ, zero, suc, ◌+◌, ◌-◌, ◌*◌, ◌/◌, ◌≤◌, ◌<◌}
 use mathlib.Core.Bool.{Bool, true, false, cond}
 use mathlib.Core.List.{List, [], ◌∷◌, ◌++◌}
 use mathlib.Core.Logic.{inl, inr}
@@ -11,7 +11,8 @@ use lib.ListN.{length, length-append}
 use borrow.Author.Tests.{eqb-true, eqb-false}
 use Rattle.ring.specs.Limits.{desk}
 use Rattle.ring.specs.Lists.{listed, Each, none, more}
-use Rattle.ring.specs.Demand.{demand, OnRing, PairBefore}
+use Rattle.ring.specs.Demand.{demand, OnRing}
+use Rattle.ring.specs.TableRows.{PairBefore}
 use Rattle.ring.specs.declared.types.Demand.{Demand}
 use Rattle.ring.proofs.Listed.{each-listed, listed-length}
 use Rattle.matrix.specs.Demands.{pairs_from, above_zero, rows_by, sum_of}
@@ -30,7 +31,10 @@ count-grows k zero = let e : k + 0 ≡ k = omega arith in rw e (omega arith)
 count-grows k (suc m) = let e : k + suc m ≡ suc (k + m) = omega arith in rw e (omega (arith, count-grows k m))
 
 -- how many pairs the largest ring has
-pub count_small : (n : ℕ) → n ≤ desk.nodes → pair_count n ≤ 2016
+abbrev pub most_pairs : ℕ
+most_pairs = desk.nodes * (desk.nodes - 1) / 2
+
+pub count_small : (n : ℕ) → n ≤ desk.nodes → pair_count n ≤ most_pairs
 unfolding pair_count
 count_small n l =
     let e : n + (desk.nodes - n) ≡ desk.nodes = omega arith in
@@ -183,7 +187,7 @@ module _ (a : ℕ → ℕ → ℕ) where
     rows-some = above-some (pairs_from a n 1 n)
 
     -- each pair makes at most one row
-    pub rows-counted : n ≤ desk.nodes → length (rows_by n a) ≤ 2016
+    pub rows-counted : n ≤ desk.nodes → length (rows_by n a) ≤ most_pairs
     unfolding rows_by
     rows-counted l = omega (arith, above-short (pairs_from a n 1 n), pairs-count n 1 (omega arith), count_small n l)
 

@@ -10,7 +10,8 @@ use native.Mathlib.Decide.{dec_lt, ℕ_discrete}
 use lib.Dec.{eqb}
 use borrow.Author.Tests.{eq-eqb, ne_eqb, eqb-true}
 use Rattle.ring.specs.Lists.{Each, none, more}
-use Rattle.ring.specs.Demand.{demand, OnRing, PairBefore}
+use Rattle.ring.specs.Demand.{demand, OnRing}
+use Rattle.ring.specs.TableRows.{PairBefore}
 use Rattle.ring.specs.declared.types.Demand.{Demand}
 use Rattle.ring.proofs.Side.{cond-elim}
 use Rattle.matrix.specs.Demands.{same_pair, joins, sum_of}

@@ -1,5 +1,5 @@
 -- A matrix's text line by line: a line's sums stand one behind the other, and its text is one of the pieces that measuring and writing go through.
-use Prim.Native.Nat.{ℕ, ◌+◌, ◌-◌, ◌≤◌, ◌<◌}
+use Prim.Native.Nat.{ℕ, zero, suc, ◌+◌, ◌-◌, ◌≤◌, ◌<◌}
 use mathlib.Core.List.{List, [], ◌∷◌, ◌++◌, append_assoc, append-nil}
 use mathlib.Core.Path.{◌≡◌, refl, ap, ◌∙◌, sym}
 use native.Mathlib.Omega.{arith}
@@ -41,6 +41,16 @@ sums_more rows i j count old new e l all v ev en =
 -- the sums of such rows have room in 32 bits
 pub sum-fits : (rs : List Demand) → Amounts rs → (i j : ℕ) → sum_of rs i j < 4294967296
 sum-fits rs amounts i j = omega (arith, sum-small desk.amount rs i j amounts.small, amounts.room)
+
+-- those of the first n have, too
+sum-first : (rs : List Demand) (n i j : ℕ) → sum_of (take n rs) i j ≤ sum_of rs i j
+unfolding sum_of
+sum-first rs zero i j = omega arith
+sum-first [] (suc n) i j = omega arith
+sum-first (r ∷ rs) (suc n) i j = omega (arith, sum-first rs n i j)
+
+pub first-fits : (rs : List Demand) → Amounts rs → (n i j : ℕ) → sum_of (take n rs) i j < 4294967296
+first-fits rs amounts n i j = omega (arith, sum-first rs n i j, sum-fits rs amounts i j)
 
 -- ---- the lines
 

@@ -5,7 +5,7 @@ use Rattle.text.specs.Bytes.{tab}
 use Rattle.text.specs.ReadLine.{Reading, read_line}
 use Rattle.text.specs.Shapes.{numbers}
 use Rattle.table.specs.Lines.{lines}
-use Rattle.table.specs.Judge.{judge_size}
+use Rattle.table.specs.Judge.{check_size}
 use Rattle.table.specs.OnLine.{refusal, and_then, values_on}
 use Rattle.table.specs.Verdict as of_table
 use Rattle.table.specs.declared.reason.Reason.{Reason}
@@ -70,12 +70,13 @@ lines_of limits n line (suc left) m (l ∷ ls) =
 -- ---- the entries in order
 
 -- 17 and 18, of the entry x at i, j whose mirror entry is y
-unfoldable pub entry_fault : ℕ → ℕ → ℕ → ℕ → Option Reason
-entry_fault i j x y = cond (eqb i j) (cond (eqb x 0) None (Some NotZero)) (cond (eqb x y) None (Some NotSymmetric))
+unfoldable pub check_entry : ℕ → ℕ → ℕ → ℕ → of_table.Verdict
+check_entry i j x y = cond (eqb i j) (cond (eqb x 0) (Ok tt) (Err NotZero)) (cond (eqb x y) (Ok tt) (Err NotSymmetric))
 
-unfoldable pub unless_fault : Option Reason → ℕ → ℕ → Found → Found
-unless_fault None line byte next = next
-unless_fault (Some reason) line byte next = refusing reason line byte
+-- what is found against an entry that starts there
+unfoldable pub on_entry : of_table.Verdict → ℕ → ℕ → Found
+on_entry (Ok tt) line byte = Ok tt
+on_entry (Err reason) line byte = refusing reason line byte
 
 -- where the entry i, j starts in its line
 abbrev pub byte_of : List (List ℕ) → ℕ → ℕ → ℕ
@@ -83,9 +84,10 @@ byte_of m i j = entry_byte (get_or m (i - 1) []) (j - 1)
 
 -- the entries i, j and on, k of them, then what is next
 unfoldable pub judge_across : List (List ℕ) → ℕ → ℕ → ℕ → Found → Found
-unfolding entry_fault unless_fault
+unfolding check_entry on_entry and_then
 judge_across m i j zero next = next
-judge_across m i j (suc k) next = unless_fault (entry_fault i j (entry m i j) (entry m j i)) i (byte_of m i j) (judge_across m i (j + 1) k next)
+judge_across m i j (suc k) next =
+    and_then (on_entry (check_entry i j (entry m i j) (entry m j i)) i (byte_of m i j)) λ u. judge_across m i (j + 1) k next
 
 -- the lines i and on, k of them, each of n entries
 unfoldable pub judge_down : List (List ℕ) → ℕ → ℕ → ℕ → Found
@@ -114,7 +116,7 @@ unfolding and_then values_on on_first lines_of square_judged fields_in
 matrix_lines limits [] = Err (refusal Misshapen 1 1)
 matrix_lines limits (l ∷ ls) =
     and_then (values_on 1 (read_line limits.digits (numbers (fields_in l)) l)) λ vs.
-    and_then (on_first (judge_size limits (fields_in l))) λ u.
+    and_then (on_first (check_size limits (fields_in l))) λ u.
     square_judged limits (lines_of limits (fields_in l) 1 (fields_in l) [] (l ∷ ls))
 
 unfoldable pub matrix_of : Limits → List ℕ → SquareRead

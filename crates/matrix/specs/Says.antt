@@ -2,7 +2,7 @@
 use Rattle.std.specs.Prelude.{ℕ, ◌+◌, ◌-◌, ◌≤◌, ◌<◌, List, [], ◌⊎◌, ◌≡◌, length, get_or}
 use Rattle.ring.specs.Limits.{Limits}
 use Rattle.ring.specs.Lists.{Each, Some}
-use Rattle.ring.specs.Demand.{PairBefore}
+use Rattle.ring.specs.TableRows.{PairBefore}
 use Rattle.text.specs.Number.{limit}
 use Rattle.text.specs.FirstFault.{Agrees, FirstFault}
 use Rattle.text.specs.Shapes.{numbers, numbers_line}
@@ -57,14 +57,14 @@ pub record LeftOver (limits : Limits) (t : List ℕ) (line : ℕ) : Type 0 where
   pub wrong : length us < line
 
 -- 3: n, the number of fields of the first line, outside 2..64
-pub record WrongSize (limits : Limits) (t : List ℕ) (line : ℕ) : Type 0 where
+pub record SaysRingSize (limits : Limits) (t : List ℕ) (line : ℕ) : Type 0 where
   pub at : line ≡ 1
   pub us : List ℕ
   pub first : NumbersAre limits t 1 us
   pub wrong : (length us < limits.fewest) ⊎ (limits.nodes < length us)
 
 -- 7: an entry over 9,999
-pub record WrongAmount (limits : Limits) (t : List ℕ) (line : ℕ) : Type 0 where
+pub record SaysTooMuch (limits : Limits) (t : List ℕ) (line : ℕ) : Type 0 where
   pub vs : List ℕ
   pub is : NumbersAre limits t line vs
   pub wrong : Some (λ v. limits.amount < v) vs
@@ -81,7 +81,7 @@ pub record FirstFaulty (limits : Limits) (t : List ℕ) (r : Reason) (line : ℕ
   pub first : (x y : ℕ) (s : Reason) → PairBefore x y line j → WrongEntry limits t x y s → ⊥
 
 -- 16: it makes more rows than 1,024, which are judged together; as a whole, so that no line is named
-pub record ManyRows (limits : Limits) (t : List ℕ) (line : ℕ) : Type 0 where
+pub record SaysTooMany (limits : Limits) (t : List ℕ) (line : ℕ) : Type 0 where
   pub at : line ≡ 0
   pub n : ℕ
   pub m : List (List ℕ)
@@ -93,11 +93,11 @@ pub record ManyRows (limits : Limits) (t : List ℕ) (line : ℕ) : Type 0 where
 unfoldable pub Says : Limits → List ℕ → Reason → ℕ → Type 0
 Says limits t TooLong line = (line ≡ 0) × (limits.bytes < length t)
 Says limits t Misshapen line = NoFirstLine limits t line ⊎ (NoLaterLine limits t line ⊎ LeftOver limits t line)
-Says limits t RingSize line = WrongSize limits t line
-Says limits t TooMuch line = WrongAmount limits t line
+Says limits t RingSize line = SaysRingSize limits t line
+Says limits t TooMuch line = SaysTooMuch limits t line
 Says limits t NotZero line = FirstFaulty limits t NotZero line
 Says limits t NotSymmetric line = FirstFaulty limits t NotSymmetric line
-Says limits t TooMany line = ManyRows limits t line
+Says limits t TooMany line = SaysTooMany limits t line
 -- the others judge no matrix
 Says limits t _ line = ⊥
 

@@ -16,10 +16,9 @@ pub(crate) fn count_rows(square: &Square) -> usize
     let mut count: usize = 0;
     for first in 1..nodes + 1 {
         for second in first + 1..nodes + 1 {
-            if square.get(first, second) == 0 {
-                continue;
+            if 0 < square.get(first, second) {
+                count += 1;
             }
-            count += 1;
         }
     }
     count
@@ -35,14 +34,13 @@ pub(crate) fn fill(square: &Square, rows: &mut Columns)
     for first in 1..nodes + 1 {
         for second in first + 1..nodes + 1 {
             let amount = square.get(first, second);
-            if amount == 0 {
-                continue;
+            if 0 < amount {
+                rows.push_unsent(Demand {
+                    first,
+                    second,
+                    amount,
+                });
             }
-            rows.push_unsent(Demand {
-                first,
-                second,
-                amount,
-            });
         }
     }
 }

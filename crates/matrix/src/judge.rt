@@ -1,7 +1,7 @@
 //! What is found against the entries, in reading order, and then against all rows that they make.
 ghost use Rattle.std.specs.Prelude.{◌≡◌, length};
 ghost use Rattle.ring.specs.Limits.{desk};
-ghost use Rattle.matrix.specs.Read.{entry_fault, judge_down, judge_count};
+ghost use Rattle.matrix.specs.Read.{check_entry, judge_down, judge_count};
 
 use crate::fill::count_rows;
 use crate::square::Square;
@@ -9,16 +9,16 @@ use ring::ROWS;
 use table::{Reason, Refusal};
 
 /// What is found against the entry x at i, j, whose mirror entry is y.
-#[tactic(auto, unfolding(crate::specs::Read::entry_fault))]
-fn entry_fault(i: u32, j: u32, x: u32, y: u32) -> Option<Reason>
-    ensures { result ≡ entry_fault i j x y }
+#[tactic(auto, unfolding(crate::specs::Read::check_entry))]
+fn check_entry(i: u32, j: u32, x: u32, y: u32) -> Result<(), Reason>
+    ensures { result ≡ check_entry i j x y }
 {
     if i == j {
-        if x == 0 { None } else { Some(Reason::NotZero) }
+        if x == 0 { Ok(()) } else { Err(Reason::NotZero) }
     } else if x == y {
-        None
+        Ok(())
     } else {
-        Some(Reason::NotSymmetric)
+        Err(Reason::NotSymmetric)
     }
 }
 
@@ -29,13 +29,11 @@ pub(crate) fn judge_square(square: &Square) -> Result<(), Refusal>
     let nodes = square.nodes();
     for i in 1..nodes + 1 {
         for j in 1..nodes + 1 {
-            if let Some(reason) = entry_fault(i, j, square.get(i, j), square.get(j, i)) {
-                return Err(Refusal {
-                    reason,
-                    line: i,
-                    byte: square.byte_of(i, j),
-                });
-            }
+            check_entry(i, j, square.get(i, j), square.get(j, i)).map_err(|reason| Refusal {
+                reason,
+                line: i,
+                byte: square.byte_of(i, j),
+            })?;
         }
     }
     Ok(())

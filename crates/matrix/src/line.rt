@@ -20,16 +20,16 @@ pub(crate) fn tabs(line: &Line) -> usize
 }
 
 /// Reads a line of so many numbers, of which the first are kept, as far as there is room for them; or answers the place of its first faulty byte. They take the place of
-/// those that were there, which hold whatever where the line is refused.
-fn numbers_in(text: &[u8], count: usize, read: &mut Numbers) -> Result<(), usize>
-    ensures { read_as result read.new.items
+/// those that were there; of a line that is refused some may stay.
+fn numbers_in(text: &[u8], count: usize, values: &mut Numbers) -> Result<(), usize>
+    ensures { read_as result values.new.items
         ≡ first_numbers (read_line desk.digits (numbers count) text.now) }
 {
-    read.clear();
+    values.clear();
     let mut at: usize = 0;
     for left in (0..count).rev() {
         let (value, next) = read_field(text, at, Field::Number, end_of(left))?;
-        let _full = read.try_push(value);
+        let _full = values.try_push(value);
         at = next;
     }
     if at == text.len() { Ok(()) } else { Err(at) }
@@ -41,12 +41,12 @@ pub(crate) fn numbers_on(
     line: &Line,
     number: u32,
     count: usize,
-    read: &mut Numbers,
+    values: &mut Numbers,
 ) -> Result<(), Refusal>
-    ensures { read_as result read.new.items
+    ensures { read_as result values.new.items
         ≡ values_on number (first_numbers (read_line desk.digits (numbers count) line.now)) }
 {
-    numbers_in(line.bytes(), count, read).map_err(|place| Refusal::misshapen(number, place))
+    numbers_in(line.bytes(), count, values).map_err(|place| Refusal::misshapen(number, place))
 }
 
 /// The numbers of a line of a matrix of so many nodes, none over the limit; or the refusal of the line.
@@ -54,18 +54,18 @@ pub(crate) fn amounts_on(
     line: &Line,
     number: u32,
     count: usize,
-    read: &mut Numbers,
+    values: &mut Numbers,
 ) -> Result<(), Refusal>
     requires { count ≤ desk.nodes }
-    ensures { read_as result read.new.items
+    ensures { read_as result values.new.items
         ≡ amounts_in desk number (read_line desk.digits (numbers count) line.now) }
 {
-    numbers_on(line, number, count, read)?;
-    match first_over(read) {
+    numbers_on(line, number, count, values)?;
+    match first_over(values) {
         Some(k) => Err(Refusal {
             reason: Reason::TooMuch,
             line: number,
-            byte: byte_of(read, k),
+            byte: byte_of(values, k),
         }),
         None => Ok(()),
     }

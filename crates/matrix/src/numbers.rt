@@ -21,19 +21,17 @@ pub(crate) fn first_over(numbers: &[u32]) -> Option<usize>
 }
 
 /// The byte where the number behind k others starts in the line, counted from 1. It is asked only of a line that is refused.
-pub(crate) fn byte_of(numbers: &[u32], k: usize) -> u32
-    requires few { length numbers.now ≤ desk.nodes }
-    requires there { k ≤ length numbers.now }
-    ensures { result ≡ entry_byte numbers.now k }
+pub(crate) fn byte_of(numbers: &Numbers, k: usize) -> u32
+    requires { k ≤ length numbers.now.items }
+    ensures { result ≡ entry_byte numbers.now.items k }
 {
     field_byte(&[Field::Number; LINKS][..numbers.len()], numbers, k)
 }
 
 /// Writes the line of the numbers from a place on, or only measures it, and answers the place behind the line.
-pub(crate) fn write_numbers<P: Pass>(buffer: &mut [u8], at: usize, numbers: &[u32]) -> usize
-    requires few { length numbers.now ≤ desk.nodes }
-    requires room { at + length (numbers_line numbers.now) ≤ P.room buffer.old }
-    ensures { Passed P.after buffer.old at (numbers_line numbers.now) buffer.new result }
+pub(crate) fn write_numbers<P: Pass>(buffer: &mut [u8], at: usize, numbers: &Numbers) -> usize
+    requires { at + length (numbers_line numbers.now.items) ≤ P.room buffer.old }
+    ensures { Passed P.after buffer.old at (numbers_line numbers.now.items) buffer.new result }
 {
     write_line::<P>(
         buffer,

@@ -13,7 +13,7 @@ use crate::numbers::Numbers;
 use crate::square::Square;
 use ring::wide;
 use rows::Columns;
-use table::{Lines, Refusal, judge_size};
+use table::{Lines, Refusal, check_size};
 
 /// How many nodes the ring of a matrix has: as many as the first line has fields. The size is judged once the line is known to be all numbers, so that it may
 /// have any number of them.
@@ -29,7 +29,7 @@ fn nodes_of(text: &[u8]) -> Result<u32, Refusal>
     let count = tabs(&first) + 1;
     numbers_on(&first, 1, count, &mut Numbers::new())?;
     let nodes = count as u32;
-    judge_size(nodes).map_err(|reason| Refusal {
+    check_size(nodes).map_err(|reason| Refusal {
         reason,
         line: 1,
         byte: 1,
@@ -43,17 +43,19 @@ fn read_lines(lines: &mut Lines, square: &mut Square) -> Result<(), Refusal>
         read_to result square.new ≡ lines_of desk n 1 n [] lines.old }
 {
     let nodes = square.nodes();
-    let mut read = Numbers::new();
+    let mut values = Numbers::new();
     for number in 1..nodes + 1 {
         let line = lines.due(number)?;
-        amounts_on(&line, number, wide(nodes), &mut read)?;
-        square.put(number, &read);
+        amounts_on(&line, number, wide(nodes), &mut values)?;
+        square.put(number, &values);
     }
     lines.end(nodes + 1)
 }
 
 /// Reads a matrix into columns: a row for each pair of nodes whose entry is above 0, in table order; how it is sent is not said. It answers how many nodes the ring has; of
-/// its fibres a matrix says nothing. A text is refused by the first reason that holds, with its line and byte; then the columns hold no row.
+/// its fibres a matrix says nothing. A text is refused by the first reason that holds, with its line and byte; then the columns hold no row. Not made one with its caller, whose
+/// stack would hold the square before the columns are made and after they are filled.
+#[inline(never)]
 pub fn read_matrix(text: &[u8], rows: &mut Columns) -> Result<u32, Refusal>
     ensures accepted { IfOk result (λ n. IsMatrix text.now n (demands (sents rows.new))) }
     ensures refused { IfErr result (IsGiven text.now) }

@@ -9,23 +9,21 @@ use crate::numbers::{Numbers, byte_of};
 use ring::{LINKS, wide};
 use std::marker::Model;
 
-/// The numbers of entries, at most as many as a line has.
-fn numbers_of(entries: &[u16]) -> Numbers
-    requires { length entries.now ≤ desk.nodes }
-    ensures { result.items ≡ entries.now }
+/// Puts the numbers of entries, at most as many as a line has, into a list that holds none. It is lent, so that it is filled where it stays.
+fn put_numbers(entries: &[u16], numbers: &mut Numbers)
+    requires few { length entries.now ≤ desk.nodes }
+    requires none { numbers.old.items ≡ [] }
+    ensures { numbers.new.items ≡ entries.now }
 {
-    let mut numbers = Numbers::new();
     for entry in entries {
         numbers.push(u32::from(*entry));
     }
-    numbers
 }
 
 /// The numbers as entries of a square, and others behind them.
-fn entries_of(numbers: &[u32]) -> [u16; LINKS]
-    requires few { length numbers.now ≤ desk.nodes }
-    requires amounts { Each (λ v. v ≤ desk.amount) numbers.now }
-    ensures { take (length numbers.now) result ≡ numbers.now }
+fn entries_of(numbers: &Numbers) -> [u16; LINKS]
+    requires { Each (λ v. v ≤ desk.amount) numbers.now.items }
+    ensures { take (length numbers.now.items) result ≡ numbers.now.items }
 {
     let mut entries = [0; LINKS];
     for (k, number) in numbers.iter().enumerate() {
@@ -80,6 +78,7 @@ impl Square {
         requires place { Node (length self.now) j }
         ensures { result ≡ entry self.now i j }
     {
+        // opens the value, so that its invariant is known: how many entries there are
         let _ = &self.nodes;
         u32::from(self.entries[wide(i) - 1][wide(j) - 1])
     }
@@ -91,18 +90,22 @@ impl Square {
         requires place { Node (length self.now) j }
         ensures { result ≡ byte_of self.now i j }
     {
+        // opens the value, so that its invariant is known: how many entries there are
         let _ = &self.nodes;
         let before = wide(j) - 1;
-        byte_of(&numbers_of(&self.entries[wide(i) - 1][..before]), before)
+        let mut numbers = Numbers::new();
+        put_numbers(&self.entries[wide(i) - 1][..before], &mut numbers);
+        byte_of(&numbers, before)
     }
 
     /// Other numbers for line i, as many as there are nodes.
-    pub(crate) fn put(&mut self, i: u32, numbers: &[u32])
+    pub(crate) fn put(&mut self, i: u32, numbers: &Numbers)
         requires line { Node (length self.old) i }
-        requires width { length numbers.now ≡ length self.old }
-        requires amounts { Each (λ v. v ≤ desk.amount) numbers.now }
-        ensures { self.new ≡ set self.old (i - 1) numbers.now }
+        requires width { length numbers.now.items ≡ length self.old }
+        requires amounts { Each (λ v. v ≤ desk.amount) numbers.now.items }
+        ensures { self.new ≡ set self.old (i - 1) numbers.now.items }
     {
+        // opens the value, so that its invariant is known: how many entries there are
         let _ = &self.nodes;
         self.entries[wide(i) - 1] = entries_of(numbers);
     }

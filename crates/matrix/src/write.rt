@@ -23,7 +23,7 @@ fn sums_of<R: Rows>(i: u32, ring: Ring, rows: &R) -> Numbers
 {
     let mut sums = Numbers::new();
     for j in 1..ring.nodes + 1 {
-        sums.push(sum_of(rows, rows.count(), i, j) as u32);
+        sums.push(sum_of(rows, rows.count(), i, j));
     }
     sums
 }

@@ -7,7 +7,7 @@ use Rattle.table.specs.declared.finding.Finding.{Finding}
 use Rattle.table.proofs.Findings.{one-answer}
 use Rattle.judge.specs.Findings.{findings}
 use Rattle.judge.proofs.Accepted.{fine-accepted, true-fine}
-use Rattle.ringkit.specs.Judging.{Judged, valid, JudgeSays, says_valid, says_fault, JudgePromise}
+use Rattle.ringkit.specs.Judging.{Judged, valid, says_valid, says_fault, JudgePromise}
 
 valid-no-fault : {f : Finding} → valid ≡ Err f → ⊥
 valid-no-fault e = absurd (cc)
@@ -26,11 +26,3 @@ module _ (x : Sheet) where
         accepts = (λ e. absurd (valid-no-fault (sym e)), λ p. absurd (valid-no-fault (one (true-fine x p.0 p.1) h)));
         refuses = λ reason place. (λ e. rw e at h, λ g. one h g);
       }
-
-  -- no other answer keeps it
-  pub judge-only : (r : Judged) → First (findings desk x) r → (other : Judged) → JudgePromise x other → other ≡ r
-  judge-only r h other p = go (judge-promise r h).cases
-    where
-      go : {r : Judged} → JudgeSays x r → other ≡ r
-      go (says_valid fits true_sheet) = p.accepts.1 (fits, true_sheet)
-      go (says_fault reason place g) = (p.refuses reason place).1 g

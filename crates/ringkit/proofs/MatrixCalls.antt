@@ -12,6 +12,7 @@ use Rattle.ring.specs.LineSize.{IsFibres}
 use Rattle.ring.specs.Ring.{ring_of}
 use Rattle.ring.specs.declared.types.Ring.{Ring}
 use Rattle.ring.specs.declared.types.Demand.{Demand}
+use Rattle.table.specs.Judge.{check_fibres}
 use Rattle.table.specs.OnLine.{and_then}
 use Rattle.table.specs.Reasons.{number_of}
 use Rattle.table.specs.Table.{write_table, table_room}
@@ -35,7 +36,7 @@ use Rattle.matrix.proofs.SumsGiven.{SumsJudged, sums_pass, sums_fit, sums-judged
 use Rattle.matrix.proofs.OneEach.{one-each-fit}
 use Rattle.ringkit.specs.Outcome.{Fills}
 use Rattle.ringkit.specs.TableCalls.{of_table}
-use Rattle.ringkit.specs.MatrixCalls.{table_of_matrix, matrix_read, matrix_of_table, matrix_written}
+use Rattle.ringkit.specs.MatrixCalls.{table_of_matrix, on_call, matrix_read, matrix_of_table, matrix_written}
 use Rattle.ringkit.specs.Says.{Answer, CallPromise, Only}
 use Rattle.ringkit.specs.Back.{MatrixToTableToMatrix, TableToMatrixToTable}
 use Rattle.ringkit.specs.Texts.{TableOf, MatrixOf, SomeMatrix, MatrixDue, MatrixGiven, of_fibres, of_matrix, SumsDue, SumsFit, SumsGiven, of_the_table, of_sums}
@@ -68,7 +69,7 @@ module _ (fibres : ℕ) (t : List ℕ) where
   decided f (Err r) e = is_given (of_matrix f ((given desk t r).0 e))
 
   all-decided : Decided (MatrixDue fibres t) (MatrixGiven fibres t) (matrix_read fibres t)
-  unfolding matrix_read
+  unfolding matrix_read check_fibres on_call and_then
   all-decided = go (fibred fibres)
     where
       go : Fibred fibres → Decided (MatrixDue fibres t) (MatrixGiven fibres t) (matrix_read fibres t)

@@ -1,6 +1,5 @@
 -- Reading a matrix and writing its table, and writing a table's matrix: what reading said is what the writer asks for, and gives the outcome each way out of the call.
 use Prim.Native.Nat.{ℕ, ◌≤◌}
-use mathlib.Core.Bool.{Bool, true, false}
 use mathlib.Core.List.{List}
 use mathlib.Core.Path.{◌≡◌, ◌∙◌, sym}
 use native.Mathlib.Omega.{arith}
@@ -14,39 +13,44 @@ use Rattle.ring.specs.declared.types.Routed.{Routed}
 use Rattle.ring.specs.Sheet.{sents, demands}
 use Rattle.ring.proofs.Small.{demands-length}
 use Rattle.table.specs.OnLine.{and_then}
-use Rattle.table.specs.Judge.{other_fibres}
+use Rattle.table.specs.Judge.{check_fibres}
+use Rattle.table.specs.Verdict.{Verdict}
 use Rattle.table.specs.Table.{write_table}
-use Rattle.table.specs.declared.reason.Reason.TheVariants.{Fibres}
 use Rattle.table.specs.declared.reason.Refusal.{Refusal}
 use Rattle.matrix.specs.Matrix.{write_matrix}
 use Rattle.matrix.specs.Demands.{matrix_of_rows}
-use Rattle.matrix.specs.Read.{Found}
+use Rattle.matrix.specs.Read.{Found, matrix_of}
 use Rattle.matrix.specs.Judged.{judge_sums}
 use Rattle.matrix.specs.Answer.{IsMatrix, IsGiven}
 use Rattle.matrix.proofs.MatrixText.{desk-possible, matrix-text}
 use Rattle.matrix.proofs.ReasonsGiven.{given}
-use Rattle.ringkit.specs.Says.{Answer, refusal}
+use Rattle.ringkit.specs.Says.{Answer}
 use Rattle.ringkit.specs.Outcome.{Fills}
-use Rattle.ringkit.specs.MatrixCalls.{table_of_matrix, matrix_read, matrix_of_table}
+use Rattle.ringkit.specs.MatrixCalls.{table_of_matrix, on_call, matrix_read, matrix_of_table}
 use Rattle.ringkit.proofs.FillSteps.{refuses, same-fills}
 
 -- ---- reading a matrix, on a ring of so many fibres
 
-module _ (s old : List ℕ) (fibres : ℕ) (other : Bool) (eo : other ≡ other_fibres fibres) where
-  pub fibres-refused : (x : Refusal) → other ≡ true → x ≡ refusal Fibres 0 0 → Fills (matrix_read fibres s) old old (Err x)
+module _ (s old : List ℕ) (fibres : ℕ) (v : Verdict) (ev : v ≡ check_fibres fibres) (found : Found) (ef : found ≡ on_call v) where
+  read-is : matrix_read fibres s ≡ and_then found (λ u. table_of_matrix fibres (matrix_of desk s))
   unfolding matrix_read
-  fibres-refused x o e = refuses (matrix_read fibres s) old x (let f : other_fibres fibres ≡ true = sym eo ∙ o in rw (f, e))
+  read-is = rw (ef, ev)
 
-  module _ (o : other ≡ false) where
-    known : other_fibres fibres ≡ false
-    known = sym eo ∙ o
+  pub fibres-refused : (x : Refusal) → found ≡ Err x → Fills (matrix_read fibres s) old old (Err x)
+  unfolding and_then
+  fibres-refused x e = refuses (matrix_read fibres s) old x (read-is ∙ rw e)
+
+  module _ (fine : found ≡ Ok tt) where
+    known : matrix_read fibres s ≡ table_of_matrix fibres (matrix_of desk s)
+    unfolding and_then
+    known = read-is ∙ rw fine
 
     pub matrix_refused : (x : Refusal) → IsGiven s x → Fills (matrix_read fibres s) old old (Err x)
-    unfolding matrix_read table_of_matrix
+    unfolding table_of_matrix
     matrix_refused x g = refuses (matrix_read fibres s) old x (rw (known, (given desk s x).1 g))
 
     pub matrix-fills : (n : ℕ) (rs : List Demand) → IsMatrix s n rs → (new : List ℕ) (r : Answer) → Fills (Ok (write_table (ring_of n fibres) rs)) old new r → Fills (matrix_read fibres s) old new r
-    unfolding matrix_read table_of_matrix
+    unfolding table_of_matrix
     matrix-fills n rs is new r = same-fills old new r (let rows = is.rows in rw (known, (matrix-text desk desk-possible s n is.m).1 (is.text, is.range), rows))
 
 -- as many rows as pairs have entries above 0, for which there is room

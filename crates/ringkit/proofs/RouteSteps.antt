@@ -14,7 +14,6 @@ use Rattle.ring.proofs.Small.{demands-length}
 use Rattle.ring.proofs.OurPlan.{plan-demands}
 use Rattle.table.specs.Table.{InRange}
 use Rattle.std.specs.Prelude.{Ok}
-use Rattle.weight.specs.Weighed.{weight_in}
 use Rattle.weight.proofs.Weighing.{links_true}
 use Rattle.router.specs.Arrays.{DemandsFit}
 use Rattle.router.specs.Planned.{plan_in, plan_of}
@@ -41,27 +40,23 @@ module _ (ring : Ring) (old : List Routed) (range : InRange desk ring (demands (
     rows-few = omega (arith, ap length is, demands-length whole.rows, ap length (plan-demands ring rows range.few range.rows), range.count)
 
     module _ (p : Plan) (e : p ≡ plan_in (plan_of ring old)) where
-      weight-is : p.weight ≡ weight_in ring.nodes whole.rows
+      links-are : take ring.nodes p.links ≡ whole.links
       unfolding plan_in plan sheet_of
-      weight-is = ap (λ (p : Plan). p.weight) e
+      links-are = rw e (links_true ring.nodes whole.rows)
 
-      links-are : take ring.nodes p.weight.links ≡ whole.links
-      unfolding plan sheet_of
-      links-are = links_true ring.nodes whole.rows p.weight weight-is
-
-      -- the links of a weight that a ring has
+      -- the links of a plan that a ring has
       module _ (n : ℕ) (nodes : n ≡ ring.nodes) where
-        pub links-few : length (take n p.weight.links) ≤ desk.nodes
-        links-few = omega (arith, length-take n p.weight.links, range.many)
+        pub links-few : length (take n p.links) ≤ desk.nodes
+        links-few = omega (arith, length-take n p.links, range.many)
 
-        same-links : take n p.weight.links ≡ whole.links
+        same-links : take n p.links ≡ whole.links
         same-links = rw nodes links-are
 
-        is-plan : sheet_in (record { ring = ring; cut = p.cut; peak = p.weight.peak; size = p.size }) new (take n p.weight.links) ≡ whole
-        unfolding plan_in weight_in plan sheet_of
-        is-plan = λ x. record { ring = ring; rows = is x; cut = (e x).cut; links = same-links x; peak = (e x).weight.peak; size = (e x).size }
+        is-plan : sheet_in p.figures new (take n p.links) ≡ whole
+        unfolding plan_in plan sheet_of
+        is-plan = λ x. sheet_in (e x).figures (is x) (same-links x)
 
         pub plan-fills : (from to : List ℕ) (r : Answer) →
-            Fills (Ok (write_sheet (sheet_in (record { ring = ring; cut = p.cut; peak = p.weight.peak; size = p.size }) new (take n p.weight.links)))) from to r →
+            Fills (Ok (write_sheet (sheet_in p.figures new (take n p.links)))) from to r →
             Fills (Ok (write_sheet (plan ring (demands (sents old))))) from to r
         plan-fills from to r = same-fills from to r (ap (λ x. Ok (write_sheet x)) (sym is-plan))

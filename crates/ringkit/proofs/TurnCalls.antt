@@ -1,6 +1,6 @@
 -- Turning a table's rows: the ways are put into the lent bytes one by one; and what the call answers by what its text is read to keeps its promise.
 use Rattle.std.proofs.Common.{suc, ◌≡◌, ℕ, ◌+◌, ◌≤◌, List, [], ◌∷◌, ◌++◌, take, drop, length, set, Some, slice_get, refl, sym, ap, subst, ◌∙◌, arith, Ok, Err, Result}
-use Rattle.std.proofs.lemmas.List.{take_all, take_more, take-append-drop, map-append, length-map}
+use Rattle.std.proofs.lemmas.List.{take_more, map-append, length-map}
 use Rattle.std.proofs.lemmas.Option.{get_or_from_slice_get, slice_get_within, slice_get-get_or}
 use lib.Seq.{take-append_seam}
 use Rattle.ring.specs.Limits.{desk}
@@ -18,14 +18,14 @@ use Rattle.table.specs.declared.reason.Reason.{Reason}
 use Rattle.table.specs.declared.reason.Refusal.{Refusal}
 use Rattle.table.proofs.Told.{read-table, read-refusal}
 use Rattle.table.proofs.ReasonsGiven.{one-given, given, accepted-is}
-use Rattle.rows.proofs.Places.{first-left, behind-first, none-left}
-use Rattle.router.proofs.Zip.{Passed, passed-none, put-passed, put-taken}
+use Rattle.rows.proofs.Places.{first-left, behind-first}
+use Rattle.router.proofs.Zip.{Passed, put-passed, put-taken}
 use Rattle.turns.specs.declared.Turned.{Turned}
 use Rattle.turns.specs.Turns.{least_start}
 use Rattle.turns.proofs.StartSteps.{promised}
 use Rattle.ringkit.specs.Says.{Only}
 use Rattle.ringkit.specs.Texts.{TableOf}
-use Rattle.ringkit.specs.Turning.{TurnAnswer, turned, ways_of, TurnedTo, NotTurned, TurnSays, are_turned, are_not, TurnPromise, TurnedWell}
+use Rattle.ringkit.specs.Turning.{TurnAnswer, turned_table, ways_of, TurnedTo, NotTurned, TurnSays, are_turned, are_not, TurnPromise, TurnedWell}
 use Rattle.ringkit.specs.TurnCalls.{TurnsTable}
 use Rattle.ringkit.proofs.Calls.{same-err}
 use Rattle.ringkit.proofs.TableCalls.{read_is, same-values}
@@ -38,9 +38,6 @@ pub record Putting (rs : List Routed) (old now : List ℕ) (k : ℕ) : Type 0 wh
   pub so_far : take k now ≡ ways_of (take k rs)
 
 module _ (rs : List Routed) (old : List ℕ) where
-  pub put_start : Putting rs old old 0
-  put_start = record { passed = passed-none old; so_far = refl }
-
   pub put_turn : (now : List ℕ) (k : ℕ) (r : Routed) (z : ℕ) → length rs ≤ desk.rows → length old ≡ desk.rows → slice_get rs k ≡ Some r → z ≡ way_number r.way → Putting rs old now k → Putting rs old (set now k z) (k + 1)
   put_turn now k r z few size at e o =
       let l = slice_get_within rs k r at in
@@ -52,17 +49,11 @@ module _ (rs : List Routed) (old : List ℕ) where
             (put-taken old now k _ here o.passed z ∙ (rw (o.so_far, e) (sym (map-append (λ (r : Routed). way_number r.way) (take k rs) (r ∷ [])))));
       }
 
-  put_done : (now : List ℕ) (k : ℕ) → length rs ≤ k → Putting rs old now k → now ≡ ways_of rs ++ drop k old
-  put_done now k h o = let all = take_all k rs h in sym (take-append-drop k now) ∙ (rw (o.so_far, all, o.passed.rest))
-
 -- the rows `left` are to come
 pub record Passing (rs : List Routed) (old now : List ℕ) (left : List Routed) (k : ℕ) : Type 0 where
   pub behind : left ≡ drop k rs
   pub within : k ≤ length rs
   pub putting : Putting rs old now k
-
-pub put_begun : (rs : List Routed) (old : List ℕ) (left : List Routed) (k : ℕ) → left ≡ rs → k ≡ 0 → Passing rs old old left k
-put_begun rs old left k e z = rw (e, z) (record { behind = refl; within = omega arith; putting = put_start rs old })
 
 module _ (rs : List Routed) (old now : List ℕ) (left : List Routed) (k : ℕ) where
   pub put_turned : length rs ≤ desk.rows → length old ≡ desk.rows → Passing rs old now left k → (r : Routed) (rest : List Routed) → left ≡ r ∷ rest → (place z next : ℕ) → place ≡ k → z ≡ way_number r.way → next ≡ k + 1 →
@@ -74,11 +65,6 @@ module _ (rs : List Routed) (old now : List ℕ) (left : List Routed) (k : ℕ) 
         within = omega (arith, slice_get_within rs k r (first-left rs k r rest (sym o.behind ∙ e)));
         putting = put_turn rs old now k r z few size (first-left rs k r rest (sym o.behind ∙ e)) w o.putting;
       }
-
-  pub put_all : Passing rs old now left k → left ≡ [] → now ≡ ways_of rs ++ drop (length rs) old
-  put_all o e =
-      let all : k ≡ length rs = omega (arith, o.within, none-left rs k (sym o.behind ∙ e)) in
-      put_done rs old now (length rs) (omega arith) (rw all at o.putting)
 
 -- ---- the answer
 
@@ -96,10 +82,10 @@ module _ (t : List ℕ) where
     turn_refused old x a = turns-read (refused x.reason x.line x.byte) old old (Err x) (read-refusal t rs answer e x a) (record { answer = refl; ways = refl })
 
     pub turn_fills : (ring : Ring) → answer ≡ Ok ring → (rows : List Routed) (x : Turned) (count : ℕ) (old new : List ℕ) → demands (sents rows) ≡ rs → rows ≡ (least_start ring.nodes rs).rows → x ≡ (least_start ring.nodes rs).figures →
-        count ≡ length rows → new ≡ ways_of rows ++ drop (length rows) old → TurnsTable (table_of desk t) old new (turned x count)
+        count ≡ length rows → new ≡ ways_of rows ++ drop (length rows) old → TurnsTable (table_of desk t) old new (turned_table x count)
     turn_fills ring a rows x count old new same is figures c w =
         let many : length rows ≡ length rs = sym (demands-length rows) ∙ ap length same in
-        turns-read (accepted ring rs) old new (turned x count) (read-table t rs answer e ring a)
+        turns-read (accepted ring rs) old new (turned_table x count) (read-table t rs answer e ring a)
         (record { answer = rw (figures, c, many); ways = w ∙ (rw (many, is)) })
 
   -- ---- the promise

@@ -22,11 +22,11 @@ use Rattle.work.proofs.OneOrder.{one-order}
 use Rattle.work.proofs.ByCalls.{made-keeps, made-writes-out, made-sized, made-bytes}
 use Rattle.work.proofs.Promised.{made-as-played}
 use Rattle.ringkit.specs.Outcome.{Fills}
-use Rattle.ringkit.specs.Says.{Answer, CallPromise, Only}
+use Rattle.ringkit.specs.Says.{Answer, CallPromise}
 use Rattle.ringkit.specs.TableCalls.{work_written}
 use Rattle.ringkit.specs.Texts.{TableOf, TableDue, sheet_due}
 use Rattle.ringkit.specs.WorkCalls.{WorkDue, NoRefusal, RoutedAsNamed}
-use Rattle.ringkit.proofs.Calls.{is_due, One, call-promise, only-by, written-due, written, if-ok}
+use Rattle.ringkit.proofs.Calls.{is_due, One, call-promise, written-due, length-within, written, if-ok}
 use Rattle.ringkit.proofs.TableCalls.{due-accepted}
 
 -- ---- every struct
@@ -54,9 +54,6 @@ pub work-write-promise : (w : Work) → Sized w → IsBytes w.second → {old ne
     → CallPromise (WorkDue w) NoRefusal old new r
 work-write-promise w s b f = filled-promise w s (bytes-of w s b) f
 
-pub work-write-only : {w : Work} {old new : List ℕ} {r : Answer} → CallPromise (WorkDue w) NoRefusal old new r → Only (CallPromise (WorkDue w) NoRefusal old) new r
-work-write-only p = only-by p (λ reason line byte g e. g)
-
 -- ---- one made by calls
 
 module _ {cs : List Call} {w : Work} (m : Made cs w) where
@@ -71,11 +68,18 @@ module _ {cs : List Call} {w : Work} (m : Made cs w) where
     work-accepted : Accepted desk text
     work-accepted = (due-accepted text write_table).1 (record { text = text; is = record { ring = w.ring; rs = d.rs; of = work-table; is = d.is } })
 
+    work-short : length text ≤ table_room desk
+    work-short = let e = same-rows in omega (arith, ap length d.is, ap (λ rs. length (write_table w.ring rs)) e, (made-writes-out m).short)
+
   module _ {old new : List ℕ} {r : Answer} where
     pub writes-accepted : CallPromise (WorkDue w) NoRefusal old new r → IfOk r (λ n. Accepted desk (take n new))
     writes-accepted p = if-ok r (λ n. work-accepted (take n new)) (written-due p)
 
-    -- with `table_room` bytes of room it is always written
+    -- in at most `table_room` bytes
+    pub work-fits : CallPromise (WorkDue w) NoRefusal old new r → IfOk r (λ n. n ≤ table_room desk)
+    work-fits p = length-within p (table_room desk) work-short
+
+    -- with that room it is always written
     pub always-work-written : CallPromise (WorkDue w) NoRefusal old new r → table_room desk ≤ length old → IsOk r
     always-work-written p room =
         written p (work-due w (made-sized m) (made-bytes m)) (omega (arith, (made-writes-out m).short))

@@ -1,14 +1,15 @@
 -- Internal: the outcome of the calls that read or write a matrix: the text's refusals, and of a table 19 (then 15); or the text that is due.
-use Rattle.std.specs.Prelude.{ℕ, cond, List, Ok, Err}
+use Rattle.std.specs.Prelude.{ℕ, List, Result, Ok, Err}
 use Rattle.ring.specs.Limits.{desk}
 use Rattle.ring.specs.Ring.{ring_of}
 use Rattle.ring.specs.declared.types.Ring.{Ring}
 use Rattle.ring.specs.declared.types.Demand.{Demand}
 use Rattle.table.specs.OnLine.{and_then}
-use Rattle.table.specs.Judge.{other_fibres}
+use Rattle.table.specs.Judge.{check_fibres}
+use Rattle.table.specs.Verdict.{Verdict}
 use Rattle.table.specs.Table.{write_table}
 use Rattle.table.specs.ReadTable.{table_of}
-use Rattle.table.specs.declared.reason.Reason.TheVariants.{Fibres}
+use Rattle.table.specs.declared.reason.Refusal.{Refusal}
 use Rattle.matrix.specs.Matrix.{write_matrix}
 use Rattle.matrix.specs.Demands.{rows_of_matrix, matrix_of_rows}
 use Rattle.matrix.specs.Read.{SquareRead, matrix_of}
@@ -22,10 +23,15 @@ unfoldable pub table_of_matrix : ℕ → SquareRead → Outcome
 unfolding and_then
 table_of_matrix fibres m = and_then m λ s. Ok (write_table (ring_of s.0 fibres) (rows_of_matrix s.0 s.1))
 
+-- what is found against the fibres refuses the call as a whole
+unfoldable pub on_call : Verdict → Result Unit Refusal
+on_call (Ok tt) = Ok tt
+on_call (Err reason) = Err (refusal reason 0 0)
+
 -- reading a matrix and writing its table: 20 is tried first of all
 unfoldable pub matrix_read : ℕ → List ℕ → Outcome
-unfolding table_of_matrix
-matrix_read fibres t = cond (other_fibres fibres) (Err (refusal Fibres 0 0)) (table_of_matrix fibres (matrix_of desk t))
+unfolding table_of_matrix check_fibres on_call and_then
+matrix_read fibres t = and_then (on_call (check_fibres fibres)) λ u. table_of_matrix fibres (matrix_of desk t)
 
 -- the matrix of a table's rows; or 19, where a pair's sum passes the limit
 abbrev pub matrix_of_table : Ring → List Demand → Outcome

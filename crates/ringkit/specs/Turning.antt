@@ -20,8 +20,8 @@ use Rattle.ringkit.specs.declared.turning.TurnedTable.{TurnedTable}
 abbrev pub TurnAnswer : Type 0
 TurnAnswer = Result TurnedTable Refusal
 
-abbrev pub turned : Turned → ℕ → TurnAnswer
-turned x count = Ok (record { turned = x; rows = count })
+abbrev pub turned_table : Turned → ℕ → TurnAnswer
+turned_table x count = Ok (record { turned = x; rows = count })
 
 -- the ways of rows as bytes, 0 for F and 1 for B
 abbrev pub ways_of : List Routed → List ℕ
@@ -29,7 +29,7 @@ ways_of rs = map (λ (r : Routed). way_number r.way) rs
 
 -- a table's rows are turned: the figures are those of the best start, its ways stand in the first bytes, and those behind them stay
 pub record TurnedTo (ring : Ring) (rs : List Demand) (old new : List ℕ) (r : TurnAnswer) : Type 0 where
-  pub answer : r ≡ turned (least_start ring.nodes rs).figures (length rs)
+  pub answer : r ≡ turned_table (least_start ring.nodes rs).figures (length rs)
   pub ways : new ≡ ways_of (least_start ring.nodes rs).rows ++ drop (length rs) old
 
 -- a refusal answers a reason, a line and a byte of it, and changes no byte
@@ -57,7 +57,7 @@ pub record TurnedWell (t new : List ℕ) (r : TurnAnswer) : Type 0 where
   pub rs : List Demand
   pub of : TableOf t ring rs
   pub x : Turned
-  pub is : r ≡ turned x (length rs)
+  pub is : r ≡ turned_table x (length rs)
   pub ways : List Routed
   pub bytes : take (length rs) new ≡ ways_of ways
   pub demands : demands (sents ways) ≡ rs

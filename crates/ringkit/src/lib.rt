@@ -1,38 +1,29 @@
 #![tactic(auto)]
 //! The public calls: byte slices, numbers and records in, a `Result` by value out. No call has a `requires`. `ringkit_c` gives them to C.
 mod judging; // the call that judges values
+mod texts; // the calls that read a text
 mod turning; // the call that turns rows
 mod working; // the calls of the working table
 
-ghost use Rattle.std.specs.Prelude.{◌≡◌, ◌≤◌, length, take, Result, Ok, IsOk, IfOk};
+ghost use Rattle.std.specs.Prelude.{◌≡◌, ◌≤◌, length, Result, Ok};
 ghost use Rattle.ring.specs.Limits.{desk};
-ghost use Rattle.ring.specs.LineSize.{IsFibres};
-ghost use Rattle.ring.specs.Sheet.{plan, sheet_in, sents, demands};
+ghost use Rattle.ring.specs.Sheet.{sheet_in, sents, demands};
 ghost use Rattle.table.specs.Table.{InRange, write_table, table_room};
-ghost use Rattle.table.specs.Says.{Accepted as AcceptedTable};
 ghost use Rattle.matrix.specs.Matrix.{write_matrix};
 ghost use Rattle.matrix.specs.Demands.{matrix_of_rows};
 ghost use Rattle.matrix.specs.Room.{matrix_room};
-ghost use Rattle.matrix.specs.Says.{Accepted as AcceptedMatrix};
 ghost use Rattle.sheet.specs.WriteSheet.{write_sheet};
 ghost use Rattle.sheet.specs.Range.{longest};
-ghost use Rattle.sheet.specs.Says.{WellFormed};
-ghost use Rattle.ringkit.specs.Says.{Only};
-ghost use Rattle.ringkit.specs.Texts.{SumsFit};
-ghost use Rattle.ringkit.specs.Promises.{RoutePromise, RewriteTablePromise, RewriteSheetPromise, ReadMatrixPromise, WriteMatrixPromise};
-ghost use Rattle.ringkit.specs.Answers.{yes, Checked, Asked, CheckPromise, PairPromise};
-ghost use Rattle.ringkit.specs.Sheets.{FormedSheet, BestSheet, RoutedWell};
 ghost use Rattle.ringkit.specs.Outcome.{room_for, Fills};
-ghost use Rattle.ringkit.specs.TableCalls.{table_afresh, table_routed};
-ghost use Rattle.ringkit.specs.MatrixCalls.{matrix_read, matrix_written};
-ghost use Rattle.ringkit.specs.SheetCalls.{sheet_checked, sheet_parallel, sheet_afresh};
 
-use arrayvec::ArrayVec;
-use checker::Pair;
 pub use judging::ringkit_judge;
-use ring::{BYTES, Figures, LINKS, Link, ROWS, Ring, wide};
-use rows::{Columns, Rows};
+use ring::{BYTES, Figures, LINKS, Link, ROWS, Ring};
+use rows::Rows;
 use table::{Reason, Refusal};
+pub use texts::{
+    ringkit_check, ringkit_parallel, ringkit_read_matrix, ringkit_rewrite_sheet,
+    ringkit_rewrite_table, ringkit_route, ringkit_write_matrix,
+};
 pub use turning::{TurnedTable, ringkit_turn};
 pub use working::{
     ringkit_work_add, ringkit_work_change, ringkit_work_remove, ringkit_work_row,
@@ -99,178 +90,15 @@ fn put_matrix<R: Rows>(buffer: &mut [u8], ring: Ring, rows: &R) -> Result<usize,
 // Writes a sheet.
 fn put_sheet<R: Rows>(
     buffer: &mut [u8],
-    x: Figures,
+    figures: Figures,
     rows: &R,
     links: &[Link],
 ) -> Result<usize, Refusal>
     requires few_rows { length (R.rows rows.now) ≤ desk.rows }
     requires few_links { length links.now ≤ desk.nodes }
-    ensures { let sheet = sheet_in x (R.rows rows.now) links.now in
+    ensures { let sheet = sheet_in figures (R.rows rows.now) links.now in
         Fills (Ok (write_sheet sheet)) buffer.old buffer.new result }
 {
-    ask_room(buffer, sheet::sheet_length(x, rows, links))?;
-    Ok(sheet::write_sheet(buffer, x, rows, links))
-}
-
-// Routes a table's rows and writes their sheet.
-fn put_route(buffer: &mut [u8], ring: Ring, rows: &mut Columns) -> Result<usize, Refusal>
-    requires { InRange desk ring (demands (sents rows.old)) }
-    ensures { let sheet = plan ring (demands (sents rows.old)) in
-        Fills (Ok (write_sheet sheet)) buffer.old buffer.new result }
-{
-    let plan = router::route(ring, rows);
-    let x = Figures {
-        ring,
-        cut: plan.cut,
-        peak: plan.weight.peak,
-        size: plan.size,
-    };
-    put_sheet(buffer, x, rows, &plan.weight.links[..wide(ring.nodes)])
-}
-
-// Each call of several clauses has its body in a function of its own: then all of them speak of its one result, however it came about.
-
-fn rewrite_table(table: &[u8], buffer: &mut [u8]) -> Result<usize, Refusal>
-    ensures { Fills (table_afresh table.now) buffer.old buffer.new result }
-{
-    let mut rows = Columns::new();
-    let ring = table::read_table(table, &mut rows)?;
-    put_table(buffer, ring, &rows)
-}
-
-/// Reads a table and writes its values afresh, at the start of the buffer: the same bytes as the text, so as many bytes of room suffice. Answers how many they are.
-/// Else the buffer stays as it was, and the refusal is the table's first reason, with its line and byte; or 15, where the buffer is too short.
-pub fn ringkit_rewrite_table(table: &[u8], buffer: &mut [u8]) -> Result<usize, Refusal>
-    ensures promise { RewriteTablePromise table.now buffer.old buffer.new result }
-    ensures only { Only (RewriteTablePromise table.now buffer.old) buffer.new result }
-    ensures value { Fills (table_afresh table.now) buffer.old buffer.new result }
-{
-    rewrite_table(table, buffer)
-}
-
-fn read_matrix(matrix: &[u8], fibres: u32, buffer: &mut [u8]) -> Result<usize, Refusal>
-    ensures { Fills (matrix_read fibres matrix.now) buffer.old buffer.new result }
-{
-    if table::other_fibres(fibres) {
-        return Err(Refusal::whole(Reason::Fibres));
-    }
-    let mut rows = Columns::new();
-    let nodes = matrix::read_matrix(matrix, &mut rows)?;
-    put_table(buffer, Ring { nodes, fibres }, &rows)
-}
-
-/// Reads a matrix and writes its table, on a ring of so many fibres, 2 or 4, which a matrix does not say. Answers the table's length, at most `table_bytes()`. Else the buffer
-/// stays as it was, and the refusal is 20 of the fibres, which is tried before the text is read, with line 0; or the matrix's first reason, with its line and byte; or 15.
-pub fn ringkit_read_matrix(matrix: &[u8], fibres: u32, buffer: &mut [u8]) -> Result<usize, Refusal>
-    ensures promise { ReadMatrixPromise fibres matrix.now buffer.old buffer.new result }
-    ensures only { Only (ReadMatrixPromise fibres matrix.now buffer.old) buffer.new result }
-    ensures accepted { IfOk result (λ length. AcceptedTable desk (take length buffer.new)) }
-    ensures fits { IfOk result (λ length. length ≤ table_room desk) }
-    ensures room { IsFibres fibres → AcceptedMatrix desk matrix.now →
-        table_room desk ≤ length buffer.old →
-        IsOk result }
-    ensures value { Fills (matrix_read fibres matrix.now) buffer.old buffer.new result }
-{
-    read_matrix(matrix, fibres, buffer)
-}
-
-fn write_matrix(table: &[u8], buffer: &mut [u8]) -> Result<usize, Refusal>
-    ensures { Fills (matrix_written table.now) buffer.old buffer.new result }
-{
-    let mut rows = Columns::new();
-    let ring = table::read_table(table, &mut rows)?;
-    matrix::judge_sums(&rows)?;
-    put_matrix(buffer, ring, &rows)
-}
-
-/// Reads a table and writes its matrix, in which rows of the same two nodes add up. Answers the matrix's length, at most `matrix_bytes()`. Else the buffer stays as it was, and
-/// the refusal is the table's first reason, with its line and byte; or 19, with the line of the first row at which a pair's sum passes 9,999 units; or 15.
-pub fn ringkit_write_matrix(table: &[u8], buffer: &mut [u8]) -> Result<usize, Refusal>
-    ensures promise { WriteMatrixPromise table.now buffer.old buffer.new result }
-    ensures only { Only (WriteMatrixPromise table.now buffer.old) buffer.new result }
-    ensures accepted { IfOk result (λ length. AcceptedMatrix desk (take length buffer.new)) }
-    ensures fits { IfOk result (λ length. length ≤ matrix_room desk) }
-    ensures room { SumsFit table.now → matrix_room desk ≤ length buffer.old → IsOk result }
-    ensures value { Fills (matrix_written table.now) buffer.old buffer.new result }
-{
-    write_matrix(table, buffer)
-}
-
-fn route(table: &[u8], buffer: &mut [u8]) -> Result<usize, Refusal>
-    ensures { Fills (table_routed table.now) buffer.old buffer.new result }
-{
-    let mut rows = Columns::new();
-    let ring = table::read_table(table, &mut rows)?;
-    put_route(buffer, ring, &mut rows)
-}
-
-/// Routes a table by rules A to D and writes its sheet. Answers the sheet's length, at most `sheet_bytes()`. Else the buffer stays as it was, and the refusal is the table's first
-/// reason, with its line and byte; or 15.
-pub fn ringkit_route(table: &[u8], buffer: &mut [u8]) -> Result<usize, Refusal>
-    ensures promise { RoutePromise table.now buffer.old buffer.new result }
-    ensures only { Only (RoutePromise table.now buffer.old) buffer.new result }
-    ensures best { AcceptedTable desk table.now →
-        RoutedWell table.now buffer.old buffer.new result }
-    ensures fits { IfOk result (λ length. length ≤ longest desk) }
-    ensures room { AcceptedTable desk table.now → longest desk ≤ length buffer.old → IsOk result }
-    ensures value { Fills (table_routed table.now) buffer.old buffer.new result }
-{
-    route(table, buffer)
-}
-
-fn check(sheet: &[u8]) -> Result<(), Refusal>
-    ensures { result ≡ sheet_checked sheet.now }
-{
-    let mut rows = Columns::new();
-    let mut links = ArrayVec::new();
-    checker::check_sheet(sheet, &mut rows, &mut links)?;
-    Ok(())
-}
-
-/// Checks a sheet, whatever tool it comes from: accepted, or its first reason, with its line and byte.
-pub fn ringkit_check(sheet: &[u8]) -> Result<(), Refusal>
-    ensures promise { CheckPromise sheet.now result }
-    ensures only { (other : Checked) → CheckPromise sheet.now other → other ≡ result }
-    ensures formed { WellFormed desk sheet.now → FormedSheet sheet.now result }
-    ensures best { result ≡ yes → BestSheet sheet.now }
-    ensures value { result ≡ sheet_checked sheet.now }
-{
-    check(sheet)
-}
-
-fn first_parallel(sheet: &[u8]) -> Result<Pair, Refusal>
-    ensures { result ≡ sheet_parallel sheet.now }
-{
-    let mut rows = Columns::new();
-    let mut links = ArrayVec::new();
-    checker::check_sheet(sheet, &mut rows, &mut links)?;
-    Ok(checker::first_pair(&rows))
-}
-
-/// The first pair of split rows of a sheet that are parallel, by their places, counted from 1, or that there is none; or why the sheet is refused, as `ringkit_check` says it.
-pub fn ringkit_parallel(sheet: &[u8]) -> Result<Pair, Refusal>
-    ensures promise { PairPromise sheet.now result }
-    ensures only { (other : Asked) → PairPromise sheet.now other → other ≡ result }
-    ensures value { result ≡ sheet_parallel sheet.now }
-{
-    first_parallel(sheet)
-}
-
-fn rewrite_sheet(sheet: &[u8], buffer: &mut [u8]) -> Result<usize, Refusal>
-    ensures { Fills (sheet_afresh sheet.now) buffer.old buffer.new result }
-{
-    let mut rows = Columns::new();
-    let mut links = ArrayVec::new();
-    let x = checker::check_sheet(sheet, &mut rows, &mut links)?;
-    put_sheet(buffer, x, &rows, links.as_slice())
-}
-
-/// Reads a sheet and writes its values afresh, at the start of the buffer: the same bytes as the text, so as many bytes of room suffice. Answers how many they are. Else the
-/// buffer stays as it was, and the refusal is the sheet's first reason, as `ringkit_check` says it; or 15.
-pub fn ringkit_rewrite_sheet(sheet: &[u8], buffer: &mut [u8]) -> Result<usize, Refusal>
-    ensures promise { RewriteSheetPromise sheet.now buffer.old buffer.new result }
-    ensures only { Only (RewriteSheetPromise sheet.now buffer.old) buffer.new result }
-    ensures value { Fills (sheet_afresh sheet.now) buffer.old buffer.new result }
-{
-    rewrite_sheet(sheet, buffer)
+    ask_room(buffer, sheet::sheet_length(figures, rows, links))?;
+    Ok(sheet::write_sheet(buffer, figures, rows, links))
 }

@@ -5,7 +5,7 @@ ghost use Rattle.table.specs.Table.{table_room};
 ghost use Rattle.table.specs.Says.{Accepted};
 ghost use Rattle.work.specs.Calls.{Call, start, add, change, remove};
 ghost use Rattle.work.specs.Changes.{placed_of, work_after, started_in, added_in, changed_in, removed_in, row_in};
-ghost use Rattle.work.specs.Kept.{Keeps, Answered};
+ghost use Rattle.work.specs.True.{TrueTable, Answered};
 ghost use Rattle.work.specs.Promises.{WorkPromise, OnlyThis, RowPromise, OnlyRow};
 ghost use Rattle.work.specs.Made.{Made};
 ghost use Rattle.work.specs.Played.{AsPlayed, AnswerAfter};
@@ -22,7 +22,7 @@ use work::{Changed, Placed, Work};
 
 // What a change answers, and the struct behind it: one that is refused leaves it as it was.
 #[tactic(auto, unfolding(work::specs::Changes::placed_of, work::specs::Changes::work_after))]
-fn settle(work: &mut Work, change: Result<Changed, Reason>) -> Result<Placed, Reason>
+fn take_over(work: &mut Work, change: Result<Changed, Reason>) -> Result<Placed, Reason>
     ensures value { result ≡ placed_of change }
     ensures table { work.new ≡ work_after work.old change }
 {
@@ -44,17 +44,17 @@ pub fn ringkit_work_start(work: &mut Work, ring: Ring) -> Result<Placed, Reason>
 
     // Where it is accepted.
     ensures made { IfOk result (λ _. Made (start ring ∷ []) work.new) }
-    ensures kept { IfOk result (λ _. Keeps work.new) }
+    ensures kept { IfOk result (λ _. TrueTable work.new) }
     ensures played { IfOk result (λ _. AsPlayed (start ring ∷ []) work.new) }
 
     // On a struct made by calls, accepted or refused.
     ensures made_later { (calls : List Call) → Made calls work.old →
         Made (start ring ∷ calls) work.new }
-    ensures kept_later { (calls : List Call) → Made calls work.old → Keeps work.new }
+    ensures kept_later { (calls : List Call) → Made calls work.old → TrueTable work.new }
     ensures played_later { (calls : List Call) → Made calls work.old →
         AsPlayed (start ring ∷ calls) work.new }
 {
-    settle(work, work::started(ring))
+    take_over(work, work::started(ring))
 }
 
 /// Puts a row at the lowest free place; its amount is in units, at most 9,999. Answers that place, counted from 1 to 1,024, and the largest cut of the rows then held. Refused with the first that
@@ -66,7 +66,7 @@ pub fn ringkit_work_add(work: &mut Work, row: Demand) -> Result<Placed, Reason>
     ensures only { (calls : List Call) → Made calls work.old →
         OnlyThis (WorkPromise work.old (add row)) result work.new }
     ensures made { (calls : List Call) → Made calls work.old → Made (add row ∷ calls) work.new }
-    ensures kept { (calls : List Call) → Made calls work.old → Keeps work.new }
+    ensures kept { (calls : List Call) → Made calls work.old → TrueTable work.new }
     ensures played { (calls : List Call) → Made calls work.old →
         AsPlayed (add row ∷ calls) work.new }
     ensures answered { (calls : List Call) → Made calls work.old →
@@ -77,7 +77,7 @@ pub fn ringkit_work_add(work: &mut Work, row: Demand) -> Result<Placed, Reason>
     ensures value { result ≡ placed_of (added_in work.old row) }
     ensures table { work.new ≡ work_after work.old (added_in work.old row) }
 {
-    settle(work, work::added(*work, row))
+    take_over(work, work::added(*work, row))
 }
 
 /// Puts a row in place of the one at a place, counted from 1; its amount is in units, at most 9,999. Answers the place and the largest cut of the rows then held. Refused with 22 where the place
@@ -90,7 +90,7 @@ pub fn ringkit_work_change(work: &mut Work, place: u32, row: Demand) -> Result<P
         OnlyThis (WorkPromise work.old (change place row)) result work.new }
     ensures made { (calls : List Call) → Made calls work.old →
         Made (change place row ∷ calls) work.new }
-    ensures kept { (calls : List Call) → Made calls work.old → Keeps work.new }
+    ensures kept { (calls : List Call) → Made calls work.old → TrueTable work.new }
     ensures played { (calls : List Call) → Made calls work.old →
         AsPlayed (change place row ∷ calls) work.new }
     ensures answered { (calls : List Call) → Made calls work.old →
@@ -101,7 +101,7 @@ pub fn ringkit_work_change(work: &mut Work, place: u32, row: Demand) -> Result<P
     ensures value { result ≡ placed_of (changed_in work.old place row) }
     ensures table { work.new ≡ work_after work.old (changed_in work.old place row) }
 {
-    settle(work, work::changed(*work, place, row))
+    take_over(work, work::changed(*work, place, row))
 }
 
 /// Takes the row off a place, counted from 1, which is free from then on. Answers the place and the largest cut of the rows then held. Refused with 22 where the place holds no row; no byte of the
@@ -114,7 +114,7 @@ pub fn ringkit_work_remove(work: &mut Work, place: u32) -> Result<Placed, Reason
         OnlyThis (WorkPromise work.old (remove place)) result work.new }
     ensures made { (calls : List Call) → Made calls work.old →
         Made (remove place ∷ calls) work.new }
-    ensures kept { (calls : List Call) → Made calls work.old → Keeps work.new }
+    ensures kept { (calls : List Call) → Made calls work.old → TrueTable work.new }
     ensures played { (calls : List Call) → Made calls work.old →
         AsPlayed (remove place ∷ calls) work.new }
     ensures answered { (calls : List Call) → Made calls work.old →
@@ -125,7 +125,7 @@ pub fn ringkit_work_remove(work: &mut Work, place: u32) -> Result<Placed, Reason
     ensures value { result ≡ placed_of (removed_in work.old place) }
     ensures table { work.new ≡ work_after work.old (removed_in work.old place) }
 {
-    settle(work, work::removed(*work, place))
+    take_over(work, work::removed(*work, place))
 }
 
 /// The row at a place, counted from 1, its amount in units. Refused with 22 where the place holds none, as 0 and all above 1,024 do.
@@ -159,6 +159,8 @@ pub fn ringkit_work_write(work: &Work, buffer: &mut [u8]) -> Result<usize, Refus
     // On a struct made by calls.
     ensures accepted { (calls : List Call) → Made calls work.now →
         IfOk result (λ length. Accepted desk (take length buffer.new)) }
+    ensures fits { (calls : List Call) → Made calls work.now →
+        IfOk result (λ length. length ≤ table_room desk) }
     ensures room { (calls : List Call) → Made calls work.now →
         table_room desk ≤ length buffer.old → IsOk result }
 {

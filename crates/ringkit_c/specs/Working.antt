@@ -7,8 +7,8 @@ use Rattle.work.specs.Calls.{Call, WorkAnswer}
 use Rattle.work.specs.Promises.{WorkPromise}
 use Rattle.work.specs.declared.Work.{Work}
 use Rattle.ringkit_c.specs.Replies.{Told}
-use Rattle.ringkit_c.specs.declared.working.WorkReply.{WorkReply}
-use Rattle.ringkit_c.specs.declared.working.RowReply.{RowReply}
+use Rattle.ringkit_c.specs.declared.replies.WorkReply.{WorkReply}
+use Rattle.ringkit_c.specs.declared.replies.RowReply.{RowReply}
 
 -- of a call that alters a table
 unfoldable pub work_reply : WorkAnswer → WorkReply

@@ -7,12 +7,12 @@ mod texts; // the calls that read a text
 mod working; // the calls of the working table
 
 pub use judging::ringkit_judge;
-pub use replies::{JudgeReply, PairReply, Reply, TurnReply};
+pub use replies::{JudgeReply, PairReply, Reply, RowReply, TurnReply, WorkReply};
 pub use texts::{
     ringkit_check, ringkit_parallel, ringkit_read_matrix, ringkit_rewrite_sheet,
     ringkit_rewrite_table, ringkit_route, ringkit_turn, ringkit_write_matrix,
 };
 pub use working::{
-    RowReply, WorkReply, ringkit_work_add, ringkit_work_change, ringkit_work_remove,
-    ringkit_work_row, ringkit_work_start, ringkit_work_write,
+    ringkit_work_add, ringkit_work_change, ringkit_work_remove, ringkit_work_row,
+    ringkit_work_start, ringkit_work_write,
 };

@@ -2,15 +2,18 @@
 ghost use Rattle.std.specs.Prelude.{◌≡◌, ◌≤◌, ◌+◌, IfErr};
 ghost use Rattle.ring.specs.Limits.{desk};
 ghost use Rattle.ringkit_c.specs.Replies.{reply_of, checked_reply, pair_reply, judge_reply, turn_reply};
+ghost use Rattle.ringkit_c.specs.Working.{work_reply, row_reply};
 
 use checker::Pair;
+use ring::Demand;
 use ringkit::TurnedTable;
-use table::{Finding, Refusal};
+use table::{Finding, Reason, Refusal};
+use work::Placed;
 
 /// The answer of a call that fills a buffer, or that checks a sheet. Reason 0 is success. On a refusal every field but reason, line and byte is 0; line and byte are counted from
 /// 1, and are 0 of a refusal that names no line.
 #[repr(C)]
-#[derive(Drop)]
+#[derive(Default, Drop)]
 pub struct Reply {
     pub reason: u32,
     pub line: u32,
@@ -26,16 +29,14 @@ impl From<Result<usize, Refusal>> for Reply {
     fn from(answer: Result<usize, Refusal>) -> Reply {
         match answer {
             Ok(length) => Reply {
-                reason: 0,
-                line: 0,
-                byte: 0,
                 length,
+                ..Reply::default()
             },
             Err(refusal) => Reply {
                 reason: refusal.reason.number(),
                 line: refusal.line,
                 byte: refusal.byte,
-                length: 0,
+                ..Reply::default()
             },
         }
     }
@@ -53,7 +54,7 @@ impl From<Result<(), Refusal>> for Reply {
 
 /// The answer to the parallel question. Reason 0 is success: two rows by their places, counted from 1; both are 0 where there is no pair, and on a refusal.
 #[repr(C)]
-#[derive(Drop)]
+#[derive(Default, Drop)]
 pub struct PairReply {
     pub reason: u32,
     pub line: u32,
@@ -74,33 +75,24 @@ impl From<Result<Pair, Refusal>> for PairReply {
                     reason: refusal.reason.number(),
                     line: refusal.line,
                     byte: refusal.byte,
-                    first: 0,
-                    second: 0,
+                    ..PairReply::default()
                 };
             }
         };
         let Pair::Are(first, second) = pair else {
-            return PairReply {
-                reason: 0,
-                line: 0,
-                byte: 0,
-                first: 0,
-                second: 0,
-            };
+            return PairReply::default();
         };
         PairReply {
-            reason: 0,
-            line: 0,
-            byte: 0,
             first,
             second,
+            ..PairReply::default()
         }
     }
 }
 
 /// The answer of judging. Reason 0 is success. The place is that of the row that is at fault, or of the link, counted from 1; it is 0 where neither is, and on success.
 #[repr(C)]
-#[derive(Drop)]
+#[derive(Default, Drop)]
 pub struct JudgeReply {
     pub reason: u32,
     pub place: u32,
@@ -115,10 +107,7 @@ impl JudgeReply {
         ensures { result ≡ judge_reply answer }
     {
         match answer {
-            Ok(()) => JudgeReply {
-                reason: 0,
-                place: 0,
-            },
+            Ok(()) => JudgeReply::default(),
             Err(finding) => JudgeReply {
                 reason: finding.reason.number(),
                 place: finding.place as u32,
@@ -127,10 +116,10 @@ impl JudgeReply {
     }
 }
 
-/// The answer of turning a table's rows. Reason 0 is success: the peak in units, the link that the start avoided, how many rows were turned and how many there are; all four are 0 on a
+/// The answer of turning a table's rows. Reason 0 is success: the peak in units, the link that the start avoided, how many turns it took and how many rows there are; all four are 0 on a
 /// refusal.
 #[repr(C)]
-#[derive(Drop)]
+#[derive(Default, Drop)]
 pub struct TurnReply {
     pub reason: u32,
     pub line: u32,
@@ -148,22 +137,84 @@ impl From<Result<TurnedTable, Refusal>> for TurnReply {
     fn from(answer: Result<TurnedTable, Refusal>) -> TurnReply {
         match answer {
             Ok(table) => TurnReply {
-                reason: 0,
-                line: 0,
-                byte: 0,
                 peak: table.turned.peak,
                 link: table.turned.link,
                 turns: table.turned.turns,
                 rows: table.rows,
+                ..TurnReply::default()
             },
             Err(refusal) => TurnReply {
                 reason: refusal.reason.number(),
                 line: refusal.line,
                 byte: refusal.byte,
-                peak: 0,
-                link: 0,
-                turns: 0,
-                rows: 0,
+                ..TurnReply::default()
+            },
+        }
+    }
+}
+
+/// The answer of a call that alters a working table. Reason 0 is success: the place that the call names, counted from 1 (0 of a start), and the largest cut from then on, its across
+/// number in units. On a refusal all but the reason is 0. The line is always 0.
+#[repr(C)]
+#[derive(Default, Drop)]
+pub struct WorkReply {
+    pub reason: u32,
+    pub line: u32,
+    pub place: u32,
+    pub g: u32,
+    pub h: u32,
+    pub across: u32,
+}
+
+/// The reply of a call: what it placed, or why it is refused.
+impl From<Result<Placed, Reason>> for WorkReply {
+    ghost from_gives = { λ answer reply. reply ≡ work_reply answer };
+
+    #[tactic(auto, unfolding(crate::specs::Working::work_reply))]
+    fn from(answer: Result<Placed, Reason>) -> WorkReply {
+        match answer {
+            Ok(placed) => WorkReply {
+                place: placed.place,
+                g: placed.cut.g,
+                h: placed.cut.h,
+                across: placed.cut.across,
+                ..WorkReply::default()
+            },
+            Err(reason) => WorkReply {
+                reason: reason.number(),
+                ..WorkReply::default()
+            },
+        }
+    }
+}
+
+/// The row at a place, its amount in units. Reason 0 is success; else all but the reason is 0. The line is always 0.
+#[repr(C)]
+#[derive(Default, Drop)]
+pub struct RowReply {
+    pub reason: u32,
+    pub line: u32,
+    pub first: u32,
+    pub second: u32,
+    pub amount: u32,
+}
+
+/// The reply of the call that reads a row.
+impl From<Result<Demand, Reason>> for RowReply {
+    ghost from_gives = { λ answer reply. reply ≡ row_reply answer };
+
+    #[tactic(auto, unfolding(crate::specs::Working::row_reply))]
+    fn from(answer: Result<Demand, Reason>) -> RowReply {
+        match answer {
+            Ok(demand) => RowReply {
+                first: demand.first,
+                second: demand.second,
+                amount: demand.amount,
+                ..RowReply::default()
+            },
+            Err(reason) => RowReply {
+                reason: reason.number(),
+                ..RowReply::default()
             },
         }
     }

@@ -7,7 +7,7 @@ ghost use Rattle.table.specs.Table.{table_room};
 ghost use Rattle.table.specs.Says.{Accepted};
 ghost use Rattle.work.specs.Changes.{placed_of, work_after, started_in, added_in, changed_in, removed_in, row_in};
 ghost use Rattle.work.specs.Calls.{Call, start, add, change, remove};
-ghost use Rattle.work.specs.Kept.{Keeps, Answered};
+ghost use Rattle.work.specs.True.{TrueTable, Answered};
 ghost use Rattle.work.specs.Promises.{OnlyThis, RowPromise};
 ghost use Rattle.work.specs.Made.{Made};
 ghost use Rattle.work.specs.Played.{AsPlayed, AnswerAfter};
@@ -18,86 +18,9 @@ ghost use Rattle.ringkit.specs.TableCalls.{work_written};
 ghost use Rattle.ringkit_c.specs.Replies.{Told, Replies};
 ghost use Rattle.ringkit_c.specs.Working.{work_reply, row_reply, ToldWork};
 
-use crate::replies::Reply;
+use crate::replies::{Reply, RowReply, WorkReply};
 use ring::{Demand, Ring};
-use table::Reason;
-use work::{Placed, Work};
-
-/// The answer of a call that alters a working table. Reason 0 is success: the place that the call names, counted from 1 (0 of a start), and the largest cut from then on, its across
-/// number in units. On a refusal all but the reason is 0. The line is always 0.
-#[repr(C)]
-#[derive(Drop)]
-pub struct WorkReply {
-    pub reason: u32,
-    pub line: u32,
-    pub place: u32,
-    pub g: u32,
-    pub h: u32,
-    pub across: u32,
-}
-
-/// The reply of a call: what it placed, or why it is refused.
-impl From<Result<Placed, Reason>> for WorkReply {
-    ghost from_gives = { λ answer reply. reply ≡ work_reply answer };
-
-    #[tactic(auto, unfolding(crate::specs::Working::work_reply))]
-    fn from(answer: Result<Placed, Reason>) -> WorkReply {
-        match answer {
-            Ok(placed) => WorkReply {
-                reason: 0,
-                line: 0,
-                place: placed.place,
-                g: placed.cut.g,
-                h: placed.cut.h,
-                across: placed.cut.across,
-            },
-            Err(reason) => WorkReply {
-                reason: reason.number(),
-                line: 0,
-                place: 0,
-                g: 0,
-                h: 0,
-                across: 0,
-            },
-        }
-    }
-}
-
-/// The row at a place, its amount in units. Reason 0 is success; else all but the reason is 0. The line is always 0.
-#[repr(C)]
-#[derive(Drop)]
-pub struct RowReply {
-    pub reason: u32,
-    pub line: u32,
-    pub first: u32,
-    pub second: u32,
-    pub amount: u32,
-}
-
-/// The reply of the call that reads a row.
-impl From<Result<Demand, Reason>> for RowReply {
-    ghost from_gives = { λ answer reply. reply ≡ row_reply answer };
-
-    #[tactic(auto, unfolding(crate::specs::Working::row_reply))]
-    fn from(answer: Result<Demand, Reason>) -> RowReply {
-        match answer {
-            Ok(row) => RowReply {
-                reason: 0,
-                line: 0,
-                first: row.first,
-                second: row.second,
-                amount: row.amount,
-            },
-            Err(reason) => RowReply {
-                reason: reason.number(),
-                line: 0,
-                first: 0,
-                second: 0,
-                amount: 0,
-            },
-        }
-    }
-}
+use work::Work;
 
 /// Makes the struct a table of this ring that holds no row. The reply has place 0 and the cut of no rows; or 3 or 20, and then no byte of the struct has changed.
 #[unsafe(no_mangle)]
@@ -113,13 +36,13 @@ pub extern "C" fn ringkit_work_start(work: &mut Work, n: u32, fibres: u32) -> Wo
 
     // Where it is accepted.
     ensures made { result.reason ≡ 0 → Made (start (ring_of n fibres) ∷ []) work.new }
-    ensures kept { result.reason ≡ 0 → Keeps work.new }
+    ensures kept { result.reason ≡ 0 → TrueTable work.new }
     ensures played { result.reason ≡ 0 → AsPlayed (start (ring_of n fibres) ∷ []) work.new }
 
     // On a struct made by calls, accepted or refused.
     ensures made_later { (calls : List Call) → Made calls work.old →
         Made (start (ring_of n fibres) ∷ calls) work.new }
-    ensures kept_later { (calls : List Call) → Made calls work.old → Keeps work.new }
+    ensures kept_later { (calls : List Call) → Made calls work.old → TrueTable work.new }
     ensures played_later { (calls : List Call) → Made calls work.old →
         AsPlayed (start (ring_of n fibres) ∷ calls) work.new }
 {
@@ -144,7 +67,7 @@ pub extern "C" fn ringkit_work_add(
     ensures made { let call = add (demand first second amount) in
         (calls : List Call) → Made calls work.old →
         Made (call ∷ calls) work.new }
-    ensures kept { (calls : List Call) → Made calls work.old → Keeps work.new }
+    ensures kept { (calls : List Call) → Made calls work.old → TrueTable work.new }
     ensures played { let call = add (demand first second amount) in
         (calls : List Call) → Made calls work.old →
         AsPlayed (call ∷ calls) work.new }
@@ -187,7 +110,7 @@ pub extern "C" fn ringkit_work_change(
     ensures made { let call = change place (demand first second amount) in
         (calls : List Call) → Made calls work.old →
         Made (call ∷ calls) work.new }
-    ensures kept { (calls : List Call) → Made calls work.old → Keeps work.new }
+    ensures kept { (calls : List Call) → Made calls work.old → TrueTable work.new }
     ensures played { let call = change place (demand first second amount) in
         (calls : List Call) → Made calls work.old →
         AsPlayed (call ∷ calls) work.new }
@@ -221,7 +144,7 @@ pub extern "C" fn ringkit_work_remove(work: &mut Work, place: u32) -> WorkReply
         OnlyThis (ToldWork work.old call) result work.new }
     ensures made { let call = remove place in (calls : List Call) → Made calls work.old →
         Made (call ∷ calls) work.new }
-    ensures kept { (calls : List Call) → Made calls work.old → Keeps work.new }
+    ensures kept { (calls : List Call) → Made calls work.old → TrueTable work.new }
     ensures played { let call = remove place in (calls : List Call) → Made calls work.old →
         AsPlayed (call ∷ calls) work.new }
     ensures answered { let call = remove place in (calls : List Call) → Made calls work.old →
@@ -261,6 +184,7 @@ pub extern "C" fn ringkit_work_write(work: &Work, buffer: &mut [u8]) -> Reply
     // On a struct made by calls.
     ensures accepted { (calls : List Call) → Made calls work.now →
         result.reason ≡ 0 → Accepted desk (take result.length buffer.new) }
+    ensures fits { (calls : List Call) → Made calls work.now → result.length ≤ table_room desk }
     ensures room { (calls : List Call) → Made calls work.now →
         table_room desk ≤ length buffer.old → result.reason ≡ 0 }
 {

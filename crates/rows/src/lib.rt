@@ -17,11 +17,11 @@ pub trait Rows {
     // The rows, in their order.
     ghost rows: { Self → List Routed };
 
-    // How many rows there are.
+    /// How many rows there are.
     fn count(&self) -> usize
         ensures { result ≡ length (rows self.now) };
 
-    // The row at a place from 0 on, copied out.
+    /// The row at a place from 0 on, copied out.
     fn row(&self, k: usize) -> Routed
         requires { k < length (rows self.now) }
         ensures { slice_get (rows self.now) k ≡ Some result };
@@ -29,7 +29,7 @@ pub trait Rows {
 
 /// What can be changed row by row.
 pub trait RowsMut: Rows {
-    // Another row at a place from 0 on, where one stands.
+    /// Another row at a place from 0 on, where one stands.
     fn put(&mut self, k: usize, row: Routed)
         requires { k < length (Self.rows self.old) }
         ensures { Self.rows self.new ≡ slice_set (Self.rows self.old) k row };

@@ -16,12 +16,12 @@ use Rattle.ring.proofs.Side.{cond-elim}
 use Rattle.text.specs.FieldByte.{field_byte}
 use Rattle.text.specs.FirstFault.{FirstFault}
 use Rattle.text.specs.ReadLine.{Reading}
-use Rattle.text.specs.Shapes.{ring_shape, sent_shape}
+use Rattle.text.specs.Shapes.{ring_shape, sheet_row_shape}
 use Rattle.text.specs.declared.field.Field.{Field}
 use Rattle.table.specs.Lines.{lines}
 use Rattle.table.specs.Judge.{ring_verdict}
 use Rattle.table.specs.Fields.{field_of, node_field}
-use Rattle.table.specs.Faults.{found, ring_found, row_found}
+use Rattle.table.specs.Faults.{verdict_found, ring_found, row_found}
 use Rattle.table.specs.Says.{LineIs, RingIs, line_faulty}
 use Rattle.table.specs.declared.reason.Reason.{Reason}
 use Rattle.table.specs.declared.reason.Reason.TheVariants.{Misshapen}
@@ -30,8 +30,8 @@ use Rattle.std.specs.Prelude.{Ok, Err}
 use Rattle.table.proofs.Judged.{RingJudged, size_wrong, wrong_fibres, right_ring, ring-judged}
 use Rattle.table.proofs.Against.{AgainstRing, by_size, by_fibres, ring-least}
 use Rattle.table.proofs.LineNumbers.{line-one}
-use Rattle.sheet.specs.Read.{Turn, on, stop, unless, row_in, cut_in, link_in, ring_turn, cut_turn, row_turn, link_turn, last_turn, turn}
-use Rattle.sheet.specs.Says.{State, start, rows, links, end, SentIs, CutIs, LinkIs, LastIs, At, at_start, behind_ring, behind_row, behind_cut, behind_link, behind_last, Says, ring_due, row_or_cut_due, link_due, last_due, none_due, ByteIs}
+use Rattle.sheet.specs.Read.{Turn, on, stop, unless, routed_in, cut_in, link_in, ring_turn, cut_turn, row_turn, link_turn, last_turn, turn}
+use Rattle.sheet.specs.Says.{State, start, rows, links, end, RoutedIs, CutIs, LinkIs, LastIs, At, at_start, behind_ring, behind_row, behind_cut, behind_link, behind_last, Says, ring_due, row_or_cut_due, link_due, last_due, none_due, ByteIs}
 use Rattle.sheet.proofs.SheetLines.{way-spelled, RingRead, is_ring, no_ring, ring-read, SentRead, is_sent, no_sent, sent-read, CutRead, is_cut, no_cut, cut-read, LinkRead, is_link, no_link, link-read, LastRead, is_last, no_last, last-read}
 use Rattle.sheet.proofs.Places.{sent-spelled}
 use Rattle.sheet.proofs.FirstReason.{HoldsAs, First, first-as}
@@ -47,8 +47,8 @@ pub data Turned (limits : Limits) (t : List ℕ) (line : ℕ) : Turn → Type 0 
 
 module _ (limits : Limits) {t : List ℕ} {line : ℕ} where
   unless-turned : (shape : List Field) (vs : List ℕ) (field : Reason → ℕ) {v : Verdict} {next : State} → First (λ s. Says limits t s line) v
-      → ByteOn limits t line (λ reason. field_byte shape vs (field reason)) v → At limits t (line + 1) next → Turned limits t line (unless shape vs (found v field) next)
-  unfolding unless found
+      → ByteOn limits t line (λ reason. field_byte shape vs (field reason)) v → At limits t (line + 1) next → Turned limits t line (unless shape vs (verdict_found v field) next)
+  unfolding unless verdict_found
   unless-turned shape vs field {v = Ok tt} f b at = goes_on f.least at
   unless-turned shape vs field {v = Err r} f b at = stops f b
 
@@ -89,7 +89,7 @@ module _ (limits : Limits) {t l : List ℕ} where
 
   module _ {line : ℕ} (here : LineIs (lines t) line l) where
     -- C g h across, where the line is no D line
-    cut-turned : {ring : Ring} {rs : List Routed} {x : Reading} {o : ℕ} → At limits t line (rows ring rs) → ((r : Routed) → SentIs limits t line r → ⊥) → FirstFault limits.digits sent_shape l o → CutRead limits l x
+    cut-turned : {ring : Ring} {rs : List Routed} {x : Reading} {o : ℕ} → At limits t line (rows ring rs) → ((r : Routed) → RoutedIs limits t line r → ⊥) → FirstFault limits.digits sheet_row_shape l o → CutRead limits l x
         → Turned limits t line (cut_turn ring rs o x)
     unfolding cut_turn ByteIs
     cut-turned at none fault (is_cut {g} {h} {m} e u v w) =
@@ -103,14 +103,14 @@ module _ (limits : Limits) {t l : List ℕ} where
     row-turned : {ring : Ring} {rs : List Routed} {x y : Reading} → At limits t line (rows ring rs) → SentRead limits l x → CutRead limits l y → Turned limits t line (row_turn limits ring rs x y)
     unfolding row_turn row_found
     row-turned {ring} at (is_sent {i} {j} {d} {f} {b = k} {w} e h) c =
-        let is : SentIs limits t line (row_in (0 ∷ i ∷ j ∷ d ∷ f ∷ k ∷ w ∷ [])) =
+        let is : RoutedIs limits t line (routed_in (0 ∷ i ∷ j ∷ d ∷ f ∷ k ∷ w ∷ [])) =
         record {
           text = subst (LineIs (lines t) line) (e ∙ sym (way-spelled i j d f k w)) here;
           nodes = (h.first, h.second);
           amount = h.amount;
           halves = (h.front, h.back);
         } in
-        unless-turned limits sent_shape (0 ∷ i ∷ j ∷ d ∷ f ∷ k ∷ w ∷ []) (λ reason. field_of reason (node_field ring.nodes i)) (sent-first limits at is) (sent-row-bytes at is w) (behind_row at is)
+        unless-turned limits sheet_row_shape (0 ∷ i ∷ j ∷ d ∷ f ∷ k ∷ w ∷ []) (λ reason. field_of reason (node_field ring.nodes i)) (sent-first limits at is) (sent-row-bytes at is w) (behind_row at is)
     row-turned at (no_sent none fault) c =
         cut-turned at (λ r s. none _ _ _ _ _ _ (line-one here s.text refl) (sent-spelled s)) fault c
 
@@ -136,12 +136,12 @@ module _ (limits : Limits) {t l : List ℕ} where
           (last_due at all (line_faulty here fault))
 
   -- by what is due
-  pub turned : {state : State} {line : ℕ} → At limits t line state → LineIs (lines t) line l → Turned limits t line (turn limits state l)
+  pub state-turned : {state : State} {line : ℕ} → At limits t line state → LineIs (lines t) line l → Turned limits t line (turn limits state l)
   unfolding turn ByteIs
-  turned {state = start} at here = ring-turned at here (ring-read limits l)
-  turned {state = rows ring rs} at here = row-turned here at (sent-read limits l) (cut-read limits l)
-  turned {state = links ring rs c ks} {line} at here =
+  state-turned {state = start} at here = ring-turned at here (ring-read limits l)
+  state-turned {state = rows ring rs} at here = row-turned here at (sent-read limits l) (cut-read limits l)
+  state-turned {state = links ring rs c ks} {line} at here =
       cond-elim (Turned limits t line) _ _ _
       (λ e. link-turned here at (ltb-true (length ks) ring.nodes e) (link-read limits l))
       (λ e. last-turned here at (ltb-false (length ks) ring.nodes e) (last-read limits l))
-  turned {state = end x} at here = stops (unfit-first limits at (l, here)) (none_due at refl)
+  state-turned {state = end x} at here = stops (unfit-first limits at (l, here)) (none_due at refl)

@@ -28,11 +28,10 @@ use Rattle.text.specs.WriteLine.{write_line}
 use Rattle.text.specs.Field.{spell}
 use Rattle.text.specs.WriteLine.{end_of}
 use Rattle.text.specs.ReadLine.{Reading, read_line}
-use Rattle.text.specs.Shapes.{ring_shape, sent_shape, cut_shape, link_shape, last_shape, ring_line, cut_line}
-use Rattle.text.proofs.Apart.{clash}
+use Rattle.text.specs.Shapes.{ring_shape, sheet_row_shape, cut_shape, link_shape, last_shape, ring_line, cut_line}
 use Rattle.text.proofs.LineLaws.{line-wider}
 use Rattle.table.specs.Lines.{lines}
-use Rattle.table.specs.Faults.{found, ring_found, row_found}
+use Rattle.table.specs.Faults.{verdict_found, ring_found, row_found}
 use Rattle.table.specs.ReadTable.{table_of, accepted as table-accepted, ring_in}
 use Rattle.table.specs.Verdict.{Verdict}
 use Rattle.table.specs.declared.reason.Reason.{Reason}
@@ -46,7 +45,7 @@ use Rattle.table.proofs.LowerLimits.{Lower, old-table-accepted, Lost, lost_shape
 use Rattle.table.proofs.TableText.{fibres-spelled}
 use Rattle.sheet.specs.WriteSheet.{routed_line, lines_of, end_text, write_sheet}
 use Rattle.sheet.specs.Range.{InRange}
-use Rattle.sheet.specs.Read.{SheetResult, accepted, refused, Turn, on, stop, unless, row_in, last_of, ring_turn, row_turn, cut_turn, link_turn, last_turn, turn, after, read_from, read_sheet}
+use Rattle.sheet.specs.Read.{SheetResult, accepted, refused, Turn, on, stop, unless, routed_in, last_of, ring_turn, row_turn, cut_turn, link_turn, last_turn, turn, after, read_from, read_sheet}
 use Rattle.sheet.specs.Says.{State, start, rows, links, end}
 use Rattle.sheet.proofs.Last.{last_more}
 use Rattle.sheet.proofs.Rest.{sent-first, cut-not-sent}
@@ -72,8 +71,8 @@ data LineAlike : Reading → Reading → Type 0 where
   lost_line : {p : ℕ} {x : Reading} → LineAlike (Err p) x
 
 unless-alike : (shape : List Field) (vs : List ℕ) (field : Reason → ℕ) (next : State) {v u : Verdict} → VerdictAlike v u
-    → TurnAlike (unless shape vs (found v field) next) (unless shape vs (found u field) next)
-unfolding unless found
+    → TurnAlike (unless shape vs (verdict_found v field) next) (unless shape vs (verdict_found u field) next)
+unfolding unless verdict_found
 unless-alike shape vs field next same_verdict = same_turn
 unless-alike shape vs field next (lost_verdict l) = lost_turn l
 
@@ -93,10 +92,10 @@ module _ {low high : Limits} (lower : Lower low high) where
   ring-turn-alike (same_line {vs}) = unless-alike ring_shape vs _ (rows (ring_in vs) []) (ring-alike lower (ring_in vs))
   ring-turn-alike lost_line = lost_turn lost_shape
 
-  row-turn-alike : (ring : Ring) (rs : List Routed) (l : List ℕ) {x y z : Reading} → LineAlike x y → y ≡ read_line high.digits sent_shape l → CutRead low l z → z ≡ read_line low.digits cut_shape l
+  row-turn-alike : (ring : Ring) (rs : List Routed) (l : List ℕ) {x y z : Reading} → LineAlike x y → y ≡ read_line high.digits sheet_row_shape l → CutRead low l z → z ≡ read_line low.digits cut_shape l
       → TurnAlike (row_turn low ring rs x z) (row_turn high ring rs y (read_line high.digits cut_shape l))
   unfolding row_turn row_found cut_turn
-  row-turn-alike ring rs l (same_line {vs}) sent cut is = unless-alike sent_shape vs _ (rows ring (rs ++ row_in vs ∷ [])) (row-alike lower ring.nodes (length rs) (last_of rs) (row_in vs).sent.demand)
+  row-turn-alike ring rs l (same_line {vs}) sent cut is = unless-alike sheet_row_shape vs _ (rows ring (rs ++ routed_in vs ∷ [])) (row-alike lower ring.nodes (length rs) (last_of rs) (routed_in vs).sent.demand)
   row-turn-alike ring rs l lost_line sent (no_cut misread fault) is = lost_turn lost_shape
   row-turn-alike ring rs l lost_line sent (is_cut {g} {h} {m} e a b c) is =
       let again = line-again cut_shape l (0 ∷ g ∷ h ∷ m ∷ []) (sym is) in
@@ -116,7 +115,7 @@ module _ {low high : Limits} (lower : Lower low high) where
   turn-alike : (state : State) (l : List ℕ) → TurnAlike (turn low state l) (turn high state l)
   unfolding turn
   turn-alike start l = ring-turn-alike (line-alike ring_shape l)
-  turn-alike (rows ring rs) l = row-turn-alike ring rs l (line-alike sent_shape l) refl (cut-read low l) refl
+  turn-alike (rows ring rs) l = row-turn-alike ring rs l (line-alike sheet_row_shape l) refl (cut-read low l) refl
   turn-alike (links ring rs c ks) l = go (ltb (length ks) ring.nodes)
     where
       go : (t : Bool) → TurnAlike (cond t (link_turn ring rs c ks (read_line low.digits link_shape l)) (last_turn ring rs c ks (read_line low.digits last_shape l)))
@@ -145,14 +144,6 @@ module _ {low high : Limits} (lower : Lower low high) where
       go true = same_result
       go false = read-alike (lines t) start 1
 
-  -- so what the lower read the higher read, as the same sheet
-  pub higher-sheet : (t : List ℕ) (x : Sheet) → read_sheet low t ≡ accepted x → read_sheet high t ≡ accepted x
-  higher-sheet t x e = go (rw e at (sheet-alike t)) refl
-    where
-      go : {y z : SheetResult} → Alike y z → y ≡ accepted x → z ≡ accepted x
-      go same_result f = f
-      go (lost_result l) f = clash (cc)
-
 -- ---- what it answers of a true sheet
 
 -- what a desk of these limits answers to this sheet, which one of higher limits accepts
@@ -166,12 +157,12 @@ pub data LowerSheet (low : Limits) (x : Sheet) : SheetResult → Type 0 where
 module _ (low : Limits) where
   ring-turned : (ring : Ring) → RingSpelled low ring.nodes ring.fibres → low.fewest ≤ ring.nodes → ring.nodes ≤ low.nodes → IsFibres ring.fibres
       → turn low start (ring_line ring.nodes ring.fibres) ≡ on (rows ring [])
-  unfolding turn ring_turn unless ring_found found
+  unfolding turn ring_turn unless ring_found verdict_found
   ring-turned ring w few many fibres = rw (ring-values low ring.nodes ring.fibres w, fine-ring-judged low ring few many fibres)
 
   -- too many nodes: n is at byte 3
   ring-refused : (ring : Ring) → RingSpelled low ring.nodes ring.fibres → low.nodes < ring.nodes → turn low start (ring_line ring.nodes ring.fibres) ≡ stop RingSize 3
-  unfolding turn ring_turn unless ring_found found field_byte write_line spell end_of
+  unfolding turn ring_turn unless ring_found verdict_found field_byte write_line spell end_of
   ring-refused ring w big = rw (ring-values low ring.nodes ring.fibres w, big-ring-judged low ring big)
 
   -- a row is spelled
@@ -180,17 +171,17 @@ module _ (low : Limits) where
 
   row-turned : (ring : Ring) (rs : List Routed) (r : Routed) → Spells r → OnRing ring.nodes r.sent.demand → InOrder (last_of rs) r.sent.demand → length rs < low.rows → r.sent.demand.amount ≤ low.amount
       → turn low (rows ring rs) (routed_line r) ≡ on (rows ring (rs ++ r ∷ []))
-  unfolding turn row_turn unless row_found found
+  unfolding turn row_turn unless row_found verdict_found
   row-turned ring rs r s o up room most =
       let w = way_back r.way in
-      rw (line-back low sent_shape _ (sent-in-range low _ _ _ _ _ _ s), fine-row-judged low ring.nodes (length rs) (last_of rs) r.sent.demand o up room most, w)
+      rw (line-back low sheet_row_shape _ (sent-in-range low _ _ _ _ _ _ s), fine-row-judged low ring.nodes (length rs) (last_of rs) r.sent.demand o up room most, w)
 
   -- no room for it: it is refused as a whole
   row-refused : (ring : Ring) (rs : List Routed) (r : Routed) → Spells r → OnRing ring.nodes r.sent.demand → InOrder (last_of rs) r.sent.demand → low.rows ≤ length rs
       → turn low (rows ring rs) (routed_line r) ≡ stop TooMany 1
-  unfolding turn row_turn unless row_found found field_byte write_line
+  unfolding turn row_turn unless row_found verdict_found field_byte write_line
   row-refused ring rs r s o up full =
-      rw (line-back low sent_shape _ (sent-in-range low _ _ _ _ _ _ s), full-row-judged low ring.nodes (length rs) (last_of rs) r.sent.demand o up full)
+      rw (line-back low sheet_row_shape _ (sent-in-range low _ _ _ _ _ _ s), full-row-judged low ring.nodes (length rs) (last_of rs) r.sent.demand o up full)
 
 module _ {low high : Limits} (lower : Lower low high) (fits : Fitting low) where
   -- ---- rows beyond the lower limits

@@ -13,27 +13,27 @@ use Rattle.ring.specs.declared.types.Ring.{Ring}
 use Rattle.ring.specs.declared.types.Link.{Link}
 use Rattle.text.specs.Field.{spell}
 use Rattle.text.specs.WriteLine.{write_line}
-use Rattle.text.specs.Shapes.{sent_shape, cut_shape, link_shape, last_shape}
+use Rattle.text.specs.Shapes.{sheet_row_shape, cut_shape, link_shape, last_shape}
 use Rattle.text.proofs.LineLaws.{one-line}
 use Rattle.table.specs.Lines.{lines}
 use Rattle.table.specs.Says.{LineIs, RingIs}
 use Rattle.table.proofs.LineNumbers.{line-one, ring-one}
-use Rattle.sheet.specs.Read.{row_in, cut_in, link_in}
-use Rattle.sheet.specs.Says.{State, start, rows, links, end, SentIs, CutIs, LinkIs, LastIs, At, at_start, behind_ring, behind_row, behind_cut, behind_link, behind_last}
+use Rattle.sheet.specs.Read.{routed_in, cut_in, link_in}
+use Rattle.sheet.specs.Says.{State, start, rows, links, end, RoutedIs, CutIs, LinkIs, LastIs, At, at_start, behind_ring, behind_row, behind_cut, behind_link, behind_last}
 use Rattle.sheet.proofs.SheetLines.{way_small, way_back, SentSpelled, sent-in-range, cut-in-range, link-in-range, last-in-range}
 
 -- ---- one reading
 
-pub sent-spelled : {limits : Limits} {t : List ℕ} {line : ℕ} {r : Routed} → SentIs limits t line r
+pub sent-spelled : {limits : Limits} {t : List ℕ} {line : ℕ} {r : Routed} → RoutedIs limits t line r
     → SentSpelled limits r.sent.demand.first r.sent.demand.second r.sent.demand.amount r.sent.front r.sent.back (way_number r.way)
 sent-spelled {r} s =
     record { first = s.nodes.0; second = s.nodes.1; amount = s.amount; front = s.halves.0; back = s.halves.1; way = way_small r.way }
 
 module _ {limits : Limits} {t : List ℕ} {line : ℕ} where
-  pub sent-one : {r q : Routed} → SentIs limits t line r → SentIs limits t line q → r ≡ q
+  pub sent-one : {r q : Routed} → RoutedIs limits t line r → RoutedIs limits t line q → r ≡ q
   sent-one {r} {q} a b =
-      let e = one-line limits.digits limits.countable sent_shape _ _ (sent-in-range limits _ _ _ _ _ _ (sent-spelled a)) (sent-in-range limits _ _ _ _ _ _ (sent-spelled b)) (line-one a.text b.text refl) in
-      sym (ap (routed r.sent) (way_back r.way)) ∙ ap row_in e ∙ ap (routed q.sent) (way_back q.way)
+      let e = one-line limits.digits limits.countable sheet_row_shape _ _ (sent-in-range limits _ _ _ _ _ _ (sent-spelled a)) (sent-in-range limits _ _ _ _ _ _ (sent-spelled b)) (line-one a.text b.text refl) in
+      sym (ap (routed r.sent) (way_back r.way)) ∙ ap routed_in e ∙ ap (routed q.sent) (way_back q.way)
 
   pub cut-one : {c b : Cut} → CutIs limits t line c → CutIs limits t line b → c ≡ b
   cut-one p q =
@@ -51,7 +51,7 @@ module _ {limits : Limits} {t : List ℕ} {line : ℕ} where
       (ap (λ vs. get_or vs 1 0) e, ap (λ vs. get_or vs 2 0) e)
 
   -- a D and a C line differ in their letter
-  pub sent-or-cut : {r : Routed} {c : Cut} → SentIs limits t line r → CutIs limits t line c → ⊥
+  pub sent-or-cut : {r : Routed} {c : Cut} → RoutedIs limits t line r → CutIs limits t line c → ⊥
   unfolding write_line spell
   sent-or-cut a b = omega (arith, ap (λ l. get_or l 0 0) (line-one a.text b.text refl))
 
@@ -60,7 +60,7 @@ module _ {limits : Limits} {t : List ℕ} {line : ℕ} where
 -- the line leads from one place to the next
 data Leads (limits : Limits) (t : List ℕ) (line : ℕ) : State → State → Type 0 where
   by_ring : {ring : Ring} → RingIs limits t ring → Leads limits t line start (rows ring [])
-  by_row : {ring : Ring} {rs : List Routed} {r : Routed} → SentIs limits t line r → Leads limits t line (rows ring rs) (rows ring (rs ++ r ∷ []))
+  by_row : {ring : Ring} {rs : List Routed} {r : Routed} → RoutedIs limits t line r → Leads limits t line (rows ring rs) (rows ring (rs ++ r ∷ []))
   by_cut : {ring : Ring} {rs : List Routed} {c : Cut} → CutIs limits t line c → Leads limits t line (rows ring rs) (links ring rs c [])
   by_link : {ring : Ring} {rs : List Routed} {c : Cut} {ks : List Link} {l : Link} → length ks < ring.nodes → LinkIs limits t line l
       → Leads limits t line (links ring rs c ks) (links ring rs c (ks ++ l ∷ []))

@@ -13,10 +13,10 @@ use Rattle.ring.specs.declared.types.Ring.{Ring}
 use Rattle.ring.specs.declared.types.Routed.{Routed}
 use Rattle.ring.specs.declared.types.Demand.{Demand}
 use Rattle.text.specs.ReadLine.{Reading, read_line}
-use Rattle.text.specs.Shapes.{ring_shape, sent_shape, cut_shape, link_shape, last_shape}
+use Rattle.text.specs.Shapes.{ring_shape, sheet_row_shape, cut_shape, link_shape, last_shape}
 use Rattle.table.specs.Faults.{ring_found, row_found}
 use Rattle.table.specs.Lines.{lines}
-use Rattle.table.specs.OnLine.{values_on, and_then, passed, judged}
+use Rattle.table.specs.OnLine.{values_on, and_then, passed, line_judged}
 use Rattle.table.specs.ReadTable.{ring_in, ring_on}
 use Rattle.table.specs.declared.fault.Fault.{Fault}
 use Rattle.table.specs.declared.reason.Reason.TheVariants.{TooLong, Misshapen}
@@ -46,7 +46,7 @@ has_room n rs r o e f =
 -- ---- a line by its values
 
 ring-leads : (l : List ℕ) (y : Result Ring Refusal) → y ≡ ring_on desk l → (next : State → SheetResult) → read_by y (λ ring. next (rows ring [])) ≡ after (ring_turn desk (read_line desk.digits ring_shape l)) 1 next
-unfolding ring_on judged and_then values_on passed ring_turn unless after
+unfolding ring_on line_judged and_then values_on passed ring_turn unless after
 ring-leads l y e next = rw e (go (read_line desk.digits ring_shape l))
   where
     found : (vs : List ℕ) (o : Result Unit Fault) → read_by (passed 1 ring_shape vs o (ring_in vs)) (λ ring. next (rows ring [])) ≡ after (unless ring_shape vs o (rows (ring_in vs) [])) 1 next
@@ -75,9 +75,6 @@ last-by ring rs c ks line (Err p) next = refl
 pub record RowsReading (ring : Ring) (all : List (List ℕ)) (rs : List Routed) (ls : List (List ℕ)) : Type 0 where
   pub rest : read_from desk (rows ring []) 2 all ≡ read_from desk (rows ring rs) (length rs + 2) ls
 
-pub rows-start : (ring : Ring) (all : List (List ℕ)) (rs : List Routed) → rs ≡ [] → RowsReading ring all rs all
-rows-start ring all rs e = rw e (record { rest = refl })
-
 module _ (ring : Ring) (all : List (List ℕ)) (rs : List Routed) (before : List (List ℕ)) (reading : RowsReading ring all rs before) (count : ℕ) (many : count ≡ length rs) where
   -- no line is left
   pub rows-missing : before ≡ [] → refused Misshapen (count + 2) 1 ≡ read_from desk (rows ring []) 2 all
@@ -85,11 +82,11 @@ module _ (ring : Ring) (all : List (List ℕ)) (rs : List Routed) (before : List
   rows-missing none = sym (reading.rest ∙ rw (none, ← many))
 
   module _ (l : List ℕ) (ls : List (List ℕ)) (left : before ≡ l ∷ ls) where
-    rows-led : read_from desk (rows ring []) 2 all ≡ after (row_turn desk ring rs (read_line desk.digits sent_shape l) (read_line desk.digits cut_shape l)) (count + 2) (λ next. read_from desk next (count + 2 + 1) ls)
+    rows-led : read_from desk (rows ring []) 2 all ≡ after (row_turn desk ring rs (read_line desk.digits sheet_row_shape l) (read_line desk.digits cut_shape l)) (count + 2) (λ next. read_from desk next (count + 2 + 1) ls)
     unfolding read_from turn
     rows-led = reading.rest ∙ rw (left, ← many)
 
-    module _ (vs : List ℕ) (is : Ok vs ≡ read_line desk.digits sent_shape l) (y : Result Routed Refusal)
+    module _ (vs : List ℕ) (is : Ok vs ≡ read_line desk.digits sheet_row_shape l) (y : Result Routed Refusal)
         (leads : (other : Reading) (next : State → SheetResult) → read_by y (λ r. next (rows ring (rs ++ r ∷ []))) ≡ after (row_turn desk ring rs (Ok vs) other) (count + 2) next) where
       row-led : read_from desk (rows ring []) 2 all ≡ read_by y (λ r. read_from desk (rows ring (rs ++ r ∷ [])) (count + 2 + 1) ls)
       row-led = rows-led ∙ rw (← is) (sym (leads (read_line desk.digits cut_shape l) (λ next. read_from desk next (count + 2 + 1) ls)))
@@ -103,7 +100,7 @@ module _ (ring : Ring) (all : List (List ℕ)) (rs : List Routed) (before : List
           rw f (record { rest = row-led ∙ rw (e, m) })
 
     -- the next line is no D line, so it is the C line
-    pub cut-read : (p : ℕ) → Err p ≡ read_line desk.digits sent_shape l → (y : Result Cut Refusal)
+    pub cut-read : (p : ℕ) → Err p ≡ read_line desk.digits sheet_row_shape l → (y : Result Cut Refusal)
         → ((ring : Ring) (rs : List Routed) (next : State → SheetResult) → read_by y (λ c. next (links ring rs c [])) ≡ after (cut_turn ring rs p (read_line desk.digits cut_shape l)) (count + 2) next)
         → read_by y (λ c. read_from desk (links ring rs c []) (length rs + 3) ls) ≡ read_from desk (rows ring []) 2 all
     unfolding row_turn

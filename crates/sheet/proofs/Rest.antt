@@ -20,26 +20,26 @@ use Rattle.text.specs.Number.{limit}
 use Rattle.text.specs.Bytes.{letter_c, letter_d, letter_l}
 use Rattle.text.specs.Field.{spell}
 use Rattle.text.specs.WriteLine.{write_line}
-use Rattle.text.specs.Shapes.{ring_shape, sent_shape, cut_shape, link_shape, last_shape, ring_line, sent_line, cut_line, link_line, last_line}
+use Rattle.text.specs.Shapes.{ring_shape, sheet_row_shape, cut_shape, link_shape, last_shape, ring_line, sheet_row_line, cut_line, link_line, last_line}
 use Rattle.text.specs.ReadLine.{Reading, read_line}
 use Rattle.text.specs.declared.field.Field.{Field}
 use Rattle.text.specs.declared.field.Field.TheVariants.{Letter, Number}
 use Rattle.text.proofs.Apart.{clash}
 use Rattle.table.specs.Lines.{lines}
 use Rattle.table.specs.Judge.{ring_verdict}
-use Rattle.table.specs.Faults.{found, ring_found, row_found}
+use Rattle.table.specs.Faults.{verdict_found, ring_found, row_found}
 use Rattle.table.specs.declared.fault.Fault.{Fault}
 use Rattle.std.specs.Prelude.{Result, Ok, Err}
 use Rattle.table.proofs.Faults.{found-none}
 use Rattle.table.proofs.LinesOf.{FirstLine, NoLf, written-first}
-use Rattle.sheet.specs.Read.{accepted, last_of, Turn, on, stop, unless, row_in, cut_in, link_in, ring_turn, cut_turn, row_turn, link_turn, last_turn, turn, at_end, after, read_from}
+use Rattle.sheet.specs.Read.{accepted, last_of, Turn, on, stop, unless, routed_in, cut_in, link_in, ring_turn, cut_turn, row_turn, link_turn, last_turn, turn, at_end, after, read_from}
 use Rattle.sheet.specs.Says.{State, start, rows, links, end}
 use Rattle.sheet.proofs.Last.{judge_next}
 use Rattle.sheet.proofs.SheetLines.{RingRead, is_ring, no_ring, ring-read, SentSpelled, SentRead, is_sent, no_sent, sent-read, CutRead, is_cut, no_cut, cut-read, LinkRead, is_link, no_link, link-read, LastRead, is_last, no_last, last-read, line-back, ring-in-range, sent-in-range, cut-in-range, link-in-range, last-in-range}
 
 -- the values of a line
 abbrev pub routed_of : ℕ → ℕ → ℕ → ℕ → ℕ → ℕ → Routed
-routed_of i j d f k w = row_in (0 ∷ i ∷ j ∷ d ∷ f ∷ k ∷ w ∷ [])
+routed_of i j d f k w = routed_in (0 ∷ i ∷ j ∷ d ∷ f ∷ k ∷ w ∷ [])
 
 abbrev pub cut_of : ℕ → ℕ → ℕ → Cut
 cut_of g h m = cut_in (0 ∷ g ∷ h ∷ m ∷ [])
@@ -57,7 +57,7 @@ pub data Rest (limits : Limits) (x : Sheet) : State → List ℕ → Type 0 wher
   rest_cut : {ring : Ring} {rs : List Routed} {g h m : ℕ} {text : List ℕ} → g < limit limits.digits → h < limit limits.digits → m < limit limits.digits
       → Rest limits x (links ring rs (cut_of g h m) []) text → Rest limits x (rows ring rs) (cut_line g h m ++ text)
   rest_row : {ring : Ring} {rs : List Routed} {i j d f k w : ℕ} {text : List ℕ} → SentSpelled limits i j d f k w → judge_next limits ring.nodes rs (demand i j d) ≡ Ok tt
-      → Rest limits x (rows ring (rs ++ routed_of i j d f k w ∷ [])) text → Rest limits x (rows ring rs) (sent_line i j d f k w ++ text)
+      → Rest limits x (rows ring (rs ++ routed_of i j d f k w ∷ [])) text → Rest limits x (rows ring rs) (sheet_row_line i j d f k w ++ text)
   rest_ring : {ring : Ring} {text : List ℕ} → ring.nodes < limit limits.digits → ring.fibres < limit limits.digits → ring_verdict limits ring ≡ Ok tt → Rest limits x (rows ring []) text
       → Rest limits x start (ring_line ring.nodes ring.fibres ++ text)
 
@@ -93,7 +93,7 @@ module _ (limits : Limits) (x : Sheet) where
     row-leads : (l : List ℕ) {y z : Reading} → SentRead limits l y → CutRead limits l z → Leads (rows ring rs) l (row_turn limits ring rs y z)
     unfolding row_turn row_found
     row-leads l (is_sent {i} {j} {d} {f} {b = k} {w} e spelled) other next t text rest =
-        let u = unless-on sent_shape (0 ∷ i ∷ j ∷ d ∷ f ∷ k ∷ w ∷ []) (row_found limits ring.nodes (length rs) (last_of rs) (demand i j d)) (rows ring (rs ++ routed_of i j d f k w ∷ [])) next t in
+        let u = unless-on sheet_row_shape (0 ∷ i ∷ j ∷ d ∷ f ∷ k ∷ w ∷ []) (row_found limits ring.nodes (length rs) (last_of rs) (demand i j d)) (rows ring (rs ++ routed_of i j d f k w ∷ [])) next t in
         rw e (rest_row spelled (found-none _ _ u.0) (subst (λ s. Rest limits x s text) (sym u.1) rest))
     row-leads l (no_sent {p} misread fault) other next t text rest = cut-leads l p other next t text rest
 
@@ -145,7 +145,7 @@ module _ (limits : Limits) (x : Sheet) where
 -- ---- there is a rest, so accepted
 
 -- a C line is no D line: they differ in their letter
-cut-no-row : (g h m i j d f b w : ℕ) → cut_line g h m ≡ sent_line i j d f b w → ⊥
+cut-no-row : (g h m i j d f b w : ℕ) → cut_line g h m ≡ sheet_row_line i j d f b w → ⊥
 unfolding write_line spell
 cut-no-row g h m i j d f b w e = let q : letter_c ≡ letter_d = ap (λ l. get_or l 0 0) e in omega arith
 
@@ -159,7 +159,7 @@ cut-not-sent limits g h m (no_sent {p} misread fault) ring rs z = (p, refl)
 ring-first : (limits : Limits) (n fibres : ℕ) → n < limit limits.digits → fibres < limit limits.digits → FirstLine (ring_line n fibres)
 ring-first limits n fibres a b = written-first limits.digits limits.countable _ _ _ (more (λ e. omega arith) (more tt (more tt none))) (ring-in-range limits n fibres a b)
 
-pub sent-first : (limits : Limits) (i j d f b w : ℕ) → SentSpelled limits i j d f b w → FirstLine (sent_line i j d f b w)
+pub sent-first : (limits : Limits) (i j d f b w : ℕ) → SentSpelled limits i j d f b w → FirstLine (sheet_row_line i j d f b w)
 sent-first limits i j d f b w h =
     written-first limits.digits limits.countable _ _ _
     (more (λ e. omega arith) (more tt (more tt (more tt (more tt (more tt (more tt none)))))))
@@ -179,7 +179,7 @@ last-first limits p z a b = written-first limits.digits limits.countable _ _ _ (
 
 module _ (limits : Limits) (x : Sheet) where
   pub rest_read : {state : State} {text : List ℕ} → Rest limits x state text → (line : ℕ) → read_from limits state line (lines text) ≡ accepted x
-  unfolding read_from turn after at_end lines ring_turn row_turn cut_turn link_turn last_turn unless ring_found row_found found
+  unfolding read_from turn after at_end lines ring_turn row_turn cut_turn link_turn last_turn unless ring_found row_found verdict_found
   rest_read rest_end line = refl
   rest_read (rest_last {ring} {rs} {c} {ks} {p} {z} {text} all a b rest) line =
       rw (last-first limits p z a b text, le-ltb (length ks) ring.nodes all, line-back limits last_shape _ (last-in-range limits p z a b)) (rest_read rest (line + 1))
@@ -189,6 +189,6 @@ module _ (limits : Limits) (x : Sheet) where
       rw (cut-first limits g h m p q r text, (cut-not-sent limits g h m (sent-read limits (cut_line g h m)) ring rs (read_line limits.digits cut_shape (cut_line g h m))).1, line-back limits cut_shape _ (cut-in-range limits g h m p q r))
       (rest_read rest (line + 1))
   rest_read (rest_row {ring} {rs} {i} {j} {d} {f} {k} {w} {text} spelled v rest) line =
-      rw (sent-first limits i j d f k w spelled text, line-back limits sent_shape _ (sent-in-range limits i j d f k w spelled), v) (rest_read rest (line + 1))
+      rw (sent-first limits i j d f k w spelled text, line-back limits sheet_row_shape _ (sent-in-range limits i j d f k w spelled), v) (rest_read rest (line + 1))
   rest_read (rest_ring {ring} {text} a b v rest) line =
       rw (ring-first limits ring.nodes ring.fibres a b text, line-back limits ring_shape _ (ring-in-range limits ring.nodes ring.fibres a b), v) (rest_read rest (line + 1))

@@ -14,7 +14,7 @@ use Rattle.ring.specs.declared.types.Routed.{Routed}
 use Rattle.ring.specs.Sheet.{Sheet, sents, demands, figures_of}
 use Rattle.ring.specs.declared.types.Link.{Link}
 use Rattle.text.specs.Number.{limit}
-use Rattle.text.specs.Shapes.{ring_line, sent_line, cut_line, link_line, last_line}
+use Rattle.text.specs.Shapes.{ring_line, sheet_row_line, cut_line, link_line, last_line}
 use Rattle.std.specs.Prelude.{Ok, Some, None}
 use Rattle.table.proofs.Judged.{RingJudged, right_ring, ring-judged, RowJudged, row_fine, row-judged}
 use Rattle.table.proofs.FineRows.{FineRows, no_row, fine_row}
@@ -114,14 +114,14 @@ module _ (x : Sheet) where
 
   -- what holds of a row that nothing is found against
   row_from : {limits : Limits} {ring : Ring} {rs : List Routed} {i j d f k w : ℕ} {text : List ℕ} → SentSpelled limits i j d f k w → judge_next limits ring.nodes rs (demand i j d) ≡ Ok tt
-      → FromRows limits ring (rs ++ routed_of i j d f k w ∷ []) text → FromRows limits ring rs (sent_line i j d f k w ++ text)
+      → FromRows limits ring (rs ++ routed_of i j d f k w ∷ []) text → FromRows limits ring rs (sheet_row_line i j d f k w ++ text)
   unfolding lines_of
   row_from {limits} {ring} {rs} {i} {j} {d} {f} {k} {w} {text} spelled v from =
       record {
         later = r ∷ from.later;
         same = from.same ∙ append_assoc rs (r ∷ []) from.later;
         is_text =
-            ap (λ (t : List ℕ). sent_line i j d f k w ++ t) from.is_text ∙ ap (λ (t : List ℕ). t ++ (lines_of routed_line from.later ++ end_text (figures_of x) x.links)) (sym (way-spelled i j d f k w))
+            ap (λ (t : List ℕ). sheet_row_line i j d f k w ++ t) from.is_text ∙ ap (λ (t : List ℕ). t ++ (lines_of routed_line from.later ++ end_text (figures_of x) x.links)) (sym (way-spelled i j d f k w))
             ∙ sym (append_assoc (routed_line r) (lines_of routed_line from.later) (end_text (figures_of x) x.links));
         fine = fine (rw v at (row-judged limits ring.nodes (length rs) (last_of rs) (demand i j d)));
         halves = more (record { front = spelled.front; back = spelled.back }) from.halves;

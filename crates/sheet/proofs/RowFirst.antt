@@ -12,22 +12,22 @@ use Rattle.table.specs.Verdict.{Verdict}
 use Rattle.table.proofs.Judged.{RowJudged, no_such_node, not_below, out_of_order, too_many, too_much, row_fine, row-judged}
 use Rattle.table.proofs.Against.{by_nodes, by_pair, by_order, by_count, by_amount, row-least}
 use Rattle.sheet.specs.Read.{last_of}
-use Rattle.sheet.specs.Says.{rows, SentIs, At, behind_ring, behind_row, RowAt, WrongOrder, Says}
+use Rattle.sheet.specs.Says.{rows, RoutedIs, At, behind_ring, behind_row, RowAt, SaysOutOfOrder, Says}
 use Rattle.sheet.proofs.Last.{judge_next, last_more}
 use Rattle.sheet.proofs.FirstReason.{HoldsAs, First, first-as}
 use Rattle.sheet.proofs.SheetSaid.{said-of-row, AgainstDemand, said, said_here}
 
-abbrev pub row_at : {limits : Limits} {t : List ℕ} {line : ℕ} {ring : Ring} {rs : List Routed} {r : Routed} → At limits t line (rows ring rs) → SentIs limits t line r → RowAt limits t line r
+abbrev pub row_at : {limits : Limits} {t : List ℕ} {line : ℕ} {ring : Ring} {rs : List Routed} {r : Routed} → At limits t line (rows ring rs) → RoutedIs limits t line r → RowAt limits t line r
 row_at {ring} {rs} at is = record { ring = ring; rs = rs; due = at; is = is }
 
 -- a row that falls has a row before it
 order-holds : {limits : Limits} {t : List ℕ} {line : ℕ} {ring : Ring} {rs : List Routed} {r : Routed} → At limits t line (rows ring rs) → RowAt limits t line r
-    → Falls (last_of rs) r.sent.demand → WrongOrder limits t line
+    → Falls (last_of rs) r.sent.demand → SaysOutOfOrder limits t line
 order-holds (behind_ring ring) row wrong = absurd wrong
 order-holds {r} (behind_row {line} {rs} {r = q} at is) row wrong =
     record { before = line; next = refl; q = q; above = row_at at is; r = r; row = row; wrong = rw (last_more rs q) at wrong }
 
-module _ (limits : Limits) {t : List ℕ} {line : ℕ} {ring : Ring} {rs : List Routed} {r : Routed} (at : At limits t line (rows ring rs)) (is : SentIs limits t line r) where
+module _ (limits : Limits) {t : List ℕ} {line : ℕ} {ring : Ring} {rs : List Routed} {r : Routed} (at : At limits t line (rows ring rs)) (is : RoutedIs limits t line r) where
   demand-first : First (λ s. AgainstDemand limits ring.nodes rs r.sent.demand s × Says limits t s line) (judge_next limits ring.nodes rs r.sent.demand)
   unfolding Says
   demand-first =

@@ -13,9 +13,9 @@ use Rattle.ring.specs.declared.types.Demand.{Demand}
 use Rattle.ring.specs.declared.types.Routed.{Routed}
 use Rattle.ring.specs.declared.types.Cut.{Cut}
 use Rattle.ring.specs.declared.types.Link.{Link}
-use Rattle.text.specs.FieldByte.{field_byte, ring_byte, sent_byte}
+use Rattle.text.specs.FieldByte.{field_byte, ring_byte, sheet_row_byte}
 use Rattle.text.specs.FirstFault.{Agrees, FirstFault}
-use Rattle.text.specs.Shapes.{sent_shape, cut_shape}
+use Rattle.text.specs.Shapes.{sheet_row_shape, cut_shape}
 use Rattle.text.specs.WriteLine.{write_line}
 use Rattle.text.proofs.LineLaws.{fewer}
 use Rattle.table.specs.Fields.{field_of, node_field}
@@ -29,7 +29,7 @@ use Rattle.table.proofs.BytesGiven.{one-due as one-due-byte, one-shape-byte, one
 use Rattle.table.proofs.Judged.{RingJudged, size_wrong, wrong_fibres, right_ring, Node, no_node, has_node, node, RowJudged, no_such_node, not_below, out_of_order, too_many, too_much, row_fine, row-judged}
 use Rattle.sheet.specs.Read.{last_of}
 use Rattle.sheet.proofs.Last.{judge_next}
-use Rattle.sheet.specs.Says.{State, start, rows, links, end, SentIs, At, RowAt, NeitherGoesOn, LineByte, ring_due, row_or_cut_due, link_due, last_due, none_due, routed_byte, NodeByte, first_node, second_node, AmountByte, ByteIs}
+use Rattle.sheet.specs.Says.{State, start, rows, links, end, RoutedIs, At, RowAt, NeitherGoesOn, LineByte, ring_due, row_or_cut_due, link_due, last_due, none_due, routed_byte, NodeByte, first_node, second_node, AmountByte, ByteIs}
 use Rattle.sheet.proofs.Places.{sent-one, place-one}
 use Rattle.sheet.proofs.RowFirst.{row_at}
 
@@ -48,11 +48,11 @@ ring-byte here (right_ring l m f) = tt
 
 -- ---- D i j amount front back F-or-B
 
-module _ {limits : Limits} {t : List ℕ} {line : ℕ} {ring : Ring} {rs : List Routed} {r : Routed} (at : At limits t line (rows ring rs)) (is : SentIs limits t line r) where
+module _ {limits : Limits} {t : List ℕ} {line : ℕ} {ring : Ring} {rs : List Routed} {r : Routed} (at : At limits t line (rows ring rs)) (is : RoutedIs limits t line r) where
   -- the way of a line stands behind every field that a reason is about, so its number does not count
   module _ (w : ℕ) where
     abbrev byte : Reason → ℕ
-    byte reason = sent_byte r.sent.demand.first r.sent.demand.second r.sent.demand.amount r.sent.front r.sent.back w (field_of reason (node_field ring.nodes r.sent.demand.first))
+    byte reason = sheet_row_byte r.sent.demand.first r.sent.demand.second r.sent.demand.amount r.sent.front r.sent.back w (field_of reason (node_field ring.nodes r.sent.demand.first))
 
     node-byte : Node ring.nodes r.sent.demand.first → NoNode ring.nodes r.sent.demand.first ⊎ NoNode ring.nodes r.sent.demand.second → NodeByte limits t line (byte NoSuchNode)
     unfolding node_field field_byte write_line
@@ -74,10 +74,10 @@ module _ {limits : Limits} {t : List ℕ} {line : ℕ} {ring : Ring} {rs : List 
 
 -- ---- a line that is neither D nor C
 
-pub neither : {limits : Limits} {l : List ℕ} {q p : ℕ} → FirstFault limits.digits sent_shape l q → FirstFault limits.digits cut_shape l p → NeitherGoesOn limits l (max q p)
+pub neither : {limits : Limits} {l : List ℕ} {q p : ℕ} → FirstFault limits.digits sheet_row_shape l q → FirstFault limits.digits cut_shape l p → NeitherGoesOn limits l (max q p)
 neither {limits} {l} {q} {p} f g =
     elim (dec_le q p) [
-      | yes h ↦ let e : max q p ≡ p = omega arith in rw e (record { before = inr g.before; no_row = λ a. f.here (fewer limits.digits limits.countable sent_shape l (q + 1) (p + 1) (omega arith) a); no_cut = g.here })
+      | yes h ↦ let e : max q p ≡ p = omega arith in rw e (record { before = inr g.before; no_row = λ a. f.here (fewer limits.digits limits.countable sheet_row_shape l (q + 1) (p + 1) (omega arith) a); no_cut = g.here })
       | no h ↦ let e : max q p ≡ q = omega arith in rw e (record { before = inl f.before; no_row = f.here; no_cut = λ a. g.here (fewer limits.digits limits.countable cut_shape l (p + 1) (q + 1) (omega arith) a) })
     ]
 
@@ -86,8 +86,8 @@ neither {limits} {l} {q} {p} f g =
 no_later : {limits : Limits} {l : List ℕ} {p q : ℕ} → NeitherGoesOn limits l p → NeitherGoesOn limits l q → p < q → ⊥
 no_later {limits} {l} {p} {q} x y h = go y.before
   where
-    go : Agrees limits.digits sent_shape l q ⊎ Agrees limits.digits cut_shape l q → ⊥
-    go (inl a) = x.no_row (fewer limits.digits limits.countable sent_shape l (p + 1) q (omega arith) a)
+    go : Agrees limits.digits sheet_row_shape l q ⊎ Agrees limits.digits cut_shape l q → ⊥
+    go (inl a) = x.no_row (fewer limits.digits limits.countable sheet_row_shape l (p + 1) q (omega arith) a)
     go (inr a) = x.no_cut (fewer limits.digits limits.countable cut_shape l (p + 1) q (omega arith) a)
 
 one-neither : {limits : Limits} {l : List ℕ} {p q : ℕ} → NeitherGoesOn limits l p → NeitherGoesOn limits l q → p ≡ q

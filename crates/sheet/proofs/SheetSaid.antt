@@ -21,7 +21,7 @@ use Rattle.table.specs.declared.reason.Reason.TheVariants.{TooLong, Misshapen, R
 use Rattle.table.proofs.Against.{AgainstRow, by_nodes, by_pair, by_order, by_count, by_amount, AgainstRing, by_size, by_fibres}
 use Rattle.table.proofs.LineNumbers.{ring-one}
 use Rattle.table.proofs.ReasonNumbers.{same_rank, no-rank-0}
-use Rattle.sheet.specs.Says.{State, start, rows, links, end, SentIs, CutIs, LinkIs, LastIs, At, at_start, behind_row, WrongLine, no_ring, no_row_no_cut, no_link, no_last, left_over, Says}
+use Rattle.sheet.specs.Says.{State, start, rows, links, end, RoutedIs, CutIs, LinkIs, LastIs, At, at_start, behind_row, WrongLine, no_ring, no_row_no_cut, no_link, no_last, left_over, Says}
 use Rattle.sheet.specs.Read.{last_of}
 use Rattle.sheet.proofs.Last.{last_more}
 use Rattle.sheet.proofs.Places.{sent-one, sent-or-cut, place-low, place-one}
@@ -31,7 +31,7 @@ use Rattle.sheet.proofs.Places.{sent-one, sent-or-cut, place-low, place-one}
 -- 2: the line does not have the shape that is due
 abbrev pub Unfit : Limits → List ℕ → ℕ → State → Type 0
 Unfit limits t line start = (ring : Ring) → RingIs limits t ring → ⊥
-Unfit limits t line (rows ring rs) = ((r : Routed) → SentIs limits t line r → ⊥) × ((c : Cut) → CutIs limits t line c → ⊥)
+Unfit limits t line (rows ring rs) = ((r : Routed) → RoutedIs limits t line r → ⊥) × ((c : Cut) → CutIs limits t line c → ⊥)
 Unfit limits t line (links ring rs c ks) =
     ((length ks < ring.nodes) × ((l : Link) → LinkIs limits t line l → ⊥)) ⊎ ((ring.nodes ≤ length ks) × ((p z : ℕ) → LastIs limits t line p z → ⊥))
 Unfit limits t line (end x) = (l : List ℕ) × LineIs (lines t) line l
@@ -50,7 +50,7 @@ AgainstDemand limits n rs q = AgainstRow limits n (length rs) (last_of rs) q
 pub data SaidAt (limits : Limits) (t : List ℕ) (line : ℕ) : State → Reason → Type 0 where
   of_shape : {state : State} → Unfit limits t line state → SaidAt limits t line state Misshapen
   of_ring : {ring : Ring} {s : Reason} → RingIs limits t ring → AgainstRing limits ring s → SaidAt limits t line start s
-  of_row : {ring : Ring} {rs : List Routed} {r : Routed} {s : Reason} → SentIs limits t line r → AgainstDemand limits ring.nodes rs r.sent.demand s → SaidAt limits t line (rows ring rs) s
+  of_row : {ring : Ring} {rs : List Routed} {r : Routed} {s : Reason} → RoutedIs limits t line r → AgainstDemand limits ring.nodes rs r.sent.demand s → SaidAt limits t line (rows ring rs) s
 
 -- ---- all that is said
 
@@ -121,7 +121,7 @@ module _ {limits : Limits} {t : List ℕ} {line : ℕ} where
   said-of-ring {s} is (of_ring r o) = subst (λ m. AgainstRing limits m s) (ring-one r is) o
 
   module _ {ring : Ring} {rs : List Routed} where
-    pub said-of-row : {r : Routed} {s : Reason} → SentIs limits t line r → SaidAt limits t line (rows ring rs) s → AgainstDemand limits ring.nodes rs r.sent.demand s
+    pub said-of-row : {r : Routed} {s : Reason} → RoutedIs limits t line r → SaidAt limits t line (rows ring rs) s → AgainstDemand limits ring.nodes rs r.sent.demand s
     said-of-row {r} is (of_shape none) = absurd (none.0 r is)
     said-of-row {s} is (of_row q o) = subst (λ (r : Routed). AgainstDemand limits ring.nodes rs r.sent.demand s) (sent-one q is) o
 

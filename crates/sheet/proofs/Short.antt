@@ -12,7 +12,8 @@ use Rattle.ring.specs.Limits.{Limits, desk, old}
 use Rattle.ring.specs.declared.types.Ring.{Ring}
 use Rattle.ring.specs.LineSize.{IsFibres}
 use Rattle.ring.specs.Lists.{Each, none, more}
-use Rattle.ring.specs.Demand.{OnRing, TableRows}
+use Rattle.ring.specs.Demand.{OnRing}
+use Rattle.ring.specs.TableRows.{TableRows}
 use Rattle.ring.specs.declared.types.Demand.{Demand}
 use Rattle.ring.specs.Routing.{way_number}
 use Rattle.ring.specs.declared.types.Sent.{Sent}

@@ -8,9 +8,9 @@ use Rattle.ring.specs.Limits.{desk}
 use Rattle.ring.specs.Routing.{way_number}
 use Rattle.ring.specs.declared.types.Routed.{Routed}
 use Rattle.ring.specs.declared.types.Link.{Link}
-use Rattle.text.specs.Pass.{Passes}
+use Rattle.text.specs.Pass.{PassLaws}
 use Rattle.text.specs.Written.{Passed}
-use Rattle.text.specs.Shapes.{ring_shape, sent_shape, cut_shape, link_shape, last_shape, ring_line, cut_line, last_line}
+use Rattle.text.specs.Shapes.{ring_shape, sheet_row_shape, cut_shape, link_shape, last_shape, ring_line, cut_line, last_line}
 use Rattle.text.proofs.Lengths.{line-short}
 use Rattle.text.proofs.Going.{Going, going-start, piece-fits, going-on}
 use Rattle.ring.specs.Sheet.{sheet_in}
@@ -56,7 +56,7 @@ module _ (x : Figures) (rs : List Routed) (ls : List Link) where
   whole = write_sheet (sheet_in x rs ls)
 
   row-short : (r : Routed) → length (routed_line r) ≤ 1000
-  row-short r = omega (arith, line-short sent_shape (0 ∷ r.sent.demand.first ∷ r.sent.demand.second ∷ r.sent.demand.amount ∷ r.sent.front ∷ r.sent.back ∷ way_number r.way ∷ []))
+  row-short r = omega (arith, line-short sheet_row_shape (0 ∷ r.sent.demand.first ∷ r.sent.demand.second ∷ r.sent.demand.amount ∷ r.sent.front ∷ r.sent.back ∷ way_number r.way ∷ []))
 
   link-short : (l : Link) → length (load_line l) ≤ 1000
   link-short l = omega (arith, line-short link_shape (0 ∷ l.link ∷ l.split ∷ l.unsplit ∷ []))
@@ -79,7 +79,7 @@ module _ (x : Figures) (rs : List Routed) (ls : List Link) where
       )
 
   -- each part has its room, and behind it the next is to come
-  module _ {room : List ℕ → ℕ} {after : List ℕ → ℕ → List ℕ → List ℕ} (pass : Passes room after) {old : List ℕ} (fits : length (write_sheet (sheet_in x rs ls)) ≤ room old) where
+  module _ {room : List ℕ → ℕ} {after : List ℕ → ℕ → List ℕ → List ℕ} (pass : PassLaws room after) {old : List ℕ} (fits : length (write_sheet (sheet_in x rs ls)) ≤ room old) where
     abbrev Before : List ℕ → ℕ → List ℕ → Type 0
     Before buffer next rest = Going room after old 0 whole buffer next rest
 

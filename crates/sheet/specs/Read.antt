@@ -10,7 +10,7 @@ use Rattle.ring.specs.Sheet.{Sheet, sents, demands}
 use Rattle.ring.specs.declared.types.Link.{Link}
 use Rattle.text.specs.FieldByte.{field_byte}
 use Rattle.text.specs.ReadLine.{Reading, read_line}
-use Rattle.text.specs.Shapes.{ring_shape, sent_shape, cut_shape, link_shape, last_shape}
+use Rattle.text.specs.Shapes.{ring_shape, sheet_row_shape, cut_shape, link_shape, last_shape}
 use Rattle.text.specs.declared.field.Field.{Field}
 use Rattle.table.specs.Lines.{lines}
 use Rattle.table.specs.Faults.{ring_found, row_found, last_of as last_demand}
@@ -38,8 +38,8 @@ unless shape vs (Err f) next = stop f.reason (field_byte shape vs f.field)
 -- ---- the values of a line; that of the letter is the first
 
 -- D i j amount front back F-or-B
-abbrev pub row_in : List ℕ → Routed
-row_in vs = routed (sent (get_or vs 1 0) (get_or vs 2 0) (get_or vs 3 0) (get_or vs 4 0) (get_or vs 5 0)) (way_of (get_or vs 6 0))
+abbrev pub routed_in : List ℕ → Routed
+routed_in vs = routed (sent (get_or vs 1 0) (get_or vs 2 0) (get_or vs 3 0) (get_or vs 4 0) (get_or vs 5 0)) (way_of (get_or vs 6 0))
 
 -- C g h across
 abbrev pub cut_in : List ℕ → Cut
@@ -73,7 +73,7 @@ cut_turn ring rs q (Err p) = stop Misshapen (max q p + 1)
 -- D i j amount front back F-or-B, else C
 unfoldable pub row_turn : Limits → Ring → List Routed → Reading → Reading → Turn
 unfolding unless cut_turn row_found
-row_turn limits ring rs (Ok vs) other = unless sent_shape vs (row_found limits ring.nodes (length rs) (last_of rs) (row_in vs).sent.demand) (rows ring (rs ++ row_in vs ∷ []))
+row_turn limits ring rs (Ok vs) other = unless sheet_row_shape vs (row_found limits ring.nodes (length rs) (last_of rs) (routed_in vs).sent.demand) (rows ring (rs ++ routed_in vs ∷ []))
 row_turn limits ring rs (Err p) other = cut_turn ring rs p other
 
 -- L link split-load unsplit-load
@@ -90,7 +90,7 @@ last_turn ring rs c ks (Err p) = stop Misshapen (p + 1)
 unfoldable pub turn : Limits → State → List ℕ → Turn
 unfolding ring_turn row_turn link_turn last_turn
 turn limits start l = ring_turn limits (read_line limits.digits ring_shape l)
-turn limits (rows ring rs) l = row_turn limits ring rs (read_line limits.digits sent_shape l) (read_line limits.digits cut_shape l)
+turn limits (rows ring rs) l = row_turn limits ring rs (read_line limits.digits sheet_row_shape l) (read_line limits.digits cut_shape l)
 turn limits (links ring rs c ks) l = cond (ltb (length ks) ring.nodes) (link_turn ring rs c ks (read_line limits.digits link_shape l)) (last_turn ring rs c ks (read_line limits.digits last_shape l))
 turn limits (end x) l = stop Misshapen 1
 

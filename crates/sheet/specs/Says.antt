@@ -3,17 +3,17 @@ use Rattle.std.specs.Prelude.{ℕ, ◌+◌, ◌≤◌, ◌<◌, List, [], ◌∷
 use Rattle.ring.specs.declared.types.Cut.{Cut}
 use Rattle.ring.specs.Limits.{Limits}
 use Rattle.ring.specs.declared.types.Ring.{Ring}
-use Rattle.ring.specs.Demand.{PairBefore}
+use Rattle.ring.specs.TableRows.{PairBefore}
 use Rattle.ring.specs.Routing.{way_number}
 use Rattle.ring.specs.declared.types.Routed.{Routed}
 use Rattle.ring.specs.Sheet.{Sheet}
 use Rattle.ring.specs.declared.types.Link.{Link}
 use Rattle.text.specs.Number.{limit}
-use Rattle.text.specs.FieldByte.{sent_byte}
+use Rattle.text.specs.FieldByte.{sheet_row_byte}
 use Rattle.text.specs.FirstFault.{Agrees}
-use Rattle.text.specs.Shapes.{ring_shape, sent_shape, cut_shape, link_shape, last_shape, cut_line, last_line}
+use Rattle.text.specs.Shapes.{ring_shape, sheet_row_shape, cut_shape, link_shape, last_shape, cut_line, last_line}
 use Rattle.table.specs.Lines.{lines}
-use Rattle.table.specs.Says.{LineIs, RingIs, WrongRing, WrongFibres, NoNode, DueByte, ShapeByte, RingField, Earlier}
+use Rattle.table.specs.Says.{LineIs, RingIs, SaysRingSize, SaysFibres, NoNode, DueByte, ShapeByte, RingField, Earlier}
 use Rattle.table.specs.declared.reason.Reason.{Reason}
 use Rattle.table.specs.declared.reason.Reason.TheVariants.{TooLong, Misshapen, RingSize, Fibres, NoSuchNode, NotBelow, OutOfOrder, TooMany, TooMuch}
 use Rattle.sheet.specs.WriteSheet.{routed_line, load_line}
@@ -21,7 +21,7 @@ use Rattle.sheet.specs.WriteSheet.{routed_line, load_line}
 -- ---- lines
 
 -- this line is D i j amount front back F-or-B
-pub record SentIs (limits : Limits) (t : List ℕ) (line : ℕ) (r : Routed) : Type 0 where
+pub record RoutedIs (limits : Limits) (t : List ℕ) (line : ℕ) (r : Routed) : Type 0 where
   pub text : LineIs (lines t) line (routed_line r)
   pub nodes : (r.sent.demand.first < limit limits.digits) × (r.sent.demand.second < limit limits.digits)
   pub amount : r.sent.demand.amount < limit limits.digits
@@ -58,7 +58,7 @@ pub data State : Type 0 where
 pub data At (limits : Limits) (t : List ℕ) : ℕ → State → Type 0 where
   at_start : At limits t 1 start
   behind_ring : {ring : Ring} → RingIs limits t ring → At limits t 2 (rows ring [])
-  behind_row : {line : ℕ} {ring : Ring} {rs : List Routed} {r : Routed} → At limits t line (rows ring rs) → SentIs limits t line r → At limits t (line + 1) (rows ring (rs ++ r ∷ []))
+  behind_row : {line : ℕ} {ring : Ring} {rs : List Routed} {r : Routed} → At limits t line (rows ring rs) → RoutedIs limits t line r → At limits t (line + 1) (rows ring (rs ++ r ∷ []))
   behind_cut : {line : ℕ} {ring : Ring} {rs : List Routed} {c : Cut} → At limits t line (rows ring rs) → CutIs limits t line c → At limits t (line + 1) (links ring rs c [])
   behind_link : {line : ℕ} {ring : Ring} {rs : List Routed} {c : Cut} {ks : List Link} {l : Link} → At limits t line (links ring rs c ks) → length ks < ring.nodes → LinkIs limits t line l
       → At limits t (line + 1) (links ring rs c (ks ++ l ∷ []))
@@ -70,14 +70,14 @@ pub record RowAt (limits : Limits) (t : List ℕ) (line : ℕ) (r : Routed) : Ty
   pub ring : Ring
   pub rs : List Routed
   pub due : At limits t line (rows ring rs)
-  pub is : SentIs limits t line r
+  pub is : RoutedIs limits t line r
 
 -- ---- the reasons
 
 -- 2: line of the wrong shape, missing, or left over
 pub data WrongLine (limits : Limits) (t : List ℕ) (line : ℕ) : Type 0 where
   no_ring : At limits t line start → ((ring : Ring) → RingIs limits t ring → ⊥) → WrongLine limits t line
-  no_row_no_cut : {ring : Ring} {rs : List Routed} → At limits t line (rows ring rs) → ((r : Routed) → SentIs limits t line r → ⊥) → ((c : Cut) → CutIs limits t line c → ⊥)
+  no_row_no_cut : {ring : Ring} {rs : List Routed} → At limits t line (rows ring rs) → ((r : Routed) → RoutedIs limits t line r → ⊥) → ((c : Cut) → CutIs limits t line c → ⊥)
       → WrongLine limits t line
   no_link : {ring : Ring} {rs : List Routed} {c : Cut} {ks : List Link} → At limits t line (links ring rs c ks) → length ks < ring.nodes → ((l : Link) → LinkIs limits t line l → ⊥)
       → WrongLine limits t line
@@ -86,19 +86,19 @@ pub data WrongLine (limits : Limits) (t : List ℕ) (line : ℕ) : Type 0 where
   left_over : {x : Sheet} {l : List ℕ} → At limits t line (end x) → LineIs (lines t) line l → WrongLine limits t line
 
 -- 4: a node outside 1..n
-pub record WrongNode (limits : Limits) (t : List ℕ) (line : ℕ) : Type 0 where
+pub record SaysNoSuchNode (limits : Limits) (t : List ℕ) (line : ℕ) : Type 0 where
   pub r : Routed
   pub row : RowAt limits t line r
   pub wrong : NoNode row.ring.nodes r.sent.demand.first ⊎ NoNode row.ring.nodes r.sent.demand.second
 
 -- 5: first node not below second
-pub record WrongPair (limits : Limits) (t : List ℕ) (line : ℕ) : Type 0 where
+pub record SaysNotBelow (limits : Limits) (t : List ℕ) (line : ℕ) : Type 0 where
   pub r : Routed
   pub row : RowAt limits t line r
   pub wrong : r.sent.demand.second ≤ r.sent.demand.first
 
 -- 6: row's nodes below the row before, by first node, then second
-pub record WrongOrder (limits : Limits) (t : List ℕ) (line : ℕ) : Type 0 where
+pub record SaysOutOfOrder (limits : Limits) (t : List ℕ) (line : ℕ) : Type 0 where
   pub before : ℕ
   pub next : line ≡ before + 1
   pub q : Routed
@@ -108,13 +108,13 @@ pub record WrongOrder (limits : Limits) (t : List ℕ) (line : ℕ) : Type 0 whe
   pub wrong : PairBefore r.sent.demand.first r.sent.demand.second q.sent.demand.first q.sent.demand.second
 
 -- 16: more than 1,024 rows
-pub record WrongCount (limits : Limits) (t : List ℕ) (line : ℕ) : Type 0 where
+pub record SaysTooMany (limits : Limits) (t : List ℕ) (line : ℕ) : Type 0 where
   pub r : Routed
   pub row : RowAt limits t line r
   pub wrong : limits.rows < length row.rs + 1
 
 -- 7: amount over 9,999
-pub record WrongAmount (limits : Limits) (t : List ℕ) (line : ℕ) : Type 0 where
+pub record SaysTooMuch (limits : Limits) (t : List ℕ) (line : ℕ) : Type 0 where
   pub r : Routed
   pub row : RowAt limits t line r
   pub wrong : limits.amount < r.sent.demand.amount
@@ -123,13 +123,13 @@ pub record WrongAmount (limits : Limits) (t : List ℕ) (line : ℕ) : Type 0 wh
 unfoldable pub Says : Limits → List ℕ → Reason → ℕ → Type 0
 Says limits t TooLong line = (line ≡ 0) × (limits.bytes < length t)
 Says limits t Misshapen line = WrongLine limits t line
-Says limits t RingSize line = WrongRing limits t line
-Says limits t Fibres line = WrongFibres limits t line
-Says limits t NoSuchNode line = WrongNode limits t line
-Says limits t NotBelow line = WrongPair limits t line
-Says limits t OutOfOrder line = WrongOrder limits t line
-Says limits t TooMany line = WrongCount limits t line
-Says limits t TooMuch line = WrongAmount limits t line
+Says limits t RingSize line = SaysRingSize limits t line
+Says limits t Fibres line = SaysFibres limits t line
+Says limits t NoSuchNode line = SaysNoSuchNode limits t line
+Says limits t NotBelow line = SaysNotBelow limits t line
+Says limits t OutOfOrder line = SaysOutOfOrder limits t line
+Says limits t TooMany line = SaysTooMany limits t line
+Says limits t TooMuch line = SaysTooMuch limits t line
 -- a sheet that is read is judged by its values; and the others judge no sheet
 Says limits t _ line = ⊥
 
@@ -137,8 +137,8 @@ Says limits t _ line = ⊥
 
 -- where a D line or the C line is due, both shapes count: p is the place of the first byte at which neither goes on
 pub record NeitherGoesOn (limits : Limits) (l : List ℕ) (p : ℕ) : Type 0 where
-  pub before : Agrees limits.digits sent_shape l p ⊎ Agrees limits.digits cut_shape l p
-  pub no_row : Agrees limits.digits sent_shape l (p + 1) → ⊥
+  pub before : Agrees limits.digits sheet_row_shape l p ⊎ Agrees limits.digits cut_shape l p
+  pub no_row : Agrees limits.digits sheet_row_shape l (p + 1) → ⊥
   pub no_cut : Agrees limits.digits cut_shape l (p + 1) → ⊥
 
 -- 2: by the shape that is due; 1 where the line is left over
@@ -151,7 +151,7 @@ pub data LineByte (limits : Limits) (t : List ℕ) (line byte : ℕ) : Type 0 wh
 
 -- where field k of a D line starts: the nodes are fields 1 and 2, the amount is field 3
 abbrev pub routed_byte : Routed → ℕ → ℕ
-routed_byte r k = sent_byte r.sent.demand.first r.sent.demand.second r.sent.demand.amount r.sent.front r.sent.back (way_number r.way) k
+routed_byte r k = sheet_row_byte r.sent.demand.first r.sent.demand.second r.sent.demand.amount r.sent.front r.sent.back (way_number r.way) k
 
 -- 4: where the first of the two nodes that is outside starts
 pub data NodeByte (limits : Limits) (t : List ℕ) (line byte : ℕ) : Type 0 where

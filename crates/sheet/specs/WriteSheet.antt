@@ -5,11 +5,11 @@ use Rattle.ring.specs.declared.types.Routed.{Routed}
 use Rattle.ring.specs.Sheet.{Sheet, figures_of}
 use Rattle.ring.specs.declared.types.Link.{Link}
 use Rattle.ring.specs.declared.types.Figures.{Figures}
-use Rattle.text.specs.Shapes.{ring_line, sent_line, cut_line, link_line, last_line}
+use Rattle.text.specs.Shapes.{ring_line, sheet_row_line, cut_line, link_line, last_line}
 
 -- D i j amount front back F-or-B
 abbrev pub routed_line : Routed → List ℕ
-routed_line r = sent_line r.sent.demand.first r.sent.demand.second r.sent.demand.amount r.sent.front r.sent.back (way_number r.way)
+routed_line r = sheet_row_line r.sent.demand.first r.sent.demand.second r.sent.demand.amount r.sent.front r.sent.back (way_number r.way)
 
 -- L link split-load unsplit-load
 abbrev pub load_line : Link → List ℕ

@@ -17,11 +17,11 @@ use arrayvec::ArrayVec;
 use ring::{Cut, Demand, Figures, LINKS, Link, Ring, Routed, Sent, Way};
 use rows::{Columns, Rows};
 use table::{Line, Lines, Refusal, check_next, ring_on};
-use text::{CUT, LAST, LINK, SENT};
+use text::{CUT, LAST, LINK, SHEET_ROW};
 
 // The row of a D line by its values, behind the rows before it. Apart from `read_rows` for its proof: what is found against the row is known here alone.
 #[tactic(auto, using(crate::proofs::ReadSteps::has_room), unfolding(crate::specs::Read::row_turn, crate::specs::Read::unless, crate::specs::Read::after))]
-fn row_on(number: u32, values: &[u32; 7], ring: Ring, rows: &Columns) -> Result<Routed, Refusal>
+fn routed_on(number: u32, values: &[u32; 7], ring: Ring, rows: &Columns) -> Result<Routed, Refusal>
     ensures leads { (other : Reading) (next : State → SheetResult) →
         read_by result (λ row. next (behind_rows ring (rows.now ++ row ∷ [])))
         ≡ after (row_turn desk ring rows.now (Ok values.now) other) number next }
@@ -33,7 +33,7 @@ fn row_on(number: u32, values: &[u32; 7], ring: Ring, rows: &Columns) -> Result<
         second,
         amount,
     };
-    check_next(ring.nodes, rows, row).map_err(|fault| fault.on(number, &SENT, values))?;
+    check_next(ring.nodes, rows, row).map_err(|fault| fault.on(number, &SHEET_ROW, values))?;
     Ok(Routed {
         sent: Sent {
             demand: row,
@@ -67,9 +67,9 @@ fn read_rows(lines: &mut Lines, ring: Ring, rows: &mut Columns) -> Result<Cut, R
     rows.clear();
     while let Some(line) = lines.next_line() {
         let number = rows.count() as u32 + 2;
-        match line.read(&SENT) {
+        match line.read(&SHEET_ROW) {
             Ok(values) => {
-                let row = row_on(number, &values, ring, rows)?;
+                let row = routed_on(number, &values, ring, rows)?;
                 rows.push(row);
             }
             Err(no_row) => return cut_on(number, &line, no_row),
@@ -81,21 +81,21 @@ fn read_rows(lines: &mut Lines, ring: Ring, rows: &mut Columns) -> Result<Cut, R
 // The L lines, of which the first has this number: one for each link.
 fn read_links(
     lines: &mut Lines,
-    first: u32,
+    number: u32,
     ring: Ring,
     links: &mut ArrayVec<Link, LINKS>,
 ) -> Result<(), Refusal>
     requires links_fit { ring.nodes ≤ desk.nodes }
-    requires line_fits { first ≤ desk.rows + 3 }
+    requires line_fits { number ≤ desk.rows + 3 }
     ensures leads { (rs : List RoutedOf) (c : CutOf) →
         read_by result (λ _. read_from desk (behind_links ring rs c links.new.items)
-        (first + ring.nodes) lines.new)
-        ≡ read_from desk (behind_links ring rs c []) first lines.old }
+        (number + ring.nodes) lines.new)
+        ≡ read_from desk (behind_links ring rs c []) number lines.old }
     ensures all { IfOk result (λ _. ring.nodes ≤ length links.new.items) }
 {
     links.clear();
-    for number in first..first + ring.nodes {
-        let [_, link, split, unsplit] = lines.due(number)?.values(number, &LINK)?;
+    for line in number..number + ring.nodes {
+        let [_, link, split, unsplit] = lines.due(line)?.values(line, &LINK)?;
         links.push(Link {
             link,
             split,

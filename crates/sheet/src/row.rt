@@ -4,7 +4,7 @@ ghost use Rattle.text.specs.Written.{Passed};
 ghost use Rattle.sheet.specs.WriteSheet.{routed_line};
 
 use ring::Routed;
-use text::{Pass, SENT, write_line};
+use text::{Pass, SHEET_ROW, write_line};
 
 /// Writes a row's line from a place on, or only measures it, and answers the place behind the line.
 pub(crate) fn write_row<P: Pass>(buffer: &mut [u8], at: usize, row: Routed) -> usize
@@ -22,5 +22,5 @@ pub(crate) fn write_row<P: Pass>(buffer: &mut [u8], at: usize, row: Routed) -> u
         sent.back,
         row.way.number(),
     ];
-    write_line::<P>(buffer, at, &SENT, &values)
+    write_line::<P>(buffer, at, &SHEET_ROW, &values)
 }

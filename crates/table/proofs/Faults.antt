@@ -2,7 +2,7 @@
 use Prim.Native.Nat.{ℕ, zero, suc, ◌+◌, ◌≤◌}
 use mathlib.Core.List.{List, [], ◌∷◌, ◌++◌}
 use mathlib.Core.Logic.{inl, inr}
-use mathlib.Core.Path.{◌≡◌, refl, ap, sym, ◌∙◌}
+use mathlib.Core.Path.{◌≡◌, refl, sym, ◌∙◌}
 use native.Mathlib.Omega.{arith}
 use lib.ListN.{length}
 use Rattle.std.specs.Prelude.{Result, Option, Some, Ok, Err, slice_get}
@@ -11,7 +11,7 @@ use Rattle.ring.specs.Limits.{Limits, desk}
 use Rattle.ring.specs.declared.types.Ring.{Ring}
 use Rattle.ring.specs.declared.types.Demand.{Demand}
 use Rattle.table.specs.Judge.{ring_verdict, row_verdict}
-use Rattle.table.specs.Faults.{found, ring_found, row_found, last_of}
+use Rattle.table.specs.Faults.{verdict_found, ring_found, row_found, last_of}
 use Rattle.table.specs.Findings.{First, found_at, ring_findings, demand_findings}
 use Rattle.table.specs.Verdict.{Verdict}
 use Rattle.table.specs.declared.reason.Reason.{Reason}
@@ -20,24 +20,15 @@ use Rattle.table.proofs.Judged.{RingJudged, size_wrong, wrong_fibres, right_ring
 use Rattle.table.proofs.Against.{has-nodes, in_order, has-size}
 
 module _ (field : Reason → ℕ) where
-  pub found-none : (v : Verdict) → found v field ≡ Ok tt → v ≡ Ok tt
-  unfolding found
+  pub found-none : (v : Verdict) → verdict_found v field ≡ Ok tt → v ≡ Ok tt
+  unfolding verdict_found
   found-none (Ok tt) e = refl
   found-none (Err r) e = clash (cc)
-
-  pub found-some : (v : Verdict) (f : Fault) → found v field ≡ Err f → v ≡ Err f.reason
-  unfolding found
-  found-some (Ok tt) f e = clash (cc)
-  found-some (Err r) f e = let same : record { reason = r; field = field r } ≡ f = cc in ap (λ (f : Fault). Err f.reason) same
 
 module _ (ring : Ring) (o : Result Unit Fault) (is : o ≡ ring_found desk ring) where
   pub ring-none : o ≡ Ok tt → Ok tt ≡ ring_verdict desk ring
   unfolding ring_found
   ring-none e = sym (found-none _ _ (sym is ∙ e))
-
-  pub ring-some : (f : Fault) → o ≡ Err f → Err f.reason ≡ ring_verdict desk ring
-  unfolding ring_found
-  ring-some f e = sym (found-some _ _ f (sym is ∙ e))
 
 -- where nothing is found against a ring, it has few enough nodes
 pub ring_fits : (ring : Ring) (o : Result Unit Fault) → o ≡ ring_found desk ring → o ≡ Ok tt → ring.nodes ≤ desk.nodes
@@ -50,10 +41,6 @@ module _ (n k : ℕ) (above : Option Demand) (r : Demand) (o : Result Unit Fault
   pub row-none : o ≡ Ok tt → Ok tt ≡ row_verdict desk n k above r
   unfolding row_found
   row-none e = sym (found-none _ _ (sym is ∙ e))
-
-  pub row-some : (f : Fault) → o ≡ Err f → Err f.reason ≡ row_verdict desk n k above r
-  unfolding row_found
-  row-some f e = sym (found-some _ _ f (sym is ∙ e))
 
 -- ---- the last row
 
@@ -71,8 +58,8 @@ last-more (x ∷ y ∷ rs) r = last-more (y ∷ rs) r
 
 -- ---- a verdict is the first of the findings
 
-fits-ring : (limits : Limits) (ring : Ring) {v : Verdict} (field : Reason → ℕ) → RingJudged limits ring v → First (ring_findings limits ring) (found_at 0 (found v field))
-unfolding found
+fits-ring : (limits : Limits) (ring : Ring) {v : Verdict} (field : Reason → ℕ) → RingJudged limits ring v → First (ring_findings limits ring) (found_at 0 (verdict_found v field))
+unfolding verdict_found
 fits-ring limits ring field (size_wrong w) = inl (w, refl)
 fits-ring limits ring field (wrong_fibres l m w) = inr (has-size l m, inl (w, refl))
 fits-ring limits ring field (right_ring l m f) = inr (has-size l m, inr (λ w. w f, refl))
@@ -85,8 +72,8 @@ pub ring_given : (ring : Ring) (o : Result Unit Fault) → o ≡ ring_found desk
 ring_given ring o is = rw is (ring-first desk ring)
 
 fits-row : (limits : Limits) (n k : ℕ) (above : Option Demand) (r : Demand) {v : Verdict} (field : Reason → ℕ) → RowJudged limits n k above r v
-    → First (demand_findings limits n (k + 1) above r) (found_at (k + 1) (found v field))
-unfolding found
+    → First (demand_findings limits n (k + 1) above r) (found_at (k + 1) (verdict_found v field))
+unfolding verdict_found
 fits-row limits n k above r field (no_such_node w) = inl (w, refl)
 fits-row limits n k above r field (not_below h p w) = inr (has-nodes h p, inl (w, refl))
 fits-row limits n k above r field (out_of_order h p l w) = inr (has-nodes h p, inr (λ m. omega arith, inl (w, refl)))

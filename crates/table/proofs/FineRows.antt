@@ -6,7 +6,8 @@ use native.Mathlib.Omega.{arith}
 use lib.ListN.{length}
 use Rattle.ring.specs.Lists.{Each, none, more, Steps, no_member, one_member, step}
 use Rattle.std.specs.Prelude.{Option, Some, None}
-use Rattle.ring.specs.Demand.{OnRing, InTableOrder, TableRows}
+use Rattle.ring.specs.Demand.{OnRing}
+use Rattle.ring.specs.TableRows.{InTableOrder, TableRows}
 use Rattle.ring.specs.declared.types.Demand.{Demand}
 use Rattle.ring.specs.Limits.{Limits}
 use Rattle.text.proofs.Apart.{clash}

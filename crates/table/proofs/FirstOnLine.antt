@@ -12,7 +12,7 @@ use Rattle.ring.specs.declared.types.Demand.{Demand}
 use Rattle.table.specs.Lines.{lines}
 use Rattle.table.specs.Reasons.{rank_of}
 use Rattle.table.specs.Findings.{Falls}
-use Rattle.table.specs.Says.{LineIs, RingIs, RowIs, WrongOrder, Says}
+use Rattle.table.specs.Says.{LineIs, RingIs, RowIs, SaysOutOfOrder, Says}
 use Rattle.table.specs.declared.reason.Reason.{Reason}
 use Rattle.table.specs.declared.reason.Reason.TheVariants.{Misshapen}
 use Rattle.table.specs.Verdict.{Verdict}
@@ -84,7 +84,7 @@ pub data RowBefore (limits : Limits) (t : List ℕ) : ℕ → Option Demand → 
   no_row_before : RowBefore limits t 2 None
   row_before : {line a b c : ℕ} → RowIs limits t line a b c → RowBefore limits t (line + 1) (Some (demand a b c))
 
-order-against : {limits : Limits} {t : List ℕ} {line i j d : ℕ} {above : Option Demand} → RowIs limits t line i j d → RowBefore limits t line above → WrongOrder limits t line → Falls above (demand i j d)
+order-against : {limits : Limits} {t : List ℕ} {line i j d : ℕ} {above : Option Demand} → RowIs limits t line i j d → RowBefore limits t line above → SaysOutOfOrder limits t line → Falls above (demand i j d)
 order-against row no_row_before h = absurd (omega (arith, h.next, h.above.later))
 order-against row (row_before above) h =
     let q = row_one h.above above (omega (arith, h.next)) in
@@ -92,7 +92,7 @@ order-against row (row_before above) h =
     rw (q.same_i, q.same_j, r.same_i, r.same_j) at h.wrong
 
 -- a row that falls has a row before it
-order-holds : {limits : Limits} {t : List ℕ} {line i j d : ℕ} {above : Option Demand} → RowIs limits t line i j d → RowBefore limits t line above → Falls above (demand i j d) → WrongOrder limits t line
+order-holds : {limits : Limits} {t : List ℕ} {line i j d : ℕ} {above : Option Demand} → RowIs limits t line i j d → RowBefore limits t line above → Falls above (demand i j d) → SaysOutOfOrder limits t line
 order-holds row no_row_before wrong = absurd wrong
 order-holds {i} {j} {d} row (row_before {line} {a} {b} {c} above) wrong =
     record { before = line; next = refl; a = a; b = b; c = c; above = above; first = i; second = j; amount = d; row = row; wrong = wrong }

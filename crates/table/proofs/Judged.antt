@@ -7,14 +7,15 @@ use native.Mathlib.Omega.{arith}
 use native.Mathlib.Decide.{dec_lt, dec_le, ℕ_discrete}
 use lib.Dec.{ltb}
 use borrow.Author.Tests.{lt-ltb, le-ltb, le-leb, lt-leb, eq-eqb, ne_eqb}
-use Rattle.ring.specs.Demand.{OnRing, InTableOrder}
+use Rattle.ring.specs.Demand.{OnRing}
+use Rattle.ring.specs.TableRows.{InTableOrder}
 use Rattle.ring.specs.Limits.{Limits}
 use Rattle.ring.specs.declared.types.Ring.{Ring}
 use Rattle.ring.specs.declared.types.Demand.{Demand}
 use Rattle.ring.specs.LineSize.{two_fibres, four_fibres, IsFibres}
 use Rattle.table.specs.Says.{NoNode}
 use Rattle.table.specs.Findings.{Falls}
-use Rattle.table.specs.Judge.{wrong_size, judge_size, other_fibres, ring_verdict, outside, falls, row_verdict}
+use Rattle.table.specs.Judge.{wrong_size, check_size, other_fibres, ring_verdict, outside, falls, row_verdict}
 use Rattle.table.specs.declared.reason.Reason.TheVariants.{RingSize, Fibres, NoSuchNode, NotBelow, OutOfOrder, TooMany, TooMuch}
 use Rattle.table.specs.Verdict.{Verdict}
 use Rattle.std.specs.Prelude.{Option, Some, None, Ok, Err}
@@ -40,15 +41,15 @@ pub data SizeJudged (limits : Limits) (n : ℕ) : Verdict → Type 0 where
   not_so_many : (n < limits.fewest) ⊎ (limits.nodes < n) → SizeJudged limits n (Err RingSize)
   right_size : limits.fewest ≤ n → n ≤ limits.nodes → SizeJudged limits n (Ok tt)
 
-pub size-judged : (limits : Limits) (n : ℕ) → SizeJudged limits n (judge_size limits n)
-unfolding judge_size
+pub size-judged : (limits : Limits) (n : ℕ) → SizeJudged limits n (check_size limits n)
+unfolding check_size
 size-judged limits n = go (size limits n)
   where
-    go : Size limits n → SizeJudged limits n (judge_size limits n)
+    go : Size limits n → SizeJudged limits n (check_size limits n)
     go (wrong w e) = rw e (not_so_many w)
     go (right few many e) = rw e (right_size few many)
 
-pub fine-size : (limits : Limits) (n : ℕ) → limits.fewest ≤ n → n ≤ limits.nodes → judge_size limits n ≡ Ok tt
+pub fine-size : (limits : Limits) (n : ℕ) → limits.fewest ≤ n → n ≤ limits.nodes → check_size limits n ≡ Ok tt
 fine-size limits n few many = go (size-judged limits n)
   where
     go : {v : Verdict} → SizeJudged limits n v → v ≡ Ok tt

@@ -16,8 +16,8 @@ use Rattle.text.proofs.Apart.{clash}
 use Rattle.table.specs.Lines.{lines}
 use Rattle.table.specs.Judge.{row_verdict}
 use Rattle.table.specs.Faults.{row_found, last_of}
-use Rattle.table.specs.OnLine.{and_then, values_on, passed, judged}
-use Rattle.table.specs.ReadTable.{accepted, refused, row_in, ring_on, row_on, unless_refused, rows_of, table_of}
+use Rattle.table.specs.OnLine.{and_then, values_on, passed, line_judged}
+use Rattle.table.specs.ReadTable.{accepted, refused, demand_in, ring_on, row_on, unless_refused, rows_of, table_of}
 use Rattle.table.specs.Answer.{with_rows}
 use Rattle.table.specs.declared.reason.Reason.TheVariants.{TooLong, Misshapen}
 use Rattle.table.specs.declared.reason.Refusal.{Refusal}
@@ -33,17 +33,17 @@ has_room n k above r e = go (rw e at (row-judged desk n k above r))
     go (row_fine on order room most) = room
 
 row-room : (ring : Ring) (rs : List Demand) (l : List ℕ) (r : Demand) → row_on desk ring rs l ≡ Ok r → length rs < desk.rows
-unfolding row_on judged and_then values_on passed row_found
+unfolding row_on line_judged and_then values_on passed row_found
 row-room ring rs l r e = go (read_line desk.digits row_shape l) e
   where
     against : List ℕ → Outcome Unit Fault
-    against vs = row_found desk ring.nodes (length rs) (last_of rs) (row_in vs)
+    against vs = row_found desk ring.nodes (length rs) (last_of rs) (demand_in vs)
 
-    fine : (vs : List ℕ) (o : Outcome Unit Fault) → against vs ≡ o → passed (length rs + 2) row_shape vs o (row_in vs) ≡ Ok r → length rs < desk.rows
+    fine : (vs : List ℕ) (o : Outcome Unit Fault) → against vs ≡ o → passed (length rs + 2) row_shape vs o (demand_in vs) ≡ Ok r → length rs < desk.rows
     fine vs (Ok tt) n e = has_room _ _ _ _ (found-none _ _ n)
     fine vs (Err f) n e = clash (cc)
 
-    go : (y : LineReading) → and_then (values_on (length rs + 2) y) (λ vs. passed (length rs + 2) row_shape vs (against vs) (row_in vs)) ≡ Ok r → length rs < desk.rows
+    go : (y : LineReading) → and_then (values_on (length rs + 2) y) (λ vs. passed (length rs + 2) row_shape vs (against vs) (demand_in vs)) ≡ Ok r → length rs < desk.rows
     go (Ok vs) e = fine vs (against vs) refl e
     go (Err p) e = clash (cc)
 

@@ -17,14 +17,14 @@ use Rattle.ring.specs.declared.types.Ring.{Ring}
 use Rattle.table.specs.Lines.{lines}
 use Rattle.table.specs.Reasons.{rank_of}
 use Rattle.table.specs.Fields.{field_of, node_field, ring_reason_byte, row_reason_byte}
-use Rattle.table.specs.Faults.{found, ring_found, row_found, last_of}
-use Rattle.table.specs.OnLine.{and_then, values_on, passed, judged}
+use Rattle.table.specs.Faults.{verdict_found, ring_found, row_found, last_of}
+use Rattle.table.specs.OnLine.{and_then, values_on, passed, line_judged}
 use Rattle.text.specs.FieldByte.{field_byte}
 use Rattle.text.specs.ReadLine.{Reading}
 use Rattle.text.specs.Shapes.{ring_shape, row_shape}
 use Rattle.text.specs.declared.field.Field.{Field}
 use Rattle.table.proofs.Faults.{last-more}
-use Rattle.table.specs.ReadTable.{TableResult, accepted, refused, ring_in, row_in, ring_on, row_on, unless_refused, rows_of, table_lines, table_of}
+use Rattle.table.specs.ReadTable.{TableResult, accepted, refused, ring_in, demand_in, ring_on, row_on, unless_refused, rows_of, table_lines, table_of}
 use Rattle.table.specs.Says.{RingIs, RowIs, Says, line_missing, line_faulty, ring_due, row_due, ByteIs, Earlier, Given, Accepted}
 use Rattle.table.specs.declared.reason.Reason.{Reason}
 use Rattle.table.specs.declared.reason.Reason.TheVariants.{TooLong}
@@ -68,8 +68,8 @@ module _ {limits : Limits} {t : List ℕ} where
           ]
 
   judged-right : {A : Type 0} {line : ℕ} (shape : List Field) (vs : List ℕ) (field : Reason → ℕ) (y : A) (next : A → TableResult) (v : Verdict) → Clean limits t line → FirstOnLine limits t line v
-      → ByteOn limits t line (λ r. field_byte shape vs (field r)) v → (Clean limits t (line + 1) → Right limits t (next y)) → Right limits t (unless_refused (passed line shape vs (found v field) y) next)
-  unfolding unless_refused passed found
+      → ByteOn limits t line (λ r. field_byte shape vs (field r)) v → (Clean limits t (line + 1) → Right limits t (next y)) → Right limits t (unless_refused (passed line shape vs (verdict_found v field) y) next)
+  unfolding unless_refused passed verdict_found
   judged-right shape vs field y next (Ok tt) clean f b rest = rest (clean-next clean f)
   judged-right shape vs field y next (Err r) clean f b rest = first_holds (given-here clean f b)
 
@@ -92,7 +92,7 @@ module _ {limits : Limits} {t : List ℕ} where
 
   rows_right : {ring : Ring} → RingIs limits t ring → (ls : List (List ℕ)) (rs : List Demand) → LinesFrom (lines t) (length rs + 2) ls → Clean limits t (length rs + 2)
       → RowBefore limits t (length rs + 2) (last_of rs) → Right limits t (rows_of limits ring rs ls)
-  unfolding rows_of row_on judged and_then values_on unless_refused row_found row_reason_byte ByteIs
+  unfolding rows_of row_on line_judged and_then values_on unless_refused row_found row_reason_byte ByteIs
   rows_right here [] rs from clean before = none_holds (clean_end (omega arith) from clean)
   rows_right {ring} here (l ∷ ls) rs from clean before = go (as-row limits l) (λ r. rows_right here ls (rs ++ r ∷ []))
     where
@@ -108,7 +108,7 @@ module _ {limits : Limits} {t : List ℕ} where
       go : {x : Reading} → RowLine limits l x
           → ((r : Demand) → LinesFrom (lines t) (length (rs ++ r ∷ []) + 2) ls → Clean limits t (length (rs ++ r ∷ []) + 2)
           → RowBefore limits t (length (rs ++ r ∷ []) + 2) (last_of (rs ++ r ∷ [])) → Right limits t (next r))
-          → Right limits t (unless_refused (and_then (values_on line x) λ vs. passed line row_shape vs (row_found limits ring.nodes (length rs) (last_of rs) (row_in vs)) (row_in vs)) next)
+          → Right limits t (unless_refused (and_then (values_on line x) λ vs. passed line row_shape vs (row_found limits ring.nodes (length rs) (last_of rs) (demand_in vs)) (demand_in vs)) next)
       go (row_line_is {i} {j} {d} e w) rest =
           let r = demand i j d in
           let now : RowIs limits t line i j d = record { later = omega arith; text = rw e at (line-here from); spelled = w } in
@@ -122,7 +122,7 @@ module _ {limits : Limits} {t : List ℕ} where
           (row_due (omega arith) (line_faulty (line-here from) fault)))
 
   lines-right : length t ≤ limits.bytes → (ls : List (List ℕ)) → LinesFrom (lines t) 1 ls → Right limits t (table_lines limits ls)
-  unfolding table_lines ring_on judged and_then values_on unless_refused ring_found ring_reason_byte ByteIs
+  unfolding table_lines ring_on line_judged and_then values_on unless_refused ring_found ring_reason_byte ByteIs
   lines-right short [] from = first_holds (given-here (clean-start short) (no-ring-first (λ n r. omega (arith, no-line-left from r.text))) (ring_due refl (line_missing (λ l is. omega (arith, no-line-left from is)))))
   lines-right short (l ∷ ls) from = go (as-ring limits l)
     where

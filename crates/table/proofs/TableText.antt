@@ -19,9 +19,9 @@ use Rattle.ring.specs.declared.types.Ring.{Ring}
 use Rattle.ring.specs.LineSize.{IsFibres}
 use Rattle.table.specs.Lines.{lines}
 use Rattle.table.specs.Table.{write_rows, write_table, LimitsSpelled, InRange}
-use Rattle.table.specs.Faults.{found, ring_found, row_found, last_of}
-use Rattle.table.specs.OnLine.{and_then, values_on, passed, judged}
-use Rattle.table.specs.ReadTable.{TableResult, accepted, refused, ring_in, row_in, ring_on, row_on, unless_refused, rows_of, table_lines, table_of}
+use Rattle.table.specs.Faults.{verdict_found, ring_found, row_found, last_of}
+use Rattle.table.specs.OnLine.{and_then, values_on, passed, line_judged}
+use Rattle.table.specs.ReadTable.{TableResult, accepted, refused, ring_in, demand_in, ring_on, row_on, unless_refused, rows_of, table_lines, table_of}
 use Rattle.table.specs.declared.fault.Fault.{Fault}
 use Rattle.table.proofs.Faults.{last-more}
 use Rattle.table.specs.declared.reason.Reason.{Reason}
@@ -57,7 +57,7 @@ module _ {limits : Limits} {ring : Ring} where
   row_more e w rows_refused = rows_refused
 
   rows-read : (ls : List (List ℕ)) (rs : List Demand) → RowsRead limits ring rs ls (rows_of limits ring rs ls)
-  unfolding rows_of row_on judged values_on row_found write_rows flatten
+  unfolding rows_of row_on line_judged values_on row_found write_rows flatten
   rows-read [] rs = rows_are [] (sym (append-nil rs)) refl no_row
   rows-read (l ∷ ls) rs = go (as-row limits l) (λ r. rows-read ls (rs ++ r ∷ []))
     where
@@ -65,15 +65,15 @@ module _ {limits : Limits} {ring : Ring} where
       next r = rows_of limits ring (rs ++ r ∷ []) ls
 
       against : List ℕ → Result Unit Fault
-      against vs = row_found limits ring.nodes (length rs) (last_of rs) (row_in vs)
+      against vs = row_found limits ring.nodes (length rs) (last_of rs) (demand_in vs)
 
       judging : {i j d : ℕ} {v : Verdict} (vs : List ℕ) (field : Reason → ℕ) → l ≡ row_line i j d → RowJudged limits ring.nodes (length rs) (last_of rs) (demand i j d) v
-          → RowsRead limits ring (rs ++ demand i j d ∷ []) ls (next (demand i j d)) → RowsRead limits ring rs (l ∷ ls) (unless_refused (passed (length rs + 2) row_shape vs (found v field) (demand i j d)) next)
+          → RowsRead limits ring (rs ++ demand i j d ∷ []) ls (next (demand i j d)) → RowsRead limits ring rs (l ∷ ls) (unless_refused (passed (length rs + 2) row_shape vs (verdict_found v field) (demand i j d)) next)
       judging {v = Err r} vs field e w rest = rows_refused
       judging {v = Ok tt} vs field e w rest = row_more e w rest
 
       go : {x : Reading} → RowLine limits l x → ((r : Demand) → RowsRead limits ring (rs ++ r ∷ []) ls (next r))
-          → RowsRead limits ring rs (l ∷ ls) (unless_refused (and_then (values_on (length rs + 2) x) λ vs. passed (length rs + 2) row_shape vs (against vs) (row_in vs)) next)
+          → RowsRead limits ring rs (l ∷ ls) (unless_refused (and_then (values_on (length rs + 2) x) λ vs. passed (length rs + 2) row_shape vs (against vs) (demand_in vs)) next)
       go (row_line_is {i} {j} {d} e w) rest = judging _ _ e (row-judged limits ring.nodes (length rs) (last_of rs) (demand i j d)) (rest (demand i j d))
       go (no_row_line none fault) rest = rows_refused
 
@@ -100,7 +100,7 @@ module _ {limits : Limits} {t : List ℕ} (short : length t ≤ limits.bytes) wh
   ring-more whole e w rows_refused = table_refused
 
   lines-read : (ls : List (List ℕ)) → t ≡ flatten ls → TableRead limits t (table_lines limits ls)
-  unfolding table_lines ring_on judged values_on ring_found flatten
+  unfolding table_lines ring_on line_judged values_on ring_found flatten
   lines-read [] whole = table_refused
   lines-read (l ∷ ls) whole = go (as-ring limits l)
     where
@@ -108,7 +108,7 @@ module _ {limits : Limits} {t : List ℕ} (short : length t ≤ limits.bytes) wh
       next ring = rows_of limits ring [] ls
 
       judging : {ring : Ring} {v : Verdict} (vs : List ℕ) (field : Reason → ℕ) → l ≡ ring_line ring.nodes ring.fibres → RingJudged limits ring v
-          → TableRead limits t (unless_refused (passed 1 ring_shape vs (found v field) ring) next)
+          → TableRead limits t (unless_refused (passed 1 ring_shape vs (verdict_found v field) ring) next)
       judging {v = Err r} vs field e w = table_refused
       judging {v = Ok tt} vs field e w = ring-more whole e w (rows-read ls [])
 
@@ -126,7 +126,7 @@ table-read limits t =
 -- against a fine row nothing is found
 pub row-again : (limits : Limits) (ring : Ring) (rs : List Demand) (r : Demand) → RowSpelled limits r.first r.second r.amount → OnRing ring.nodes r → InOrder (last_of rs) r → length rs < limits.rows
     → r.amount ≤ limits.amount → row_on limits ring rs (row_line r.first r.second r.amount) ≡ Ok r
-unfolding row_on judged and_then values_on passed row_found found
+unfolding row_on line_judged and_then values_on passed row_found verdict_found
 row-again limits ring rs r w o up c m =
     rw (row-values limits r.first r.second r.amount w, fine-row-judged limits ring.nodes (length rs) (last_of rs) r o up c m)
 
@@ -150,7 +150,7 @@ ring-spelled limits spelled ring many fibres = (omega (arith, many, spelled.node
 
 pub ring-again : (limits : Limits) (ring : Ring) → RingSpelled limits ring.nodes ring.fibres → limits.fewest ≤ ring.nodes → ring.nodes ≤ limits.nodes → IsFibres ring.fibres
     → ring_on limits (ring_line ring.nodes ring.fibres) ≡ Ok ring
-unfolding ring_on judged and_then values_on passed ring_found found
+unfolding ring_on line_judged and_then values_on passed ring_found verdict_found
 ring-again limits ring w few many fibres = rw (ring-values limits ring.nodes ring.fibres w, fine-ring-judged limits ring few many fibres)
 
 written_read : (limits : Limits) → LimitsSpelled limits → (ring : Ring) (rs : List Demand) → InRange limits ring rs → table_of limits (write_table ring rs) ≡ accepted ring rs

@@ -10,21 +10,21 @@ use Rattle.ring.specs.declared.types.Demand.{Demand}
 use Rattle.ring.specs.declared.types.Routed.{Routed}
 use Rattle.ring.specs.Sheet.{sents, demands}
 use Rattle.text.specs.Shapes.{ring_shape, row_shape, ring_line, row_line}
-use Rattle.text.specs.Pass.{Passes}
+use Rattle.text.specs.Pass.{PassLaws}
 use Rattle.text.specs.Written.{Passed}
 use Rattle.text.proofs.Lengths.{line-short}
 use Rattle.text.proofs.Writing.{written_behind, room-kept}
 use Rattle.table.specs.Table.{write_rows, write_table}
 
-abbrev pub line_of : Demand → List ℕ
-line_of r = row_line r.first r.second r.amount
+abbrev pub demand_line : Demand → List ℕ
+demand_line r = row_line r.first r.second r.amount
 
 pub no-rows : (rows : List Routed) → rows ≡ [] → write_rows (demands (sents rows)) ≡ []
 unfolding write_rows
 no-rows rows e = rw e
 
 -- the line of the first row, and those of the rows behind it
-pub next-row : (rows rest : List Routed) (r : Routed) → rows ≡ r ∷ rest → write_rows (demands (sents rows)) ≡ line_of r.sent.demand ++ write_rows (demands (sents rest))
+pub next-row : (rows rest : List Routed) (r : Routed) → rows ≡ r ∷ rest → write_rows (demands (sents rows)) ≡ demand_line r.sent.demand ++ write_rows (demands (sents rest))
 unfolding write_rows
 next-row rows rest r e = rw e
 
@@ -32,7 +32,7 @@ next-row rows rest r e = rw e
 rows-short : (rows : List Demand) → length (write_rows rows) ≤ 1000 * length rows
 unfolding write_rows
 rows-short [] = omega arith
-rows-short (r ∷ rows) = omega (arith, length-append (line_of r) (write_rows rows), line-short row_shape (0 ∷ r.first ∷ r.second ∷ r.amount ∷ []), rows-short rows)
+rows-short (r ∷ rows) = omega (arith, length-append (demand_line r) (write_rows rows), line-short row_shape (0 ∷ r.first ∷ r.second ∷ r.amount ∷ []), rows-short rows)
 
 -- so few rows can be measured
 pub table-measurable : (ring : Ring) (rows : List Demand) → length rows ≤ desk.rows → length (write_table ring rows) ≤ 18446744073709551615
@@ -40,7 +40,7 @@ unfolding write_table
 table-measurable ring rows few =
     omega (arith, length-append (ring_line ring.nodes ring.fibres) (write_rows rows), line-short ring_shape (0 ∷ ring.nodes ∷ ring.fibres ∷ []), rows-short rows)
 
-module _ {room : List ℕ → ℕ} {after : List ℕ → ℕ → List ℕ → List ℕ} (pass : Passes room after) (old : List ℕ) where
+module _ {room : List ℕ → ℕ} {after : List ℕ → ℕ → List ℕ → List ℕ} (pass : PassLaws room after) (old : List ℕ) where
   module _ (ring : Ring) (rows : List Demand) (fits : length (write_table ring rows) ≤ room old) where
     whole : length (write_table ring rows) ≡ length (ring_line ring.nodes ring.fibres) + length (write_rows rows)
     unfolding write_table

@@ -10,19 +10,19 @@ use Rattle.table.specs.declared.reason.Reason.{Reason}
 use Rattle.table.specs.declared.fault.Fault.{Fault}
 
 -- a verdict, by which field each reason is about
-unfoldable pub found : Verdict → (Reason → ℕ) → Result Unit Fault
-found (Ok tt) field = Ok tt
-found (Err reason) field = Err (record { reason = reason; field = field reason })
+unfoldable pub verdict_found : Verdict → (Reason → ℕ) → Result Unit Fault
+verdict_found (Ok tt) field = Ok tt
+verdict_found (Err reason) field = Err (record { reason = reason; field = field reason })
 
 -- against R n fibres
 unfoldable pub ring_found : Limits → Ring → Result Unit Fault
-unfolding found
-ring_found limits ring = found (ring_verdict limits ring) (λ reason. field_of reason 0)
+unfolding verdict_found
+ring_found limits ring = verdict_found (ring_verdict limits ring) (λ reason. field_of reason 0)
 
 -- against D i j amount on a ring of n nodes, behind k rows of which the last is `above`
 unfoldable pub row_found : Limits → ℕ → ℕ → Option Demand → Demand → Result Unit Fault
-unfolding found node_field
-row_found limits n k above r = found (row_verdict limits n k above r) (λ reason. field_of reason (node_field n r.first))
+unfolding verdict_found node_field
+row_found limits n k above r = verdict_found (row_verdict limits n k above r) (λ reason. field_of reason (node_field n r.first))
 
 -- the last of some rows
 abbrev pub last_of : List Demand → Option Demand

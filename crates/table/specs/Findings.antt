@@ -1,7 +1,7 @@
 -- To believe: findings in their order, each with its fact, its reason and its place; and which of them is given.
 use Rattle.std.specs.Prelude.{ℕ, ◌<◌, ◌≤◌, Option, Some, None, Result, Ok, Err, ◌⊎◌, ◌≡◌}
 use Rattle.ring.specs.Limits.{Limits}
-use Rattle.ring.specs.Demand.{PairBefore}
+use Rattle.ring.specs.TableRows.{PairBefore}
 use Rattle.ring.specs.LineSize.{IsFibres}
 use Rattle.ring.specs.declared.types.Ring.{Ring}
 use Rattle.ring.specs.declared.types.Demand.{Demand}

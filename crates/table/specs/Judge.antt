@@ -12,13 +12,18 @@ unfoldable pub wrong_size : Limits → ℕ → Bool
 wrong_size limits n = ltb n limits.fewest || ltb limits.nodes n
 
 -- 3 alone, of a matrix, which says no fibres
-unfoldable pub judge_size : Limits → ℕ → Verdict
+unfoldable pub check_size : Limits → ℕ → Verdict
 unfolding wrong_size
-judge_size limits n = cond (wrong_size limits n) (Err RingSize) (Ok tt)
+check_size limits n = cond (wrong_size limits n) (Err RingSize) (Ok tt)
 
 -- fibres neither 2 nor 4
 unfoldable pub other_fibres : ℕ → Bool
 other_fibres fibres = not (eqb fibres two_fibres) && not (eqb fibres four_fibres)
+
+-- 20 alone, of the fibres that are said beside a matrix
+unfoldable pub check_fibres : ℕ → Verdict
+unfolding other_fibres
+check_fibres fibres = cond (other_fibres fibres) (Err Fibres) (Ok tt)
 
 -- 3 and 20
 unfoldable pub ring_verdict : Limits → Ring → Verdict

@@ -27,6 +27,6 @@ passed line shape vs (Ok tt) x = Ok x
 passed line shape vs (Err f) x = Err (refusal f.reason line (field_byte shape vs f.field))
 
 -- the line l by its shape, its numbers of at most so many digits, by what its values are and what is found against that
-unfoldable pub judged : {A : Type 0} → ℕ → ℕ → List Field → (List ℕ → A) → (A → Result Unit Fault) → List ℕ → Result A Refusal
+unfoldable pub line_judged : {A : Type 0} → ℕ → ℕ → List Field → (List ℕ → A) → (A → Result Unit Fault) → List ℕ → Result A Refusal
 unfolding and_then values_on passed
-judged most line shape value fault l = and_then (values_on line (read_line most shape l)) λ vs. passed line shape vs (fault (value vs)) (value vs)
+line_judged most line shape value fault l = and_then (values_on line (read_line most shape l)) λ vs. passed line shape vs (fault (value vs)) (value vs)

@@ -8,7 +8,7 @@ use Rattle.ring.specs.Ring.{ring_of}
 use Rattle.ring.specs.declared.types.Ring.{Ring}
 use Rattle.table.specs.Lines.{lines}
 use Rattle.table.specs.Faults.{ring_found, row_found, last_of}
-use Rattle.table.specs.OnLine.{judged}
+use Rattle.table.specs.OnLine.{line_judged}
 use Rattle.table.specs.declared.reason.Reason.{Reason}
 use Rattle.table.specs.declared.reason.Reason.TheVariants.{TooLong, Misshapen}
 use Rattle.table.specs.declared.reason.Refusal.{Refusal}
@@ -23,18 +23,18 @@ pub data TableResult : Type 0 where
 abbrev pub ring_in : List ℕ → Ring
 ring_in vs = ring_of (get_or vs 1 0) (get_or vs 2 0)
 
-abbrev pub row_in : List ℕ → Demand
-row_in vs = demand (get_or vs 1 0) (get_or vs 2 0) (get_or vs 3 0)
+abbrev pub demand_in : List ℕ → Demand
+demand_in vs = demand (get_or vs 1 0) (get_or vs 2 0) (get_or vs 3 0)
 
 -- R n fibres
 unfoldable pub ring_on : Limits → List ℕ → Result Ring Refusal
-unfolding judged ring_found
-ring_on limits l = judged limits.digits 1 ring_shape ring_in (ring_found limits) l
+unfolding line_judged ring_found
+ring_on limits l = line_judged limits.digits 1 ring_shape ring_in (ring_found limits) l
 
 -- D i j amount, behind the rows rs, of which the first stands on line 2
 unfoldable pub row_on : Limits → Ring → List Demand → List ℕ → Result Demand Refusal
-unfolding judged row_found
-row_on limits ring rs l = judged limits.digits (length rs + 2) row_shape row_in (row_found limits ring.nodes (length rs) (last_of rs)) l
+unfolding line_judged row_found
+row_on limits ring rs l = line_judged limits.digits (length rs + 2) row_shape demand_in (row_found limits ring.nodes (length rs) (last_of rs)) l
 
 -- ---- the lines in order
 

@@ -8,7 +8,7 @@ use Rattle.text.specs.Shapes.{ring_shape, row_shape, ring_line, row_line}
 use Rattle.ring.specs.Limits.{Limits}
 use Rattle.ring.specs.declared.types.Ring.{Ring}
 use Rattle.ring.specs.LineSize.{IsFibres}
-use Rattle.ring.specs.Demand.{PairBefore}
+use Rattle.ring.specs.TableRows.{PairBefore}
 use Rattle.table.specs.Lines.{lines}
 use Rattle.table.specs.Reasons.{rank_of}
 use Rattle.table.specs.declared.reason.Reason.{Reason}
@@ -50,21 +50,21 @@ pub record NoRowLine (limits : Limits) (t : List ℕ) (line : ℕ) : Type 0 wher
   pub none : (i j d : ℕ) → RowIs limits t line i j d → ⊥
 
 -- 3: n outside 2..64
-pub record WrongRing (limits : Limits) (t : List ℕ) (line : ℕ) : Type 0 where
+pub record SaysRingSize (limits : Limits) (t : List ℕ) (line : ℕ) : Type 0 where
   pub at : line ≡ 1
   pub ring : Ring
   pub said : RingIs limits t ring
   pub wrong : (ring.nodes < limits.fewest) ⊎ (limits.nodes < ring.nodes)
 
 -- 20: fibres neither 2 nor 4
-pub record WrongFibres (limits : Limits) (t : List ℕ) (line : ℕ) : Type 0 where
+pub record SaysFibres (limits : Limits) (t : List ℕ) (line : ℕ) : Type 0 where
   pub at : line ≡ 1
   pub ring : Ring
   pub said : RingIs limits t ring
   pub wrong : IsFibres ring.fibres → ⊥
 
 -- 4: a node outside 1..n
-pub record WrongNode (limits : Limits) (t : List ℕ) (line : ℕ) : Type 0 where
+pub record SaysNoSuchNode (limits : Limits) (t : List ℕ) (line : ℕ) : Type 0 where
   pub ring : Ring
   pub said : RingIs limits t ring
   pub first : ℕ
@@ -74,7 +74,7 @@ pub record WrongNode (limits : Limits) (t : List ℕ) (line : ℕ) : Type 0 wher
   pub wrong : NoNode ring.nodes first ⊎ NoNode ring.nodes second
 
 -- 5: first node not below second
-pub record WrongPair (limits : Limits) (t : List ℕ) (line : ℕ) : Type 0 where
+pub record SaysNotBelow (limits : Limits) (t : List ℕ) (line : ℕ) : Type 0 where
   pub first : ℕ
   pub second : ℕ
   pub amount : ℕ
@@ -82,7 +82,7 @@ pub record WrongPair (limits : Limits) (t : List ℕ) (line : ℕ) : Type 0 wher
   pub wrong : second ≤ first
 
 -- 6: row's nodes below the row before, by first node, then second
-pub record WrongOrder (limits : Limits) (t : List ℕ) (line : ℕ) : Type 0 where
+pub record SaysOutOfOrder (limits : Limits) (t : List ℕ) (line : ℕ) : Type 0 where
   pub before : ℕ
   pub next : line ≡ before + 1
   pub a : ℕ
@@ -96,7 +96,7 @@ pub record WrongOrder (limits : Limits) (t : List ℕ) (line : ℕ) : Type 0 whe
   pub wrong : PairBefore first second a b
 
 -- 16: more than 1,024 rows; the first stands on line 2
-pub record WrongCount (limits : Limits) (t : List ℕ) (line : ℕ) : Type 0 where
+pub record SaysTooMany (limits : Limits) (t : List ℕ) (line : ℕ) : Type 0 where
   pub first : ℕ
   pub second : ℕ
   pub amount : ℕ
@@ -104,7 +104,7 @@ pub record WrongCount (limits : Limits) (t : List ℕ) (line : ℕ) : Type 0 whe
   pub wrong : limits.rows + 1 < line
 
 -- 7: amount over 9,999
-pub record WrongAmount (limits : Limits) (t : List ℕ) (line : ℕ) : Type 0 where
+pub record SaysTooMuch (limits : Limits) (t : List ℕ) (line : ℕ) : Type 0 where
   pub first : ℕ
   pub second : ℕ
   pub amount : ℕ
@@ -115,13 +115,13 @@ pub record WrongAmount (limits : Limits) (t : List ℕ) (line : ℕ) : Type 0 wh
 unfoldable pub Says : Limits → List ℕ → Reason → ℕ → Type 0
 Says limits t TooLong line = (line ≡ 0) × (limits.bytes < length t)
 Says limits t Misshapen line = NoRingLine limits t line ⊎ NoRowLine limits t line
-Says limits t RingSize line = WrongRing limits t line
-Says limits t Fibres line = WrongFibres limits t line
-Says limits t NoSuchNode line = WrongNode limits t line
-Says limits t NotBelow line = WrongPair limits t line
-Says limits t OutOfOrder line = WrongOrder limits t line
-Says limits t TooMany line = WrongCount limits t line
-Says limits t TooMuch line = WrongAmount limits t line
+Says limits t RingSize line = SaysRingSize limits t line
+Says limits t Fibres line = SaysFibres limits t line
+Says limits t NoSuchNode line = SaysNoSuchNode limits t line
+Says limits t NotBelow line = SaysNotBelow limits t line
+Says limits t OutOfOrder line = SaysOutOfOrder limits t line
+Says limits t TooMany line = SaysTooMany limits t line
+Says limits t TooMuch line = SaysTooMuch limits t line
 -- the others judge no table
 Says limits t WrongSum line = ⊥
 Says limits t WrongWay line = ⊥

@@ -4,7 +4,7 @@ use Rattle.ring.specs.Limits.{Limits}
 use Rattle.ring.specs.declared.types.Ring.{Ring}
 use Rattle.ring.specs.LineSize.{IsFibres}
 use Rattle.ring.specs.Lists.{Each}
-use Rattle.ring.specs.Demand.{TableRows}
+use Rattle.ring.specs.TableRows.{TableRows}
 use Rattle.ring.specs.declared.types.Demand.{Demand}
 use Rattle.text.specs.Number.{limit}
 use Rattle.text.specs.Shapes.{ring_line, row_line}

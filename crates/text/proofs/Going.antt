@@ -4,7 +4,7 @@ use mathlib.Core.Path.{◌≡◌, sym}
 use mathlib.Core.List.{List, [], ◌++◌}
 use native.Mathlib.Omega.{arith}
 use lib.ListN.{length, length-append}
-use Rattle.text.specs.Pass.{Passes}
+use Rattle.text.specs.Pass.{PassLaws}
 use Rattle.text.specs.Written.{Passed}
 use Rattle.text.proofs.Writing.{written_behind, room-kept}
 
@@ -13,7 +13,7 @@ pub record Going (room : List ℕ → ℕ) (after : List ℕ → ℕ → List �
   pub fits : next + length rest ≤ room new
   pub goes : (last : List ℕ) (end : ℕ) → Passed after new next rest last end → Passed after old at text last end
 
-module _ {room : List ℕ → ℕ} {after : List ℕ → ℕ → List ℕ → List ℕ} (pass : Passes room after) where
+module _ {room : List ℕ → ℕ} {after : List ℕ → ℕ → List ℕ → List ℕ} (pass : PassLaws room after) where
   pub going-start : (old : List ℕ) (at : ℕ) (text : List ℕ) → at + length text ≤ room old → Going room after old at text old at text
   going-start old at text fits = record { fits = fits; goes = λ last end w. w }
 

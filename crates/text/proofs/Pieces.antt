@@ -5,7 +5,7 @@ use mathlib.Core.Path.{◌≡◌, ap, ◌∙◌, sym}
 use native.Mathlib.Nat.{le_refl}
 use native.Mathlib.Omega.{arith}
 use lib.ListN.{length, length-append}
-use Rattle.text.specs.Pass.{Passes}
+use Rattle.text.specs.Pass.{PassLaws}
 use Rattle.text.specs.Written.{Passed}
 use Rattle.text.proofs.Writing.{room-kept}
 
@@ -44,7 +44,7 @@ pub record PassingLines (room : List ℕ → ℕ) (after : List ℕ → ℕ → 
   pub within : k ≤ count
   pub fits : at + length (text count) ≤ room old
 
-module _ {room : List ℕ → ℕ} {after : List ℕ → ℕ → List ℕ → List ℕ} (pass : Passes room after) (line text : ℕ → List ℕ) where
+module _ {room : List ℕ → ℕ} {after : List ℕ → ℕ → List ℕ → List ℕ} (pass : PassLaws room after) (line text : ℕ → List ℕ) where
   pub passing-starts : Pieces line text → (count at : ℕ) (old : List ℕ) → at + length (text count) ≤ room old → PassingLines room after line text count at old old 0 at
   passing-starts pieces count at old fits =
       let e = pieces.none in
@@ -54,6 +54,3 @@ module _ {room : List ℕ → ℕ} {after : List ℕ → ℕ → List ℕ → Li
     module _ (l : k < count) where
       pub line-room : p + length (line k) ≤ room buf
       line-room = omega (arith, passing.passed.place, passing.fits, line-fits line text passing.pieces k count l, room-kept pass old buf (text k) at p passing.passed)
-
-    pub lines-passed : count ≤ k → Passed after old at (text count) buf p
-    lines-passed h = let e : count ≡ k = omega (arith, passing.within) in rw e passing.passed

@@ -9,8 +9,6 @@ use mir.Syntax.{w32}
 use Rattle.text.specs.declared.field.Field.{Field}
 use Rattle.text.specs.WriteLine.{end_of, write_line}
 use Rattle.text.specs.Field.{spell}
-use Rattle.text.specs.Pass.{kept}
-use Rattle.text.specs.Written.{Passed}
 use Rattle.text.specs.FieldByte.{field_byte}
 use Rattle.text.proofs.Lengths.{line-short}
 
@@ -18,9 +16,6 @@ use Rattle.text.proofs.Lengths.{line-short}
 module _ (shape : List Field) (values : List ℕ) where
   pub line-placed : length shape ≤ 1000 → 0 + length (write_line shape values) ≤ 18446744073709551615
   line-placed short = omega (arith, line-short shape values)
-
-  pub line-measured : (new : List ℕ) (r : ℕ) → Passed kept [] 0 (write_line shape values) new r → r ≡ length (write_line shape values)
-  line-measured new r w = omega (arith, w.place)
 
 -- .. and one more than the fields before it is a field's byte
 module _ (shape : List Field) (values : List ℕ) (k r : ℕ) (is : r ≡ length (write_line (take k shape) values)) where

@@ -2,7 +2,7 @@
 use Prim.Native.Nat.{ℕ}
 use mathlib.Core.List.{List, ◌++◌}
 use Rattle.text.specs.Written.{Written}
-use Rattle.text.specs.Passes.{writes}
+use Rattle.text.specs.PassesLawful.{writes}
 use Rattle.text.proofs.Writing.{written_behind as passed_behind}
 
 -- two writers, the second from where the first stopped

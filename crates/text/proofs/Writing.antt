@@ -6,12 +6,12 @@ use native.Mathlib.Omega.{arith}
 use lib.ListN.{length, length-append}
 use Rattle.text.specs.Bytes.{digit0}
 use Rattle.text.specs.Number.{base, digits}
-use Rattle.text.specs.Pass.{Passes}
+use Rattle.text.specs.Pass.{PassLaws}
 use Rattle.text.specs.Written.{Passed}
 use Rattle.text.proofs.Digits.{u32-limit, digits-one, digits-split}
 use Rattle.text.proofs.Lengths.{one-long, more-long}
 
-module _ {room : List ℕ → ℕ} {after : List ℕ → ℕ → List ℕ → List ℕ} (pass : Passes room after) where
+module _ {room : List ℕ → ℕ} {after : List ℕ → ℕ → List ℕ → List ℕ} (pass : PassLaws room after) where
   -- two writers, the second from where the first stopped
   pub written_behind : (old mid new p q : List ℕ) (at r e : ℕ) → Passed after old at p mid r → Passed after mid r q new e → Passed after old at (p ++ q) new e
   written_behind old mid new p q at r e w x =
@@ -38,8 +38,3 @@ module _ {room : List ℕ → ℕ} {after : List ℕ → ℕ → List ℕ → Li
 
       pub last-digit : (new : List ℕ) (e : ℕ) → Passed after mid r ((digit0 + n % base) ∷ []) new e → Passed after old at (digits n) new e
       last-digit new e x = rw (digits-split n more word) (written_behind old mid new (digits (n / base)) ((digit0 + n % base) ∷ []) at r e w x)
-
-  -- ---- the byte behind a field
-
-  pub end-fits : (old mid p : List ℕ) (at r : ℕ) → at + length p + 1 ≤ room old → Passed after old at p mid r → r < room mid
-  end-fits old mid p at r h w = omega (arith, w.place, room-kept old mid p at r w)

@@ -1,6 +1,6 @@
 -- Writing a line field by field: the fields from t on are left, and go to the place p of the buffer.
 use Prim.Native.Nat.{ℕ, ◌+◌, ◌-◌, ◌≤◌, ◌<◌}
-use mathlib.Core.Path.{◌≡◌, refl, ap, ◌∙◌, sym}
+use mathlib.Core.Path.{◌≡◌, ap, ◌∙◌, sym}
 use mathlib.Core.List.{List, [], ◌∷◌, ◌++◌, append_assoc}
 use native.Mathlib.Omega.{arith}
 use lib.ListN.{length, get_or, drop, length-append, length-drop, drop_of_length-le}
@@ -9,7 +9,7 @@ use Rattle.text.specs.WriteLine.{end_of, write_line}
 use Rattle.text.specs.Written.{Passed}
 use Rattle.text.specs.declared.field.Field.{Field}
 use Rattle.text.proofs.Lists.{here_of, here}
-use Rattle.text.specs.Pass.{Passes}
+use Rattle.text.specs.Pass.{PassLaws}
 use Rattle.text.proofs.Writing.{room-kept}
 
 -- the text of the fields from t on
@@ -21,10 +21,7 @@ pub record Writing (room : List ℕ → ℕ) (after : List ℕ → ℕ → List 
   pub text : after buf p (rest_text fs vs t) ≡ after old start (write_line fs vs)
   pub same_room : room buf ≡ room old
 
-pub writing-starts : (room : List ℕ → ℕ) (after : List ℕ → ℕ → List ℕ → List ℕ) (fs : List Field) (vs old : List ℕ) (start : ℕ) → Writing room after fs vs old start 0 start old
-writing-starts room after fs vs old start = record { place = refl; text = refl; same_room = refl }
-
-module _ {room : List ℕ → ℕ} {after : List ℕ → ℕ → List ℕ → List ℕ} (pass : Passes room after) (fs : List Field) (vs old : List ℕ) (start t p : ℕ) (buf : List ℕ)
+module _ {room : List ℕ → ℕ} {after : List ℕ → ℕ → List ℕ → List ℕ} (pass : PassLaws room after) (fs : List Field) (vs old : List ℕ) (start t p : ℕ) (buf : List ℕ)
     (inv : Writing room after fs vs old start t p buf) where
   module _ (d : Field) (there : t < length fs) (valued : length fs ≤ length vs) (end : ℕ) (behind : end ≡ end_of (length fs - t - 1)) where
     abbrev pub f : Field

@@ -1,6 +1,6 @@
 -- To believe: the byte of a line where a field starts, counted from 1: one more than the length of what is written before it.
 use Rattle.std.specs.Prelude.{ℕ, ◌+◌, List, [], ◌∷◌, length, take}
-use Rattle.text.specs.Shapes.{ring_shape, row_shape, sent_shape}
+use Rattle.text.specs.Shapes.{ring_shape, row_shape, sheet_row_shape}
 use Rattle.text.specs.WriteLine.{write_line}
 use Rattle.text.specs.declared.field.Field.{Field}
 
@@ -21,5 +21,5 @@ abbrev pub row_byte : ℕ → ℕ → ℕ → ℕ → ℕ
 row_byte i j amount k = field_byte row_shape (0 ∷ i ∷ j ∷ amount ∷ []) k
 
 -- in the line D i j amount front back F-or-B
-abbrev pub sent_byte : ℕ → ℕ → ℕ → ℕ → ℕ → ℕ → ℕ → ℕ
-sent_byte i j amount front back w k = field_byte sent_shape (0 ∷ i ∷ j ∷ amount ∷ front ∷ back ∷ w ∷ []) k
+abbrev pub sheet_row_byte : ℕ → ℕ → ℕ → ℕ → ℕ → ℕ → ℕ → ℕ
+sheet_row_byte i j amount front back w k = field_byte sheet_row_shape (0 ∷ i ∷ j ∷ amount ∷ front ∷ back ∷ w ∷ []) k

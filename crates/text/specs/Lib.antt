@@ -7,7 +7,7 @@ pub mod FirstFault
 pub mod Shapes
 pub mod FieldByte
 pub mod Pass
-pub mod Passes
+pub mod PassesLawful
 pub mod Written
 pub mod ReadNumber
 pub mod ReadMark

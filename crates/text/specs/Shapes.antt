@@ -14,8 +14,8 @@ abbrev pub row_shape : List Field
 row_shape = Letter letter_d ∷ Number ∷ Number ∷ Number ∷ []
 
 -- D i j amount front back F-or-B, in a sheet
-abbrev pub sent_shape : List Field
-sent_shape = Letter letter_d ∷ Number ∷ Number ∷ Number ∷ Number ∷ Number ∷ Way ∷ []
+abbrev pub sheet_row_shape : List Field
+sheet_row_shape = Letter letter_d ∷ Number ∷ Number ∷ Number ∷ Number ∷ Number ∷ Way ∷ []
 
 -- C g h across
 abbrev pub cut_shape : List Field
@@ -44,8 +44,8 @@ abbrev pub row_line : ℕ → ℕ → ℕ → List ℕ
 row_line i j amount = write_line row_shape (0 ∷ i ∷ j ∷ amount ∷ [])
 
 -- D i j amount front back F-or-B
-abbrev pub sent_line : ℕ → ℕ → ℕ → ℕ → ℕ → ℕ → List ℕ
-sent_line i j amount front back w = write_line sent_shape (0 ∷ i ∷ j ∷ amount ∷ front ∷ back ∷ w ∷ [])
+abbrev pub sheet_row_line : ℕ → ℕ → ℕ → ℕ → ℕ → ℕ → List ℕ
+sheet_row_line i j amount front back w = write_line sheet_row_shape (0 ∷ i ∷ j ∷ amount ∷ front ∷ back ∷ w ∷ [])
 
 -- C g h across
 abbrev pub cut_line : ℕ → ℕ → ℕ → List ℕ

@@ -22,7 +22,7 @@ pub const ROW: [Field; 4] = [
 ];
 
 /// D i j amount front back F-or-B, in a sheet
-pub const SENT: [Field; 7] = [
+pub const SHEET_ROW: [Field; 7] = [
     Field::Letter(b'D'),
     Field::Number,
     Field::Number,

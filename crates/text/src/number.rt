@@ -19,7 +19,7 @@ const LIMIT: u32 = 100000000;
 /// From here on a number has all its digits, and no further digit may follow.
 const FULL: u32 = LIMIT / BASE;
 
-/// This number stands alone: no further digit may follow, so that no number has a leading zero. It has a name since no digit but 0 may be this.
+/// This number stands alone: no further digit may follow, so that no number has a leading zero. It has a name of its own, as BASE and MORE have: 0 is the one digit that it may be.
 const ALONE: u32 = 0;
 
 /// The value of a digit.

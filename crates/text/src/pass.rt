@@ -1,8 +1,8 @@
 //! A text goes to a buffer byte by byte; or it is only measured, by the same code.
 ghost use Rattle.std.specs.Prelude.{ℕ, ◌<◌, List, [], ◌∷◌, length};
 ghost use Rattle.text.specs.Written.{Passed};
-ghost use Rattle.text.specs.Pass.{Passes, most, kept, stored};
-ghost use Rattle.text.specs.Passes.{measures, writes};
+ghost use Rattle.text.specs.Pass.{PassLaws, most, untouched, stored};
+ghost use Rattle.text.specs.PassesLawful.{measures, writes};
 
 /// What becomes of the bytes of a text.
 pub trait Pass {
@@ -18,7 +18,7 @@ pub trait Pass {
         ensures { Passed after buffer.old at (byte ∷ []) buffer.new result };
 
     /// One text behind another is both.
-    ghost laws: { Passes room after };
+    ghost laws: { PassLaws room after };
 }
 
 /// The text is measured, and the buffer stays as it is.
@@ -27,7 +27,7 @@ pub struct Measure;
 impl Pass for Measure {
     ghost room = { most };
 
-    ghost after = { kept };
+    ghost after = { untouched };
 
     fn put(_buffer: &mut [u8], at: usize, _byte: u8) -> usize {
         at + 1

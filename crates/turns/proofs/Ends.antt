@@ -13,7 +13,7 @@ use Rattle.ring.specs.Lists.{Each, none, more}
 use Rattle.ring.specs.declared.types.Demand.{Demand}
 use Rattle.ring.specs.declared.types.Routed.{Routed}
 use Rattle.ring.specs.Sheet.{sents, demands}
-use Rattle.turns.specs.Turns.{peak_of, avoiding, start, turn_at, Placed, placed_from, falling_rows, lowers, choice, Settled, settle, Answer, from_start, lower, best_from, least_start}
+use Rattle.turns.specs.Turns.{peak_of, avoiding, start, turn_at, PlacedRow, placed_from, falling_rows, lowers, choice, Settled, settle, Answer, from_start, lower, best_from, least_start}
 use Rattle.turns.specs.Promised.{largest_across, NoTurnLowers, StartEnds}
 use Rattle.ring.proofs.Side.{cond-elim}
 use Rattle.turns.proofs.InOrder.{first-has, none_has, each-ordered}
@@ -22,11 +22,11 @@ use Rattle.turns.proofs.Starts.{ways-floor}
 -- ---- one turn
 
 -- the row that is chosen lowers the peak
-pub choice-lowers : (n : ℕ) (rs : List Routed) (p : Placed) → choice n rs ≡ Some p → peak_of n (turn_at p.place rs) < peak_of n rs
+pub choice-lowers : (n : ℕ) (rs : List Routed) (p : PlacedRow) → choice n rs ≡ Some p → peak_of n (turn_at p.place rs) < peak_of n rs
 unfolding choice lowers
 choice-lowers n rs p e = ltb-true _ _ (first-has (lowers n rs) (falling_rows n rs) p e)
 
-at_place : (P : ℕ → Type 0) (k : ℕ) (rs : List Routed) → Each (λ (x : Placed). P x.place) (placed_from k rs) → (p : ℕ) → p < length rs → P (k + p)
+at_place : (P : ℕ → Type 0) (k : ℕ) (rs : List Routed) → Each (λ (x : PlacedRow). P x.place) (placed_from k rs) → (p : ℕ) → p < length rs → P (k + p)
 unfolding placed_from
 at_place P k [] e p l = absurd (omega arith)
 at_place P k (r ∷ rs) (more q e) zero l = let s : k + 0 ≡ k = omega arith in rw s q
@@ -50,7 +50,7 @@ no-turn-lowers n rs e p =
       | no l ↦ rw (turn-behind p rs (omega arith)) (omega arith)
     ]
   where
-    still : {l : List Placed} → Each (λ x. lowers n rs x ≡ false) l → Each (λ (x : Placed). peak_of n rs ≤ peak_of n (turn_at x.place rs)) l
+    still : {l : List PlacedRow} → Each (λ x. lowers n rs x ≡ false) l → Each (λ (x : PlacedRow). peak_of n rs ≤ peak_of n (turn_at x.place rs)) l
     still none = none
     still (more f e) = more (ltb-false _ _ f) (still e)
 
@@ -72,13 +72,13 @@ pub ends : (n most turns : ℕ) (rs : List Routed) → peak_of n rs ≤ most →
 unfolding settle
 ends n zero turns rs l = go (choice n rs) refl
   where
-    go : (f : Option Placed) → choice n rs ≡ f → Ended n turns rs (record { rows = rs; turns = turns })
+    go : (f : Option PlacedRow) → choice n rs ≡ f → Ended n turns rs (record { rows = rs; turns = turns })
     go None e = record { still = e; bound = omega arith; demands = refl }
     go (Some p) e = absurd (omega (arith, choice-lowers n rs p e))
 ends n (suc most) turns rs l = go (choice n rs) refl (λ p h. ends n most (suc turns) (turn_at p.place rs) h)
   where
-    go : (f : Option Placed) → choice n rs ≡ f →
-        ((p : Placed) → peak_of n (turn_at p.place rs) ≤ most → Ended n (suc turns) (turn_at p.place rs) (settle n most (suc turns) (turn_at p.place rs))) →
+    go : (f : Option PlacedRow) → choice n rs ≡ f →
+        ((p : PlacedRow) → peak_of n (turn_at p.place rs) ≤ most → Ended n (suc turns) (turn_at p.place rs) (settle n most (suc turns) (turn_at p.place rs))) →
         Ended n turns rs (settle n (suc most) turns rs)
     go None e on = rw (e, settle) (record { still = e; bound = omega arith; demands = refl })
     go (Some p) e on =

@@ -1,33 +1,49 @@
 -- The loops over links make each load's weight and the sums of weights; and a path's sum is the difference of two of them, or what is left of all.
-use Rattle.std.proofs.Common.{◌≡◌, ℕ, zero, suc, ◌+◌, ◌-◌, ◌*◌, ◌^◌, ◌%◌, ◌≤◌, ◌<◌, Bool, true, false, cond, not, List, [], ◌∷◌, length, get_or, set, refl, sym, ap, ◌∙◌, arith, ltb, le-ltb, w64, Fits, get_or-set_same, get_or-set_other}
+use Rattle.std.proofs.Common.{◌≡◌, ℕ, zero, suc, ◌+◌, ◌-◌, ◌*◌, ◌^◌, ◌%◌, ◌≤◌, ◌<◌, Bool, true, false, cond, not, List, [], ◌∷◌, length, get_or, set, refl, sym, ap, ◌∙◌, arith, ltb, leb, le-ltb, le-leb, w64, Fits, get_or-set_same, get_or-set_other}
 use Rattle.std.specs.List.{count_by}
 use Rattle.std.proofs.lemmas.List.Sums.{sum_by-cons, count_by-le-length}
 use native.Mathlib.Decide.{dec_le, ℕ_discrete}
 use native.Mathlib.Nat.{pow-succ'}
 use lib.Pow.{pow_mono, shl_exact}
-use borrow.Author.Tests.{lt-ltb}
+use borrow.Author.Tests.{lt-ltb, lt-leb}
 use Rattle.ring.specs.declared.types.Demand.{Demand}
 use Rattle.ring.specs.Demand.{in_front, OnRing}
-use Rattle.ring.specs.Routing.{peak}
+use Rattle.ring.specs.Routing.{peak, Attains}
 use Rattle.ring.specs.Sheet.{numbers_from}
-use Rattle.ring.proofs.Peaks.{peak-above}
+use Rattle.ring.proofs.Peaks.{peak-above, peak-attained}
 use Rattle.ring.proofs.Side.{in-front, before-front, after_front}
 use Rattle.weight.specs.Limits.{most_links}
 use Rattle.weight.specs.Arrays.{link_at}
 use Rattle.ring.specs.declared.types.Routed.{Routed}
 use Rattle.ring.specs.declared.types.Way.TheVariants.{Front, Back}
 use Rattle.turns.specs.declared.loads.Loads.TheInside.{Inside}
-use Rattle.turns.specs.Figures.{weight_in, weight, sum_to, path_key}
-use Rattle.turns.specs.Arrays.{LoadOf, Keys}
+use Rattle.turns.specs.Turns.{on_path}
+use Rattle.turns.specs.Figures.{rank_weight_in, rank_weight, sum_to, off_top, path_key, LoadOf, Keys}
 use Rattle.turns.specs.Loads.{loads_in, Figured}
 use Rattle.turns.proofs.LoadsSteps.{links_are, keys_are}
-use Rattle.turns.proofs.Weights.{sum-to, weights-below}
+use Rattle.turns.proofs.Weights.{sum-to, weights-below, some-weight}
 
 -- ---- a load's weight
 
+-- each load is below v or is not
+both-counts : (v : ℕ) (xs : List ℕ) → count_by (λ x. ltb x v) xs + count_by (λ x. leb v x) xs ≡ length xs
+both-counts v [] = refl
+both-counts v (x ∷ xs) =
+    rw (sum_by-cons (λ x. cond (ltb x v) 1 0) x xs, sum_by-cons (λ x. cond (leb v x) 1 0) x xs)
+    (elim (dec_le v x) [
+      | yes l ↦ rw (le-ltb x v l, le-leb v x l) (omega (arith, both-counts v xs))
+      | no l ↦ rw (lt-ltb x v (omega arith), lt-leb v x (omega arith)) (omega (arith, both-counts v xs))
+    ])
+
+pub rank_fits : (loads : List ℕ) (v others : ℕ) → others ≡ count_by (λ x. leb v x) loads → others ≤ length loads
+rank_fits loads v others e = omega (arith, both-counts v loads)
+
+pub rank_is : (loads : List ℕ) (v others : ℕ) → others ≡ count_by (λ x. leb v x) loads → length loads - others ≡ count_by (λ x. ltb x v) loads
+rank_is loads v others e = omega (arith, both-counts v loads)
+
 -- a weight is 2 to the number of smaller loads
-weight-count : (load : ℕ → ℕ) (v s : ℕ) (xs : List ℕ) → ((x : ℕ) → x < length xs → load (s + x) ≡ get_or xs x 0) → weight_in load v (numbers_from s (length xs)) ≡ 2 ^ count_by (λ x. ltb x v) xs
-unfolding weight_in numbers_from
+weight-count : (load : ℕ → ℕ) (v s : ℕ) (xs : List ℕ) → ((x : ℕ) → x < length xs → load (s + x) ≡ get_or xs x 0) → rank_weight_in load v (numbers_from s (length xs)) ≡ 2 ^ count_by (λ x. ltb x v) xs
+unfolding rank_weight_in numbers_from
 weight-count load v s [] h = refl
 weight-count load v s (x ∷ xs) h =
     let a : s + 0 ≡ s = omega arith in
@@ -37,7 +53,7 @@ weight-count load v s (x ∷ xs) h =
     ap (λ c. 2 ^ c) (sym (sum_by-cons (λ x. cond (ltb x v) 1 0) x xs)))
   where
     rest : ℕ
-    rest = weight_in load v (numbers_from (suc s) (length xs))
+    rest = rank_weight_in load v (numbers_from (suc s) (length xs))
 
     count : ℕ
     count = count_by (λ x. ltb x v) xs
@@ -46,7 +62,7 @@ weight-count load v s (x ∷ xs) h =
     go true e = let s : 1 + count ≡ suc count = omega arith in rw s (omega (arith, e, pow-succ' 2 count))
     go false e = let s : 0 + count ≡ count = omega arith in rw s e
 
-weight-counted : (loads : List ℕ) (v : ℕ) → weight (length loads) (link_at loads) v ≡ 2 ^ count_by (λ x. ltb x v) loads
+weight-counted : (loads : List ℕ) (v : ℕ) → rank_weight (length loads) (link_at loads) v ≡ 2 ^ count_by (λ x. ltb x v) loads
 weight-counted loads v = weight-count (link_at loads) v 1 loads (λ x l. let e : (1 + x) - 1 ≡ x = omega arith in rw e)
 
 -- no load is less than itself
@@ -62,7 +78,7 @@ count-under v (x ∷ xs) (suc k) l e = rw (sum_by-cons (λ x. cond (ltb x v) 1 0
 pub count_fits : (loads : List ℕ) (v r : ℕ) → length loads ≤ most_links → LoadOf loads v → r ≡ count_by (λ x. ltb x v) loads → r < 64
 count_fits loads v r few h e = omega (arith, count-under v loads h.place h.within h.is)
 
-pub weight_is : (loads : List ℕ) (v r : ℕ) → length loads ≤ most_links → LoadOf loads v → r ≡ count_by (λ x. ltb x v) loads → (1 * 2 ^ r) % 2 ^ 64 ≡ weight (length loads) (link_at loads) v
+pub weight_is : (loads : List ℕ) (v r : ℕ) → length loads ≤ most_links → LoadOf loads v → r ≡ count_by (λ x. ltb x v) loads → (1 * 2 ^ r) % 2 ^ 64 ≡ rank_weight (length loads) (link_at loads) v
 weight_is loads v r few h e = shl_exact 1 r 64 (omega arith) (omega (arith, count_fits loads v r few h e)) ∙ (one-times (2 ^ r) ∙ (ap (λ x. 2 ^ x) e ∙ sym (weight-counted loads v)))
   where
     one-times : (x : ℕ) → 1 * x ≡ x
@@ -75,7 +91,7 @@ pub load_of : (loads : List ℕ) (k : ℕ) → k < length loads → LoadOf loads
 load_of loads k l = record { place = k; within = l; is = refl }
 
 abbrev weight_at : List ℕ → ℕ → ℕ
-weight_at loads h = weight (length loads) (link_at loads) (link_at loads h)
+weight_at loads h = rank_weight (length loads) (link_at loads) (link_at loads h)
 
 pub same_sum : (f g : ℕ → ℕ) (m : ℕ) → ((k : ℕ) → 1 ≤ k → k ≤ m → f k ≡ g k) → sum_to f m ≡ sum_to g m
 unfolding sum_to
@@ -118,7 +134,7 @@ module _ (loads : List ℕ) (few : length loads ≤ most_links) where
   unfolding sum_to
   sum_start keys s = record { total = refl; so_far = λ h l. let e : h ≡ 0 = omega arith in rw e (get_or-set_same keys 0 0 0 (omega arith)) }
 
-  module _ (keys : List ℕ) (sum k w : ℕ) (l : k < length loads) (e : w ≡ weight (length loads) (link_at loads) (get_or loads k 0)) (o : Summing loads keys sum k) where
+  module _ (keys : List ℕ) (sum k w : ℕ) (l : k < length loads) (e : w ≡ rank_weight (length loads) (link_at loads) (get_or loads k 0)) (o : Summing loads keys sum k) where
     next-sum : sum + w ≡ sum_to (weight_at loads) (k + 1)
     unfolding sum_to
     next-sum =
@@ -227,6 +243,34 @@ module _ (s : Inside) (now : List ℕ) (is : loads_in s ≡ now) (all : Figured 
   unfolding path_key
   key_back e = rw e (omega (arith, at_first, at_second, at_n, front-sum w demand n on, both_sums w demand n))
 
--- ---- the laws of `path_key`
+-- ---- the peak's weight
+
+-- the peak is one of the loads
+pub peak_load : (loads : List ℕ) (top : ℕ) → 1 ≤ length loads → top ≡ peak (link_at loads) (length loads) → LoadOf loads top
+peak_load loads top some e = let a = peak-attained (link_at loads) (length loads) some in record { place = a.link - 1; within = omega (arith, a.low, a.high); is = a.is ∙ sym e }
+
+pub weighs_some : (loads : List ℕ) (v w : ℕ) → w ≡ rank_weight (length loads) (link_at loads) v → 1 ≤ w
+weighs_some loads v w e = omega (arith, some-weight (length loads) (link_at loads) v)
+
+sum-above : (f : ℕ → ℕ) (k m : ℕ) → 1 ≤ k → k ≤ m → f k ≤ sum_to f m
+unfolding sum_to
+sum-above f k zero a b = absurd (omega arith)
+sum-above f k (suc m) a b = elim (ℕ_discrete k (suc m)) [ yes e ↦ rw e (omega arith) | no e ↦ omega (arith, sum-above f k m a (omega arith)) ]
+
+-- where no link off a row's path has the peak, one of its path has
+pub heavy-path : (n : ℕ) (load : ℕ → ℕ) (r : Routed) → 1 ≤ n → off_top n load r < peak load n → rank_weight n load (peak load n) ≤ path_key n load r
+unfolding off_top path_key
+heavy-path n load r some less = go (on_path r top.link) refl
+  where
+    top : Attains load n
+    top = peak-attained load n some
+
+    go : (b : Bool) → on_path r top.link ≡ b → rank_weight n load (peak load n) ≤ path_key n load r
+    go true e = let h = rw (e, top.is) at (sum-above (λ k. cond (on_path r k) (rank_weight n load (load k)) 0) top.link n top.low top.high) in h
+    go false e = let h = rw e at (peak-above (λ k. cond (on_path r k) 0 (load k)) n top.link top.low top.high) in absurd (omega (arith, top.is))
+
+-- ---- the laws of each function
+
+pub ruleset below_laws = (peak_load, weighs_some)
 
 pub ruleset key_laws = (key_order, key_rest, key_front, key_back)

@@ -1,6 +1,7 @@
 pub mod InOrder
 pub mod Smaller
 pub mod Starts
+pub mod SameStarts
 pub mod Ends
 pub mod Lowering
 pub mod Weights

@@ -4,7 +4,7 @@ use Rattle.std.proofs.lemmas.List.{length-take}
 use Rattle.weight.specs.Limits.{most_links}
 use Rattle.weight.specs.Arrays.{link_at}
 use Rattle.turns.specs.declared.loads.Loads.TheInside.{Inside}
-use Rattle.turns.specs.Arrays.{Tops, Keys}
+use Rattle.turns.specs.Figures.{Keys}
 use Rattle.turns.specs.Loads.{loads_in, Figured}
 
 -- as many are seen as there are links
@@ -15,15 +15,5 @@ module _ (s : Inside) (now : List ℕ) (is : loads_in s ≡ now) (all : Figured 
   pub links_are : s.links ≡ length now
   links_are = sym (links-seen s all.few all.size) ∙ ap length is
 
-  pub tops_are : Tops (length now) (length now) (link_at now) s.tops
-  tops_are = rw (← is, links-seen s all.few all.size) all.tops
-
   pub keys_are : Keys (length now) (link_at now) s.keys
   keys_are = rw (← is, links-seen s all.few all.size) all.keys
-
--- filled for the links that are seen
-pub figured : (s : Inside) (seen : List ℕ) → seen ≡ loads_in s → s.links ≤ most_links → length s.loads ≡ most_links →
-    Tops (length seen) (length seen) (link_at seen) s.tops → Keys (length seen) (link_at seen) s.keys → Figured s
-figured s seen e few size tops keys =
-    let n = links-seen s few size in
-    record { few = few; size = size; tops = rw (e, n) at tops; keys = rw (e, n) at keys }

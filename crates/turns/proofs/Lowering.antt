@@ -14,7 +14,7 @@ use Rattle.ring.specs.declared.types.Routed.{Routed}
 use Rattle.ring.specs.declared.types.Way.{Way}
 use Rattle.ring.specs.declared.types.Way.TheVariants.{Front, Back}
 use Rattle.ring.specs.Routing.{whole_over, unsplit_load, peak, Attains}
-use Rattle.turns.specs.Turns.{peak_of, turned, turn_at, on_path, Placed, lowers}
+use Rattle.turns.specs.Turns.{peak_of, turned, turn_at, on_path, PlacedRow, lowers}
 use Rattle.ring.proofs.Side.{in-front, after_front}
 use Rattle.ring.proofs.Peaks.{peak-above, peak-least, peak-attained}
 use Rattle.turns.specs.Figures.{off_top, lowers_by}
@@ -132,7 +132,7 @@ module _ (n : ℕ) (rs : List Routed) (p : ℕ) (r : Routed) (place : AtPlace r 
           let is : 0 ≡ peak off_load n = rw e at top.is in
           omega (arith, raised free.link free.low free.high free.off)
 
-  pub lowers-by : OnRing n r.sent.demand → (q : Placed) → q.place ≡ p → lowers n rs q ≡ lowers_by (off_top n load r) d (peak_of n rs)
+  pub lowers-by : OnRing n r.sent.demand → (q : PlacedRow) → q.place ≡ p → lowers n rs q ≡ lowers_by (off_top n load r) d (peak_of n rs)
   unfolding lowers peak_of
   lowers-by on q e = rw e (go (dec_lt 0 d) (dec_lt (off_top n load r + d) (peak load n)))
     where

@@ -6,8 +6,7 @@ use Rattle.ring.specs.Routing.{unsplit_load}
 use Rattle.ring.specs.Sheet.{sents, demands}
 use Rattle.weight.specs.Limits.{most_across}
 use Rattle.router.specs.Arrays.{DemandsFit}
-use Rattle.turns.specs.declared.pick.Kept.{Kept}
-use Rattle.turns.specs.Turns.{peak_of, turn_at, Placed, placed, choice, settle}
+use Rattle.turns.specs.Turns.{peak_of, turn_at, PlacedRow, placed_row, choice, settle}
 use Rattle.turns.specs.Picks.{Picked, Picks}
 use Rattle.turns.specs.Settles.{TurnsTo, SettlesTo}
 use Rattle.turns.specs.Arrays.{Carries}
@@ -16,7 +15,7 @@ use Rattle.turns.proofs.RowsFit.{peak-most}
 
 -- ---- the definition's next turn, and its end
 
-settle-next : (n far turns : ℕ) (rs : List Routed) (p : Placed) → choice n rs ≡ Some p → settle n (suc far) turns rs ≡ settle n far (suc turns) (turn_at p.place rs)
+settle-next : (n far turns : ℕ) (rs : List Routed) (p : PlacedRow) → choice n rs ≡ Some p → settle n (suc far) turns rs ≡ settle n far (suc turns) (turn_at p.place rs)
 unfolding settle
 settle-next n far turns rs p e = rw (e, settle)
 
@@ -38,16 +37,16 @@ pub record Settling (n : ℕ) (old now : List Routed) (loads : List ℕ) (turns 
   pub small : turns + peak_of n now ≤ most_across
 
 -- a row was chosen
-module _ (n : ℕ) (old now : List Routed) (loads : List ℕ) (turns : ℕ) (o : Settling n old now loads turns) (kept : Kept) (h : Picks (length loads) now (Some kept)) where
-  abbrev chosen : Picked n now kept
+module _ (n : ℕ) (old now : List Routed) (loads : List ℕ) (turns : ℕ) (o : Settling n old now loads turns) (place : ℕ) (h : Picks (length loads) now (Some place)) where
+  abbrev chosen : Picked n now place
   chosen = rw o.size at h
 
-  pub kept_within : kept.place < length now
-  kept_within = slice_get_within now kept.place h.row h.at
+  pub place_within : place < length now
+  place_within = slice_get_within now place h.row h.at
 
-  module _ (new : List Routed) (after : List ℕ) (s : TurnsTo kept.place now new loads after) where
+  module _ (new : List Routed) (after : List ℕ) (s : TurnsTo place now new loads after) where
     pub settle_less : peak_of n new < peak_of n now
-    settle_less = rw s.is (choice-lowers n now (placed kept.place chosen.row) chosen.is)
+    settle_less = rw s.is (choice-lowers n now (placed_row place chosen.row) chosen.is)
 
     pub settle_turn : Settling n old new after (turns + 1)
     settle_turn = go o.far o.enough o.left
@@ -58,10 +57,10 @@ module _ (n : ℕ) (old now : List Routed) (loads : List ℕ) (turns : ℕ) (o :
             record {
               size = s.size ∙ o.size;
               carries = s.carries;
-              fit = rw (s.is, turn-demands kept.place now) o.fit;
+              fit = rw (s.is, turn-demands place now) o.fit;
               far = far;
               enough = omega (arith, settle_less);
-              left = sym (settle-next n far turns now (placed kept.place chosen.row) chosen.is ∙ (rw (s.is, add-one))) ∙ e;
+              left = sym (settle-next n far turns now (placed_row place chosen.row) chosen.is ∙ (rw (s.is, add-one))) ∙ e;
               small = omega (arith, settle_less, o.small);
             }
 

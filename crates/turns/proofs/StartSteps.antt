@@ -3,7 +3,7 @@
 use Rattle.std.proofs.Common.{◌≡◌, ℕ, suc, ◌+◌, ◌-◌, ◌*◌, ◌≤◌, ◌<◌, Bool, true, false, cond, List, [], ◌∷◌, ◌++◌, Some, slice_get, length, take, get_or, set, refl, sym, ap, subst, ◌∙◌, arith, ltb}
 use Rattle.std.proofs.lemmas.List.{length-take, take-append-le, take_all, take_more, drop_more, map-append}
 use native.Mathlib.Decide.{dec_lt}
-use borrow.Author.Tests.{lt-ltb, le-ltb}
+use borrow.Author.Tests.{lt-ltb, le-ltb, ltb-false}
 use Rattle.std.specs.Int.{div_ceil}
 use Rattle.std.proofs.lemmas.Grind.{div_ceil_times}
 use Rattle.ring.specs.declared.types.Cut.{Cut}
@@ -20,6 +20,7 @@ use Rattle.ring.specs.Sheet.{sents, demands}
 use Rattle.ring.proofs.Lists.{each, each-of-map}
 use Rattle.rows.proofs.Demands.{demands-more}
 use Rattle.ring.proofs.Across.{either_order, one_link}
+use Rattle.ring.proofs.Side.{cond-elim}
 use Rattle.across.specs.Triangle.{at}
 use Rattle.across.proofs.CutSteps.{same-cut}
 use Rattle.weight.specs.Limits.{most_amount, most_links}
@@ -30,9 +31,11 @@ use Rattle.router.proofs.Zip.{Passed, passed-none, within, next-old, put-passed,
 use Rattle.turns.specs.declared.Turned.{Turned}
 use Rattle.turns.specs.Turns.{whole, avoiding, start, peak_of, settle, Answer, from_start, lower, best_from, least_start}
 use Rattle.turns.specs.Promised.{largest_across, LeastOfStarts, NoTurnLowers, TurnsLower, StartLoads, StartsEnd, StartsWithinM, WaysFloor}
-use Rattle.turns.specs.Settles.{SettlesTo, lower_of}
-use Rattle.turns.specs.Arrays.{SmallAmounts, Carries, number_at}
+use Rattle.turns.specs.Settles.{SettlesTo}
+use Rattle.turns.specs.Starts.{lower_of, meets, SmallAmounts, across_between}
+use Rattle.turns.specs.Arrays.{Carries}
 use Rattle.turns.proofs.PickSteps.{top_peak}
+use Rattle.turns.proofs.SameStarts.{same-start}
 use Rattle.turns.proofs.Starts.{start-loads, start-peak, ways-floor}
 use Rattle.turns.proofs.Ends.{start-demands, FromStart, each-start, starts-end, no-lower, Least, least-is}
 
@@ -89,19 +92,19 @@ module _ (link : ℕ) (old : List Routed) where
 -- where the loop stands: of n links the first k have their loads
 pub record Loading (triangle : List ℕ) (link n : ℕ) (loads : List ℕ) (k : ℕ) : Type 0 where
   pub size : length loads ≡ n
-  pub is : (h : ℕ) → 1 ≤ h → h ≤ k → link_at loads h ≡ number_at triangle link h
+  pub is : (h : ℕ) → 1 ≤ h → h ≤ k → link_at loads h ≡ across_between triangle link h
 
 module _ (triangle : List ℕ) (link n : ℕ) where
   pub load_start : (loads : List ℕ) → length loads ≡ n → Loading triangle link n loads 0
   load_start loads size = record { size = size; is = λ k a b. absurd (omega arith) }
 
-  pub load_done : (loads rest : List ℕ) (k : ℕ) → n ≤ k → Loading triangle link n loads k → Carries (λ h. number_at triangle link h) (take n (loads ++ rest))
+  pub load_done : (loads rest : List ℕ) (k : ℕ) → n ≤ k → Loading triangle link n loads k → Carries (λ h. across_between triangle link h) (take n (loads ++ rest))
   load_done loads rest k l o =
       rw (take-append-le n loads rest (omega (arith, o.size)) ∙ take_all n loads (omega (arith, o.size)))
       (record { is = λ x a b. o.is x a (omega (arith, o.size)) })
 
 module _ (n : ℕ) (rs : List Demand) (triangle : List ℕ) (s : Triangle n rs triangle) (link : ℕ) (low : 1 ≤ link) (high : link ≤ n) where
-  number-is : (h : ℕ) → 1 ≤ h → h ≤ n → number_at triangle link h ≡ across rs link h
+  number-is : (h : ℕ) → 1 ≤ h → h ≤ n → across_between triangle link h ≡ across rs link h
   number-is h a b =
       elim (dec_lt link h) [
         | yes l ↦ rw (lt-ltb link h l) (s.is link h low l b)
@@ -111,7 +114,7 @@ module _ (n : ℕ) (rs : List Demand) (triangle : List ℕ) (s : Triangle n rs t
         ]
       ]
 
-  pub start_carries : (rows : List Routed) (at : ℕ) (loads : List ℕ) → length loads ≡ n → rows ≡ start link rs → at ≡ link → Carries (λ h. number_at triangle at h) loads → Carries (unsplit_load rows) loads
+  pub start_carries : (rows : List Routed) (at : ℕ) (loads : List ℕ) → length loads ≡ n → rows ≡ start link rs → at ≡ link → Carries (λ h. across_between triangle at h) loads → Carries (unsplit_load rows) loads
   start_carries rows at loads size e q c = record { is = λ k a b. (rw q at (c.is k a b)) ∙ (number-is k a (omega arith) ∙ (sym (start-loads link k rs) ∙ (rw e))) }
 
 -- ---- where it leads
@@ -152,42 +155,69 @@ lower-figures x y = go (ltb y.figures.peak x.figures.peak)
     go true = refl
     go false = refl
 
+lower-least : (x y : Answer) → (lower x y).figures.peak ≤ y.figures.peak
+unfolding lower
+lower-least x y = cond-elim (λ (z : Answer). z.figures.peak ≤ y.figures.peak) (ltb y.figures.peak x.figures.peak) y x (λ t. omega arith) (λ f. omega (arith, ltb-false _ _ f))
+
 module _ (n : ℕ) (rs : List Demand) where
-  -- where the loop stands: the starts before `link` are done, and those that are left give the answer
-  pub record Starting (now : List Routed) (best : Turned) (link : ℕ) : Type 0 where
-    pub demands : demands (sents now) ≡ rs
+  -- where the loop stands: the starts up to `link` are done, the rows are left as `last`, and the starts that follow give the answer
+  pub record Starting (now : List Routed) (best : Turned) (last link : ℕ) : Type 0 where
+    pub low : 1 ≤ link
+    pub high : link ≤ n
+    pub rows : now ≡ (from_start n rs last).rows
     pub answer : Answer
     pub is : best ≡ answer.figures
-    pub left : best_from n rs link ((n + 1) - link) answer ≡ least_start n rs
+    pub beats : answer.figures.peak ≤ (from_start n rs link).figures.peak
+    pub left : best_from n rs (suc link) (n - link) answer ≡ least_start n rs
 
-  pub starts_start : (now : List Routed) (best : Turned) → 2 ≤ n → now ≡ (from_start n rs 1).rows → best ≡ (from_start n rs 1).figures → Starting now best 2
+  pub starts_start : (now : List Routed) (best : Turned) → 2 ≤ n → now ≡ (from_start n rs 1).rows → best ≡ (from_start n rs 1).figures → Starting now best 1 1
   unfolding least_start
-  starts_start now best two r f =
-      let z : (n + 1) - 2 ≡ n - 1 = omega arith in
-      record { demands = start_keeps n rs 1 now r; answer = from_start n rs 1; is = f; left = rw z }
+  starts_start now best two r f = record { low = omega arith; high = omega arith; rows = r; answer = from_start n rs 1; is = f; beats = omega arith; left = refl }
 
-  module _ (now : List Routed) (best : Turned) (link : ℕ) (o : Starting now best link) where
-    pub starts_turn : (new : List Routed) (next z : Turned) → link < n + 1 → new ≡ (from_start n (demands (sents now)) link).rows → next ≡ (from_start n (demands (sents now)) link).figures →
-        z ≡ lower_of best next → Starting new z (link + 1)
+  module _ (now : List Routed) (best : Turned) (last link : ℕ) (o : Starting now best last link) where
+    pub keeps : demands (sents now) ≡ rs
+    keeps = start_keeps n rs last now o.rows
+
+    one_more : link < n → best_from n rs (suc (link + 1)) (n - (link + 1)) (lower o.answer (from_start n rs (link + 1))) ≡ best_from n rs (suc link) (n - link) o.answer
+    one_more l =
+        let p : n - link ≡ suc (n - (link + 1)) = omega arith in
+        let q : link + 1 ≡ suc link = omega arith in
+        rw (p, q) (unfold best_from in refl)
+
+    pub starts_turn : (new : List Routed) (next z : Turned) → link < n → new ≡ (from_start n (demands (sents now)) (link + 1)).rows → next ≡ (from_start n (demands (sents now)) (link + 1)).figures →
+        z ≡ lower_of best next → Starting new z (link + 1) (link + 1)
     starts_turn new next z l r f g =
         record {
-          demands = start_keeps n rs link new (rw o.demands at r);
-          answer = lower o.answer (from_start n rs link);
-          is = g ∙ ((rw (o.is, f, o.demands)) ∙ sym (lower-figures o.answer (from_start n rs link)));
-          left = one_more ∙ o.left;
+          low = omega arith;
+          high = omega arith;
+          rows = rw keeps at r;
+          answer = lower o.answer (from_start n rs (link + 1));
+          is = g ∙ ((rw (o.is, f, keeps)) ∙ sym (lower-figures o.answer (from_start n rs (link + 1))));
+          beats = lower-least o.answer (from_start n rs (link + 1));
+          left = one_more l ∙ o.left;
         }
-      where
-        one_more : best_from n rs (link + 1) ((n + 1) - (link + 1)) (lower o.answer (from_start n rs link)) ≡ best_from n rs link ((n + 1) - link) o.answer
-        one_more =
-            let p : (n + 1) - link ≡ suc ((n + 1) - (link + 1)) = omega arith in
-            let q : link + 1 ≡ suc link = omega arith in
-            rw (p, q) (unfold best_from in refl)
 
-    pub starts_done : n + 1 ≤ link → best ≡ (least_start n rs).figures
+    pub starts_skip : link < n → meets (link + 1) (demands (sents now)) ≡ false → Starting now best last (link + 1)
+    unfolding from_start lower
+    starts_skip l e =
+        let same : start (link + 1) rs ≡ start link rs = same-start rs link (rw keeps at e) in
+        let peak : (from_start n rs (link + 1)).figures.peak ≡ (from_start n rs link).figures.peak = rw same in
+        let stays : lower o.answer (from_start n rs (link + 1)) ≡ o.answer = rw (le-ltb (from_start n rs (link + 1)).figures.peak o.answer.figures.peak (omega (arith, peak, o.beats))) in
+        record {
+          low = omega arith;
+          high = omega arith;
+          rows = o.rows;
+          answer = o.answer;
+          is = o.is;
+          beats = omega (arith, peak, o.beats);
+          left = ap (best_from n rs (suc (link + 1)) (n - (link + 1))) (sym stays) ∙ (one_more l ∙ o.left);
+        }
+
+    pub starts_done : n ≤ link → best ≡ (least_start n rs).figures
     starts_done l = o.is ∙ ap (λ (x : Answer). x.figures) (none_left ∙ o.left)
       where
-        none_left : o.answer ≡ best_from n rs link ((n + 1) - link) o.answer
-        none_left = let p : (n + 1) - link ≡ 0 = omega arith in rw p (unfold best_from in refl)
+        none_left : o.answer ≡ best_from n rs (suc link) (n - link) o.answer
+        none_left = let p : n - link ≡ 0 = omega arith in rw p (unfold best_from in refl)
 
     -- no start that is left ends lower than M/2, rounded up
     pub starts_end : 2 ≤ n → (triangle : List ℕ) (cut : Cut) (floor : ℕ) → Triangle n rs triangle → cut ≡ largest_cut (at triangle) n → floor ≡ div_ceil cut.across 2 → best.peak ≤ floor → best ≡ (least_start n rs).figures
@@ -196,7 +226,7 @@ module _ (n : ℕ) (rs : List Demand) where
         let across-is : cut.across ≡ largest_across n rs = ap (λ (c : Cut). c.across) (c ∙ same-cut n (at triangle) (across rs) s.is two) in
         let up = div_ceil_times cut.across 2 (omega arith) in
         let low : 2 * best.peak ≤ largest_across n rs + 1 = omega (arith, f, l, up.1, across-is) in
-        o.is ∙ ap (λ (x : Answer). x.figures) (sym (no-lower n rs link ((n + 1) - link) o.answer two (rw o.is at low)) ∙ o.left)
+        o.is ∙ ap (λ (x : Answer). x.figures) (sym (no-lower n rs (suc link) (n - link) o.answer two (rw o.is at low)) ∙ o.left)
 
 -- ---- the answer
 
@@ -249,11 +279,22 @@ module _ (n : ℕ) (rs : List Demand) (two : 2 ≤ n) where
     pub best_high : best.link ≤ n
     best_high = rw e (omega (arith, least.high))
 
-    -- the best start made again gives the answer
-    pub again : (ds : List Demand) (new : List Routed) (x : Turned) → ds ≡ rs → new ≡ (from_start n ds best.link).rows → x ≡ (from_start n ds best.link).figures → Promised n rs new x
-    again ds new x d r f =
-        let same : from_start n ds best.link ≡ least_start n rs = rw (d, e) (sym least.is) in
-        rw (r, f, same) promised
+    best-is : from_start n rs best.link ≡ least_start n rs
+    best-is = rw e (sym least.is)
+
+    -- the best start was the last, or is made again
+    pub was_last : (now : List Routed) (last : ℕ) → now ≡ (from_start n rs last).rows → best.link ≡ last → now ≡ (least_start n rs).rows
+    was_last now last r l = r ∙ (rw (← l, best-is))
+
+    module _ (ds : List Demand) (d : ds ≡ rs) where
+      pub again_rows : (new : List Routed) → new ≡ (from_start n ds best.link).rows → new ≡ (least_start n rs).rows
+      again_rows new r = r ∙ (rw (d, best-is))
+
+      pub again_figures : (x : Turned) → x ≡ (from_start n ds best.link).figures → x ≡ (least_start n rs).figures
+      again_figures x f = f ∙ (rw (d, best-is))
+
+  pub all_promised : (new : List Routed) (x : Turned) → new ≡ (least_start n rs).rows → x ≡ (least_start n rs).figures → Promised n rs new x
+  all_promised new x r f = rw (r, f) promised
 
 -- ---- the laws of each function
 

@@ -1,7 +1,5 @@
--- The lines of the marks hold the largest load of every run of links: each is made from the one before it, with one link more. The largest load off a path is that
--- of one run, or of two.
-use Rattle.std.proofs.Common.{◌≡◌, ℕ, suc, ◌+◌, ◌-◌, ◌*◌, ◌/◌, ◌≤◌, ◌<◌, max, cond, not, List, length, get_or, set, replicate, mul_comm, mul-suc, mul-le-mul, refl, sym, ◌∙◌, arith, leb, le-leb, get_or-set_same, get_or-set_other}
-use Rattle.std.proofs.lemmas.List.{get_or-replicate}
+-- The largest load of a run of links, link after link; and the largest load off a path, which is that of one run, or of two.
+use Rattle.std.proofs.Common.{◌≡◌, ℕ, suc, ◌+◌, ◌-◌, ◌≤◌, ◌<◌, max, cond, not, List, length, get_or, sym, ◌∙◌, arith, leb, le-leb}
 use native.Mathlib.Decide.{dec_le, ℕ_discrete}
 use borrow.Author.Tests.{lt-leb}
 use Rattle.ring.specs.declared.types.Demand.{Demand}
@@ -11,43 +9,11 @@ use Rattle.ring.specs.Demand.{in_front, OnRing}
 use Rattle.ring.specs.Routing.{peak}
 use Rattle.ring.proofs.Side.{before, within, after, side}
 use Rattle.ring.proofs.Peaks.{peak-above, peak-least}
-use Rattle.weight.specs.Limits.{most_links}
 use Rattle.weight.specs.Arrays.{link_at}
-use Rattle.across.specs.Triangle.{offset}
-use Rattle.across.proofs.Places.{twice-line, line-below}
 use Rattle.turns.specs.declared.loads.Loads.TheInside.{Inside}
 use Rattle.turns.specs.Figures.{off_top, span_top}
-use Rattle.turns.specs.Arrays.{Tops, LongerBy, most_runs, run_place, run_at}
 use Rattle.turns.specs.Loads.{loads_in, Figured}
-use Rattle.turns.proofs.LoadsSteps.{links_are, tops_are}
-
--- ---- the triangle of runs
-
--- where a line begins, by a product
-pub line-half : (q : ℕ) → q * (q + 1) / 2 ≡ offset (q + 2)
-line-half q =
-    let a : q + 2 ≡ suc (suc q) = omega arith in
-    let b : q + 2 - 1 ≡ suc q = omega arith in
-    let c : q + 1 ≡ suc q = omega arith in
-    let t = rw (b, a) at (twice-line (q + 2) (omega arith)) in
-    rw (a, c) (omega (arith, t, mul_comm (suc (suc q)) (suc q), mul-suc (suc q) (suc q), mul-suc (suc q) q, mul_comm q (suc q)))
-
-pub line-small : (q : ℕ) → q ≤ most_links → q * (q + 1) ≤ most_links * (most_links + 1)
-line-small q l = mul-le-mul {m₂ = most_links + 1} l (omega arith)
-
--- a run's place is before the lines of later marks
-run-before : (x y k : ℕ) → x ≤ y → y < k → run_place x y < offset (k + 2)
-run-before x y k l m = omega (arith, line-below (y + 2) (k + 2) (omega arith))
-
-all-runs : offset (most_links + 1 + 2) ≡ most_runs
-unfolding offset
-all-runs = refl
-
--- and in the triangle
-pub run_in : (p q : ℕ) → p ≤ q → q ≤ most_links → run_place p q < most_runs
-run_in p q l m = omega (arith, run-before p q (most_links + 1) l (omega arith), all-runs)
-
-pub ruleset line_begins = (line-half, line-small)
+use Rattle.turns.proofs.LoadsSteps.{links_are}
 
 -- ---- a run's largest load
 
@@ -72,77 +38,20 @@ module _ (load : ℕ → ℕ) (g : ℕ) where
         span-least (suc h) (max (span_top load g h) (load (suc h))) (λ k p q s. elim (ℕ_discrete k (suc h)) [ yes e ↦ rw e (omega arith) | no e ↦ omega (arith, span-above h k p q (omega arith)) ]),
       )
 
--- ---- a line
+-- ---- link after link
 
--- where the loop stands: of the line behind link q + 1 the runs from marks before p are done, and the lines before it stay
-pub record Filling (load q : ℕ) (old now : List ℕ) (p : ℕ) : Type 0 where
-  pub is : (x : ℕ) → x < p → run_at now x (q + 1) ≡ max (run_at old x q) load
-  pub before : (x : ℕ) → x < offset (q + 1 + 2) → get_or now x 0 ≡ get_or old x 0
+module _ (loads : List ℕ) (p : ℕ) where
+  pub top_start : 0 ≡ span_top (link_at loads) (suc p) (p + 0)
+  top_start = omega (arith, span-none (link_at loads) (suc p) (p + 0) (omega arith))
 
-module _ (load q : ℕ) (old : List ℕ) (link : q < most_links) where
-  pub line_start : Filling load q old old 0
-  line_start = record { is = λ x a. absurd (omega arith); before = λ x a. refl }
+  pub top_turn : (k most load z : ℕ) → most ≡ span_top (link_at loads) (suc p) (p + k) → load ≡ get_or loads (p + k) 0 → z ≡ max most load → z ≡ span_top (link_at loads) (suc p) (p + (k + 1))
+  top_turn k most load z o e f =
+      let a : p + (k + 1) ≡ suc (p + k) = omega arith in
+      let b : suc (p + k) - 1 ≡ p + k = omega arith in
+      rw a (f ∙ (rw (o, e) (sym (rw b at (span-next (link_at loads) (suc p) (p + k) (omega arith))))))
 
-  pub line_turn : (now : List ℕ) (p z : ℕ) → length now ≡ most_runs → p < q + 1 → z ≡ max (run_at now p q) load → Filling load q old now p → Filling load q old (set now (run_place p (q + 1)) z) (p + 1)
-  line_turn now p z size l e f =
-      record {
-        is = λ x a. elim (ℕ_discrete x p) [
-          | yes s ↦ rw s (get_or-set_same now (run_place p (q + 1)) z 0 (omega (arith, size, run_in p (q + 1) (omega arith) (omega arith))) ∙ omega (arith, e, f.before (run_place p q) (run-before p q (q + 1) (omega arith) (omega arith))))
-          | no s ↦ get_or-set_other now (run_place p (q + 1)) (run_place x (q + 1)) z 0 (λ t. omega arith) ∙ f.is x (omega arith)
-        ];
-        before = λ x a. get_or-set_other now (run_place p (q + 1)) x z 0 (λ t. omega arith) ∙ f.before x a;
-      }
-
--- a run from an earlier mark has another place
-other-run : (x y q : ℕ) → x < q → x ≤ y → y ≤ q → run_place x y ≡ run_place q q → ⊥
-other-run x y q l m n e =
-    elim (ℕ_discrete y q) [
-      | yes s ↦ let t = rw s at e in omega arith
-      | no s ↦ omega (arith, run-before x y q m (omega arith))
-    ]
-
--- a run of no link begins at mark q
-line-begins : (line : ℕ → ℕ) (q : ℕ) (old : List ℕ) → q < most_links → Tops q q line old → length old ≡ most_runs → Tops (q + 1) q line (set old (run_place q q) 0)
-line-begins line q old link o size =
-    record {
-      is = λ x y a b c. elim (ℕ_discrete x q) [
-        | yes e ↦
-            let f : y ≡ q = omega arith in
-            rw (e, f) (get_or-set_same old (run_place q q) 0 0 (omega (arith, size, run_in q q (omega arith) (omega arith))) ∙ sym (span-none line (suc q) q (omega arith)))
-        | no e ↦ get_or-set_other old (run_place q q) (run_place x y) 0 0 (other-run x y q (omega arith) b c) ∙ o.is x y (omega arith) b c
-      ];
-      none = elim (ℕ_discrete q 0) [
-        | yes e ↦ rw e (get_or-set_same old (run_place 0 0) 0 0 (omega (arith, size, run_in 0 0 (omega arith) (omega arith))))
-        | no e ↦ get_or-set_other old (run_place q q) (run_place 0 0) 0 0 (other-run 0 0 q (omega arith) (omega arith) (omega arith)) ∙ o.none
-      ];
-    }
-
-pub line_done : (load q : ℕ) (old now : List ℕ) (p : ℕ) → q < most_links → length old ≡ most_runs → q + 1 ≤ p → Filling load q (set old (run_place q q) 0) now p → LongerBy q load old now
-line_done load q old now p link size l f =
-    record {
-      is = λ line e o.
-          let begun = line-begins line q old link o size in
-          record {
-            is = λ x y a b c. elim (ℕ_discrete y (q + 1)) [
-              | yes s ↦
-                  let t : q + 1 ≡ suc q = omega arith in
-                  rw s (f.is x (omega arith) ∙ (rw (begun.is x q a (omega arith) (omega arith), ← e, t) (sym (span-next line (suc x) q (omega arith)))))
-              | no s ↦ f.before (run_place x y) (run-before x y (q + 1) b (omega arith)) ∙ begun.is x y a b (omega arith)
-            ];
-            none = f.before (run_place 0 0) (run-before 0 0 (q + 1) (omega arith) (omega arith)) ∙ begun.none;
-          };
-    }
-
--- ---- all lines
-
-pub tops-begin : (load : ℕ → ℕ) → Tops 0 0 load (replicate most_runs 0)
-tops-begin load = record { is = λ p q l. absurd (omega arith); none = get_or-replicate most_runs (run_place 0 0) 0 0 (omega (arith, run_in 0 0 (omega arith) (omega arith))) }
-
-pub lines_turn : (loads old new : List ℕ) (q load : ℕ) → load ≡ get_or loads q 0 → LongerBy q load old new → Tops q q (link_at loads) old → Tops (q + 1) (q + 1) (link_at loads) new
-lines_turn loads old new q load e s o = s.is (link_at loads) (let i : (q + 1) - 1 ≡ q = omega arith in rw (i, e)) o
-
-pub lines_done : (loads tops : List ℕ) (n q : ℕ) → n ≤ q → q ≤ n → Tops q q (link_at loads) tops → Tops n n (link_at loads) tops
-lines_done loads tops n q a b o = let e : q ≡ n = omega arith in rw e at o
+  pub top_done : (q k most : ℕ) → p + k ≡ q → most ≡ span_top (link_at loads) (suc p) (p + k) → most ≡ span_top (link_at loads) (suc p) q
+  top_done q k most e o = rw e at o
 
 -- ---- off a path
 
@@ -204,47 +113,27 @@ module _ (s : Inside) (now : List ℕ) (is : loads_in s ≡ now) (all : Figured 
   abbrev second : ℕ
   second = r.sent.demand.second - 1
 
-  tops : Tops n n (link_at now) s.tops
-  tops = tops_are s now is all
+  abbrev top : ℕ → ℕ → ℕ
+  top p q = span_top (link_at now) (suc p) q
 
-  pub off_two : (x y z : ℕ) → r.way ≡ Front → x ≡ run_at s.tops 0 first → y ≡ run_at s.tops second s.links → z ≡ max x y → z ≡ off_top n (link_at now) r
+  pub off_two : (x y z : ℕ) → r.way ≡ Front → x ≡ top 0 first → y ≡ top second s.links → z ≡ max x y → z ≡ off_top n (link_at now) r
   unfolding off_top
-  off_two x y z w a b c =
-      rw w
-      (omega (
-        arith,
-        off-front (link_at now) n r.sent.demand on,
-        tops.is 0 first (omega (arith, on.low, on.order, on.high)) (omega arith) (omega (arith, on.order, on.high)),
-        rw (links_are s now is all) at b,
-        tops.is second n (omega (arith, on.order, on.high)) (omega (arith, on.high)) (omega arith),
-      ))
+  off_two x y z w a b c = rw w (omega (arith, off-front (link_at now) n r.sent.demand on, rw (links_are s now is all) at b))
 
-  pub off_one : (x : ℕ) → r.way ≡ Back → x ≡ run_at s.tops first second → x ≡ off_top n (link_at now) r
+  pub off_one : (x : ℕ) → r.way ≡ Back → x ≡ top first second → x ≡ off_top n (link_at now) r
   unfolding off_top
-  off_one x w a =
-      rw w
-      (omega (
-        arith,
-        off-back (link_at now) n r.sent.demand on,
-        tops.is first second (omega (arith, on.low, on.order, on.high)) (omega (arith, on.order)) (omega (arith, on.high)),
-      ))
+  off_one x w a = rw w (omega (arith, off-back (link_at now) n r.sent.demand on))
 
 -- ---- the peak
 
 whole-span : (load : ℕ → ℕ) (n : ℕ) → span_top load 1 n ≡ peak load n
 whole-span load n = omega (arith, span-least load 1 n (peak load n) (λ k a b c. peak-above load n k a c), peak-least load n (span_top load 1 n) (λ k a b. span-above load 1 n k a a b))
 
-pub peak_is : (s : Inside) (now : List ℕ) (x : ℕ) → loads_in s ≡ now → Figured s → x ≡ run_at s.tops 0 s.links → x ≡ peak (link_at now) (length now)
-peak_is s now x is all e =
-    let n = links_are s now is all in
-    rw n at e ∙
-    elim (ℕ_discrete (length now) 0) [
-      | yes z ↦ rw z ((tops_are s now is all).none ∙ unfold peak in refl)
-      | no z ↦ (tops_are s now is all).is 0 (length now) (omega arith) (omega arith) (omega arith) ∙ whole-span (link_at now) (length now)
-    ]
+pub peak_is : (s : Inside) (now : List ℕ) (x : ℕ) → loads_in s ≡ now → Figured s → x ≡ span_top (link_at now) 1 s.links → x ≡ peak (link_at now) (length now)
+peak_is s now x is all e = rw (links_are s now is all) at e ∙ whole-span (link_at now) (length now)
 
 -- ---- the laws of each function
 
-pub ruleset line_laws = (line_start, line_turn, line_done, run_in)
+pub ruleset top_laws = (top_start, top_turn, top_done)
 
 pub ruleset off_laws = (off_two, off_one)

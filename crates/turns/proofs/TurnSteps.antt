@@ -1,17 +1,17 @@
 -- A row is turned in the loads of its links, and the loads are then those of the rows with it turned.
-use Rattle.std.proofs.Common.{◌≡◌, ℕ, zero, suc, ◌+◌, ◌-◌, ◌≤◌, ◌<◌, Bool, true, false, cond, not, List, [], ◌∷◌, ◌++◌, Some, slice_get, length, take, get_or, set, refl, ap, ◌∙◌, arith}
+use Rattle.std.proofs.Common.{◌≡◌, ℕ, zero, suc, ◌+◌, ◌-◌, ◌≤◌, ◌<◌, Bool, true, false, cond, List, [], ◌∷◌, ◌++◌, Some, slice_get, length, take, get_or, set, refl, ap, ◌∙◌, arith}
 use Rattle.std.proofs.lemmas.List.{get_or_default, take-append-le, take_all}
 use Rattle.ring.specs.declared.types.Routed.{Routed}
 use Rattle.ring.specs.declared.types.Way.{Way}
 use Rattle.ring.specs.declared.types.Way.TheVariants.{Front, Back}
 use Rattle.ring.specs.Demand.{in_front, OnRing}
-use Rattle.ring.specs.Routing.{unsplit_load}
+use Rattle.ring.specs.Routing.{by_way, unsplit_load}
 use Rattle.ring.specs.Sheet.{sents, demands}
 use Rattle.weight.specs.Limits.{most_load}
 use Rattle.weight.specs.Arrays.{link_at, OverFits, OverStep}
 use Rattle.router.specs.Arrays.{DemandsFit}
-use Rattle.turns.specs.Turns.{on_path, turned, turn_at, whole, other_way}
-use Rattle.turns.specs.Arrays.{Carries, Turns, RoomFor, Holds}
+use Rattle.turns.specs.Turns.{on_way, on_path, turned, turn_at, whole, other_way}
+use Rattle.turns.specs.Arrays.{Carries, LoadsTurned, RoomFor, Holds}
 use Rattle.turns.specs.Settles.{TurnsTo}
 use Rattle.turns.proofs.Lowering.{at-place, Moved, falls, rises, moved}
 use Rattle.turns.proofs.RowsFit.{row-fits, load-most}
@@ -22,6 +22,14 @@ use Rattle.turns.proofs.RowsFit.{row-fits, load-most}
 abbrev turn_load : ℕ → Bool → ℕ → ℕ
 turn_load amount on x = cond on (x - amount) (x + amount)
 
+-- where the front falls by what goes over it and rises by what goes over the back, and the back the other way round
+by-way : (w : Way) (front : Bool) (amount x : ℕ) →
+    cond front ((x + by_way w 0 amount) - by_way w amount 0) ((x + by_way w amount 0) - by_way w 0 amount) ≡ turn_load amount (on_way w front) x
+by-way Front true amount x = omega arith
+by-way Front false amount x = omega arith
+by-way Back true amount x = omega arith
+by-way Back false amount x = omega arith
+
 -- as the figures of a line are changed over the two sides of a demand: how x becomes y where it falls, and where it rises
 module _ (r : Routed) (line : List ℕ) where
   abbrev amount : ℕ
@@ -31,44 +39,51 @@ module _ (r : Routed) (line : List ℕ) where
   load-here x d l = let i : (x + 1) - 1 ≡ x = omega arith in rw i (get_or_default line x d 0 l)
 
   -- no sum grows too large, no load falls below 0
-  module _ (on : OnRing (length line) r.sent.demand) (room : RoomFor amount line) (holds : Holds r line) {less more : ℕ → Type 0} (p : (x : ℕ) → amount ≤ x → less x) (q : (x : ℕ) → x + amount ≤ most_load → more x) where
-    can-fall : (x d : ℕ) → x < length line → on_path r (x + 1) ≡ true → less (get_or line x d)
-    can-fall x d l e = p _ (omega (arith, load-here x d l, holds.most (x + 1) (omega arith) (omega arith) e))
+  module _ (on : OnRing (length line) r.sent.demand) (room : RoomFor amount line) (holds : Holds r line) where
+    can-fall : (x d : ℕ) → x < length line → on_path r (x + 1) ≡ true → amount ≤ get_or line x d
+    can-fall x d l e = omega (arith, load-here x d l, holds.most (x + 1) (omega arith) (omega arith) e)
 
-    can-rise : (x d : ℕ) → x < length line → more (get_or line x d)
-    can-rise x d l = q _ (omega (arith, load-here x d l, room.sums (x + 1) (omega arith) (omega arith)))
+    can-rise : (x d : ℕ) → x < length line → get_or line x d + amount ≤ most_load
+    can-rise x d l = omega (arith, load-here x d l, room.sums (x + 1) (omega arith) (omega arith))
 
-    pub front_fits : r.way ≡ Front → OverFits less more r.sent.demand line
-    front_fits w = record { on = on; ahead = λ x d l e. can-fall x d l (rw (w, e)); behind = λ x d l e. can-rise x d l }
-
-    pub back_fits : r.way ≡ Back → OverFits more less r.sent.demand line
-    back_fits w = record { on = on; ahead = λ x d l e. can-rise x d l; behind = λ x d l e. can-fall x d l (rw (w, e)) }
+    pub turn_fits : {ahead behind : ℕ → Type 0} (front back : ℕ) → front ≡ by_way r.way amount 0 → back ≡ by_way r.way 0 amount →
+        ((x : ℕ) → front ≤ x + back → x + back ≤ most_load → ahead x) → ((x : ℕ) → back ≤ x + front → x + front ≤ most_load → behind x) → OverFits ahead behind r.sent.demand line
+    turn_fits {ahead = ahead} {behind = behind} front back f b p q = go r.way refl
+      where
+        go : (w : Way) → r.way ≡ w → OverFits ahead behind r.sent.demand line
+        go Front w =
+            let f' : front ≡ amount = rw w at f in
+            let b' : back ≡ 0 = rw w at b in
+            record {
+              on = on;
+              ahead = λ x d l e. p _ (omega (arith, f', b', can-fall x d l (rw (w, e)))) (omega (arith, b', can-rise x d l));
+              behind = λ x d l e. q _ (omega (arith, b')) (omega (arith, f', can-rise x d l));
+            }
+        go Back w =
+            let f' : front ≡ 0 = rw w at f in
+            let b' : back ≡ amount = rw w at b in
+            record {
+              on = on;
+              ahead = λ x d l e. p _ (omega (arith, f')) (omega (arith, b', can-rise x d l));
+              behind = λ x d l e. q _ (omega (arith, f', b', can-fall x d l (rw (w, e)))) (omega (arith, f', can-rise x d l));
+            }
 
   -- what is told of one side, and of the other
-  module _ {less more : ℕ → ℕ → Type 0} (p : (x y : ℕ) → less x y → y ≡ x - amount) (q : (x y : ℕ) → more x y → y ≡ x + amount) (part rest new : List ℕ) (n : ℕ) (long : length line ≡ n) (is : new ≡ part ++ rest) where
+  module _ (part rest new : List ℕ) (n : ℕ) (long : length line ≡ n) (is : new ≡ part ++ rest) where
     seen : length part ≡ length line → take n new ≡ part
     seen size = rw is (take-append-le n part rest (omega arith) ∙ take_all n part (omega arith))
 
-    turned_by : length part ≡ length line → ((x : ℕ) → x < length line → (b : Bool) → on_path r (x + 1) ≡ b → get_or part x 0 ≡ turn_load amount b (get_or line x 0)) → Turns r line (take n new)
-    turned_by size each =
-        rw (seen size) record {
-          size = size;
-          is = λ k a b. let e : (k - 1) + 1 ≡ k = omega arith in rw e at (each (k - 1) (omega arith) (on_path r ((k - 1) + 1)) refl);
+    pub turn_is : {ahead behind : ℕ → ℕ → Type 0} (front back : ℕ) → front ≡ by_way r.way amount 0 → back ≡ by_way r.way 0 amount →
+        ((x y : ℕ) → ahead x y → y ≡ (x + back) - front) → ((x y : ℕ) → behind x y → y ≡ (x + front) - back) → OverStep ahead behind r.sent.demand line part → LoadsTurned r line (take n new)
+    turn_is front back f b p q s =
+        rw (seen s.size) record {
+          size = s.size;
+          is = λ k a b. let e : (k - 1) + 1 ≡ k = omega arith in rw e at (each (k - 1) (omega arith) (in_front r.sent.demand ((k - 1) + 1)) refl);
         }
-
-    pub front_turns : r.way ≡ Front → OverStep less more r.sent.demand line part → Turns r line (take n new)
-    front_turns w s = turned_by s.size each
       where
-        each : (x : ℕ) → x < length line → (b : Bool) → on_path r (x + 1) ≡ b → get_or part x 0 ≡ turn_load amount b (get_or line x 0)
-        each x l true e = p _ _ (s.ahead x 0 l (rw w at e))
-        each x l false e = q _ _ (s.behind x 0 l (rw w at e))
-
-    pub back_turns : r.way ≡ Back → OverStep more less r.sent.demand line part → Turns r line (take n new)
-    back_turns w s = turned_by s.size (λ x l b e. each x l (in_front r.sent.demand (x + 1)) refl b (rw w at e))
-      where
-        each : (x : ℕ) → x < length line → (a : Bool) → in_front r.sent.demand (x + 1) ≡ a → (b : Bool) → not (in_front r.sent.demand (x + 1)) ≡ b → get_or part x 0 ≡ turn_load amount b (get_or line x 0)
-        each x l true f b e = rw (← e, f) (q _ _ (s.ahead x 0 l f))
-        each x l false f b e = rw (← e, f) (p _ _ (s.behind x 0 l f))
+        each : (x : ℕ) → x < length line → (a : Bool) → in_front r.sent.demand (x + 1) ≡ a → get_or part x 0 ≡ turn_load amount (on_path r (x + 1)) (get_or line x 0)
+        each x l true e = p _ _ (s.ahead x 0 l e) ∙ (rw (e, f, b) (by-way r.way true amount (get_or line x 0)))
+        each x l false e = q _ _ (s.behind x 0 l e) ∙ (rw (e, f, b) (by-way r.way false amount (get_or line x 0)))
 
 -- ---- the rows
 
@@ -92,7 +107,7 @@ module _ (n : ℕ) (rs : List Routed) (fit : DemandsFit n (demands (sents rs))) 
   pub turn_holds : Holds r loads
   turn_holds = record { most = λ k a b t. elim (shift k) [ falls q f ↦ omega (arith, c.is k a b, f) | rises q f ↦ cc ] }
 
-  pub turn_done : (new : List ℕ) (w : Way) (q : Routed) (rs' : List Routed) → Turns r loads new → w ≡ other_way r.way → q ≡ whole r.sent.demand w → rs' ≡ set rs p q → TurnsTo p rs rs' loads new
+  pub turn_done : (new : List ℕ) (w : Way) (q : Routed) (rs' : List Routed) → LoadsTurned r loads new → w ≡ other_way r.way → q ≡ whole r.sent.demand w → rs' ≡ set rs p q → TurnsTo p rs rs' loads new
   turn_done new w q rs' s a b e =
       let is = (rw (b, a) at e) ∙ put-turned rs p r at in
       record { is = is; size = s.size; carries = rw is (record { is = λ k a b. let h : k ≤ length loads = rw s.size at b in one k (shift k) (s.is k a h) (c.is k a h) }) }

@@ -17,7 +17,7 @@ use Rattle.turns.specs.Turns.{on_path, path_loads}
 use Rattle.ring.proofs.Side.{cond-elim}
 use Rattle.turns.proofs.InOrder.{sum_of, sum-in-order, ordered}
 use Rattle.turns.proofs.Smaller.{AtLeast, ended, above, level, Less, runs-out, below, then, less, not-less, compared}
-use Rattle.turns.specs.Figures.{weight_in, weight, sum_to, path_key}
+use Rattle.turns.specs.Figures.{rank_weight_in, rank_weight, sum_to, path_key}
 
 -- ---- sums
 
@@ -95,30 +95,30 @@ module _ (load : ℕ → ℕ) where
         ]
       ]
 
-  weight-next : (y : ℕ) (ks : List ℕ) → weight_in load (suc y) ks ≡ doubled y (weight_in load y ks) ks
-  unfolding weight_in doubled
+  weight-next : (y : ℕ) (ks : List ℕ) → rank_weight_in load (suc y) ks ≡ doubled y (rank_weight_in load y ks) ks
+  unfolding rank_weight_in doubled
   weight-next y [] = refl
-  weight-next y (k ∷ ks) = go (stand (load k) y) (weight-next y ks) (double-twice y (weight_in load y ks) ks)
+  weight-next y (k ∷ ks) = go (stand (load k) y) (weight-next y ks) (double-twice y (rank_weight_in load y ks) ks)
     where
       once : ℕ
-      once = cond (ltb (load k) y) (2 * weight_in load y ks) (weight_in load y ks)
+      once = cond (ltb (load k) y) (2 * rank_weight_in load y ks) (rank_weight_in load y ks)
 
-      go : Stand (load k) y → weight_in load (suc y) ks ≡ doubled y (weight_in load y ks) ks → doubled y (2 * weight_in load y ks) ks ≡ 2 * doubled y (weight_in load y ks) ks →
-          cond (ltb (load k) (suc y)) (2 * weight_in load (suc y) ks) (weight_in load (suc y) ks) ≡ cond (eqb (load k) y) (2 * doubled y once ks) (doubled y once ks)
+      go : Stand (load k) y → rank_weight_in load (suc y) ks ≡ doubled y (rank_weight_in load y ks) ks → doubled y (2 * rank_weight_in load y ks) ks ≡ 2 * doubled y (rank_weight_in load y ks) ks →
+          cond (ltb (load k) (suc y)) (2 * rank_weight_in load (suc y) ks) (rank_weight_in load (suc y) ks) ≡ cond (eqb (load k) y) (2 * doubled y once ks) (doubled y once ks)
       go (lower l a b c) on twice = rw (a, b, c) (omega arith)
       go (equal l a b c) on twice = rw (a, b, c) (omega arith)
       go (higher l a b c) on twice = rw (a, b, c) on
 
-  weight-some : (y : ℕ) (ks : List ℕ) → 1 ≤ weight_in load y ks
-  unfolding weight_in
+  weight-some : (y : ℕ) (ks : List ℕ) → 1 ≤ rank_weight_in load y ks
+  unfolding rank_weight_in
   weight-some y [] = omega arith
   weight-some y (k ∷ ks) =
       let on = weight-some y ks in
-      cond-elim (λ w. 1 ≤ w) (ltb (load k) y) (2 * weight_in load y ks) (weight_in load y ks) (λ t. omega arith) (λ f. on)
+      cond-elim (λ w. 1 ≤ w) (ltb (load k) y) (2 * rank_weight_in load y ks) (rank_weight_in load y ks) (λ t. omega arith) (λ f. on)
 
   module _ (ks : List ℕ) where
     abbrev W : ℕ → ℕ
-    W v = weight_in load v ks
+    W v = rank_weight_in load v ks
 
     -- the weights of the loads below y together
     abbrev under : ℕ → ℕ → ℕ
@@ -215,16 +215,20 @@ unfolding sum_to sum_of numbers_from
 sum-to f s zero = let e : s + 0 ≡ s = omega arith in rw e (omega arith)
 sum-to f s (suc m) = let e : s + suc m ≡ suc s + m = omega arith in rw e (sum-to f (suc s) m ∙ omega arith)
 
-pub key-is : (n : ℕ) (load : ℕ → ℕ) (r : Routed) → path_key n load r ≡ sum_of (weight n load) (path_loads n load r)
+pub key-is : (n : ℕ) (load : ℕ → ℕ) (r : Routed) → path_key n load r ≡ sum_of (rank_weight n load) (path_loads n load r)
 unfolding path_key path_loads falling sum_to
 key-is n load r =
     let e : 0 + n ≡ n = omega arith in
-    let s = rw e at (sum-to (λ k. cond (on_path r k) (weight n load (load k)) 0) 0 n) in
-    omega (arith, sum-in-order (λ x y. ltb y x) (weight n load) (map load (filter (on_path r) (numbers_from 1 n))), sum_kept (weight n load) load (on_path r) (numbers_from 1 n))
+    let s = rw e at (sum-to (λ k. cond (on_path r k) (rank_weight n load (load k)) 0) 0 n) in
+    omega (arith, sum-in-order (λ x y. ltb y x) (rank_weight n load) (map load (filter (on_path r) (numbers_from 1 n))), sum_kept (rank_weight n load) load (on_path r) (numbers_from 1 n))
 
 -- the weights of all loads below y together
-pub weights-below : (n : ℕ) (load : ℕ → ℕ) (y : ℕ) → sum_of (λ k. cond (ltb (load k) y) (weight n load (load k)) 0) (numbers_from 1 n) < weight n load y
+pub weights-below : (n : ℕ) (load : ℕ → ℕ) (y : ℕ) → sum_of (λ k. cond (ltb (load k) y) (rank_weight n load (load k)) 0) (numbers_from 1 n) < rank_weight n load y
 weights-below n load y = all_under load (numbers_from 1 n) y
+
+-- no weight is 0
+pub some-weight : (n : ℕ) (load : ℕ → ℕ) (y : ℕ) → 1 ≤ rank_weight n load y
+some-weight n load y = weight-some load y (numbers_from 1 n)
 
 -- a row's list is smaller exactly where its number is
 pub smaller-key : (n : ℕ) (load : ℕ → ℕ) (a b : Routed) → smaller (path_loads n load a) (path_loads n load b) ≡ ltb (path_key n load a) (path_key n load b)

@@ -1,5 +1,5 @@
 -- Internal: the figures by which a row is chosen without listing its loads: the largest load off its path, and a number that stands for its list.
-use Rattle.std.specs.Prelude.{ℕ, zero, suc, ◌+◌, ◌*◌, Bool, cond, ◌&&◌, List, [], ◌∷◌, ltb, leb}
+use Rattle.std.specs.Prelude.{ℕ, zero, suc, ◌+◌, ◌*◌, Bool, cond, ◌&&◌, List, [], ◌∷◌, ltb, leb, ◌≤◌, ◌<◌, get_or, length, ◌≡◌}
 use Rattle.ring.specs.declared.types.Routed.{Routed}
 use Rattle.ring.specs.Routing.{peak}
 use Rattle.ring.specs.Sheet.{numbers_from}
@@ -18,12 +18,12 @@ unfoldable pub span_top : (ℕ → ℕ) → ℕ → ℕ → ℕ
 span_top load g h = peak (λ k. cond (leb g k) (load k) 0) h
 
 -- a load's weight: 1, doubled for each link whose load is less
-unfoldable pub weight_in : (ℕ → ℕ) → ℕ → List ℕ → ℕ
-weight_in load v [] = 1
-weight_in load v (k ∷ ks) = cond (ltb (load k) v) (2 * weight_in load v ks) (weight_in load v ks)
+unfoldable pub rank_weight_in : (ℕ → ℕ) → ℕ → List ℕ → ℕ
+rank_weight_in load v [] = 1
+rank_weight_in load v (k ∷ ks) = cond (ltb (load k) v) (2 * rank_weight_in load v ks) (rank_weight_in load v ks)
 
-abbrev pub weight : ℕ → (ℕ → ℕ) → ℕ → ℕ
-weight n load v = weight_in load v (numbers_from 1 n)
+abbrev pub rank_weight : ℕ → (ℕ → ℕ) → ℕ → ℕ
+rank_weight n load v = rank_weight_in load v (numbers_from 1 n)
 
 -- the sum of a figure over links 1 to n
 unfoldable pub sum_to : (ℕ → ℕ) → ℕ → ℕ
@@ -32,4 +32,14 @@ sum_to f (suc n) = sum_to f n + f (suc n)
 
 -- what stands for a row's list: the weights of the loads on its path together
 unfoldable pub path_key : ℕ → (ℕ → ℕ) → Routed → ℕ
-path_key n load r = sum_to (λ k. cond (on_path r k) (weight n load (load k)) 0) n
+path_key n load r = sum_to (λ k. cond (on_path r k) (rank_weight n load (load k)) 0) n
+
+-- v is one of the loads
+pub record LoadOf (loads : List ℕ) (v : ℕ) : Type 0 where
+  pub place : ℕ
+  pub within : place < length loads
+  pub is : get_or loads place 0 ≡ v
+
+-- the weights of links 1 to k together, at place k
+pub record Keys (n : ℕ) (load : ℕ → ℕ) (keys : List ℕ) : Type 0 where
+  pub is : (k : ℕ) → k ≤ n → get_or keys k 0 ≡ sum_to (λ h. rank_weight n load (load h)) k

@@ -6,4 +6,5 @@ pub mod Arrays
 pub mod Loads
 pub mod Picks
 pub mod Settles
+pub mod Starts
 pub mod Cases

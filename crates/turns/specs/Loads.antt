@@ -3,7 +3,7 @@ use Rattle.std.specs.Prelude.{ℕ, ◌≤◌, List, ◌≡◌, length, take}
 use Rattle.weight.specs.Limits.{most_links}
 use Rattle.weight.specs.Arrays.{link_at}
 use Rattle.turns.specs.declared.loads.Loads.TheInside.{Inside}
-use Rattle.turns.specs.Arrays.{Tops, Keys}
+use Rattle.turns.specs.Figures.{Keys}
 
 -- those of the ring's links
 abbrev pub loads_in : Inside → List ℕ
@@ -13,5 +13,4 @@ loads_in s = take s.links s.loads
 pub record Figured (s : Inside) : Type 0 where
   pub few : s.links ≤ most_links
   pub size : length s.loads ≡ most_links
-  pub tops : Tops s.links s.links (link_at (loads_in s)) s.tops
   pub keys : Keys s.links (link_at (loads_in s)) s.keys

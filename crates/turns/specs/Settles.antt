@@ -1,8 +1,7 @@
--- Internal: what a turn of the loop of turns does, where it ends, and which of two answers is kept.
-use Rattle.std.specs.Prelude.{ℕ, cond, List, ◌≡◌, length, ltb}
+-- Internal: what a pass of the loop of turns does, and where it ends.
+use Rattle.std.specs.Prelude.{ℕ, List, ◌≡◌, length}
 use Rattle.ring.specs.declared.types.Routed.{Routed}
 use Rattle.ring.specs.Routing.{unsplit_load}
-use Rattle.turns.specs.declared.Turned.{Turned}
 use Rattle.turns.specs.Turns.{peak_of, turn_at, settle}
 use Rattle.turns.specs.Arrays.{Carries}
 
@@ -17,7 +16,3 @@ pub record SettlesTo (n : ℕ) (old new : List Routed) (loads : List ℕ) (turns
   pub is : settle n (peak_of n old) 0 old ≡ record { rows = new; turns = turns }
   pub size : length loads ≡ n
   pub carries : Carries (unsplit_load new) loads
-
--- a later answer takes the place of an earlier one only where its peak is less
-abbrev pub lower_of : Turned → Turned → Turned
-lower_of earlier later = cond (ltb later.peak earlier.peak) later earlier

@@ -61,19 +61,19 @@ unfolding falling numbers_from
 path_loads n load r = falling (map load (filter (on_path r) (numbers_from 1 n)))
 
 -- a row at its place
-pub record Placed : Type 0 where
+pub record PlacedRow : Type 0 where
   pub place : ℕ
   pub row : Routed
 
-abbrev pub placed : ℕ → Routed → Placed
-placed k r = record { place = k; row = r }
+abbrev pub placed_row : ℕ → Routed → PlacedRow
+placed_row k r = record { place = k; row = r }
 
-unfoldable pub placed_from : ℕ → List Routed → List Placed
+unfoldable pub placed_from : ℕ → List Routed → List PlacedRow
 placed_from k [] = []
-placed_from k (r ∷ rs) = placed k r ∷ placed_from (suc k) rs
+placed_from k (r ∷ rs) = placed_row k r ∷ placed_from (suc k) rs
 
 -- row a stands before row b: its list is the larger, or neither is the smaller and it is the earlier row
-unfoldable pub stands : ℕ → (ℕ → ℕ) → Placed → Placed → Bool
+unfoldable pub stands : ℕ → (ℕ → ℕ) → PlacedRow → PlacedRow → Bool
 unfolding path_loads smaller
 stands n load a b =
     let one = path_loads n load a.row in
@@ -81,19 +81,19 @@ stands n load a b =
     smaller other one || (not (smaller one other) && ltb a.place b.place)
 
 -- the rows in falling order
-unfoldable pub falling_rows : ℕ → List Routed → List Placed
+unfoldable pub falling_rows : ℕ → List Routed → List PlacedRow
 unfolding in_order stands placed_from unsplit_load
 falling_rows n rs = in_order (stands n (unsplit_load rs)) (placed_from 0 rs)
 
 -- ---- turns
 
 -- the turn of a row lowers the ring's peak
-unfoldable pub lowers : ℕ → List Routed → Placed → Bool
+unfoldable pub lowers : ℕ → List Routed → PlacedRow → Bool
 unfolding peak_of turn_at
 lowers n rs p = ltb (peak_of n (turn_at p.place rs)) (peak_of n rs)
 
 -- in falling order, the first row whose turn lowers the ring's peak
-unfoldable pub choice : ℕ → List Routed → Option Placed
+unfoldable pub choice : ℕ → List Routed → Option PlacedRow
 unfolding lowers falling_rows
 choice n rs = find (lowers n rs) (falling_rows n rs)
 

@@ -5,7 +5,6 @@ mod loads; // loads, and what a row is chosen by
 mod pick; // the row to turn
 mod settle; // all turns of a start
 mod start; // the start that avoids a link
-mod tops; // largest loads
 mod whole; // rows that go whole
 
 ghost use Rattle.std.specs.Prelude.{◌≡◌, ◌≤◌, ◌<◌};
@@ -23,19 +22,18 @@ ghost use Rattle.turns.specs.Promised.{
   StartsWithinM,
   WaysFloor,
 };
-ghost use Rattle.turns.specs.Settles.{lower_of};
+ghost use Rattle.turns.specs.Starts.{lower_of};
 
 use across::{PAIRS, largest_cut};
 use keys::fill_keys;
-use loads::{Loads, MARKS, RUNS};
+use loads::{Loads, MARKS};
 use ring::{LINKS, wide};
 use router::fill;
 use rows::RowsMut;
 use settle::settle;
-use start::{loads_avoiding, route_avoiding};
-use tops::fill_tops;
+use start::{loads_avoiding, meets, route_avoiding};
 
-/// The figures of an answer: its peak in units, the link that its start avoided, and how many rows were turned from there.
+/// The figures of an answer: its peak in units, the link that its start avoided, and how many turns it took from there.
 #[derive(Clone, Copy)]
 pub struct Turned {
     pub peak: u32,
@@ -58,10 +56,8 @@ fn from_start<R: RowsMut>(triangle: &[u32; PAIRS], n: usize, link: u32, rows: &m
     let mut loads = Loads {
         links: 0,
         loads: avoiding,
-        tops: [0; RUNS],
         keys: [0; MARKS],
     };
-    fill_tops(&avoiding[..n], &mut loads.tops);
     fill_keys(&avoiding[..n], &mut loads.keys);
     loads.links = n;
     let turns = settle(rows, &mut loads);
@@ -83,27 +79,58 @@ fn lower(earlier: Turned, later: Turned) -> Turned
     }
 }
 
-// The best of all starts. No peak is below M/2: where one reaches that, rounded up, no later start takes its place.
+// The figures of the best start so far, and the link of the start that was made last, whose ways the rows have.
+#[derive(Clone, Copy)]
+struct Tried {
+    best: Turned,
+    last: u32,
+}
+
+// Start after start; the rows keep the ways of the last one made. No peak is below M/2: where one reaches that, rounded up, no later start takes its place. Where no row ends at
+// the node between two links, the start that avoids the later one is that of the earlier, and is not made.
+fn try_starts<R: RowsMut>(triangle: &[u32; PAIRS], n: usize, rows: &mut R) -> Tried
+    requires two { desk.fewest ≤ n }
+    requires fit { DemandsFit n (demands (sents (R.rows rows.old))) }
+    requires triangle { Triangle n (demands (sents (R.rows rows.old))) triangle.now }
+    ensures best { result.best ≡ (least_start n (demands (sents (R.rows rows.old)))).figures }
+    ensures last { R.rows rows.new
+        ≡ (from_start n (demands (sents (R.rows rows.old))) result.last).rows }
+{
+    let floor = largest_cut(triangle, n).across.div_ceil(2);
+    let mut best = from_start(triangle, n, 1, rows);
+    let mut last: u32 = 1;
+    for done in 1..n {
+        if best.peak <= floor {
+            return Tried { best, last };
+        }
+        let link = done as u32 + 1;
+        // node `link` lies between links link - 1 and link
+        if meets(rows, link) {
+            best = lower(best, from_start(triangle, n, link, rows));
+            last = link;
+        }
+    }
+    Tried { best, last }
+}
+
+// The best of all starts. It is made once more if others were made after it, so that no ways are kept aside.
 fn best_start<R: RowsMut>(triangle: &[u32; PAIRS], n: usize, rows: &mut R) -> Turned
     requires two { desk.fewest ≤ n }
     requires fit { DemandsFit n (demands (sents (R.rows rows.old))) }
     requires triangle { Triangle n (demands (sents (R.rows rows.old))) triangle.now }
-    ensures best { result ≡ (least_start n (demands (sents (R.rows rows.old)))).figures }
-    ensures demands { demands (sents (R.rows rows.new)) ≡ demands (sents (R.rows rows.old)) }
+    ensures rows { R.rows rows.new ≡ (least_start n (demands (sents (R.rows rows.old)))).rows }
+    ensures figures { result ≡ (least_start n (demands (sents (R.rows rows.old)))).figures }
 {
-    let floor = largest_cut(triangle, n).across.div_ceil(2);
-    let mut best = from_start(triangle, n, 1, rows);
-    for link in 2..n + 1 {
-        if best.peak <= floor {
-            return best;
-        }
-        best = lower(best, from_start(triangle, n, link as u32, rows));
+    let tried = try_starts(triangle, n, rows);
+    if tried.best.link == tried.last {
+        tried.best
+    } else {
+        from_start(triangle, n, tried.best.link, rows)
     }
-    best
 }
 
 /// One turn at a time on a ring of 2 to 64 nodes: the rows go whole as the best of all starts ends, and its figures are answered. There are at most 1,024 rows, each on
-/// the ring, with an amount of at most 9,999; how they were sent before does not matter. The best start is made twice, so that no directions are kept aside.
+/// the ring, with an amount of at most 9,999; how they were sent before does not matter.
 pub fn turn_rows<R: RowsMut>(nodes: u32, rows: &mut R) -> Turned
     requires two { desk.fewest ≤ nodes }
     requires fit { DemandsFit nodes (demands (sents (R.rows rows.old))) }
@@ -125,6 +152,5 @@ pub fn turn_rows<R: RowsMut>(nodes: u32, rows: &mut R) -> Turned
     let n = wide(nodes);
     let mut triangle: [u32; PAIRS] = [0; PAIRS];
     fill(&mut triangle, n, rows);
-    let best = best_start(&triangle, n, rows);
-    from_start(&triangle, n, best.link, rows)
+    best_start(&triangle, n, rows)
 }

@@ -1,31 +1,25 @@
-//! The loads of links, and the figures by which a row is chosen, by the marks of the ring: one stands before link 1 and one behind each link, so that node i is at mark i - 1.
-ghost use Rattle.std.specs.Prelude.{◌≡◌, ◌≤◌, length, take};
+//! The loads of links, and what a row is chosen by, by the marks of the ring: one stands before link 1 and one behind each link, so that node i is at mark i - 1.
+ghost use Rattle.std.specs.Prelude.{suc, ◌+◌, ◌≡◌, ◌≤◌, length, take};
 ghost use Rattle.ring.specs.Demand.{OnRing};
 ghost use Rattle.ring.specs.Routing.{peak};
 ghost use Rattle.weight.specs.Limits.{most_links};
 ghost use Rattle.weight.specs.Arrays.{link_at};
-ghost use Rattle.turns.specs.Figures.{off_top, path_key};
-ghost use Rattle.turns.specs.Arrays.{RoomFor, Holds, Turns};
+ghost use Rattle.turns.specs.Figures.{off_top, span_top, path_key, rank_weight};
+ghost use Rattle.turns.specs.Arrays.{RoomFor, Holds, LoadsTurned};
 
-use crate::keys::fill_keys;
-use crate::tops::{fill_tops, top};
+use crate::keys::{fill_keys, rank_weight};
 use ring::{LINKS, Routed, Way, wide};
 use std::marker::Model;
 use weight::step_over;
 
-/// Marks.
+/// One mark more than there are links, since one stands before link 1 and one behind each link.
 pub(crate) const MARKS: usize = LINKS + 1;
 
-/// Runs of links from one mark to another: a line for each last mark, with a place for each first up to it.
-pub(crate) const RUNS: usize = MARKS * (MARKS + 1) / 2;
-
-/// The loads of a ring's links; the largest load of each run; and the weights of the links up to each mark together. Some 9 KB: it is made where it stays, and lent, since a
-/// struct that a function answers is copied; and it begins with no link, whose figures are all 0.
+/// The loads of a ring's links, and the weights of the links up to each mark together. It is made where it stays, and lent, since a struct that a function answers is copied.
 #[derive(Drop)]
 pub(crate) struct Loads {
     pub links: usize,
     pub loads: [u32; LINKS],
-    pub tops: [u32; RUNS],
     pub keys: [u64; MARKS],
 }
 
@@ -42,43 +36,57 @@ impl Model for Loads {
     ghost invariant = { Figured };
 }
 
+// The largest load of the links from mark p to mark q. Not inlined: `pick`'s loop asks it seldom, and would lack the registers.
+#[inline(never)]
+#[tactic(auto, using(crate::proofs::TopSteps::top_laws))]
+fn top(loads: &[u32], p: usize, q: usize) -> u32
+    requires order { p ≤ q }
+    requires within { q ≤ length loads.now }
+    ensures { result ≡ span_top (link_at loads.now) (suc p) q }
+{
+    let mut most: u32 = 0;
+    for load in &loads[p..q] {
+        most = most.max(*load);
+    }
+    most
+}
+
 // What a row sends leaves its path, and goes over the other links.
 fn turn_loads(loads: &mut [u32; LINKS], links: usize, row: Routed)
     requires few { links ≤ most_links }
     requires row { OnRing links row.sent.demand }
     requires room { RoomFor row.sent.demand.amount (take links loads.old) }
     requires holds { Holds row (take links loads.old) }
-    ensures turned { Turns row (take links loads.old) (take links loads.new) }
+    ensures turned { LoadsTurned row (take links loads.old) (take links loads.new) }
     ensures size { length loads.new ≡ most_links }
 {
     let demand = row.sent.demand;
-    let amount = demand.amount;
-    match row.way {
-        Way::Front => step_over(
-            &mut loads[..links],
-            demand,
-            |load| load - amount,
-            |load| load + amount,
-        ),
-        Way::Back => step_over(
-            &mut loads[..links],
-            demand,
-            |load| load + amount,
-            |load| load - amount,
-        ),
-    }
+    let (front, back) = row.way.whole(demand.amount);
+    step_over(
+        &mut loads[..links],
+        demand,
+        |load| load + back - front,
+        |load| load + front - back,
+    );
 }
 
 impl Loads {
+    // The loads of the ring's links.
+    fn seen(&self) -> &[u32]
+        ensures is { result.now ≡ self.now }
+        ensures few { length self.now ≤ most_links }
+    {
+        &self.loads[..self.links]
+    }
+
     /// A row is turned in the loads.
     pub fn turn(&mut self, row: Routed)
         requires row { OnRing (length self.old) row.sent.demand }
         requires room { RoomFor row.sent.demand.amount self.old }
         requires holds { Holds row self.old }
-        ensures { Turns row self.old self.new }
+        ensures { LoadsTurned row self.old self.new }
     {
         turn_loads(&mut self.loads, self.links, row);
-        fill_tops(&self.loads[..self.links], &mut self.tops);
         fill_keys(&self.loads[..self.links], &mut self.keys);
     }
 
@@ -87,7 +95,7 @@ impl Loads {
     pub fn peak(&self) -> u32
         ensures { result ≡ peak (link_at self.now) (length self.now) }
     {
-        top(&self.tops, 0, self.links)
+        top(self.seen(), 0, self.links)
     }
 
     /// The largest load off a row's path.
@@ -98,9 +106,10 @@ impl Loads {
     {
         let from = wide(row.sent.demand.first) - 1;
         let to = wide(row.sent.demand.second) - 1;
+        let loads = self.seen();
         match row.way {
-            Way::Front => top(&self.tops, 0, from).max(top(&self.tops, to, self.links)),
-            Way::Back => top(&self.tops, from, to),
+            Way::Front => top(loads, 0, from).max(top(loads, to, self.links)),
+            Way::Back => top(loads, from, to),
         }
     }
 
@@ -117,5 +126,15 @@ impl Loads {
             Way::Front => front,
             Way::Back => self.keys[self.links] - front,
         }
+    }
+
+    /// One below the weight of a link that carries the peak: each row whose turn lowers the peak has such a link on its path, so that its key is above this.
+    #[tactic(auto, using(crate::proofs::KeySteps::below_laws))]
+    pub fn below_keys(&self, largest: u32) -> u64
+        requires some { 1 ≤ length self.now }
+        requires largest { largest ≡ peak (link_at self.now) (length self.now) }
+        ensures { result + 1 ≡ rank_weight (length self.now) (link_at self.now) largest }
+    {
+        rank_weight(self.seen(), largest) - 1
     }
 }

@@ -1,5 +1,5 @@
 //! All turns of a start.
-ghost use Rattle.std.specs.Prelude.{◌<◌, length};
+ghost use Rattle.std.specs.Prelude.{◌≤◌, ◌<◌, length};
 ghost use Rattle.ring.specs.Routing.{unsplit_load};
 ghost use Rattle.ring.specs.Sheet.{sents, demands};
 ghost use Rattle.router.specs.Arrays.{DemandsFit};
@@ -11,7 +11,8 @@ use crate::pick::pick;
 use crate::whole::{other_way, whole};
 use rows::RowsMut;
 
-// The row at a place turned, and the loads with it.
+// The row at a place turned, and the loads with it. Not inlined: in the loop of `pick` its reads would take registers.
+#[inline(never)]
 #[tactic(auto, using(crate::proofs::TurnSteps::row_laws))]
 fn turn_row<R: RowsMut>(rows: &mut R, place: usize, loads: &mut Loads)
     requires fit { DemandsFit (length loads.old) (demands (sents (R.rows rows.old))) }
@@ -26,13 +27,14 @@ fn turn_row<R: RowsMut>(rows: &mut R, place: usize, loads: &mut Loads)
 
 /// Turn after turn, until none lowers the peak; the number of turns.
 pub(crate) fn settle<R: RowsMut>(rows: &mut R, loads: &mut Loads) -> u32
+    requires some { 1 ≤ length loads.old }
     requires fit { DemandsFit (length loads.old) (demands (sents (R.rows rows.old))) }
     requires carries { Carries (unsplit_load (R.rows rows.old)) loads.old }
     ensures { SettlesTo (length loads.old) (R.rows rows.old) (R.rows rows.new) loads.new result }
 {
     let mut turns: u32 = 0;
-    while let Some(kept) = pick(rows, loads) {
-        turn_row(rows, kept.place, loads);
+    while let Some(place) = pick(rows, loads) {
+        turn_row(rows, place, loads);
         turns += 1;
     }
     turns

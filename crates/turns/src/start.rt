@@ -5,12 +5,13 @@ ghost use Rattle.ring.specs.declared.types.Way.TheVariants.{Front, Back};
 ghost use Rattle.ring.specs.Sheet.{sents, demands};
 ghost use Rattle.weight.specs.Limits.{most_links, most_amount};
 ghost use Rattle.turns.specs.Turns.{start};
-ghost use Rattle.turns.specs.Arrays.{SmallAmounts, Carries, number_at};
+ghost use Rattle.turns.specs.Starts.{ends, meets, SmallAmounts, across_between};
+ghost use Rattle.turns.specs.Arrays.{Carries};
 
 use crate::whole::whole;
 use across::{PAIRS, get};
 use ring::{Demand, LINKS, Routed, Way};
-use rows::RowsMut;
+use rows::{Rows, RowsMut, each};
 
 // The way of a demand that avoids a link.
 fn way_avoiding(demand: Demand, link: u32) -> Way
@@ -35,10 +36,24 @@ pub(crate) fn route_avoiding<R: RowsMut>(rows: &mut R, link: u32)
     }
 }
 
+// Whether a demand ends at a node.
+fn ends(demand: Demand, node: u32) -> bool
+    ensures { result ≡ ends demand node }
+{
+    demand.first == node || demand.second == node
+}
+
+/// Whether a row ends at a node.
+pub(crate) fn meets<R: Rows>(rows: &R, node: u32) -> bool
+    ensures { result ≡ meets node (demands (sents (R.rows rows.now))) }
+{
+    each(rows).any(|row| ends(row.sent.demand, node))
+}
+
 // The across number of two links, in either order.
-fn number(triangle: &[u32; PAIRS], g: usize, h: usize) -> u32
+fn across_between(triangle: &[u32; PAIRS], g: usize, h: usize) -> u32
     requires { (1 ≤ g) × (g ≤ most_links) × (1 ≤ h) × (h ≤ most_links) }
-    ensures { result ≡ number_at triangle.now g h }
+    ensures { result ≡ across_between triangle.now g h }
 {
     if g < h {
         get(triangle, g, h)
@@ -55,11 +70,11 @@ pub(crate) fn loads_avoiding(triangle: &[u32; PAIRS], n: usize, link: usize) -> 
     requires few { n ≤ most_links }
     requires low { 1 ≤ link }
     requires high { link ≤ n }
-    ensures { Carries (λ h. number_at triangle.now link h) (take n result) }
+    ensures { Carries (λ h. across_between triangle.now link h) (take n result) }
 {
     let mut loads: [u32; LINKS] = [0; LINKS];
     for (k, load) in loads[..n].iter_mut().enumerate() {
-        *load = number(triangle, link, k + 1);
+        *load = across_between(triangle, link, k + 1);
     }
     loads
 }

@@ -3,13 +3,12 @@
 use borrow.Rule.Slice.PartMut.{mid_of, put_mid, same_len_mid}
 use Rattle.std.proofs.lemmas.List.{get_or-take, get_or-drop, get_or-append_right, length-take, length-drop}
 use lib.ListN.{get_or-append}
-use Rattle.std.proofs.Common.{◌-◌, ap, drop, take, ◌≡◌, refl, sym, ◌∙◌, subst, ℕ, suc, ◌+◌, List, ◌<◌, ◌≤◌, ◌≢◌, length, set, get_or, get_or-set_other, get_or-set_same, [], ◌∷◌, ◌++◌, zero, arith}
+use Rattle.std.proofs.Common.{◌-◌, ap, drop, take, ◌≡◌, ◌∙◌, ℕ, ◌+◌, List, ◌<◌, ◌≤◌, length, get_or, ◌++◌, arith}
 use native.Mathlib.Decide.{dec_lt}
-use Rattle.std.proofs.lemmas.List.{length-set}
 use Rattle.ring.specs.Demand.{OnRing}
 use Rattle.ring.specs.declared.types.Demand.{Demand}
 use Rattle.ring.proofs.Side.{front_ends, Outside, outside, ahead, behind}
-use Rattle.weight.specs.Arrays.{EachStep, EachFits, OverStep}
+use Rattle.weight.specs.Arrays.{EachStep, OverStep}
 
 -- ---- one run
 
@@ -18,42 +17,6 @@ pub record Spanning {T : Type 0} (step : T → T → Type 0) (old now : List T) 
   pub size : length now ≡ length old
   pub passed : (x : ℕ) (d : T) → x < k → step (get_or old x d) (get_or now x d)
   pub left : (x : ℕ) (d : T) → k ≤ x → get_or now x d ≡ get_or old x d
-
--- within a list the value in place of one that is missing does not matter
-same-at : {T : Type 0} (l : List T) (k : ℕ) (d e : T) → k < length l → get_or l k d ≡ get_or l k e
-same-at [] k d e h = absurd (omega arith)
-same-at (x ∷ l) zero d e h = refl
-same-at (x ∷ l) (suc k) d e h = same-at l k d e (omega arith)
-
-module _ {T : Type 0} {step : T → T → Type 0} (old : List T) where
-  pub span_start : Spanning step old old 0
-  span_start = record { size = refl; passed = λ x d l. absurd (omega arith); left = λ x d l. refl }
-
-  module _ (now : List T) (k : ℕ) (s : Spanning step old now k) where
-    module _ (x : T) (l : k < length old) where
-      pub can_step : {can : T → Type 0} → EachFits can old → can (get_or now k x)
-      can_step {can} fits = subst can (sym (s.left k x (omega arith))) (fits.each k x l)
-
-      pub span_turn : (y : T) → step (get_or now k x) y → Spanning step old (set now k y) (k + 1)
-      span_turn y p = record { size = length-set now k y ∙ s.size; passed = passed; left = left }
-        where
-          here : {z : ℕ} (d : T) → z ≡ k → step (get_or old z d) (get_or (set now k y) z d)
-          here d e =
-              let same : get_or old k d ≡ get_or now k x = same-at old k d x l ∙ sym (s.left k x (omega arith)) in
-              rw (e, same, get_or-set_same now k y d (omega (arith, s.size))) p
-
-          passed : (z : ℕ) (d : T) → z < k + 1 → step (get_or old z d) (get_or (set now k y) z d)
-          passed z d l =
-              elim (dec_lt z k) [
-                | yes m ↦ (let ne : z ≢ k = omega arith in rw (get_or-set_other now k z y d ne) (s.passed z d m))
-                | no m ↦ here d (omega arith)
-              ]
-
-          left : (z : ℕ) (d : T) → k + 1 ≤ z → get_or (set now k y) z d ≡ get_or old z d
-          left z d l = let ne : z ≢ k = omega arith in get_or-set_other now k z y d ne ∙ s.left z d (omega arith)
-
-    pub span_done : length old ≤ k → EachStep step old now
-    span_done h = record { size = s.size; each = λ x d l. s.passed x d (omega arith) }
 
 -- ---- a run is a part of a list: its figures from place a on, k of them
 

@@ -1,4 +1,4 @@
--- Row by row the links carry the rows passed, and with those that are left all; so does D.
+-- Row by row the links carry the rows passed, and with those that are left all; and D is found row by row.
 use Prim.Native.Nat.{ℕ, zero, suc, ◌+◌, ◌*◌, ◌-◌, ◌≤◌, ◌<◌, max}
 use mathlib.Core.Bool.{Bool, true, false, cond}
 use mathlib.Core.Path.{◌≡◌, refl, sym, ◌∙◌, ap}
@@ -24,7 +24,7 @@ use Rattle.ring.proofs.Sending.{over-front, over-back}
 use Rattle.ring.proofs.Peaks.{peak-least}
 use Rattle.weight.specs.Arrays.{loaded, OverStep, OverFits}
 use Rattle.weight.specs.Limits.{most_links, most_load, most_amount, most_halves}
-use Rattle.weight.specs.Rows.{RowFits, Fit, larger_split}
+use Rattle.weight.specs.Rows.{RowFits, Fit}
 use Rattle.weight.specs.Weighed.{no_link, links_in, weight_in, weighed_link}
 use Rattle.weight.specs.declared.Weight.{Weight}
 
@@ -39,16 +39,31 @@ module _ {A : Type 0} where
   pub rest-of : {P : A → Type 0} {a : A} {l : List A} → Each P (a ∷ l) → Each P l
   rest-of (more p e) = e
 
+-- ---- one of two that are chosen by a test
+
+chosen : (b : Bool) (x y : ℕ) → b ≡ true → cond b x y ≡ x
+chosen true x y e = refl
+chosen false x y e = absurd (true≢false (sym e))
+
+other : (b : Bool) (x y : ℕ) → b ≡ false → cond b x y ≡ y
+other false x y e = refl
+other true x y e = absurd (true≢false e)
+
 -- ---- D: the largest so far, with that of the rows left, is that of all
 
-pub top_more : (left rest : List Routed) (r : Routed) (most now all : ℕ) → left ≡ r ∷ rest → now ≡ larger_split most r.sent → max most (largest_split (sents left)) ≡ all →
-    max now (largest_split (sents rest)) ≡ all
-unfolding largest_split larger_split
-top_more left rest r most now all l e m = rw e (go (is_split r.sent) ∙ (rw l at m))
-  where
-    go : (b : Bool) → max (cond b (max r.sent.demand.amount most) most) (largest_split (sents rest)) ≡ max most (cond b (max r.sent.demand.amount (largest_split (sents rest))) (largest_split (sents rest)))
-    go true = omega arith
-    go false = refl
+pub top_split : (left rest : List Routed) (r : Routed) (most all : ℕ) → left ≡ r ∷ rest → is_split r.sent ≡ true → max most (largest_split (sents left)) ≡ all →
+    max (max most r.sent.demand.amount) (largest_split (sents rest)) ≡ all
+unfolding largest_split
+top_split left rest r most all l e m =
+    let D = largest_split (sents rest) in
+    omega (arith, chosen (is_split r.sent) (max r.sent.demand.amount D) D e, (rw l at m))
+
+pub top_whole : (left rest : List Routed) (r : Routed) (most all : ℕ) → left ≡ r ∷ rest → is_split r.sent ≡ false → max most (largest_split (sents left)) ≡ all →
+    max most (largest_split (sents rest)) ≡ all
+unfolding largest_split
+top_whole left rest r most all l e m =
+    let D = largest_split (sents rest) in
+    omega (arith, other (is_split r.sent) (max r.sent.demand.amount D) D e, (rw l at m))
 
 pub top_last : (left : List Routed) (most all : ℕ) → left ≡ [] → max most (largest_split (sents left)) ≡ all → most ≡ all
 unfolding largest_split
@@ -63,21 +78,11 @@ pub record Numbering (n : ℕ) (links : List Link) (k : ℕ) : Type 0 where
   pub left : (x : ℕ) (d : Link) → k ≤ x → x < n → get_or links x d ≡ no_link
 
 -- where the loop over rows stands: with the rows that are left the links carry all
-pub record Weighing (n : ℕ) (rs left : List Routed) (links : List Link) (largest : ℕ) : Type 0 where
+pub record Weighing (n : ℕ) (rs left : List Routed) (links : List Link) : Type 0 where
   pub each : Each (RowFits n) left
   pub size : length links ≡ most_links
   pub loads : (x : ℕ) (d : Link) → x < n → loaded (get_or links x d) (split_load (sents left) (x + 1)) (unsplit_load left (x + 1)) ≡ true_link rs (x + 1)
   pub behind : (x : ℕ) (d : Link) → n ≤ x → x < most_links → get_or links x d ≡ no_link
-  pub most : max largest (largest_split (sents left)) ≡ largest_split (sents rs)
-
--- one of two that are chosen by a test
-chosen : (b : Bool) (x y : ℕ) → b ≡ true → cond b x y ≡ x
-chosen true x y e = refl
-chosen false x y e = absurd (true≢false (sym e))
-
-other : (b : Bool) (x y : ℕ) → b ≡ false → cond b x y ≡ y
-other false x y e = refl
-other true x y e = absurd (true≢false e)
 
 whole-front : (r : Routed) (k : ℕ) → in_front r.sent.demand k ≡ true → whole_over r k ≡ by_way r.way r.sent.demand.amount 0
 unfolding whole_over
@@ -118,16 +123,11 @@ pub link_is : (n : ℕ) (rs : List Routed) (k : ℕ) → 1 ≤ k → k ≤ n →
 unfolding weight_in
 link_is n rs k low high = let e : (k - 1) + 1 ≡ k = omega arith in rw e at (in-at n rs (k - 1) no_link (omega arith))
 
-pub links_true : (n : ℕ) (rs : List Routed) (w : Weight) → w ≡ weight_in n rs → take n w.links ≡ map (true_link rs) (numbers_from 1 n)
-unfolding weight_in
-links_true n rs w e =
+pub links_true : (n : ℕ) (rs : List Routed) → take n (links_in n rs) ≡ map (true_link rs) (numbers_from 1 n)
+links_true n rs =
     let links = map (true_link rs) (numbers_from 1 n) in
     let behind = replicate {A = Link} (most_links - n) no_link in
-    rw e (subst (λ k. take k (links ++ behind) ≡ links) (numbers-length (true_link rs) 1 n) (take-append_seam links behind))
-
--- links that carry none
-pub none_there : (empty : Link) → (empty.link ≡ 0) × ((empty.split ≡ 0) × (empty.unsplit ≡ 0)) → replicate {A = Link} most_links empty ≡ replicate most_links no_link
-none_there empty e = let zeros : empty ≡ no_link = λ i. record { link = e.0 i; split = e.1.0 i; unsplit = e.1.1 i } in ap (replicate most_links) zeros
+    subst (λ k. take k (links ++ behind) ≡ links) (numbers-length (true_link rs) 1 n) (take-append_seam links behind)
 
 -- ---- no load is more than all rows' amounts or halves
 
@@ -157,7 +157,7 @@ module _ (n : ℕ) (rs : List Routed) (fit : Fit n rs) (nodes : ℕ) (is : nodes
           left = λ x d l m. get_or-take nodes old x d m ∙ old-at x d (omega (arith, fit.links));
         }
 
-    pub weigh_start : (part : List Link) (k : ℕ) → Numbering nodes part k → nodes ≤ k → (new : List Link) → new ≡ part ++ drop nodes old → (left : List Routed) → left ≡ rs → Weighing nodes rs left new 0
+    pub weigh_start : (part : List Link) (k : ℕ) → Numbering nodes part k → nodes ≤ k → (new : List Link) → new ≡ part ++ drop nodes old → (left : List Routed) → left ≡ rs → Weighing nodes rs left new
     unfolding split_load unsplit_load
     weigh_start part k done passed new e left all =
         rw (e, all) record {
@@ -172,7 +172,6 @@ module _ (n : ℕ) (rs : List Routed) (fit : Fit n rs) (nodes : ℕ) (is : nodes
               λ x d l m.
               let e : nodes + (x - nodes) ≡ x = omega arith in
               get_or-append_right part (drop nodes old) nodes x d done.size l ∙ get_or-drop nodes old (x - nodes) d ∙ ap (λ y. get_or old y d) e ∙ old-at x d m;
-          most = omega arith;
         }
 
   pub number_turn : (links : List Link) (k : ℕ) → Numbering nodes links k → k < nodes → (d : Link) →
@@ -192,9 +191,9 @@ module _ (n : ℕ) (rs : List Routed) (fit : Fit n rs) (nodes : ℕ) (is : nodes
       }
 
   -- one row more of those that are left
-  module _ (links : List Link) (largest : ℕ) (left rest : List Routed) (r : Routed) (next : left ≡ r ∷ rest) (before : Weighing nodes rs left links largest)
+  module _ (links : List Link) (left rest : List Routed) (r : Routed) (next : left ≡ r ∷ rest) (before : Weighing nodes rs left links)
       (front back : ℕ) (ahead : front ≡ by_way r.way r.sent.demand.amount 0) (behind : back ≡ by_way r.way 0 r.sent.demand.amount) where
-    w : Weighing nodes rs (r ∷ rest) links largest
+    w : Weighing nodes rs (r ∷ rest) links
     w = rw next at before
 
     here : RowFits nodes r
@@ -239,8 +238,8 @@ module _ (n : ℕ) (rs : List Routed) (fit : Fit n rs) (nodes : ℕ) (is : nodes
 
     pub weigh_more : {ahead_step behind_step : Link → Link → Type 0} → ((x y : Link) → ahead_step x y → y ≡ loaded x r.sent.front front) → ((x y : Link) → behind_step x y → y ≡ loaded x r.sent.back back) →
         (part : List Link) → OverStep ahead_step behind_step r.sent.demand (take nodes links) part → (new : List Link) → new ≡ part ++ drop nodes links →
-        (now : ℕ) → now ≡ larger_split largest r.sent → Weighing nodes rs rest new now
-    weigh_more p q part o new is-new now m =
+        Weighing nodes rs rest new
+    weigh_more p q part o new is-new =
         rw is-new record {
           each = rest-of w.each;
           size = omega (arith, length-append part (drop nodes links), length-drop nodes links, o.size, long, w.size);
@@ -251,7 +250,6 @@ module _ (n : ℕ) (rs : List Routed) (fit : Fit n rs) (nodes : ℕ) (is : nodes
               λ x d l m.
               let e : nodes + (x - nodes) ≡ x = omega arith in
               get_or-append_right part (drop nodes links) nodes x d (omega (arith, o.size, long)) l ∙ get_or-drop nodes links (x - nodes) d ∙ ap (λ y. get_or links y d) e ∙ w.behind x d l m;
-          most = top_more left rest r largest now _ next m before.most;
         }
       where
         go : (x : ℕ) (d : Link) → x < nodes → (b : Bool) → in_front r.sent.demand (x + 1) ≡ b →
@@ -263,8 +261,8 @@ module _ (n : ℕ) (rs : List Routed) (fit : Fit n rs) (nodes : ℕ) (is : nodes
             rw (q _ _ (o.behind x d (omega (arith, long)) f) ∙ ap (λ y. loaded y r.sent.back back) (part-is x d l))
             (with_row x d l r.sent.back back (over-back r.sent (x + 1) f) (whole-back r (x + 1) f ∙ sym behind))
 
-  module _ (links : List Link) (largest : ℕ) (left : List Routed) (e : left ≡ []) (before : Weighing nodes rs left links largest) where
-    end : Weighing nodes rs [] links largest
+  module _ (links : List Link) (left : List Routed) (e : left ≡ []) (before : Weighing nodes rs left links) where
+    end : Weighing nodes rs [] links
     end = rw e at before
 
     pub links-done : links ≡ links_in n rs
@@ -281,9 +279,6 @@ module _ (n : ℕ) (rs : List Routed) (fit : Fit n rs) (nodes : ℕ) (is : nodes
           | no m ↦ end.behind x d (omega arith) (omega (arith, end.size)) ∙ sym (in-behind n rs x d (omega arith) (omega (arith, end.size)))
         ])
 
-    pub most-done : largest ≡ largest_split (sents rs)
-    most-done = top_last left largest _ e before.most
-
   -- the peaks of the links passed
   module _ (links : List Link) (are : links ≡ links_in n rs) (k split top : ℕ) (split_is : split ≡ peak (split_load (sents rs)) k) (top_is : top ≡ peak (unsplit_load rs) k) where
     passing : length (take nodes links) ≡ n
@@ -297,22 +292,21 @@ module _ (n : ℕ) (rs : List Routed) (fit : Fit n rs) (nodes : ℕ) (is : nodes
         let here : get_or (take nodes links) k d ≡ true_link rs (k + 1) = get_or-take nodes links k d (omega (arith, passing)) ∙ (rw are (in-at n rs k d (omega (arith, passing)))) in
         (rw (here, split_is, after) refl, rw (here, top_is, after) refl)
 
-    pub peaks_done : k ≤ length (take nodes links) → length (take nodes links) ≤ k → (largest : ℕ) → largest ≡ largest_split (sents rs) →
-        record { links = links; split_peak = split; peak = top; largest = largest } ≡ weight_in n rs
+    pub peaks_done : k ≤ length (take nodes links) → length (take nodes links) ≤ k →
+        record { links = links; split_peak = split; unsplit_peak = top } ≡ weight_in n rs
     unfolding weight_in
-    peaks_done l m largest most =
+    peaks_done l m =
         let e : k ≡ n = omega (arith, passing) in
         λ i.
         record {
           links = are i;
           split_peak = (split_is ∙ ap (peak (split_load (sents rs))) e) i;
-          peak = (top_is ∙ ap (peak (unsplit_load rs)) e) i;
-          largest = most i;
+          unsplit_peak = (top_is ∙ ap (peak (unsplit_load rs)) e) i;
         }
 
 -- ---- what a line must carry for the peak fits
 
-pub peak-fits : (n : ℕ) (rs : List Routed) → Fit n rs → (weight : Weight) → weight ≡ weight_in n rs → 2 * weight.peak < 4294967296
+pub peak-fits : (n : ℕ) (rs : List Routed) → Fit n rs → (weight : Weight) → weight ≡ weight_in n rs → 2 * weight.unsplit_peak < 4294967296
 unfolding weight_in
 peak-fits n rs fit weight e =
-    omega (arith, ap (λ (w : Weight). w.peak) e, peak-least (unsplit_load rs) n (most_amount * length rs) (λ k a b. load-small n rs fit k), fit.few)
+    omega (arith, ap (λ (w : Weight). w.unsplit_peak) e, peak-least (unsplit_load rs) n (most_amount * length rs) (λ k a b. load-small n rs fit k), fit.few)

@@ -1,9 +1,8 @@
--- Internal: what rows as they are routed weigh: links 1 to n with their loads, their peaks, and D.
+-- Internal: what rows as they are routed weigh: links 1 to n with their loads, and their peaks.
 use Rattle.std.specs.Prelude.{ℕ, ◌-◌, List, ◌++◌, map, replicate, get_or}
 use Rattle.ring.specs.Routing.{split_load, unsplit_load, peak}
 use Rattle.ring.specs.declared.types.Routed.{Routed}
 use Rattle.ring.specs.declared.types.Link.{Link}
-use Rattle.ring.specs.RuleD.{largest_split}
 use Rattle.ring.specs.Sheet.{sents, numbers_from, true_link}
 use Rattle.weight.specs.declared.Weight.{Weight}
 use Rattle.weight.specs.Limits.{most_links}
@@ -21,8 +20,7 @@ weight_in n rs =
     record {
       links = links_in n rs;
       split_peak = peak (split_load (sents rs)) n;
-      peak = peak (unsplit_load rs) n;
-      largest = largest_split (sents rs);
+      unsplit_peak = peak (unsplit_load rs) n;
     }
 
 abbrev pub weighed_link : Weight → ℕ → Link

@@ -8,12 +8,12 @@ fn step_span<T: Copy, F: Fn(T) -> T>(span: &mut [T], step: F)
     requires { EachFits (F.pre step) span.old }
     ensures { EachStep (F.post step) span.old span.new }
 {
-    for x in span.iter_mut() {
-        *x = step(*x);
+    for figure in span.iter_mut() {
+        *figure = step(*figure);
     }
 }
 
-/// The figures of a ring's links, link k's at place k-1, are changed: of the links i to j-1 of a demand's front by `front`, of all others by `back`.
+/// The figures of a ring's links, link k's at place k-1, are changed: of those of a demand's front, from its first node to the link before its second, by `front`; of all others by `back`.
 pub fn step_over<T: Copy, F: Fn(T) -> T, B: Fn(T) -> T>(
     line: &mut [T],
     demand: Demand,

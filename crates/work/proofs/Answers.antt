@@ -13,8 +13,8 @@ use Rattle.table.specs.Judge.{ring_verdict}
 use Rattle.table.specs.Verdict.{Verdict}
 use Rattle.table.proofs.Judged.{RingJudged, size_wrong, wrong_fibres, right_ring, ring-judged, RowJudged, no_such_node, not_below, out_of_order, too_many, too_much, row_fine, row-judged}
 use Rattle.work.specs.Calls.{Call, start, add, change, remove, WorkAnswer}
-use Rattle.work.specs.Kept.{reasons_of, Answered, refused, accepted}
-use Rattle.work.specs.Changes.{ring_size, placed_of, work_after, recut_in, free_in, holds_in, index_in, from_row, unless_fault, fresh_in, started_in, judged, put_free, added_in, changed_in, removed_in, called_in}
+use Rattle.work.specs.True.{reasons_of, Answered, refused, accepted}
+use Rattle.work.specs.Changes.{ring_size, placed_of, work_after, recut_in, free_in, holds_in, index_in, from_row, unless_fault, fresh_in, started_in, verdict_in, put_free, added_in, changed_in, removed_in, called_in}
 use Rattle.work.specs.declared.Work.{Work}
 use Rattle.work.specs.declared.answer.Changed.{Changed}
 
@@ -28,9 +28,9 @@ data Ends (c : Call) : Result Changed Reason → Type 0 where
 
 module _ (w : Work) (c : Call) where
   -- a row is judged, and then goes on
-  judged_row : Gives c NoSuchNode → Gives c NotBelow → Gives c TooMuch → (r : Demand) {next : Result Changed Reason} → Ends c next → Ends c (unless_fault (judged w r) next)
+  judged_row : Gives c NoSuchNode → Gives c NotBelow → Gives c TooMuch → (r : Demand) {next : Result Changed Reason} → Ends c next → Ends c (unless_fault (verdict_in w r) next)
   unfolding unless_fault
-  judged_row node order much r {next} f = go (judged w r) (row-judged desk (ring_size w.ring.nodes) 0 None r)
+  judged_row node order much r {next} f = go (verdict_in w r) (row-judged desk (ring_size w.ring.nodes) 0 None r)
     where
       go : (v : Verdict) → RowJudged desk (ring_size w.ring.nodes) 0 None r v → Ends c (unless_fault v next)
       go v (no_such_node u) = gives node

@@ -23,8 +23,8 @@ use Rattle.table.proofs.Judged.{RingJudged, size_wrong, wrong_fibres, right_ring
 use Rattle.work.specs.Places.{empty, holds, Plain, AllTaken, plain_of}
 use Rattle.work.specs.Calls.{Call, start, add, change, remove, WorkAnswer, findings, with_place, Makes, starts, adds, changes, removes, Does, refused, accepted}
 use Rattle.work.specs.Made.{Made, begun, called}
-use Rattle.work.specs.Kept.{held, Keeps}
-use Rattle.work.specs.Changes.{recut_in, free_in, index_in, from_row, put_in, cleared_in, unless_fault, fresh_in, started_in, judged, put_free, added_in, changed_in, removed_in, called_in}
+use Rattle.work.specs.True.{held, TrueTable}
+use Rattle.work.specs.Changes.{recut_in, free_in, index_in, from_row, put_in, cleared_in, unless_fault, fresh_in, started_in, verdict_in, put_free, added_in, changed_in, removed_in, called_in}
 use Rattle.work.specs.Keys.{sorted_rows}
 use Rattle.work.specs.Sorted.{WritesOut}
 use Rattle.work.specs.declared.Work.{Work}
@@ -83,7 +83,7 @@ module _ (w : Work) (s : Right w) where
   abbrev full : Findings
   full = finding (AllTaken t.places) Full 0 nothing
 
-  verdict : (r : Demand) → judged w r ≡ row_verdict desk w.ring.nodes 0 None r
+  verdict : (r : Demand) → verdict_in w r ≡ row_verdict desk w.ring.nodes 0 None r
   verdict r = rw (size_is w s)
 
   module _ (k : ℕ) (l : k < desk.rows) (r : Demand) where
@@ -163,7 +163,7 @@ module _ (w : Work) (s : Right w) where
 
 -- ---- a table made by calls
 
-pub keeps-of : {w : Work} → Sound w → Keeps w
+pub keeps-of : {w : Work} → Sound w → TrueTable w
 keeps-of {w} s =
     record {
       places = count w (sized s.right);
@@ -175,7 +175,7 @@ keeps-of {w} s =
     }
 
 -- 1,024 places, the across number of every cut, the largest and its cut are kept
-pub made-keeps : {cs : List Call} {w : Work} → Made cs w → Keeps w
+pub made-keeps : {cs : List Call} {w : Work} → Made cs w → TrueTable w
 made-keeps (begun p k) = k
 made-keeps (called m p k) = k
 

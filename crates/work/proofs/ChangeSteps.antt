@@ -9,14 +9,14 @@ use Rattle.table.specs.declared.reason.Reason.{Reason}
 use Rattle.table.specs.Verdict.{Verdict}
 use Rattle.std.specs.Prelude.{Ok, Err, None}
 use Rattle.table.proofs.Judged.{RowJudged, no_such_node, not_below, out_of_order, too_many, too_much, row_fine, row-judged}
-use Rattle.work.specs.Changes.{Fitting, ring_size, judged}
+use Rattle.work.specs.Changes.{Fitting, ring_size, verdict_in}
 use Rattle.work.specs.declared.Work.{Work}
 
 never : {reason : Reason} → ◌≡◌ {A = Verdict} (Err reason) (Ok tt) → ⊥
 never q = clash (cc)
 
-pub fitting : (w : Work) (r : Demand) (k : ℕ) → Ok tt ≡ judged w r → k < desk.rows → Fitting k r
-fitting w r k f l = go (judged w r) (sym f) (row-judged desk (ring_size w.ring.nodes) 0 None r)
+pub fitting : (w : Work) (r : Demand) (k : ℕ) → Ok tt ≡ verdict_in w r → k < desk.rows → Fitting k r
+fitting w r k f l = go (verdict_in w r) (sym f) (row-judged desk (ring_size w.ring.nodes) 0 None r)
   where
     go : (u : Verdict) → u ≡ Ok tt → RowJudged desk (ring_size w.ring.nodes) 0 None r u → Fitting k r
     go u q (row_fine on up c m) = record { place = l; low = on.low; first = omega (arith, on.order, on.high); second = omega (arith, on.high); amount = omega arith }

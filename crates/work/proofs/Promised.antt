@@ -15,8 +15,8 @@ use Rattle.table.specs.declared.reason.Reason.{Reason}
 use Rattle.work.specs.Places.{Plain, rows_held, RowAt, plain_of}
 use Rattle.work.specs.Calls.{Call, start, WorkAnswer, findings, Makes, starts, acceptance, Does, refused, accepted}
 use Rattle.work.specs.Changes.{placed_of, work_after, recut_in, index_in, from_row, row_in, started_in, called_in}
-use Rattle.work.specs.Kept.{held, Keeps}
-use Rattle.work.specs.Promises.{WorkPromise, SameKept, OnlyThis, RowSays, none_there, row_there, RowPromise, OnlyRow}
+use Rattle.work.specs.True.{held, TrueTable}
+use Rattle.work.specs.Promises.{WorkPromise, SameNumbers, OnlyThis, none_there, row_there, RowPromise}
 use Rattle.work.specs.Made.{Made, begun, called}
 use Rattle.work.specs.Played.{named_by, Played, at_first, then, AsPlayed, AnswerAfter}
 use Rattle.work.specs.declared.Work.{Work}
@@ -72,12 +72,12 @@ module _ (w : Work) (c : Call) (a : WorkAnswer) (x : Work) where
 
 -- a call leaves a struct that keeps its numbers, where the one before it did or where it is accepted
 module _ {w : Work} {c : Call} {a : WorkAnswer} {x : Work} where
-  accepted-keeps : Step w c → Left w c a x → (p : Placed) → a ≡ Ok p → Keeps x
+  accepted-keeps : Step w c → Left w c a x → (p : Placed) → a ≡ Ok p → TrueTable x
   unfolding placed_of work_after
   accepted-keeps (both_refuse reason e g) l p is = let no : a ≡ Err reason = rw e at l.answer in clash (cc)
   accepted-keeps (both_make p y s e n m) l _ is = rw (rw e at l.table) (keeps-of (recut-sound p y s))
 
-  stays-keeping : Step w c → Left w c a x → Keeps w → Keeps x
+  stays-keeping : Step w c → Left w c a x → TrueTable w → TrueTable x
   unfolding placed_of work_after
   stays-keeping (both_refuse reason e g) l k = rw (rw e at l.table) k
   stays-keeping (both_make p y s e n m) l k = rw (rw e at l.table) (keeps-of (recut-sound p y s))
@@ -91,10 +91,10 @@ module _ {w : Work} {c : Call} {a b : WorkAnswer} {x y : Work} (p : WorkPromise 
   same-answer : b ≡ a
   same-answer = (does-one p.cases q.cases).0
 
-  same-kept : ((placed : Placed) → a ≡ Ok placed → Keeps x) → Keeps y → SameKept y x
+  same-kept : ((placed : Placed) → a ≡ Ok placed → TrueTable x) → TrueTable y → SameNumbers y x
   same-kept k l = go a refl
     where
-      go : (r : WorkAnswer) → a ≡ r → SameKept y x
+      go : (r : WorkAnswer) → a ≡ r → SameNumbers y x
       go (Err reason) e = rw (p.unchanged reason e, q.unchanged reason (same-answer ∙ e)) (record { cut = refl; numbers = λ g h a b c. refl })
       go (Ok placed) e =
           let kx = k placed e in
@@ -105,7 +105,7 @@ module _ {w : Work} {c : Call} {a b : WorkAnswer} {x y : Work} (p : WorkPromise 
             numbers = λ g h a b c. l.numbers g h a b (rw size c) ∙ ap (λ rs. across rs g h) rows ∙ sym (kx.numbers g h a b c);
           }
 
-pub only-this : {w : Work} {c : Call} {a : WorkAnswer} {x : Work} → WorkPromise w c a x → ((placed : Placed) → a ≡ Ok placed → Keeps x) → OnlyThis (WorkPromise w c) a x
+pub only-this : {w : Work} {c : Call} {a : WorkAnswer} {x : Work} → WorkPromise w c a x → ((placed : Placed) → a ≡ Ok placed → TrueTable x) → OnlyThis (WorkPromise w c) a x
 only-this p k = record { answer = λ b y q. same-answer p q; table = λ b y q. same-table p q; kept = λ b y q l. same-kept p q k l }
 
 -- ---- the row at a place
@@ -133,14 +133,6 @@ row-promise w z p {a} is = go (index_in w.first p) (indexed w z p) is
           );
         }
 
--- no other answer keeps the promise
-pub only-row : {w : Work} {p : ℕ} {a : Result Demand Reason} → RowPromise w p a → OnlyRow w p a
-only-row {w} {p} {a} q b r = go r.cases
-  where
-    go : RowSays (plain_of w).places p b → b ≡ a
-    go (none_there n e) = e ∙ sym (q.refuses.1 n)
-    go (row_there x at e) = e ∙ sym ((q.says x).1 at)
-
 -- ---- a whole list of calls
 
 -- they lead to one table and one cut
@@ -152,7 +144,7 @@ one-played (then {t = t} {d = d} {a = a} p k) (then {t = s} {d = e} {a = b} q l)
     (one.1, rw (one.0, before.1))
 
 -- the cut that a struct keeps is the one named last
-cut-named : {w : Work} {c : Call} {a : WorkAnswer} {x : Work} → WorkPromise w c a x → Keeps x → x.cut ≡ named_by a w.cut
+cut-named : {w : Work} {c : Call} {a : WorkAnswer} {x : Work} → WorkPromise w c a x → TrueTable x → x.cut ≡ named_by a w.cut
 cut-named {w} {c} {a} {x} q k = go q.cases
   where
     go : Does (plain_of w) c a (plain_of x) → x.cut ≡ named_by a w.cut
@@ -211,13 +203,13 @@ module _ (any : Work) (ring : Ring) {done : Result Changed Reason} {a : WorkAnsw
       go (Ok placed) e = f placed e
       go (Err reason) e = tt
 
-  keeps : (placed : Placed) → a ≡ Ok placed → Keeps x
+  keeps : (placed : Placed) → a ≡ Ok placed → TrueTable x
   keeps = accepted-keeps (start-step any ring) left
 
   made : (placed : Placed) → a ≡ Ok placed → Made (start ring ∷ []) x
   made placed e = begun (rw e at started-promise) (keeps placed e)
 
-  pub started-keeps : IfOk a (λ _. Keeps x)
+  pub started-keeps : IfOk a (λ _. TrueTable x)
   started-keeps = if-accepted keeps
 
   pub started-made : IfOk a (λ _. Made (start ring ∷ []) x)
@@ -238,7 +230,7 @@ module _ {cs : List Call} {w : Work} (m : Made cs w) (c : Call) {done : Result C
   pub called-promise : WorkPromise w c a x
   called-promise = promise w c a x (case-of w c a x step leaves)
 
-  pub called-keeps : Keeps x
+  pub called-keeps : TrueTable x
   called-keeps = stays-keeping step leaves (keeps-of (made-sound m))
 
   pub called-made : Made (c ∷ cs) x

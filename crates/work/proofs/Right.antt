@@ -23,7 +23,7 @@ use Rattle.across.specs.Step.{raised, lowered}
 use Rattle.across.proofs.Kept.{row-at}
 use Rattle.across.proofs.CutSteps.{same-cut}
 use Rattle.work.specs.Places.{empty, holds, HoldsAt, place_in, plain_of}
-use Rattle.work.specs.Kept.{held}
+use Rattle.work.specs.True.{held}
 use Rattle.work.specs.Changes.{ring_size, cut_of, put_in, cleared_in, fresh_in}
 use Rattle.work.specs.declared.Work.{Work}
 use Rattle.work.proofs.RowsHeld.{across-set, held-few, each_set, each_at, held-fresh, places-set, places-length, places-at, places-fresh}

@@ -98,19 +98,19 @@ unfoldable pub started_in : Ring → Result Changed Reason
 started_in ring = unless_fault (ring_verdict desk ring) (Ok (recut_in (fresh_in ring) 0))
 
 -- a row is judged as the first of a table is: 4, 5, 7
-abbrev pub judged : Work → Demand → Verdict
-judged w r = row_verdict desk (ring_size w.ring.nodes) 0 None r
+abbrev pub verdict_in : Work → Demand → Verdict
+verdict_in w r = row_verdict desk (ring_size w.ring.nodes) 0 None r
 
 unfoldable pub put_free : Work → Demand → Option ℕ → Result Changed Reason
 put_free w r (Some k) = Ok (recut_in (put_in w k r) (k + 1))
 put_free w r None = Err Full
 
 unfoldable pub added_in : Work → Demand → Result Changed Reason
-added_in w r = unless_fault (judged w r) (put_free w r (free_in w.first))
+added_in w r = unless_fault (verdict_in w r) (put_free w r (free_in w.first))
 
 -- a change's place first: 22; then its row
 unfoldable pub changed_in : Work → ℕ → Demand → Result Changed Reason
-changed_in w p r = from_row (index_in w.first p) (λ k. unless_fault (judged w r) (Ok (recut_in (put_in (cleared_in w k) k r) p)))
+changed_in w p r = from_row (index_in w.first p) (λ k. unless_fault (verdict_in w r) (Ok (recut_in (put_in (cleared_in w k) k r) p)))
 
 unfoldable pub removed_in : Work → ℕ → Result Changed Reason
 removed_in w p = from_row (index_in w.first p) (λ k. Ok (recut_in (cleared_in w k) p))

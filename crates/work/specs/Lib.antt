@@ -1,7 +1,7 @@
 pub mod Places
 pub mod Calls
 pub mod Changes
-pub mod Kept
+pub mod True
 pub mod Keys
 pub mod Sorted
 pub mod Promises

@@ -7,7 +7,7 @@ use Rattle.table.specs.declared.reason.Reason.{Reason}
 use Rattle.table.specs.declared.reason.Reason.TheVariants.{NoRow}
 use Rattle.work.specs.Places.{Place, Plain, RowAt, HoldsNone, plain_of}
 use Rattle.work.specs.Calls.{Call, WorkAnswer, findings, Makes, acceptance, Does}
-use Rattle.work.specs.Kept.{Keeps}
+use Rattle.work.specs.True.{TrueTable}
 use Rattle.work.specs.declared.Work.{Work}
 
 -- ---- the calls that alter a table
@@ -23,8 +23,8 @@ pub record WorkPromise (w : Work) (c : Call) (a : WorkAnswer) (x : Work) : Type 
   -- a place, rule A's cut of the rows then held, and the table that holds them, exactly when no reason holds and the call makes this
   pub accepts : (p : ℕ) (u : Plain) → ((a ≡ acceptance p u) × (plain_of x ≡ u)) ↔ (NoneHolds (findings (plain_of w) c) × Makes (plain_of w) c p u)
 
--- two structs keep one cut, and the same number for each
-pub record SameKept (x y : Work) : Type 0 where
+-- two structs keep one cut, and the same number for each pair of links of the ring
+pub record SameNumbers (x y : Work) : Type 0 where
   pub cut : x.cut ≡ y.cut
   pub numbers : (g h : ℕ) → 1 ≤ g → g < h → h ≤ y.ring.nodes → at x.triangle g h ≡ at y.triangle g h
 
@@ -32,7 +32,7 @@ pub record SameKept (x y : Work) : Type 0 where
 pub record OnlyThis {A : Type 0} (Promise : A → Work → Type 0) (a : A) (x : Work) : Type 0 where
   pub answer : (b : A) (y : Work) → Promise b y → b ≡ a
   pub table : (b : A) (y : Work) → Promise b y → plain_of y ≡ plain_of x
-  pub kept : (b : A) (y : Work) → Promise b y → Keeps y → SameKept y x
+  pub kept : (b : A) (y : Work) → Promise b y → TrueTable y → SameNumbers y x
 
 -- ---- the row at a place
 

@@ -1,4 +1,4 @@
-//! What an accepted change answers, and the table behind it.
+//! What a change answers: the struct, and the step that every change ends in.
 ghost use Rattle.std.specs.Prelude.{◌≡◌};
 ghost use Rattle.work.specs.Changes.{ring_size, recut_in};
 
@@ -27,15 +27,21 @@ pub(crate) fn ring_size(nodes: u32) -> u32
     nodes.clamp(FEWEST, NODES)
 }
 
+/// How many nodes the triangle is read for.
+pub(crate) fn nodes(work: &Work) -> usize
+    ensures { result ≡ ring_size work.now.ring.nodes }
+{
+    wide(ring_size(work.ring.nodes))
+}
+
 /// The rows have changed: the largest cut is looked for among the kept numbers.
 #[tactic(auto, unfolding(crate::specs::Changes::recut_in))]
 pub(crate) fn recut(work: Work, place: u32) -> Changed
     ensures { result ≡ recut_in work place }
 {
-    let mut w = work;
-    w.cut = largest_cut(&w.triangle, wide(ring_size(w.ring.nodes)));
+    let cut = largest_cut(&work.triangle, nodes(&work));
     Changed {
-        placed: Placed { place, cut: w.cut },
-        work: w,
+        placed: Placed { place, cut },
+        work: Work { cut, ..work },
     }
 }

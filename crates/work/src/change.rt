@@ -1,27 +1,47 @@
 //! A row added, changed or removed.
-ghost use Rattle.std.specs.Prelude.{◌≡◌};
-ghost use Rattle.work.specs.Changes.{Occupied, Fitting, put_in, cleared_in, added_in, judged, changed_in, removed_in};
+ghost use Rattle.std.specs.Prelude.{◌≡◌, ◌<◌};
+ghost use Rattle.ring.specs.Limits.{desk};
+ghost use Rattle.work.specs.Changes.{Occupied, Fitting, put_in, cleared_in, with_row, added_in, verdict_in, changed_in, removed_in};
 
-use crate::answer::{recut, ring_size};
+use crate::answer::{nodes, recut, ring_size};
 use crate::place::{free_place, index_of, row_at};
 use crate::{Changed, Work};
 use across::{put_row, take_row};
-use ring::{Demand, wide};
+use ring::Demand;
 use table::{Reason, check_row};
+
+// What the columns hold at a free place.
+const NO_DEMAND: Demand = Demand {
+    first: 0,
+    second: 0,
+    amount: 0,
+};
+
+// What the columns hold at place k+1 from now on.
+fn set(work: &mut Work, k: usize, demand: Demand)
+    requires place { k < desk.rows }
+    requires first { demand.first < 256 }
+    requires second { demand.second < 256 }
+    requires amount { demand.amount < 65536 }
+    ensures { work.new ≡
+        with_row work.old work.old.triangle k demand.first demand.second demand.amount }
+{
+    work.first[k] = demand.first as u8;
+    work.second[k] = demand.second as u8;
+    work.amount[k] = demand.amount as u16;
+}
 
 // A row is put at place k+1, which is free.
 #[tactic(auto, unfolding(crate::specs::Changes::put_in))]
-fn put(work: Work, k: usize, row: Demand) -> Work
-    requires { Fitting k row }
-    ensures { result ≡ put_in work k row }
+fn put(work: Work, k: usize, demand: Demand) -> Work
+    requires { Fitting k demand }
+    ensures { result ≡ put_in work k demand }
 {
-    let mut w = work;
-    let nodes = wide(ring_size(w.ring.nodes));
-    put_row(&mut w.triangle, nodes, row);
-    w.first[k] = row.first as u8;
-    w.second[k] = row.second as u8;
-    w.amount[k] = row.amount as u16;
-    w
+    let mut work = work;
+    let nodes = nodes(&work);
+    put_row(&mut work.triangle, nodes, demand);
+    set(&mut work, k, demand);
+    work
 }
 
 // The row at place k+1 is taken off.
@@ -30,45 +50,43 @@ fn cleared(work: Work, k: usize) -> Work
     requires { Occupied work k }
     ensures { result ≡ cleared_in work k }
 {
-    let mut w = work;
-    let nodes = wide(ring_size(w.ring.nodes));
-    let row = row_at(&w, k);
-    take_row(&mut w.triangle, nodes, row);
-    w.first[k] = 0;
-    w.second[k] = 0;
-    w.amount[k] = 0;
-    w
+    let mut work = work;
+    let nodes = nodes(&work);
+    let demand = row_at(&work, k);
+    take_row(&mut work.triangle, nodes, demand);
+    set(&mut work, k, NO_DEMAND);
+    work
 }
 
 // What is found against a row, which is judged as the first row of a table is.
-#[tactic(auto, unfolding(table::specs::Faults::row_found, table::specs::Faults::found))]
-fn judge_alone(work: &Work, row: Demand) -> Result<(), Reason>
-    ensures { result ≡ judged work.now row }
+#[tactic(auto, unfolding(table::specs::Faults::row_found, table::specs::Faults::verdict_found))]
+fn judge_alone(work: &Work, demand: Demand) -> Result<(), Reason>
+    ensures { result ≡ verdict_in work.now demand }
 {
-    check_row(ring_size(work.ring.nodes), 0, None, row).map_err(|fault| fault.reason)
+    check_row(ring_size(work.ring.nodes), 0, None, demand).map_err(|fault| fault.reason)
 }
 
 /// A row at the lowest free place; the amount is in units. Refused with the first that holds of 4, 5 and 7 against the row, and 21 where all places are taken.
 #[tactic(auto, unfolding(crate::specs::Changes::added_in, crate::specs::Changes::unless_fault, crate::specs::Changes::put_free))]
-pub fn added(work: Work, row: Demand) -> Result<Changed, Reason>
-    ensures { result ≡ added_in work row }
+pub fn added(work: Work, demand: Demand) -> Result<Changed, Reason>
+    ensures { result ≡ added_in work demand }
 {
-    judge_alone(&work, row)?;
+    judge_alone(&work, demand)?;
     let k = free_place(&work.first).ok_or(Reason::Full)?;
-    let w = put(work, k, row);
-    Ok(recut(w, k as u32 + 1))
+    let work = put(work, k, demand);
+    Ok(recut(work, k as u32 + 1))
 }
 
 /// Another row in place of the one at a place, counted from 1. Refused with 22 where the place holds none, then with the first that holds of 4, 5 and 7.
 #[tactic(auto, unfolding(crate::specs::Changes::changed_in, crate::specs::Changes::unless_fault, crate::specs::Changes::from_row))]
-pub fn changed(work: Work, place: u32, row: Demand) -> Result<Changed, Reason>
-    ensures { result ≡ changed_in work place row }
+pub fn changed(work: Work, place: u32, demand: Demand) -> Result<Changed, Reason>
+    ensures { result ≡ changed_in work place demand }
 {
     let k = index_of(&work, place)?;
-    judge_alone(&work, row)?;
+    judge_alone(&work, demand)?;
     let off = cleared(work, k);
-    let w = put(off, k, row);
-    Ok(recut(w, place))
+    let work = put(off, k, demand);
+    Ok(recut(work, place))
 }
 
 /// The row at a place, counted from 1, leaves it. Refused with 22 where the place holds none.
@@ -76,7 +94,6 @@ pub fn changed(work: Work, place: u32, row: Demand) -> Result<Changed, Reason>
 pub fn removed(work: Work, place: u32) -> Result<Changed, Reason>
     ensures { result ≡ removed_in work place }
 {
-    let gone = index_of(&work, place)?;
-    let w = cleared(work, gone);
-    Ok(recut(w, place))
+    let off = cleared(work, index_of(&work, place)?);
+    Ok(recut(off, place))
 }

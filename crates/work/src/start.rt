@@ -27,7 +27,7 @@ fn fresh(ring: Ring) -> Work
 }
 
 /// A table of a ring with no row. Refused with 3 where the nodes are outside 2 to 64, then with 20 where the fibres are neither 2 nor 4.
-#[tactic(auto, unfolding(table::specs::Faults::ring_found, table::specs::Faults::found, crate::specs::Changes::started_in, crate::specs::Changes::unless_fault))]
+#[tactic(auto, unfolding(table::specs::Faults::ring_found, table::specs::Faults::verdict_found, crate::specs::Changes::started_in, crate::specs::Changes::unless_fault))]
 pub fn started(ring: Ring) -> Result<Changed, Reason>
     ensures { result ≡ started_in ring }
 {

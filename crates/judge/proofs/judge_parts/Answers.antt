@@ -42,4 +42,4 @@ judge_last-requires g c =
 pub returns : goal.returns
 returns g c =
     let x = sheet_in c.args.figures (g.R.Rows.rows c.args.rows.now) c.args.links.now in
-    at-last x c.in_ok-judge_ring.ensures c.in_ok-judge_rows.ensures c.in_ok-judge_cut.ensures _ c.weigh-weight.ensures c.in_ok-judge_links.ensures _ c.judge_last.ensures
+    at-last x c.in_ok-judge_ring.ensures c.in_ok-judge_rows.ensures c.in_ok-judge_cut.ensures _ c.weigh-weight.ensures c.in_ok-judge_links.ensures _ c.largest_split.ensures _ c.judge_last.ensures

@@ -2,15 +2,15 @@
 use Rattle.router.proofs.FourRules.{turned-fit, rows-are, carried, plan-is}
 use Rattle.router.proofs.route.Goals as goal
 
-pub weigh-weight-requires : goal.weigh-weight-requires
-weigh-weight-requires g c = turned-fit c.args.ring _ _ _ _ _ c.wide-n.ensures c.divide-cut.ensures c.send_whole.ensures
+pub weigh-peak-requires : goal.weigh-peak-requires
+weigh-peak-requires g c = turned-fit c.args.ring _ _ _ _ _ c.wide-n.ensures c.rules_a_to_c-cut.ensures c.send_whole.ensures
 
 pub must_carry-requires : goal.must_carry-requires
-must_carry-requires g c = carried c.args.ring _ _ _ _ _ c.wide-n.ensures c.divide-cut.ensures c.send_whole.ensures _ c.weigh-weight.ensures
+must_carry-requires g c = carried c.args.ring _ _ _ _ _ c.wide-n.ensures c.rules_a_to_c-cut.ensures c.send_whole.ensures _ c.weigh-peak.ensures
 
 pub returns-clause-rows : goal.returns-clause-rows
-returns-clause-rows g c = rows-are c.args.ring _ _ _ _ _ c.wide-n.ensures c.divide-cut.ensures c.send_whole.ensures
+returns-clause-rows g c = rows-are c.args.ring _ _ _ _ _ c.wide-n.ensures c.rules_a_to_c-cut.ensures c.send_whole.ensures
 
-pub returns-clause-figures : goal.returns-clause-figures
-returns-clause-figures g c =
-    plan-is c.args.ring _ _ _ _ _ c.wide-n.ensures c.divide-cut.ensures c.send_whole.ensures _ c.weigh-weight.ensures _ _ c.must_carry.ensures c.size-size.ensures
+pub returns-clause-plan : goal.returns-clause-plan
+returns-clause-plan g c =
+    plan-is c.args.ring _ _ _ _ _ c.wide-n.ensures c.rules_a_to_c-cut.ensures c.send_whole.ensures _ c.weigh-peak.ensures _ _ c.must_carry.ensures c.size-size.ensures

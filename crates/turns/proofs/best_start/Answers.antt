@@ -1,28 +1,26 @@
--- `best_start` keeps the best of the starts passed.
-use Rattle.std.proofs.Common.{◌∙◌}
-use Rattle.turns.proofs.StartSteps.{starts_start, starts_turn, starts_done, starts_end}
+-- The best start was the last, or is made again.
+use Rattle.turns.proofs.StartSteps.{start_keeps, best_low, best_high, was_last, again_rows, again_figures}
 use Rattle.turns.proofs.best_start.Goals as goal
 
-pub loop-link-init : goal.loop-link-init
-loop-link-init g c = rw c.from_start-best.ensures.demands (search starts_start)
-
-pub returns-then-best-floor-clause-best : goal.returns-then-best-floor-clause-best
-returns-then-best-floor-clause-best g c = rw (← c.from_start-best.ensures.demands) (starts_end _ _ _ _ _ c.loop-link.invariant c.requires.two _ _ _ (rw c.from_start-best.ensures.demands c.requires.triangle) c.largest_cut.ensures c.div_ceil-floor.ensures c.if-best-floor.true)
-
-pub returns-then-best-floor-clause-demands : goal.returns-then-best-floor-clause-demands
-returns-then-best-floor-clause-demands g c = c.loop-link.invariant.demands ∙ c.from_start-best.ensures.demands
-
 pub from_start-requires-clause-fit : goal.from_start-requires-clause-fit
-from_start-requires-clause-fit g c = rw (c.loop-link.invariant.demands, c.from_start-best.ensures.demands) c.requires.fit
+from_start-requires-clause-fit g c = rw (start_keeps _ _ _ _ c.try_starts-tried.ensures.last) c.requires.fit
 
 pub from_start-requires-clause-triangle : goal.from_start-requires-clause-triangle
-from_start-requires-clause-triangle g c = rw (c.loop-link.invariant.demands, c.from_start-best.ensures.demands) c.requires.triangle
+from_start-requires-clause-triangle g c = rw (start_keeps _ _ _ _ c.try_starts-tried.ensures.last) c.requires.triangle
 
-pub loop-link-preserved : goal.loop-link-preserved
-loop-link-preserved g c = search starts_turn
+pub from_start-requires-clause-low : goal.from_start-requires-clause-low
+from_start-requires-clause-low g c = best_low _ _ c.requires.two _ c.try_starts-tried.ensures.best
 
-pub returns-clause-best : goal.returns-clause-best
-returns-clause-best g c = rw (← c.from_start-best.ensures.demands) (search starts_done)
+pub from_start-requires-clause-high : goal.from_start-requires-clause-high
+from_start-requires-clause-high g c = best_high _ _ c.requires.two _ c.try_starts-tried.ensures.best
 
-pub returns-clause-demands : goal.returns-clause-demands
-returns-clause-demands g c = c.loop-link.invariant.demands ∙ c.from_start-best.ensures.demands
+pub returns-then-tried-clause-rows : goal.returns-then-tried-clause-rows
+returns-then-tried-clause-rows g c = was_last _ _ c.requires.two _ c.try_starts-tried.ensures.best _ _ c.try_starts-tried.ensures.last c.if-tried.true
+
+pub returns-else-tried-clause-rows : goal.returns-else-tried-clause-rows
+returns-else-tried-clause-rows g c =
+    again_rows _ _ c.requires.two _ c.try_starts-tried.ensures.best _ (start_keeps _ _ _ _ c.try_starts-tried.ensures.last) _ c.from_start.ensures.rows
+
+pub returns-else-tried-clause-figures : goal.returns-else-tried-clause-figures
+returns-else-tried-clause-figures g c =
+    again_figures _ _ c.requires.two _ c.try_starts-tried.ensures.best _ (start_keeps _ _ _ _ c.try_starts-tried.ensures.last) _ c.from_start.ensures.figures

@@ -1,14 +1,10 @@
 -- What the start that avoids a link leads to.
 use Rattle.std.proofs.Common.{rules}
-use Rattle.turns.proofs.TopSteps.{tops-begin}
 use Rattle.turns.proofs.StartSteps.{small_amounts, start_fits, start_carries, start_rows, start_figures, start_keeps, seen_long}
 use Rattle.turns.proofs.from_start.Goals as goal
 
 pub route_avoiding-requires : goal.route_avoiding-requires
 route_avoiding-requires g c = search small_amounts
-
-pub fill_tops-requires-clause-none : goal.fill_tops-requires-clause-none
-fill_tops-requires-clause-none g c = tops-begin _
 
 pub settle-turns-requires-clause-fit : goal.settle-turns-requires-clause-fit
 settle-turns-requires-clause-fit g c = start_fits _ _ _ _ _ (seen_long _ c.loads_avoiding-avoiding.result c.requires.fit.links (search rules)) c.route_avoiding.ensures c.requires.fit

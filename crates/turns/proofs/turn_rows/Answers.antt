@@ -1,29 +1,15 @@
--- The best start made again gives the answer, and all that is promised of it.
+-- The best start is the answer, and has all that is promised of it.
 use Rattle.router.proofs.FourRules.{no-triangle}
 use Rattle.ring.specs.Sheet.{sents, demands}
-use Rattle.turns.proofs.StartSteps.{Promised, best_low, best_high, again}
+use Rattle.turns.proofs.StartSteps.{Promised, all_promised}
 use Rattle.turns.proofs.turn_rows.Given as given
 use Rattle.turns.proofs.turn_rows.Goals as goal
 
 pub fill-requires-clause-triangle : goal.fill-requires-clause-triangle
 fill-requires-clause-triangle g c = no-triangle _
 
-pub from_start-requires-clause-low : goal.from_start-requires-clause-low
-from_start-requires-clause-low g c = best_low _ _ (rw c.wide-n.ensures c.requires.two) _ c.best_start-best.ensures.best
-
-pub from_start-requires-clause-high : goal.from_start-requires-clause-high
-from_start-requires-clause-high g c = best_high _ _ (rw c.wide-n.ensures c.requires.two) _ c.best_start-best.ensures.best
-
-promised : (g : given.Over) (c : goal.After-from_start g) → Promised c.args.nodes (demands (sents (g.R.Rows.rows c.args.rows.now))) (g.R.Rows.rows c.from_start.new.rows) c.from_start.result
-promised g c =
-    rw (← c.wide-n.ensures)
-    (again _ _ (rw c.wide-n.ensures c.requires.two) _ c.best_start-best.ensures.best _ _ _ c.best_start-best.ensures.demands c.from_start.ensures.rows c.from_start.ensures.figures)
-
-pub returns-clause-rows : goal.returns-clause-rows
-returns-clause-rows g c = (promised g c).rows
-
-pub returns-clause-figures : goal.returns-clause-figures
-returns-clause-figures g c = (promised g c).figures
+promised : (g : given.Over) (c : goal.After-best_start g) → Promised c.args.nodes (demands (sents (g.R.Rows.rows c.args.rows.now))) (g.R.Rows.rows c.best_start.new.rows) c.best_start.result
+promised g c = rw (← c.wide-n.ensures) (all_promised _ _ (rw c.wide-n.ensures c.requires.two) _ _ c.best_start.ensures.rows c.best_start.ensures.figures)
 
 pub returns-clause-demands : goal.returns-clause-demands
 returns-clause-demands g c = (promised g c).demands

@@ -1,8 +1,7 @@
 -- `judge_rows`: what is given of the rows that are left is given of all.
-use Rattle.std.proofs.Common.{◌≤◌, length, arith}
 use Rattle.std.proofs.lemmas.Result.{err_from_is_err_and}
 use Rattle.ring.specs.Limits.{desk}
-use Rattle.judge.proofs.Rows.{rows-on, rows-stop, rows-done}
+use Rattle.judge.proofs.Rows.{rows-on, rows-stop}
 use Rattle.judge.proofs.row.judge_rows.Goals as goal
 
 pub returns-in_err-judge_row : goal.returns-in_err-judge_row
@@ -12,8 +11,3 @@ returns-in_err-judge_row g c =
 
 pub loop-k-preserved : goal.loop-k-preserved
 loop-k-preserved g c = rows-on desk _ _ _ _ _ c.row-row.ensures c.loop-k.invariant c.in_ok-judge_row.ensures
-
-pub returns : goal.returns
-returns g c =
-    let all : length (g.R.Rows.rows c.args.rows.now) ≤ c.loop-k.k = omega (arith, c.loop-k-test.false, c.count-k-end.ensures) in
-    rows-done desk _ _ _ _ all c.loop-k.invariant

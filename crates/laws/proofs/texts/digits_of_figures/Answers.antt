@@ -1,4 +1,4 @@
-use Rattle.laws.proofs.Figures.{short-nodes, short-amounts, short-halves, short-loads, fits-text, rooms-fit}
+use Rattle.laws.proofs.Figures.{short-nodes, short-amounts, short-halves, short-loads, fits-text}
 use Rattle.laws.proofs.texts.digits_of_figures.Goals as goal
 
 pub returns-clause-nodes : goal.returns-clause-nodes
@@ -15,6 +15,3 @@ returns-clause-loads c = short-loads
 
 pub returns-clause-fits : goal.returns-clause-fits
 returns-clause-fits c = fits-text
-
-pub returns-clause-rooms : goal.returns-clause-rooms
-returns-clause-rooms c = rooms-fit

@@ -11,7 +11,7 @@ returns-in_err-numbers_on c =
 pub returns-in-Some : goal.returns-in-Some
 returns-in-Some c =
     let all = read-all _ _ c.in_ok-numbers_on.was in
-    numbers-over _ _ _ _ c.numbers_on.ensures c.requires _ all _ (rw c.deref.ensures.0 at c.first_over.ensures) _ _ c.in-Some.is (rw c.deref-in-Some.ensures.0 at c.byte_of.ensures)
+    numbers-over _ _ _ _ c.numbers_on.ensures c.requires _ all _ (rw c.deref.ensures.0 at c.first_over.ensures) _ _ c.in-Some.is c.byte_of.ensures
 
 pub returns-in-None : goal.returns-in-None
 returns-in-None c =

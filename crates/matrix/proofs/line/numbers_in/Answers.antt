@@ -14,7 +14,7 @@ returns-in_err-value c =
 
 pub loop-left-preserved : goal.loop-left-preserved
 loop-left-preserved c =
-    let e = kept c.try_push-full.result c.loop-left.read c.try_push-full.new.self _ c.try_push-full.ensures.variant.0 c.try_push-full.ensures.ok c.try_push-full.ensures.err c.try_push-full.ensures.full in
+    let e = kept c.try_push-full.result c.loop-left.values c.try_push-full.new.self _ c.try_push-full.ensures.variant.0 c.try_push-full.ensures.ok c.try_push-full.ensures.err c.try_push-full.ensures.full in
     reads-number _ _ _ _ _ c.loop-left.invariant c.loop-left-test.true _ c.end_of.ensures _ c.read_field.ensures _ _ _ c.in_ok-value.was e
 
 pub returns-then-at-text : goal.returns-then-at-text

@@ -3,4 +3,4 @@ use Rattle.matrix.proofs.LineSteps.{ReadingOn}
 use Rattle.matrix.proofs.line.numbers_in.Given as goal
 
 abbrev pub invariant-loop-left : goal.invariant-loop-left
-invariant-loop-left l = ReadingOn l.text l.count l.read.items l.at l.left
+invariant-loop-left l = ReadingOn l.text l.count l.values.items l.at l.left

@@ -4,4 +4,4 @@ use Rattle.matrix.proofs.NumbersSteps.{byte-is}
 use Rattle.matrix.proofs.numbers.byte_of.Goals as goal
 
 pub returns : goal.returns
-returns c = c.field_byte.ensures ∙ byte-is c.args.numbers.now c.args.k c.requires.few c.requires.there
+returns c = c.field_byte.ensures ∙ byte-is _ _ _ c.deref.ensures.0 c.len.ensures.value c.deref.ensures.1 c.args.k c.requires

@@ -27,13 +27,13 @@ unfolding on_first
 returns-in_err-map_err-clause-refused c =
     let p = err_from_is_err_and c.from_residual-in_err-map_err.result c.from_residual-in_err-map_err.ensures.1 in
     rw (p.1, p.2)
-    (ring-fault _ c.in_ok-of.ensures.read.1 _ _ (sym c.in_ok-of.ensures.read.0 ∙ c.in_ok-first.ensures.read) _ c.tabs-count.ensures.is _ c.numbers_on.ensures _ (read-all _ _ c.in_ok-numbers_on.was) _ c.judge_size.ensures c.map_err.result (search rules) _ c.in_err-map_err.was)
+    (ring-fault _ c.in_ok-of.ensures.read.1 _ _ (sym c.in_ok-of.ensures.read.0 ∙ c.in_ok-first.ensures.read) _ c.tabs-count.ensures.is _ c.numbers_on.ensures _ (read-all _ _ c.in_ok-numbers_on.was) _ c.check_size.ensures c.map_err.result (search rules) _ c.in_err-map_err.was)
 
 pub returns-clause-goes_on : goal.returns-clause-goes_on
 unfolding on_first
 returns-clause-goes_on c =
-    then-square _ c.in_ok-of.ensures.read.1 _ _ (sym c.in_ok-of.ensures.read.0 ∙ c.in_ok-first.ensures.read) _ c.tabs-count.ensures.is _ c.numbers_on.ensures _ (read-all _ _ c.in_ok-numbers_on.was) _ c.judge_size.ensures c.map_err.result (search rules) c.in_ok-map_err.was
+    then-square _ c.in_ok-of.ensures.read.1 _ _ (sym c.in_ok-of.ensures.read.0 ∙ c.in_ok-first.ensures.read) _ c.tabs-count.ensures.is _ c.numbers_on.ensures _ (read-all _ _ c.in_ok-numbers_on.was) _ c.check_size.ensures c.map_err.result (search rules) c.in_ok-map_err.was
 
 pub returns-clause-few : goal.returns-clause-few
 unfolding on_first
-returns-clause-few c = ring-few _ _ c.judge_size.ensures c.map_err.result (search rules) c.in_ok-map_err.was
+returns-clause-few c = ring-few _ _ c.check_size.ensures c.map_err.result (search rules) c.in_ok-map_err.was

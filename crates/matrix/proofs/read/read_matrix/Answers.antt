@@ -1,6 +1,6 @@
 -- What is told of the text at each way out (`ReadSteps`).
 use Rattle.std.proofs.lemmas.Result.{err_from_is_err_and}
-use Rattle.matrix.proofs.ReadSteps.{too_long, told-refusal, told-lines, told-entries, told-count, told-matrix, count-few}
+use Rattle.matrix.proofs.ReadSteps.{too_long, told-refusal, told-lines, told-entries, told-count, told-matrix}
 use Rattle.matrix.proofs.read.read_matrix.Goals as goal
 
 pub returns-in_err-nodes-clause-refused : goal.returns-in_err-nodes-clause-refused
@@ -27,9 +27,6 @@ pub returns-in_err-judge_count-clause-refused : goal.returns-in_err-judge_count-
 returns-in_err-judge_count-clause-refused c =
     let p = err_from_is_err_and c.from_residual-in_err-judge_count.result c.from_residual-in_err-judge_count.ensures.1 in
     rw (p.1, p.2) (told-count c.args.text.now c.in_ok-nodes.nodes c.in_ok-nodes.ensures.goes_on _ _ c.new-square.ensures _ (rw c.in_ok-of.ensures.read.0 at c.read_lines.ensures) c.in_ok-read_lines.was _ c.judge_square.ensures c.in_ok-judge_square.was _ c.judge_count.ensures _ c.in_err-judge_count.was)
-
-pub fill-requires-clause-few : goal.fill-requires-clause-few
-fill-requires-clause-few c = count-few _ _ _ c.judge_count.ensures c.in_ok-judge_count.was
 
 pub returns-clause-accepted : goal.returns-clause-accepted
 returns-clause-accepted c =

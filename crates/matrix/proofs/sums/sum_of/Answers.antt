@@ -5,7 +5,10 @@ use Rattle.std.specs.Iterator.{YieldsFirst}
 use Rattle.std.specs.Iterator.Adapters.{take_steps}
 use Rattle.std.proofs.lemmas.Iterator.{YieldsList, YieldsList-from_take, YieldsList-from_map}
 use Rattle.std.proofs.lemmas.Iterator.Adapters.{at_most_from_yields_List, fits_from_length}
-use Rattle.std.proofs.lemmas.Iterator.Consumers.{YieldsList-at, YieldsList-from_first, sum_by_from_yields_List}
+use Rattle.std.proofs.lemmas.Iterator.Consumers.{YieldsList-at, YieldsList-from_first, sum_by_from_yields_List, fits_by_from_yields_list}
+use Rattle.ring.specs.Sheet.{sents, demands}
+use Rattle.matrix.proofs.SumLaws.{part_of}
+use Rattle.matrix.proofs.WriteSteps.{first-fits}
 use Rattle.std.proofs.lemmas.List.{length-take}
 use Rattle.ring.specs.Limits.{desk}
 use Rattle.matrix.proofs.SumSteps.{sums-parts}
@@ -20,8 +23,10 @@ first_rows g c =
 
 pub sum-requires-clause-fits : goal.sum-requires-clause-fits
 sum-requires-clause-fits g c =
-    let few = length-take c.args.count (g.R.Rows.rows c.args.rows.now) in
-    fits_from_length _ _ desk.rows _ (at_most_from_yields_List (first_rows g c) (omega arith)) c.map.ensures.closure (omega arith) (λ x r q k. search rules)
+    let rows = g.R.Rows.rows c.args.rows.now in
+    let parts = YieldsList-from_map _ _ (first_rows g c) c.map.ensures.closure (λ x r q k. search (rules, tests)) in
+    fits_by_from_yields_list (λ r. part_of r.sent.demand c.args.i c.args.j) (take c.args.count rows) _ 4294967296 parts
+    (rw (sums-parts c.args.i c.args.j c.args.count rows) (first-fits (demands (sents rows)) c.requires c.args.count c.args.i c.args.j))
 
 pub returns : goal.returns
 returns g c =

@@ -3,17 +3,11 @@ use Rattle.std.proofs.Common.{◌-◌, length, ap, arith, sym}
 use Rattle.ring.proofs.Listed.{listed_nil, listed-length}
 use Rattle.ring.specs.Sheet.{sents, demands}
 use Rattle.matrix.specs.Demands.{sum_of}
-use Rattle.matrix.proofs.WriteSteps.{sum-fits, whole-sum, sums_more}
+use Rattle.matrix.proofs.WriteSteps.{sums_more}
 use Rattle.matrix.proofs.write.sums_of.Goals as goal
 
 pub loop-j-init : goal.loop-j-init
 loop-j-init g c = rw c.new-sums.ensures (sym (listed_nil _ _))
-
-pub overflow_cast-sum_of : goal.overflow_cast-sum_of
-overflow_cast-sum_of g c =
-    let rows = g.R.Rows.rows c.args.rows.now in
-    let e = whole-sum rows _ c.count.ensures c.args.i c.loop-j.j in
-    omega (arith, sum-fits (demands (sents rows)) c.requires.amounts c.args.i c.loop-j.j)
 
 pub push-requires : goal.push-requires
 push-requires g c =

@@ -1,10 +1,7 @@
 -- Judging values: what judging answers is the first of the findings, and so keeps the promise (`JudgeCalls`).
 use Rattle.ringkit.specs.Judging.{sheet_given}
-use Rattle.ringkit.proofs.JudgeCalls.{judge-promise, judge-only}
+use Rattle.ringkit.proofs.JudgeCalls.{judge-promise}
 use Rattle.ringkit.proofs.judging.ringkit_judge.Goals as goal
 
 pub returns-clause-promise : goal.returns-clause-promise
 returns-clause-promise c = judge-promise (sheet_given c.args.figures c.args.rows.now c.args.links.now) _ c.judge.ensures.first
-
-pub returns-clause-only : goal.returns-clause-only
-returns-clause-only c = judge-only (sheet_given c.args.figures c.args.rows.now c.args.links.now) _ c.judge.ensures.first

@@ -5,31 +5,31 @@ use Rattle.work.proofs.Answers.{answered}
 use Rattle.ringkit.proofs.working.ringkit_work_start.Goals as goal
 
 pub returns-clause-promise : goal.returns-clause-promise
-returns-clause-promise c = started-promise _ _ c.started.ensures c.settle.ensures.value c.settle.ensures.table
+returns-clause-promise c = started-promise _ _ c.started.ensures c.take_over.ensures.value c.take_over.ensures.table
 
 pub returns-clause-only : goal.returns-clause-only
-returns-clause-only c = started-only _ _ c.started.ensures c.settle.ensures.value c.settle.ensures.table
+returns-clause-only c = started-only _ _ c.started.ensures c.take_over.ensures.value c.take_over.ensures.table
 
 pub returns-clause-answered : goal.returns-clause-answered
-returns-clause-answered c = started-answer _ _ c.started.ensures c.settle.ensures.value c.settle.ensures.table
+returns-clause-answered c = started-answer _ _ c.started.ensures c.take_over.ensures.value c.take_over.ensures.table
 
 pub returns-clause-made : goal.returns-clause-made
-returns-clause-made c = started-made _ _ c.started.ensures c.settle.ensures.value c.settle.ensures.table
+returns-clause-made c = started-made _ _ c.started.ensures c.take_over.ensures.value c.take_over.ensures.table
 
 pub returns-clause-kept : goal.returns-clause-kept
-returns-clause-kept c = started-keeps _ _ c.started.ensures c.settle.ensures.value c.settle.ensures.table
+returns-clause-kept c = started-keeps _ _ c.started.ensures c.take_over.ensures.value c.take_over.ensures.table
 
 pub returns-clause-played : goal.returns-clause-played
-returns-clause-played c = started-played _ _ c.started.ensures c.settle.ensures.value c.settle.ensures.table
+returns-clause-played c = started-played _ _ c.started.ensures c.take_over.ensures.value c.take_over.ensures.table
 
 pub returns-clause-any : goal.returns-clause-any
-returns-clause-any c = answered _ (start _) c.started.ensures c.settle.ensures.value c.settle.ensures.table
+returns-clause-any c = answered _ (start _) c.started.ensures c.take_over.ensures.value c.take_over.ensures.table
 
 pub returns-clause-made_later : goal.returns-clause-made_later
-returns-clause-made_later c = λ calls m. called-made m (start _) c.started.ensures c.settle.ensures.value c.settle.ensures.table
+returns-clause-made_later c = λ calls m. called-made m (start _) c.started.ensures c.take_over.ensures.value c.take_over.ensures.table
 
 pub returns-clause-kept_later : goal.returns-clause-kept_later
-returns-clause-kept_later c = λ calls m. called-keeps m (start _) c.started.ensures c.settle.ensures.value c.settle.ensures.table
+returns-clause-kept_later c = λ calls m. called-keeps m (start _) c.started.ensures c.take_over.ensures.value c.take_over.ensures.table
 
 pub returns-clause-played_later : goal.returns-clause-played_later
-returns-clause-played_later c = λ calls m. called-played m (start _) c.started.ensures c.settle.ensures.value c.settle.ensures.table
+returns-clause-played_later c = λ calls m. called-played m (start _) c.started.ensures c.take_over.ensures.value c.take_over.ensures.table

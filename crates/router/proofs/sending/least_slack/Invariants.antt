@@ -7,4 +7,4 @@ use Rattle.std.proofs.Common.{◌-◌}
 use Rattle.router.proofs.sending.least_slack.Given as goal
 
 abbrev pub invariant-loop-h : goal.invariant-loop-h
-invariant-loop-h l = Lowest (λ y. least (λ x. slack (link_at l.room) (pair_at l.triangle) x y) l.i (y - l.i)) l.i (l.j - 1) l.s l.h
+invariant-loop-h l = Lowest (λ y. least (λ x. slack (link_at l.room) (pair_at l.triangle) x y) l.i (y - l.i)) l.i (l.j - 1) l.least l.h

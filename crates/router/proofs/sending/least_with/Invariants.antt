@@ -6,4 +6,4 @@ use Rattle.router.proofs.SendSteps.{Lowest}
 use Rattle.router.proofs.sending.least_with.Given as goal
 
 abbrev pub invariant-loop-g : goal.invariant-loop-g
-invariant-loop-g l = Lowest (λ x. slack (link_at l.room) (pair_at l.triangle) x l.h) l.i l.h l.s l.g
+invariant-loop-g l = Lowest (λ x. slack (link_at l.room) (pair_at l.triangle) x l.h) l.i l.h l.least l.g

@@ -6,26 +6,23 @@ use Rattle.router.proofs.sending.send_all.Goals as goal
 pub least_slack-requires : goal.least_slack-requires
 least_slack-requires g c = search send-front
 
-pub overflow_mul-d : goal.overflow_mul-d
-overflow_mul-d g c = let h = here _ _ _ c.requires.fit _ _ _ _ _ c.row-row.ensures c.loop-t.invariant _ _ c.wide-i.ensures c.wide-j.ensures in omega (arith, h.small)
+pub overflow_mul-halves : goal.overflow_mul-halves
+overflow_mul-halves g c = let h = here _ _ _ c.requires.fit _ _ _ _ _ c.row-row.ensures c.loop-k.invariant _ _ c.wide-i.ensures c.wide-j.ensures in omega (arith, h.small)
 
-pub overflow_mul-sent : goal.overflow_mul-sent
-overflow_mul-sent g c = let h = here _ _ _ c.requires.fit _ _ _ _ _ c.row-row.ensures c.loop-t.invariant _ _ c.wide-i.ensures c.wide-j.ensures in omega (arith, h.small)
-
-pub take_row-requires : goal.take_row-requires
-take_row-requires g c = let h = here _ _ _ c.requires.fit _ _ _ _ _ c.row-row.ensures c.loop-t.invariant _ _ c.wide-i.ensures c.wide-j.ensures in record { low = h.on.low; few = c.requires.fit.links }
+pub take_row-requires-clause-low : goal.take_row-requires-clause-low
+take_row-requires-clause-low g c = let h = here _ _ _ c.requires.fit _ _ _ _ _ c.row-row.ensures c.loop-k.invariant _ _ c.wide-i.ensures c.wide-j.ensures in h.on.low
 
 pub step_over-requires : goal.step_over-requires
 step_over-requires g c =
-    send-over _ _ _ c.requires.fit _ _ _ _ _ c.row-row.ensures c.loop-t.invariant _ _ c.wide-i.ensures c.wide-j.ensures (λ x. search rules) (λ x. search rules)
+    send-over _ _ _ c.requires.fit _ _ _ _ _ c.row-row.ensures c.loop-k.invariant _ _ c.wide-i.ensures c.wide-j.ensures (λ x. search rules) (λ x. search rules)
 
-pub loop-t-preserved : goal.loop-t-preserved
-loop-t-preserved g c =
+pub loop-k-preserved : goal.loop-k-preserved
+loop-k-preserved g c =
     rw c.put.ensures
-    (send-turn _ _ _ c.requires.fit _ _ _ _ _ c.row-row.ensures c.loop-t.invariant _ _ c.wide-i.ensures c.wide-j.ensures _ _ c.least_slack.ensures c.min-ahead.ensures
+    (send-turn _ _ _ c.requires.fit _ _ _ _ _ c.row-row.ensures c.loop-k.invariant _ _ c.wide-i.ensures c.wide-j.ensures _ _ c.least_slack.ensures c.min-ahead.ensures
     (λ x y p. search rules) (λ x y p. search rules) _ c.step_over.ensures _ _ (search rules) c.take_row.ensures)
 
 pub returns : goal.returns
 returns g c =
-    let all : length (g.R.Rows.rows c.args.rows.now) ≤ c.loop-t.t = omega (arith, c.loop-t-test.false, c.count-t-end.ensures) in
+    let all : length (g.R.Rows.rows c.args.rows.now) ≤ c.loop-k.k = omega (arith, c.loop-k-test.false, c.count-k-end.ensures) in
     search send-done

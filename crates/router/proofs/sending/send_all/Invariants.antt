@@ -2,5 +2,5 @@
 use Rattle.router.proofs.SendSteps.{Sending}
 use Rattle.router.proofs.sending.send_all.Given as goal
 
-abbrev pub invariant-loop-t : goal.invariant-loop-t
-invariant-loop-t g l = Sending l.n (g.R.Rows.rows l.initial.rows) (g.R.Rows.rows l.rows) l.initial.room l.triangle l.room l.t
+abbrev pub invariant-loop-k : goal.invariant-loop-k
+invariant-loop-k g l = Sending l.n (g.R.Rows.rows l.initial.rows) (g.R.Rows.rows l.rows) l.initial.room l.triangle l.room l.k

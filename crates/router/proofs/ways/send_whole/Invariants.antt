@@ -2,5 +2,5 @@
 use Rattle.router.proofs.WaySteps.{Choosing}
 use Rattle.router.proofs.ways.send_whole.Given as goal
 
-abbrev pub invariant-loop-t : goal.invariant-loop-t
-invariant-loop-t g l = Choosing (g.R.Rows.rows l.initial.rows) (g.R.Rows.rows l.rows) l.most l.gain l.t
+abbrev pub invariant-loop-k : goal.invariant-loop-k
+invariant-loop-k g l = Choosing (g.R.Rows.rows l.initial.rows) (g.R.Rows.rows l.rows) l.most l.gain l.k

@@ -2,5 +2,5 @@
 use Rattle.sheet.proofs.ReadSteps.{LinksReading}
 use Rattle.sheet.proofs.read.read_links.Given as goal
 
-abbrev pub invariant-loop-number : goal.invariant-loop-number
-invariant-loop-number l = LinksReading l.fn.ring l.initial.lines l.first l.lines l.number l.links.items
+abbrev pub invariant-loop-line : goal.invariant-loop-line
+invariant-loop-line l = LinksReading l.fn.ring l.initial.lines l.number l.lines l.line l.links.items

@@ -4,8 +4,8 @@ use Rattle.turns.specs.Turns.{peak_of}
 use Rattle.turns.proofs.SettleSteps.{Settling}
 use Rattle.turns.proofs.settle.settle.Given as goal
 
-abbrev pub invariant-loop-kept : goal.invariant-loop-kept
-invariant-loop-kept g l = Settling (length l.initial.loads) (g.R.Rows.rows l.initial.rows) (g.R.Rows.rows l.rows) l.loads l.turns
+abbrev pub invariant-loop-place : goal.invariant-loop-place
+invariant-loop-place g l = Settling (length l.initial.loads) (g.R.Rows.rows l.initial.rows) (g.R.Rows.rows l.rows) l.loads l.turns
 
-abbrev pub decreases-loop-kept : goal.decreases-loop-kept
-decreases-loop-kept g l = peak_of (length l.initial.loads) (g.R.Rows.rows l.rows)
+abbrev pub decreases-loop-place : goal.decreases-loop-place
+decreases-loop-place g l = peak_of (length l.initial.loads) (g.R.Rows.rows l.rows)

@@ -3,5 +3,5 @@ use Rattle.std.proofs.Common.{rules}
 use Rattle.work.proofs.ChangeSteps.{fitting}
 use Rattle.work.proofs.change.added.Goals as goal
 
-pub put-w-requires : goal.put-w-requires
-put-w-requires c = fitting c.args.work _ _ c.in_ok-judge_alone.ensures (search rules)
+pub put-work-requires : goal.put-work-requires
+put-work-requires c = fitting c.args.work _ _ c.in_ok-judge_alone.ensures (search rules)

@@ -2,5 +2,5 @@
 use Rattle.work.proofs.ChangeSteps.{fitting}
 use Rattle.work.proofs.change.changed.Goals as goal
 
-pub put-w-requires : goal.put-w-requires
-put-w-requires c = fitting c.args.work _ _ c.in_ok-judge_alone.ensures c.in_ok-k.ensures.held.place
+pub put-work-requires : goal.put-work-requires
+put-work-requires c = fitting c.args.work _ _ c.in_ok-judge_alone.ensures c.in_ok-k.ensures.held.place

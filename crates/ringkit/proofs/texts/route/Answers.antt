@@ -1,0 +1,16 @@
+-- Routing a table: what reading answers is what the router takes, and gives the outcome each way out (`TableSteps`).
+use Rattle.std.proofs.lemmas.Result.{err_from_is_err_and}
+use Rattle.table.proofs.Told.{read-range}
+use Rattle.ringkit.proofs.TableSteps.{table-refused, table-fills}
+use Rattle.ringkit.proofs.texts.route.Goals as goal
+
+pub returns-in_err-ring : goal.returns-in_err-ring
+returns-in_err-ring c =
+    let p = err_from_is_err_and c.from_residual.result c.from_residual.ensures.1 in
+    rw (p.1, p.2) (table-refused c.args.table.now _ _ c.read_table.ensures.value _ _ _ c.in_err-ring.was)
+
+pub put_route-requires : goal.put_route-requires
+put_route-requires c = read-range c.args.table.now _ _ c.read_table.ensures.value _ c.in_ok-ring.was
+
+pub returns : goal.returns
+returns c = table-fills c.args.table.now _ _ c.read_table.ensures.value _ _ c.in_ok-ring.was _ _ _ c.put_route.ensures
