@@ -11,14 +11,12 @@ if [ "$(uname -m)" != x86_64 ]; then
 fi
 
 # What rt makes of the crates: the archive that C links, and a program.
+# shellcheck disable=SC2034 # who sources this uses it
 library=crates/ringkit_c/out/libringkit_c.a
 program_of() { echo "crates/$1/out/$1"; }
 
 # Proves and builds the archive; rt does again only what has changed.
 make_library() { (cd crates/ringkit_c && rt lib); }
-
-# Proves and builds a program. rt runs what it has built, here on an empty text.
-make_program() { (cd "crates/$1" && rt run </dev/null); }
 
 # Whether programs for x86-64 are emulated here.
 emulated() { [ ${#emulator[@]} -gt 0 ]; }
@@ -29,8 +27,34 @@ package_of() {
     x86_64-linux-gnu-gcc) echo gcc-x86-64-linux-gnu ;;
     x86_64-linux-gnu-g++) echo g++-x86-64-linux-gnu ;;
     qemu-x86_64) echo qemu-user ;;
+    nm | size) echo binutils ;;
+    man) echo man-db ;;
     *) echo "$1" ;;
     esac
+}
+
+# A sentence for each of these tools that is not on the path: where it comes from.
+missing() {
+    local tool
+    for tool; do
+        ! command -v "$tool" >/dev/null || continue
+        case $tool in
+        rt) echo "there is no rt: it comes with the Rattle toolchain, rattle-kit-13f; put the folder bin/ of the kit on the path" ;;
+        python3) echo "there is no python3, which runs rt and the tests of the pages: install the package python3" ;;
+        rustc) echo "there is no rustc: install the package rustc, or take Rust's own from rustup" ;;
+        qemu-x86_64) echo "there is no qemu-x86_64, which runs programs for x86-64 on this processor: install the package $(package_of "$tool")" ;;
+        *) echo "there is no $tool: install the package $(package_of "$tool")" ;;
+        esac
+    done
+}
+
+# Says on standard error, as the script that is named first, which of the tools behind it are missing; false where one is.
+need() {
+    local lacking
+    lacking=$(missing "${@:2}")
+    [ -n "$lacking" ] || return 0
+    echo "$1: ${lacking//$'\n'/$'\n'$1: }" >&2
+    return 1
 }
 
 # The packages that tests want on another processor than x86-64, and whose tools are not here.

@@ -319,42 +319,40 @@ def plot(results, folder):
         # the plots are of rings of 32 offices and fewer, which were not tried
         return
     folder.mkdir(parents=True, exist_ok=True)
-    plots.chart(
-        folder / "over-best-pairs.svg",
-        "Unsplit peak over the best, all pairs",
-        "percent",
-        [
-            ("rule D, largest", [(n, 100 * max(r.over for r in some)) for n, some in sizes.items()]),
-            ("rule D, average", [(n, 100 * mean(r.over for r in some)) for n, some in sizes.items()]),
-            ("A, Schrijver et al.", [(n, 100 * TABLE_8_1[n][2]) for n in sizes]),
-            ("one turn, largest", [(n, 100 * max(r.turned_over for r in some)) for n, some in sizes.items()]),
-            ("one turn, average", [(n, 100 * mean(r.turned_over for r in some)) for n, some in sizes.items()]),
-        ],
-    )
-    drawn = cells(results)
+    plots.chart(folder / "over-best-pairs.svg", "Unsplit peak over the best, all pairs", "percent", over_best(sizes))
+    plots.chart(folder / "over-best-lee.svg", "Unsplit peak over the best, drawn as by Lee and Chang", "percent", over_best_lee(cells(results)))
+    plots.chart(folder / "time.svg", "A solver's cost / ours, all pairs", "times, each step ten", costs(sizes), log=True)
+
+
+def over_best(sizes):
+    """The lines of the plot of all pairs, each its name and its points."""
+    return [
+        ("rule D, largest", [(n, 100 * max(r.over for r in some)) for n, some in sizes.items()]),
+        ("rule D, average", [(n, 100 * mean(r.over for r in some)) for n, some in sizes.items()]),
+        ("A, Schrijver et al.", [(n, 100 * TABLE_8_1[n][2]) for n in sizes]),
+        ("one turn, largest", [(n, 100 * max(r.turned_over for r in some)) for n, some in sizes.items()]),
+        ("one turn, average", [(n, 100 * mean(r.turned_over for r in some)) for n, some in sizes.items()]),
+    ]
+
+
+def over_best_lee(drawn):
+    """Those of the plot of tables drawn as by Lee and Chang."""
     chances = sorted({share for share, _ in drawn})
-    plots.chart(
-        folder / "over-best-lee.svg",
-        "Unsplit peak over the best, drawn as by Lee and Chang",
-        "percent",
-        [
-            *((f"rule D, chance {chance} %", [(n, 100 * ours_above(some)) for (share, n), some in drawn.items() if share == chance]) for chance in chances),
-            ("DENS, Lee and Chang", dens_line()),
-            ("one turn at a time", turned_line(drawn)),
-        ],
-    )
-    plots.chart(
-        folder / "time.svg",
-        "A solver's cost / ours, all pairs",
-        "times, each step ten",
-        [
-            ("cbc, time, largest", [(n, max(r.cbc_time / r.ours_time for r in some)) for n, some in sizes.items()]),
-            ("cbc, time, median", [(n, median(r.cbc_time / r.ours_time for r in some)) for n, some in sizes.items()]),
-            ("glpsol, instructions", [(n, some[0].glpsol_count / some[0].ours_count) for n, some in sizes.items()]),
-            ("glpsol, time, median", [(n, median(r.glpsol_time / r.ours_time for r in some)) for n, some in sizes.items()]),
-        ],
-        log=True,
-    )
+    return [
+        *((f"rule D, chance {chance} %", [(n, 100 * ours_above(some)) for (share, n), some in drawn.items() if share == chance]) for chance in chances),
+        ("DENS, Lee and Chang", dens_line()),
+        ("one turn at a time", turned_line(drawn)),
+    ]
+
+
+def costs(sizes):
+    """Those of the plot of costs."""
+    return [
+        ("cbc, time, largest", [(n, max(r.cbc_time / r.ours_time for r in some)) for n, some in sizes.items()]),
+        ("cbc, time, median", [(n, median(r.cbc_time / r.ours_time for r in some)) for n, some in sizes.items()]),
+        ("glpsol, instructions", [(n, some[0].glpsol_count / some[0].ours_count) for n, some in sizes.items()]),
+        ("glpsol, time, median", [(n, median(r.glpsol_time / r.ours_time for r in some)) for n, some in sizes.items()]),
+    ]
 
 
 def turned_line(drawn):

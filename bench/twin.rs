@@ -37,8 +37,8 @@ const SEED: u64 = 20_010_496;
 /// Room for every sheet.
 const ROOM: usize = 32_768;
 
-/// What one of the two calls says.
-enum Said {
+/// What the call says that is counted.
+enum Counted {
     Routed(Reply),
     Turned(TurnReply),
 }
@@ -46,11 +46,11 @@ enum Said {
 /// As the library's call. It is never inlined, so that it can be counted by name.
 #[no_mangle]
 #[inline(never)]
-fn counted(what: &str, table: &[u8], buffer: &mut [u8]) -> Said {
+fn counted(what: &str, table: &[u8], buffer: &mut [u8]) -> Counted {
     if what == "turn" {
-        return Said::Turned(turns::turn(table, &mut buffer[..WAYS]));
+        return Counted::Turned(turns::turn(table, &mut buffer[..WAYS]));
     }
-    Said::Routed(twin::reply(&twin::answer(Call::Route, table), buffer))
+    Counted::Routed(twin::reply(&twin::answer(Call::Route, table), buffer))
 }
 
 /// Rows left out, or circuits put in.
@@ -71,7 +71,11 @@ fn main() {
         let mut rng = rng::Rng::new(SEED);
         let mut table = gen::full(&mut rng, n, gen::Amounts::UpTo(9_999));
         if let Some(rows) = words.get(2) {
-            resize(&mut rng, &mut table, rows.parse().expect("a number of rows"));
+            resize(
+                &mut rng,
+                &mut table,
+                rows.parse().expect("a number of rows"),
+            );
         }
         out.write_all(&sheet::table_text(&table)).expect("output");
         return;
@@ -80,11 +84,11 @@ fn main() {
     let table = std::fs::read(word).expect("a table");
     let mut buffer = vec![0; ROOM];
     let written = match counted(what, &table, &mut buffer) {
-        Said::Routed(reply) => {
+        Counted::Routed(reply) => {
             assert_eq!(reply.reason, 0);
             buffer[..reply.length].to_vec()
         }
-        Said::Turned(reply) => {
+        Counted::Turned(reply) => {
             assert_eq!(reply.reason, 0);
             let ways = buffer[..reply.rows].iter();
             let letters: String = ways.map(|way| if *way == 0 { 'F' } else { 'B' }).collect();

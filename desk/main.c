@@ -1,21 +1,28 @@
 /* The desk: plans a ring and checks plan sheets, and tells a planner what comes of it.
  *
- *   desk plan [--sheet] [TABLE]   the plan of the table in words, or its sheet
- *   desk turn [TABLE]             whole circuits sent one turn at a time: often a lower peak than the plan's, and sometimes proved the lowest
- *   desk check [SHEET]            whether the sheet is accepted
+ *   desk plan [--sheet | --json] [TABLE ...]  the plan of the table in words, or its sheet, or an object of JSON
+ *   desk turn [--json] [TABLE ...]    whole circuits sent one turn at a time: often a lower peak than the plan's, and sometimes proved the lowest
+ *   desk check [--json] [SHEET ...]   whether the sheet is accepted
+ *   desk picture [--turn] [TABLE or SHEET]    the plan, or the accepted sheet, as an SVG picture; --turn with whole circuits sent one turn at a time
  *   desk parallel [SHEET]         its first two split rows that are parallel
  *   desk table --fibres 2 [MATRIX]    the table of a matrix of demands, on a ring of two fibres; --fibres 4 of four
  *   desk matrix [TABLE]           the matrix of a table, circuits of the same two offices added up
  *   desk work TABLE               a dialogue in which circuits are added, changed and removed one by one
  *   desk work --ring N --fibres F     the same, beginning with no circuit
+ *   desk --help, and --help behind a command   these words
+ *   desk --version                the number of the library's header
  *
- * A name of - or none at all is standard input, but for work. Refusals go to standard error. The exit status is 0 where all is fine, 1 where the text is
- * refused, and 2 where the words are wrong or a file cannot be read or written; of a dialogue, the highest that one of its lines would have.
+ * A name of - or none at all is standard input, but for work. Of several files each is told under its name. Refusals go to standard error, and with --json into the object. The exit
+ * status is 0 where all is fine, 1 where the text is refused, and 2 where the words are wrong or a file cannot be read or written; of several files, and of the lines of a dialogue, the
+ * highest.
  */
 #include <errno.h>
+#include <limits.h>
 #include <string.h>
 
 #include "fields.h"
+#include "objects.h"
+#include "picture.h"
 #include "plan.h"
 #include "refusal.h"
 #include "turn.h"
@@ -23,7 +30,7 @@
 
 static enum status refused(const struct text *text, ringkit_reply reply)
 {
-    tell_refusal(text, (struct refusal){reply.reason, reply.line, reply.byte}, true);
+    tell_refusal(text, REFUSAL_OF(reply), true);
     return REFUSED;
 }
 
@@ -52,7 +59,7 @@ static enum status table_for(const struct text *matrix, uint32_t fibres)
     uint8_t table[RINGKIT_TABLE_BYTES];
     ringkit_reply reply = ringkit_read_matrix(matrix->bytes, matrix->length, fibres, table, sizeof table);
     if (reply.reason != RINGKIT_OK) {
-        tell_refusal(matrix, (struct refusal){reply.reason, reply.line, reply.byte}, false);
+        tell_refusal(matrix, REFUSAL_OF(reply), false);
         return REFUSED;
     }
     fwrite(table, 1, reply.length, stdout);
@@ -81,7 +88,8 @@ static enum status check_sheet(const struct text *sheet)
     if (reply.reason != RINGKIT_OK) {
         return refused(sheet, reply);
     }
-    printf("%s: accepted. Every figure is true; no routing, however finely circuits are divided, has a peak below the\n", sheet->name);
+    show_name(stdout, sheet->name);
+    printf(": accepted. Every figure is true; no routing, however finely circuits are divided, has a peak below the\n");
     printf("split one; and the unsplit peak is within its bound.\n");
     return FINE;
 }
@@ -98,128 +106,265 @@ static enum status ask_parallel(const struct text *sheet)
 {
     ringkit_pair_reply reply = ringkit_parallel(sheet->bytes, sheet->length);
     if (reply.reason != RINGKIT_OK) {
-        tell_refusal(sheet, (struct refusal){reply.reason, reply.line, reply.byte}, true);
+        tell_refusal(sheet, REFUSAL_OF(reply), true);
         return REFUSED;
     }
+    show_name(stdout, sheet->name);
     if (reply.first == 0) {
-        printf("%s: no two split rows are parallel.\n", sheet->name);
+        printf(": no two split rows are parallel.\n");
         return FINE;
     }
-    printf("%s: rows %zu and %zu are split and parallel.\n", sheet->name, reply.first, reply.second);
+    printf(": rows %zu and %zu are split and parallel.\n", reply.first, reply.second);
     show_row(sheet, reply.first);
     show_row(sheet, reply.second);
     return FINE;
 }
 
-/* What a command does with its text, by what its options say; NULL where one is not said. A command that has no line without an option wants
- * one, as `table` does: a silent 4 would buy too small a line. */
-static const struct command {
-    const char *name, *sheet, *fibres;
-    enum status (*does)(const struct text *);
-} COMMANDS[] = {
-    {"plan", NULL, NULL, plan_table},
-    {"plan", "--sheet", NULL, sheet_of},
-    {"turn", NULL, NULL, turn_table},
-    {"check", NULL, NULL, check_sheet},
-    {"parallel", NULL, NULL, ask_parallel},
-    {"table", NULL, "2", table_for_two},
-    {"table", NULL, "4", table_for_four},
-    {"matrix", NULL, NULL, matrix_of},
+/* ---- what the words ask for */
+
+/* The options, each a bit of its own. */
+enum { SHEET = 1, JSON = 2, TURN = 4, RING = 8, FIBRES = 16, HELP = 32 };
+
+static const struct option {
+    const char *name;
+    unsigned bit;
+} OPTIONS[] = {
+    {"--sheet", SHEET}, {"--json", JSON}, {"--turn", TURN}, {"--ring", RING}, {"--fibres", FIBRES}, {"--help", HELP},
 };
 
-/* What the words of the command line ask for; NULL where they do not say it. An option that no value follows is kept as --sheet is. */
 struct order {
-    const char *name, *sheet, *ring, *fibres, *file;
+    const struct command *command;
+    unsigned said;             /* the options that are */
+    const char *ring, *fibres; /* what is said behind these two */
+    char **files;
+    int count; /* of the files */
 };
 
-static bool is(const char *word, const char *other)
-{
-    return word == other || (word != NULL && other != NULL && strcmp(word, other) == 0);
-}
+/* ---- the commands. Each is false where the words lack what it wants. */
 
-/* Where the order keeps the value behind an option; NULL where none follows it. */
-static const char **value_of(struct order *order, const char *option)
-{
-    return is(option, "--ring") ? &order->ring : is(option, "--fibres") ? &order->fibres : NULL;
-}
+typedef enum status telling(const struct text *);
+typedef enum status putting(const char *file);
 
-/* False where the words make no order. */
-static bool read_order(struct order *order, int count, char **words)
+/* Where there are several files, each has a heading, as head and tail write it. */
+static enum status tell_file(const struct order *order, int k, const char *file, telling *tell)
 {
-    *order = (struct order){.name = count > 1 ? words[1] : NULL};
-    for (int k = 2; k < count; k++) {
-        bool option = words[k][0] == '-' && words[k][1] != '\0';
-        const char **value = value_of(order, words[k]);
-        const char **place = value != NULL ? value : option ? &order->sheet : &order->file;
-        const char *word = value == NULL ? words[k] : ++k < count ? words[k] : "";
-        if (*place != NULL && !(option && is(*place, word))) {
-            return false;
-        }
-        *place = word;
+    struct text text;
+    if (order->count > 1) {
+        fputs(k > 0 ? "\n==> " : "==> ", stdout);
+        show_name(stdout, name_of(file));
+        fputs(" <==\n", stdout);
     }
+    return read_text(&text, file) ? tell(&text) : TROUBLE;
+}
+
+/* Tells of one file after the other, or puts an object for each; the worst of their status. A command without --json has nothing to put. */
+static enum status each_file(const struct order *order, telling *tell, putting *put)
+{
+    enum status worst = FINE;
+    for (int k = 0; k == 0 || k < order->count; k++) {
+        const char *file = order->count > 0 ? order->files[k] : "-";
+        enum status status = order->said & JSON ? put(file) : tell_file(order, k, file, tell);
+        worst = status > worst ? status : worst;
+    }
+    return worst;
+}
+
+/* Several sheets behind each other would be no sheet. */
+static bool order_plan(const struct order *order, enum status *status)
+{
+    if (order->said & SHEET && (order->said & JSON || order->count > 1)) {
+        return false;
+    }
+    *status = each_file(order, order->said & SHEET ? sheet_of : plan_table, plan_object);
     return true;
 }
 
-/* NULL where no command is carried out by these words. */
-static const struct command *command_of(const struct order *order)
+static bool order_turn(const struct order *order, enum status *status)
 {
-    for (size_t k = 0; k < sizeof COMMANDS / sizeof *COMMANDS; k++) {
-        const struct command *c = &COMMANDS[k];
-        if (is(order->name, c->name) && is(order->sheet, c->sheet) && is(order->fibres, c->fibres) && order->ring == NULL) {
-            return c;
-        }
-    }
-    return NULL;
+    *status = each_file(order, turn_table, turn_object);
+    return true;
 }
 
-/* Work begins with a file, or with a ring and its fibres; not with standard input, which is its dialogue. False where the words say neither. */
-static bool begin_work(const struct order *order, enum status *status)
+static bool order_check(const struct order *order, enum status *status)
 {
-    uint32_t offices, fibres;
-    if (order->sheet != NULL) {
+    *status = each_file(order, check_sheet, check_object);
+    return true;
+}
+
+static bool order_picture(const struct order *order, enum status *status)
+{
+    *status = each_file(order, order->said & TURN ? draw_turned : draw_plan, NULL);
+    return true;
+}
+
+static bool order_parallel(const struct order *order, enum status *status)
+{
+    *status = each_file(order, ask_parallel, NULL);
+    return true;
+}
+
+static bool is(const char *word, const char *other)
+{
+    return word != NULL && strcmp(word, other) == 0;
+}
+
+/* A matrix does not say its fibres, and a silent 4 would buy too small a line. */
+static bool order_table(const struct order *order, enum status *status)
+{
+    if (!is(order->fibres, "2") && !is(order->fibres, "4")) {
         return false;
     }
-    if (order->file == NULL && read_typed(&offices, order->ring) && read_typed(&fibres, order->fibres)) {
+    *status = each_file(order, is(order->fibres, "2") ? table_for_two : table_for_four, NULL);
+    return true;
+}
+
+static bool order_matrix(const struct order *order, enum status *status)
+{
+    *status = each_file(order, matrix_of, NULL);
+    return true;
+}
+
+/* Work begins with a file, or with a ring and its fibres; not with standard input, which is its dialogue. */
+static bool order_work(const struct order *order, enum status *status)
+{
+    uint32_t offices, fibres;
+    if (order->count == 0 && read_typed(&offices, order->ring) && read_typed(&fibres, order->fibres)) {
         *status = work_afresh(offices, fibres);
         return true;
     }
-    if (order->file != NULL && !is(order->file, "-") && order->ring == NULL && order->fibres == NULL) {
-        *status = work_on(order->file);
+    if (order->count == 1 && !is_standard(order->files[0]) && order->said == 0) {
+        *status = work_on(order->files[0]);
         return true;
     }
     return false;
 }
 
-/* False where no command is carried out by these words. */
-static bool carry_out(const struct order *order, enum status *status)
+static const struct command {
+    const char *name;
+    unsigned options; /* that it takes, beside --help */
+    int files;        /* that it takes at most */
+    bool (*carry_out)(const struct order *, enum status *);
+} COMMANDS[] = {
+    {"plan", SHEET | JSON, INT_MAX, order_plan},
+    {"turn", JSON, INT_MAX, order_turn},
+    {"check", JSON, INT_MAX, order_check},
+    {"picture", TURN, 1, order_picture},
+    {"parallel", 0, 1, order_parallel},
+    {"table", FIBRES, 1, order_table},
+    {"matrix", 0, 1, order_matrix},
+    {"work", RING | FIBRES, 1, order_work},
+};
+
+/* ---- reading the words */
+
+/* NULL where there is no such command. */
+static const struct command *command_of(const char *name)
 {
-    struct text text;
-    const struct command *command = command_of(order);
-    if (is(order->name, "work")) {
-        return begin_work(order, status);
+    for (size_t k = 0; k < sizeof COMMANDS / sizeof *COMMANDS; k++) {
+        if (is(name, COMMANDS[k].name)) {
+            return &COMMANDS[k];
+        }
     }
-    if (command != NULL) {
-        *status = read_text(&text, order->file) ? command->does(&text) : TROUBLE;
-    }
-    return command != NULL;
+    return NULL;
 }
 
-static const char USAGE[] = "usage: desk plan [--sheet] [TABLE]\n"
-                            "       desk turn [TABLE]\n"
-                            "       desk check [SHEET]\n"
+/* 0 where the command takes no such option. */
+static unsigned option_of(const struct command *command, const char *word)
+{
+    for (size_t k = 0; k < sizeof OPTIONS / sizeof *OPTIONS; k++) {
+        if (is(word, OPTIONS[k].name)) {
+            return OPTIONS[k].bit & (command->options | HELP);
+        }
+    }
+    return 0;
+}
+
+/* Takes an option, and the value behind one that has a value. How many words these are; 0 where they make no order, as two values that differ do. */
+static int read_option(struct order *order, char **words)
+{
+    unsigned option = option_of(order->command, words[0]);
+    const char **value = option == RING ? &order->ring : option == FIBRES ? &order->fibres : NULL;
+    order->said |= option;
+    if (option == 0 || value == NULL) {
+        return option != 0;
+    }
+    if (words[1] == NULL || (*value != NULL && !is(*value, words[1]))) {
+        return 0;
+    }
+    *value = words[1];
+    return 2;
+}
+
+/* Whether the command takes so many files. There is but one standard input. */
+static bool takes_files(const struct order *order)
+{
+    int standard = 0;
+    for (int k = 0; k < order->count; k++) {
+        standard += is_standard(order->files[k]);
+    }
+    return order->count <= order->command->files && standard <= 1;
+}
+
+/* The names of files are moved together, over the words that were read before them. False where the words make no order. */
+static bool read_order(struct order *order, int count, char **words)
+{
+    *order = (struct order){.command = count > 1 ? command_of(words[1]) : NULL, .files = words + 2};
+    if (order->command == NULL) {
+        return false;
+    }
+    /* behind -- stand names alone, whatever they begin with */
+    bool names = false;
+    for (int k = 2; k < count;) {
+        bool ends = !names && is(words[k], "--");
+        bool option = !names && !ends && words[k][0] == '-' && words[k][1] != '\0';
+        int taken = option ? read_option(order, words + k) : 1;
+        if (taken == 0) {
+            return false;
+        }
+        if (!option && !ends) {
+            order->files[order->count++] = words[k];
+        }
+        names = names || ends;
+        k += taken;
+    }
+    return takes_files(order);
+}
+
+static const char USAGE[] = "usage: desk plan [--sheet | --json] [TABLE ...]\n"
+                            "       desk turn [--json] [TABLE ...]\n"
+                            "       desk check [--json] [SHEET ...]\n"
+                            "       desk picture [--turn] [TABLE or SHEET]\n"
                             "       desk parallel [SHEET]\n"
                             "       desk table --fibres 2|4 [MATRIX]\n"
                             "       desk matrix [TABLE]\n"
                             "       desk work TABLE\n"
-                            "       desk work --ring N --fibres 2|4\n";
+                            "       desk work --ring N --fibres 2|4\n"
+                            "       desk --help\n"
+                            "       desk --version\n";
+
+/* False where nothing is carried out by these words. */
+static bool follow(int count, char **words, enum status *status)
+{
+    struct order order;
+    if (count == 2 && is(words[1], "--version")) {
+        printf("desk %d (ringkit %d)\n", RINGKIT_VERSION, RINGKIT_VERSION);
+        return true;
+    }
+    bool asks_help = count == 2 && is(words[1], "--help");
+    if (!asks_help && !read_order(&order, count, words)) {
+        return false;
+    }
+    if (asks_help || order.said & HELP) {
+        fputs(USAGE, stdout);
+        return true;
+    }
+    return order.command->carry_out(&order, status);
+}
 
 int main(int count, char **words)
 {
-    struct order order;
     enum status status = FINE;
-    if (count == 2 && is(words[1], "--help")) {
-        fputs(USAGE, stdout);
-    } else if (!read_order(&order, count, words) || !carry_out(&order, &status)) {
+    if (!follow(count, words, &status)) {
         fputs(USAGE, stderr);
         status = TROUBLE;
     }

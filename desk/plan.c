@@ -31,7 +31,7 @@ static bool read_loads(struct plan *plan, struct rest *rest)
     return true;
 }
 
-/* Takes a sheet apart that the library wrote; false where it is no sheet. */
+/* False where it is no sheet. */
 static bool read_plan(struct plan *plan, const uint8_t *sheet, size_t length)
 {
     struct rest rest = {sheet, sheet + length};
@@ -57,12 +57,7 @@ static bool read_plan(struct plan *plan, const uint8_t *sheet, size_t length)
     return rest.at == rest.end;
 }
 
-/* Halves as units: 13 is 6.5. */
-struct units {
-    unsigned whole, tenths;
-};
-
-static struct units in_units(unsigned halves)
+struct units in_units(unsigned halves)
 {
     return (struct units){halves / 2, halves % 2 * 5};
 }
@@ -149,8 +144,7 @@ unsigned line_size(unsigned peak, unsigned fibres)
     return make_plan(&plan, &table) == FINE ? plan.size : 0;
 }
 
-/* Half the across number, rounded up: of whole circuits one of the two links carries at least so much. */
-static unsigned floor_of(const struct plan *plan)
+unsigned floor_of(const struct plan *plan)
 {
     return (plan->across + 1) / 2;
 }
@@ -195,19 +189,38 @@ static void tell_plan(FILE *out, const struct plan *plan)
     tell_floor(out, plan, plan->peak);
 }
 
-enum status make_plan(struct plan *plan, const struct text *table)
+const char STRANGE_SHEET[] = "the library's sheet is not one that this desk can read";
+
+enum status take_apart(struct plan *plan, const uint8_t *sheet, size_t length)
 {
-    uint8_t sheet[RINGKIT_SHEET_BYTES];
-    ringkit_reply reply = ringkit_route(table->bytes, table->length, sheet, sizeof sheet);
-    if (reply.reason != RINGKIT_OK) {
-        tell_refusal(table, (struct refusal){reply.reason, reply.line, reply.byte}, true);
-        return REFUSED;
-    }
-    if (!read_plan(plan, sheet, reply.length)) {
-        fputs("desk: the library's sheet is not one that this desk can read\n", stderr);
+    if (!read_plan(plan, sheet, length)) {
+        fprintf(stderr, "desk: %s\n", STRANGE_SHEET);
         return TROUBLE;
     }
     return FINE;
+}
+
+enum status find_plan(struct plan *plan, struct refusal *refusal, const struct text *table)
+{
+    uint8_t sheet[RINGKIT_SHEET_BYTES];
+    ringkit_reply reply = ringkit_route(table->bytes, table->length, sheet, sizeof sheet);
+    *refusal = REFUSAL_OF(reply);
+    if (reply.reason != RINGKIT_OK) {
+        return REFUSED;
+    }
+    return read_plan(plan, sheet, reply.length) ? FINE : TROUBLE;
+}
+
+enum status make_plan(struct plan *plan, const struct text *table)
+{
+    struct refusal refusal;
+    enum status status = find_plan(plan, &refusal, table);
+    if (status == REFUSED) {
+        tell_refusal(table, refusal, true);
+    } else if (status == TROUBLE) {
+        fprintf(stderr, "desk: %s\n", STRANGE_SHEET);
+    }
+    return status;
 }
 
 enum status plan_table(const struct text *table)

@@ -2,6 +2,7 @@
 #ifndef DESK_PLAN_H
 #define DESK_PLAN_H
 
+#include "refusal.h"
 #include "status.h"
 #include "text.h"
 
@@ -23,14 +24,33 @@ struct plan {
     unsigned peak, size;
 };
 
-/* Routes the table and takes its sheet apart. Says on standard error why it cannot. */
+/* Routes the table and takes its sheet apart. The refusal is what the library answers where it refuses the table; TROUBLE is a sheet that this desk cannot read. */
+enum status find_plan(struct plan *plan, struct refusal *refusal, const struct text *table);
+
+/* What is said of such trouble. */
+extern const char STRANGE_SHEET[];
+
+/* The same, and says on standard error why it cannot. */
 enum status make_plan(struct plan *plan, const struct text *table);
+
+/* Takes a sheet apart that the library wrote or accepted. Says on standard error why it cannot. */
+enum status take_apart(struct plan *plan, const uint8_t *sheet, size_t length);
 
 /* Routes the table and tells its plan: which way each circuit goes, the cut and what it means, the links' loads, the line size to buy, and how low a peak could be. */
 enum status plan_table(const struct text *table);
 
 /* The line size to buy at a peak; 0 where none is large enough. */
 unsigned line_size(unsigned peak, unsigned fibres);
+
+/* Halves as units: 13 is 6.5. */
+struct units {
+    unsigned whole, tenths;
+};
+
+struct units in_units(unsigned halves);
+
+/* Half the across number, rounded up: of whole circuits one of the two links carries at least so much. */
+unsigned floor_of(const struct plan *plan);
 
 /* Tells of what ring the figures are. */
 void tell_ring(FILE *out, const struct plan *plan);

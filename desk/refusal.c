@@ -29,7 +29,7 @@ static const char *const SENTENCES[] = {
     [RINGKIT_NO_ROW] = "the place named holds no row",
 };
 
-static const char *sentence_of(uint32_t reason)
+const char *sentence_of(uint32_t reason)
 {
     const char *sentence = reason < sizeof SENTENCES / sizeof *SENTENCES ? SENTENCES[reason] : NULL;
     return sentence != NULL ? sentence : "refused for a reason that this desk has no sentence for";
@@ -52,7 +52,9 @@ static bool lacks_fibres(struct line line)
 
 void tell_refusal(const struct text *text, struct refusal refusal, bool has_ring_line)
 {
-    fprintf(stderr, "%s: ", text->name);
+    fflush(stdout);
+    show_name(stderr, text->name);
+    fputs(": ", stderr);
     if (refusal.line == 0) {
         tell_reason(refusal.reason);
         return;

@@ -11,8 +11,14 @@ struct refusal {
     uint32_t reason, line, byte;
 };
 
-/* Says on standard error why the text was refused, and where: the line, how it stands, and the byte, by a mark. A table and a sheet have an R line, a matrix has none. */
+/* That of a reply, whatever struct it is. */
+#define REFUSAL_OF(reply) ((struct refusal){(reply).reason, (reply).line, (reply).byte})
+
+/* Says on standard error, behind all that standard output was given, why the text was refused, and where: the line, how it stands, and the byte, by a mark. A table and a sheet have an R line, a matrix has none. */
 void tell_refusal(const struct text *text, struct refusal refusal, bool has_ring_line);
+
+/* What a reason says. */
+const char *sentence_of(uint32_t reason);
 
 /* Says the reason alone, and ends the line. */
 void tell_reason(uint32_t reason);

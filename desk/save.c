@@ -53,20 +53,23 @@ static bool replace(const char *file, char *beside, mode_t rights, const uint8_t
 
 static bool replace_in_place(const char *file, mode_t rights, const uint8_t *bytes, size_t length)
 {
-    static const char END[] = ".XXXXXX";
-    size_t room = strlen(file) + sizeof END;
+    static const char BESIDE[] = ".desk.XXXXXX";
+    const char *slash = strrchr(file, '/');
+    size_t folder = slash == NULL ? 0 : (size_t)(slash - file) + 1;
+    size_t room = folder + sizeof BESIDE;
     char *beside = malloc(room);
     if (beside == NULL) {
         return false;
     }
-    snprintf(beside, room, "%s%s", file, END);
+    /* a name of its own, since one made longer may be too long */
+    snprintf(beside, room, "%.*s%s", (int)folder, file, BESIDE);
     bool good = replace(file, beside, rights, bytes, length);
     free(beside);
     return good;
 }
 
-/* A link stays, and the file that it names is replaced; a device or a folder is not. */
-static bool replace_named(const char *file, const uint8_t *bytes, size_t length)
+/* A link to a file stays, and the file is replaced; a device or a folder is not. */
+bool save(const char *file, const uint8_t *bytes, size_t length)
 {
     struct stat old;
     if (stat(file, &old) != 0) {
@@ -80,13 +83,4 @@ static bool replace_named(const char *file, const uint8_t *bytes, size_t length)
     bool good = whole != NULL && replace_in_place(whole, old.st_mode & 0777, bytes, length);
     free(whole);
     return good;
-}
-
-bool save(const char *file, const uint8_t *bytes, size_t length)
-{
-    if (!replace_named(file, bytes, length)) {
-        fprintf(stderr, "desk: cannot write %s: %s\n", file, strerror(errno));
-        return false;
-    }
-    return true;
 }

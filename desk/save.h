@@ -6,7 +6,7 @@
 #include <stddef.h>
 #include <stdint.h>
 
-/* Makes the bytes the file's content. Where that fails, it says so on standard error, and a file that was there is whole. */
+/* Makes the bytes the file's content. Where that fails, errno says why, and a file that was there is whole. */
 bool save(const char *file, const uint8_t *bytes, size_t length);
 
 #endif

@@ -6,26 +6,56 @@
 /* A line is shown in so many columns at most, and so many of them stand before a byte that is marked, where there is more behind it. */
 enum { SHOWN = 64, BEFORE = 40 };
 
-static bool cannot_read(const char *name)
+bool is_standard(const char *file)
 {
-    fprintf(stderr, "desk: cannot read %s: %s\n", name, strerror(errno));
-    return false;
+    return file == NULL || strcmp(file, "-") == 0;
+}
+
+const char *name_of(const char *file)
+{
+    return is_standard(file) ? "standard input" : file;
+}
+
+void show_name(FILE *out, const char *name)
+{
+    for (const char *at = name; *at != '\0'; at++) {
+        unsigned char byte = (unsigned char)*at;
+        if (byte < ' ' || byte == 0x7f) {
+            fprintf(out, "\\x%02x", byte);
+        } else {
+            fputc(byte, out);
+        }
+    }
+}
+
+bool take_text(struct text *text, const char *file)
+{
+    text->name = name_of(file);
+    FILE *in = is_standard(file) ? stdin : fopen(file, "rb");
+    if (in == NULL) {
+        return false;
+    }
+    text->length = fread(text->bytes, 1, sizeof text->bytes, in);
+    bool good = !ferror(in);
+    int why = errno;
+    if (in != stdin) {
+        fclose(in);
+    }
+    errno = why;
+    return good;
 }
 
 bool read_text(struct text *text, const char *file)
 {
-    bool standard = file == NULL || strcmp(file, "-") == 0;
-    text->name = standard ? "standard input" : file;
-    FILE *in = standard ? stdin : fopen(file, "rb");
-    if (in == NULL) {
-        return cannot_read(text->name);
+    if (take_text(text, file)) {
+        return true;
     }
-    text->length = fread(text->bytes, 1, sizeof text->bytes, in);
-    bool good = !ferror(in) || cannot_read(text->name);
-    if (!standard) {
-        fclose(in);
-    }
-    return good;
+    int why = errno;
+    fflush(stdout);
+    fputs("desk: cannot read ", stderr);
+    show_name(stderr, text->name);
+    fprintf(stderr, ": %s\n", strerror(why));
+    return false;
 }
 
 struct line line_of(const struct text *text, size_t number)

@@ -13,8 +13,20 @@ struct text {
     uint8_t bytes[RINGKIT_MAX_TEXT_BYTES + 1]; /* one more than is accepted, so that a longer text is seen to be longer */
 };
 
-/* Reads a file, or standard input where it is NULL or "-". Says on standard error why it cannot. */
+/* Whether that file is standard input: NULL and "-" are. */
+bool is_standard(const char *file);
+
+/* What messages call it. */
+const char *name_of(const char *file);
+
+/* Reads a file, or standard input. Where it cannot, errno says why. */
+bool take_text(struct text *text, const char *file);
+
+/* The same, and says on standard error, behind all that standard output was given, why it cannot. */
 bool read_text(struct text *text, const char *file);
+
+/* Writes the name of a file so that no byte of it steers a terminal: one that does not print is \xNN. */
+void show_name(FILE *out, const char *name);
 
 struct line {
     const uint8_t *bytes;

@@ -1,6 +1,5 @@
 #include "turn.h"
 
-#include "plan.h"
 #include "refusal.h"
 
 /* Whether a circuit's front holds the link. */
@@ -9,7 +8,7 @@ static bool front_holds(const struct circuit *c, unsigned link)
     return c->first <= link && link < c->second;
 }
 
-static unsigned load_of(const struct plan *plan, const uint8_t *ways, unsigned link)
+unsigned load_of(const struct plan *plan, const uint8_t *ways, unsigned link)
 {
     unsigned load = 0;
     for (unsigned k = 0; k < plan->circuits; k++) {
@@ -76,7 +75,7 @@ enum status turn_table(const struct text *table)
     struct plan plan;
     ringkit_turn_reply reply = ringkit_turn(table->bytes, table->length, ways);
     if (reply.reason != RINGKIT_OK) {
-        tell_refusal(table, (struct refusal){reply.reason, reply.line, reply.byte}, true);
+        tell_refusal(table, REFUSAL_OF(reply), true);
         return REFUSED;
     }
     enum status status = make_plan(&plan, table);

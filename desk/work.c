@@ -134,7 +134,11 @@ static void write_file(struct dialogue *d, const struct said *said)
     write_table(d, &table);
     fflush(stdout);
     if (!save(said->file, table.bytes, table.length)) {
-        at_least(d, TROUBLE);
+        int why = errno;
+        begin_complaint(d, TROUBLE);
+        fputs("cannot write ", stderr);
+        show_name(stderr, said->file);
+        fprintf(stderr, ": %s\n", strerror(why));
         return;
     }
     d->unsaved = false;
@@ -236,7 +240,7 @@ static void follow(struct dialogue *d)
     }
     if (verb == NULL) {
         begin_complaint(d, TROUBLE);
-        fprintf(stderr, "no such word; help says which there are\n");
+        fputs(whole ? "no such word; help says which there are\n" : "it has a NUL byte in it\n", stderr);
     } else if (!read_said(&said, verb, behind)) {
         begin_complaint(d, TROUBLE);
         fprintf(stderr, "it goes: %s\n", verb->form);
@@ -350,7 +354,7 @@ enum status work_on(const char *file)
     }
     ringkit_reply reply = ringkit_rewrite_table(table.bytes, table.length, same, sizeof same);
     if (reply.reason != RINGKIT_OK) {
-        tell_refusal(&table, (struct refusal){reply.reason, reply.line, reply.byte}, true);
+        tell_refusal(&table, REFUSAL_OF(reply), true);
         return REFUSED;
     }
     return begin(&d, take_rows(&d, &table));

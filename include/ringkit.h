@@ -3,8 +3,8 @@
  * A text is read as a table, as a sheet or as a matrix. Fields are parted by one tab, every line ends with LF, numbers are 1 to 8 digits with no leading
  * zero but 0 itself.
  *
- *   table:  R n fibres      n offices, 1 to n; link k joins k and k+1, link n joins n and 1. The fibres are 2 or 4: with 2, half of a
- *                           line is kept for protection
+ *   table:  R n fibres      n offices, which are the nodes of the ring, 1 to n; link k joins k and k+1, link n joins n and 1. The fibres are 2 or 4:
+ *                           with 2, half of a line is kept for protection
  *           D i j amount    a row for each circuit, i < j; no row is below the one before, by i, then j, so circuits of the same
  *                           two offices stand next to each other. Its front is links i to j-1, its back the other links
  *   sheet:  R n fibres      then the rows with what goes each way, in halves, and where the whole circuit goes (F or B),
@@ -79,7 +79,7 @@ extern "C" {
 /* Enough stack for each call, with some to spare for binding memcpy and memset when they are first called: the deepest, routing, takes some 36,600 bytes. */
 #define RINGKIT_STACK_BYTES 57344
 
-/* Why a text is refused. Each is given exactly when it holds and nothing before it in this order does: the fibres that a matrix is read with; RINGKIT_TOO_LONG; then line by line,
+/* Why a text, values or a call is refused. Each is given exactly when it holds and nothing before it in this order does: the fibres that a matrix is read with; RINGKIT_TOO_LONG; then line by line,
  * and in a line by rising number, 2 to 7, RINGKIT_FIBRES behind 3 and RINGKIT_TOO_MANY_ROWS between 6 and 7; then, when all lines have been read, of a sheet 8 to 12 line by line,
  * and 13 and 14; of a matrix the first entry in reading order that is 17 or 18, and then RINGKIT_TOO_MANY_ROWS, with no line, where it makes too many rows; of a table to be
  * written as a matrix the first row that is 19; then 15. So a fault of form (2 to 7, 16) is told before a false figure (8 to 14), on whichever lines the two are: 4 on line 3
@@ -92,7 +92,7 @@ enum ringkit_reason {
     RINGKIT_TOO_LONG = 1,       /* text over 32,768 bytes */
     RINGKIT_MISSHAPEN = 2,      /* line of the wrong shape, missing, or left over; a badly spelled number; no final LF */
     RINGKIT_RING_SIZE = 3,      /* n outside 2..64; of a matrix, on its first line */
-    RINGKIT_NO_SUCH_NODE = 4,   /* a node outside 1..n */
+    RINGKIT_NO_SUCH_NODE = 4,   /* a node, which is an office by its number, outside 1..n */
     RINGKIT_NOT_BELOW = 5,      /* first node not below second */
     RINGKIT_OUT_OF_ORDER = 6,   /* row's nodes below the row before, by first node, then second */
     RINGKIT_TOO_MUCH = 7,       /* amount, or entry of a matrix, over 9,999 */

@@ -5,7 +5,7 @@ import collections
 
 import rules
 
-FEWEST_OFFICES, MOST_OFFICES, MOST_ROWS = 2, 64, 1024
+FEWEST_OFFICES, MOST_OFFICES, MOST_ROWS, MOST_AMOUNT = 2, 64, 1024, 9999
 # by rising number, but 16 stands between 6 and 7 and 20 behind 3 (Rules, the order of reasons)
 ORDER = (1, 2, 3, 20, 4, 5, 6, 16, 7, 8, 9, 10, 11, 12, 13, 14)
 
@@ -25,7 +25,7 @@ def of_row(n, before, place, row):
         5: row[0] >= row[1],
         6: before is not None and row[:2] < before[:2],
         16: place > MOST_ROWS,
-        7: row[2] > 9999,
+        7: row[2] > MOST_AMOUNT,
     }
 
 

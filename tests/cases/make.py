@@ -16,10 +16,11 @@ import rules
 import sheets
 from judging import MOST_OFFICES, MOST_ROWS
 from pointing import byte_of
-from reading import FORM, Sheet, first_reason, first_reason_of_sheet, holding, line_by_line, lines_of, rewritten
+from reading import FORM, LONGEST, Sheet, first_reason, first_reason_of_sheet, holding, line_by_line, lines_of, rewritten
 from sheets import damaged, full, pairs, t, write_table
 
-ROOM, PATTERN = 40000, 85
+# the buffer before a call, of which a case lends the beginning: as in crates/cases
+ROOM, PATTERN = 40000, 0x55
 
 
 @functools.cache
@@ -147,7 +148,7 @@ def rings():
 def longest():
     """Texts of exactly 32,768 and 32,769 bytes and of more, of good lines and of bad ones."""
     body = full(MOST_OFFICES, lambda k: 9999)
-    for size in (32768, 32769):
+    for size in (LONGEST, LONGEST + 1):
         yield body + b"D\t63\t64\t9999\n" * ((size - len(body)) // 13) + b"q" * ((size - len(body)) % 13)
         yield b"\n" * size
     yield (b"R\t4\t4\n" + b"x" * ROOM)[:ROOM]
@@ -214,7 +215,7 @@ def to_route():
     for text in ("R|1|4", "R|65|4", "R|64|4", "R|33|4", "R|4|4\nD|5|2|10000", "R|4|4\nD|1|2|9999", "R|4|4\nD|1|2|10000", "R|4|4\nD|1|2|0", "R|4|4\nD|1|2|1\nD|1|2|1", "R|4|4\nD|2|1|1"):
         yield t(text), 200
     yield b"", 200
-    yield b"\n" * 32769, ROOM
+    yield b"\n" * (LONGEST + 1), ROOM
     rng = random.Random(496)
     for text in [*sheets.full_tables(rng), *(write_table(n, rows) for n, rows in circuits.tables_of_most() + circuits.tables_between())]:
         for room in around(text):

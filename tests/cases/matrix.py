@@ -22,7 +22,7 @@ class Matrix:
         said = self.lines[at - 1] if there else None
         if said is None or not due or len(said) != self.n:
             return {2} if there or due else set()
-        return those({3: at == 1 and judging.of_ring(self.n, 4)[3], 7: any(entry > 9999 for entry in said)})
+        return those({3: at == 1 and judging.of_ring(self.n, 4)[3], 7: any(entry > judging.MOST_AMOUNT for entry in said)})
 
     def faulty(self):
         """Line, field and reason of each entry that is not as it should be, of a matrix whose lines all pass."""
@@ -75,7 +75,7 @@ def first_reason_of_sums(text):
         return reply
     _, rows, _ = table_values(text)
     sums = [sum(d for *pair, d in rows[:k + 1] if pair == [*rows[k][:2]]) for k in range(len(rows))]
-    return next(((19, k + 2) for k, s in enumerate(sums) if s > 9999), None)
+    return next(((19, k + 2) for k, s in enumerate(sums) if s > judging.MOST_AMOUNT), None)
 
 
 def write_matrix(n, rows, _=4):

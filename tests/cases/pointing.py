@@ -2,6 +2,7 @@
 pattern of its shape has, of a field by where it starts."""
 import re
 
+from judging import MOST_AMOUNT
 from matrix import Matrix
 from reading import DIGITS, SHEET, Sheet, fields, lines_of
 
@@ -48,7 +49,7 @@ def field_of_matrix(text, at, reason):
     """The entry that a matrix is refused for, counted from 0; None where it is the whole line."""
     matrix = Matrix(text)
     if reason == 7:
-        return next(k for k, entry in enumerate(matrix.lines[at - 1]) if entry > 9999)
+        return next(k for k, entry in enumerate(matrix.lines[at - 1]) if entry > MOST_AMOUNT)
     return min((field - 1 for line, field, why in matrix.faulty() if (line, why) == (at, reason)), default=None) if reason in (17, 18) else None
 
 

@@ -13,7 +13,7 @@ import judging
 import rules
 import sheets
 from judging import MOST_OFFICES, MOST_ROWS, Values
-from reading import FORM, Sheet, first_reason_of_sheet
+from reading import FORM, LONGEST, Sheet, first_reason_of_sheet
 
 # no text can spell them: the largest number of 32 bits, and others that would pass if high bits were lost
 HUGE = (4000000000, 2**32 - 1)
@@ -38,7 +38,7 @@ def found(values):
 def of_text(text):
     """The values of a sheet's text all of whose lines have their shape; None of another."""
     sheet = Sheet(text)
-    if len(text) > 32768 or any(2 in sheet.holding(at) for at in range(1, len(sheet.lines) + 2)):
+    if len(text) > LONGEST or any(2 in sheet.holding(at) for at in range(1, len(sheet.lines) + 2)):
         return None
     read = sheet.read()
     rows = tuple((*row[:5], 0 if row[5] == "F" else 1) for row in read.rows)

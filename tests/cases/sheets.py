@@ -3,7 +3,7 @@ import random
 
 import rules
 from judging import MOST_OFFICES, MOST_ROWS
-from reading import Sheet, first_reason_of_sheet, line_by_line, lines_of
+from reading import LONGEST, Sheet, first_reason_of_sheet, line_by_line, lines_of
 
 
 def t(*lines, end="\n"):
@@ -399,7 +399,7 @@ def of_other_tools():
 def longest():
     """Sheets of 32,768 bytes and of one more: good lines, then lines left over; and a field of very many digits."""
     body = t(*good())
-    for size in (32768, 32769):
+    for size in (LONGEST, LONGEST + 1):
         yield body + b"Z\t0\t3\n" * ((size - len(body)) // 6) + b"\n" * ((size - len(body)) % 6)
     yield b"R\t4\t4\nC\t1\t2\t" + b"9" * 3000 + b"\n"
 

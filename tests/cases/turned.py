@@ -11,7 +11,7 @@ import turning
 from judging import MOST_ROWS
 from matrix import table_values
 from pointing import byte_of
-from reading import first_reason, holding, lines_of
+from reading import LONGEST, first_reason, holding, lines_of
 from sheets import damaged, pairs, t, write_table
 
 FIVE = (5, ((1, 2, 2), (1, 4, 5), (2, 3, 9), (2, 4, 11), (3, 4, 4), (3, 5, 3)))
@@ -110,7 +110,7 @@ def refused():
     yield most + b"D\t1\t2\t1\n"
     yield most + b"D\t1\t2\t10000\n"
     rows = b"R\t2\t4\n" + b"D\t1\t2\t1\n" * 400
-    yield from (rows.ljust(length, b"x") for length in (32768, 32769))
+    yield from (rows.ljust(length, b"x") for length in (LONGEST, LONGEST + 1))
     rng = random.Random(11)
     for _ in range(150):
         yield damaged(rng, write_table(*drawn(rng, rng.randint(2, 64), rng.randint(1, 12), 9999)))

@@ -1,12 +1,15 @@
 #!/usr/bin/env python3
 """Writes tests/cases/working.calls: stored sequences of calls of the working table, each with the reply that the rule gives it (Rules, the working table).
 
-The replies come from a list of 1,024 places and nothing kept beside it: the largest cut is rule A's over the rows held, summed afresh. No source of the project is used.
+The replies come from a list of 1,024 places and nothing kept beside it: the largest cut is rule A's over the rows held, summed afresh. No source of the project is used,
+and rules.py neither: an across number is summed here by the offices that a cut parts, and there by the links of each front, so that one reading tells a fault of the other.
 Run it by hand after adding a sequence and look at the difference; tests/desk/sequences.c makes the calls and compares."""
 import itertools
 import random
 
-OFFICES, PLACES, MOST = 64, 1024, 9999
+from judging import FEWEST_OFFICES, MOST_AMOUNT, MOST_OFFICES
+from judging import MOST_ROWS as PLACES
+
 # numbers that would pass if their high bits were lost
 WIDE = (256 + 2, 65536 + 2, 2**32 - 1)
 # room for every table: 13 bytes a row, 7 for the R line
@@ -75,13 +78,13 @@ class Sequence:
         """4, 5 or 7, or 0 of a good row."""
         if not (1 <= first <= self.n and 1 <= second <= self.n):
             return 4
-        return 5 if first >= second else 7 if amount > MOST else 0
+        return 5 if first >= second else 7 if amount > MOST_AMOUNT else 0
 
     # the calls
 
     def start(self, n, fibres):
-        if not 2 <= n <= OFFICES or fibres not in (2, 4):
-            return self.refuse("start", (n, fibres), 20 if 2 <= n <= OFFICES else 3)
+        if not FEWEST_OFFICES <= n <= MOST_OFFICES or fibres not in (2, 4):
+            return self.refuse("start", (n, fibres), 20 if FEWEST_OFFICES <= n <= MOST_OFFICES else 3)
         self.n, self.fibres, self.places = n, fibres, [None] * PLACES
         return self.accept("start", (n, fibres), 0)
 
@@ -160,7 +163,7 @@ def by_hand():
 
 def starts():
     s = Sequence("starts that are refused, first of no table and then of one with a row: 3 before 20")
-    bad = [(n, fibres) for n in (0, 1, OFFICES + 1, *WIDE) for fibres in (4, 3)] + [(n, fibres) for n in (2, OFFICES) for fibres in (0, 1, 3, 5, *WIDE)]
+    bad = [(n, fibres) for n in (0, 1, MOST_OFFICES + 1, *WIDE) for fibres in (4, 3)] + [(n, fibres) for n in (FEWEST_OFFICES, MOST_OFFICES) for fibres in (0, 1, 3, 5, *WIDE)]
     for ring in bad:
         s.start(*ring)
     s.start(2, 4)
@@ -184,7 +187,7 @@ def starts():
 def bad_rows(n):
     """Rows with one fault and with several: 4 before 5 before 7."""
     nodes = [(0, 1), (1, 0), (0, 0), (1, n + 1), (n + 1, 1), (n, n + 1), (n + 1, n + 1), *((1, wide) for wide in WIDE), *((wide, 2) for wide in WIDE), (1, 1), (n, n), (n, 1), (3, 2), (1, 2), (1, n)]
-    return [(*two, amount) for two in nodes for amount in (1, MOST + 1, *WIDE[1:])]
+    return [(*two, amount) for two in nodes for amount in (1, MOST_AMOUNT + 1, *WIDE[1:])]
 
 
 def refusals():
@@ -194,7 +197,7 @@ def refusals():
         if s.fault(*row):
             s.add(*row)
             s.change(1, *row)
-    for amount in (MOST, MOST + 1, 0):
+    for amount in (MOST_AMOUNT, MOST_AMOUNT + 1, 0):
         s.add(2, 6, amount)
         s.change(1, 2, 6, amount)
     s.write(ROOM)
@@ -202,7 +205,7 @@ def refusals():
     s = begun("places that hold no row: 22, before 4, 5 and 7", rows=[(1, 2, 3), (2, 3, 4), (3, 4, 5)])
     s.remove(2)
     for place in (0, 2, 4, 496, 497, PLACES - 1, PLACES, PLACES + 1, PLACES + 2, 2048 + 1, *(wide - 1 for wide in WIDE), 2**32 - 1):
-        for row in ((1, 2, 3), (7, 2, 3), (2, 2, 3), (1, 2, MOST + 1), (0, 0, MOST + 1)):
+        for row in ((1, 2, 3), (7, 2, 3), (2, 2, 3), (1, 2, MOST_AMOUNT + 1), (0, 0, MOST_AMOUNT + 1)):
             s.change(place, *row)
         s.remove(place)
         s.row(place)
@@ -237,7 +240,7 @@ def places():
     yield s
     s = begun("a change keeps its place, and what it takes off is off", rows=[(1, 3, 40), (2, 5, 30), (4, 6, 20)])
     s.remove(1)
-    for row in ((2, 5, 30), (2, 5, 31), (1, 6, 31), (1, 2, 0), (5, 6, MOST), (2, 5, 30)):
+    for row in ((2, 5, 30), (2, 5, 31), (1, 6, 31), (1, 2, 0), (5, 6, MOST_AMOUNT), (2, 5, 30)):
         s.change(3, *row)
         s.row(1)
         s.row(3)
@@ -270,26 +273,26 @@ def full_tables():
         s = begun("a full table of %d offices: filled, refused, changed and emptied" % n, n, fibres)
         nodes = list(pairs(n))
         for k in range(PLACES):
-            s.add(*nodes[k * step % len(nodes)], k * 7919 % (MOST + 1))
-        for row in ((1, 2, 3), (1, 2, 0), (1, n, MOST), (1, n + 1, 3), (0, 0, MOST + 1), (2, 2, MOST + 1), (1, 2, MOST + 1)):
+            s.add(*nodes[k * step % len(nodes)], k * 7919 % (MOST_AMOUNT + 1))
+        for row in ((1, 2, 3), (1, 2, 0), (1, n, MOST_AMOUNT), (1, n + 1, 3), (0, 0, MOST_AMOUNT + 1), (2, 2, MOST_AMOUNT + 1), (1, 2, MOST_AMOUNT + 1)):
             s.add(*row)
         s.write_all_ways()
         for place in (1, 248, 496, 497, PLACES, PLACES + 1, 0):
-            s.change(place, 1, n, MOST)
-            s.change(place, 1, n + 1, MOST)
+            s.change(place, 1, n, MOST_AMOUNT)
+            s.change(place, 1, n + 1, MOST_AMOUNT)
         for place in (PLACES, 100, 1):
             s.remove(place)
         for k in range(4):
-            s.add(k + 1, n - k, MOST - k)
+            s.add(k + 1, n - k, MOST_AMOUNT - k)
         s.write(ROOM)
         for k in range(PLACES):
             s.remove(k * 85 % PLACES + 1)
         s.remove(1)
         s.write_all_ways()
         yield s
-    s = begun("the largest number: as many rows as there may be, of 9,999, on one cut", n=OFFICES)
+    s = begun("the largest number: as many rows as there may be, of 9,999, on one cut", n=MOST_OFFICES)
     for k in range(PLACES):
-        s.add(1 + k % 32, 33 + k % 32, MOST)
+        s.add(1 + k % 32, 33 + k % 32, MOST_AMOUNT)
     s.write_all_ways()
     yield s
 
@@ -305,7 +308,7 @@ def written():
     s.change(8, 2, 3, 8)
     s.write_all_ways()
     yield s
-    s = begun("no row is written", n=OFFICES, fibres=2)
+    s = begun("no row is written", n=MOST_OFFICES, fibres=2)
     s.write_all_ways()
     yield s
 
@@ -316,7 +319,7 @@ def by_chance():
         n = rng.randrange(2, 10)
         s = begun("by chance, %d" % (k + 1), n, rng.choice((2, 4)))
         for _ in range(60):
-            row = (rng.randrange(0, n + 1), rng.randrange(1, n + 2), rng.choice((0, 1, 2, 500, MOST, MOST + 1)))
+            row = (rng.randrange(0, n + 1), rng.randrange(1, n + 2), rng.choice((0, 1, 2, 500, MOST_AMOUNT, MOST_AMOUNT + 1)))
             place = rng.randrange(0, len(s.rows()) + 3)
             call = rng.choice((s.add, s.add, s.change, s.remove, s.row))
             call(*{"add": row, "change": (place, *row)}.get(call.__name__, (place,)))
@@ -328,7 +331,7 @@ def test_acrosses():
     """Both ways of adding up find the same."""
     rng = random.Random(2)
     for n, count in ((2, 30), (5, 31), (64, 60)):
-        rows = [(*sorted(rng.sample(range(1, n + 1), 2)), rng.randrange(MOST)) for _ in range(count)]
+        rows = [(*sorted(rng.sample(range(1, n + 1), 2)), rng.randrange(MOST_AMOUNT)) for _ in range(count)]
         assert acrosses(n, rows) == [(across(rows, g, h), g, h) for g, h in pairs(n)]
 
 

@@ -3,9 +3,9 @@ use Rattle.std.proofs.Common.{◌≡◌, ℕ, ◌≤◌, List, length, ◌∙◌
 use Rattle.ring.specs.declared.types.Demand.{Demand}
 use Rattle.ring.specs.Cut.{part}
 use Rattle.ring.specs.Limits.{desk}
-use Rattle.across.specs.Triangle.{most_pairs, at}
+use Rattle.across.specs.Triangle.{at}
 use Rattle.across.specs.Step.{stepped, step_row}
-use Rattle.across.specs.Lines.{Pairwise}
+use Rattle.across.specs.Lines.{most_pairs, Pairwise}
 use Rattle.across.proofs.Places.{triangle-at, triangle-length, all-pairs}
 
 pub row-size : (change : ℕ → ℕ → ℕ) (n : ℕ) (r : Demand) (t : List ℕ) → length (step_row change n r t) ≡ most_pairs

@@ -8,9 +8,9 @@ use Rattle.ring.specs.declared.types.Demand.{Demand}
 use Rattle.ring.specs.Cut.{part}
 use Rattle.ring.proofs.Side.{Side, before, within, after, side, in-front, before-front, after_front}
 use Rattle.ring.specs.Limits.{desk}
-use Rattle.across.specs.Triangle.{most_pairs, offset, place_of, at, triangle}
-use Rattle.across.specs.Step.{type_end, raised, lowered, stepped, step_row}
-use Rattle.across.specs.Lines.{Pairwise, LineStep, LineFits}
+use Rattle.across.specs.Triangle.{offset, place_of, at}
+use Rattle.across.specs.Step.{triangle, type_end, raised, lowered, stepped, step_row}
+use Rattle.across.specs.Lines.{most_pairs, Pairwise, LineStep, LineFits}
 use Rattle.across.proofs.Places.{apart, line-below, triangle-length, triangle-at, triangle-is, all-pairs}
 
 -- the line of link h, which has h - 1 places, lies in the triangle

@@ -8,7 +8,7 @@ use crate::PAIRS;
 use crate::place::get;
 use ring::Cut;
 
-/// The largest cut of a ring of n nodes, 2 to 64.
+/// The largest cut of a ring of n nodes, 2 to 64; its across number is in units.
 pub fn largest_cut(triangle: &[u32; PAIRS], n: usize) -> Cut
     requires two { 2 ≤ n }
     requires few { n ≤ desk.nodes }

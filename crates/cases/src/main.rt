@@ -1,8 +1,9 @@
 #![tactic(auto)]
 // Runs stored cases: each is a header of 12 bytes (the letter of the call, the text's length and the buffer's in five digits each, LF) and
 // the text. Each is answered by a line: the reply's numbers, and a sum over every byte of the buffer, which is filled with a pattern before the call.
-// The letter T is `ringkit_rewrite_table`, R is `ringkit_route`, S is `ringkit_rewrite_sheet`, W is `ringkit_write_matrix`, and a digit is `ringkit_read_matrix` with so many fibres. C is
-// `ringkit_check` and P is `ringkit_parallel`: these lend no buffer, so their lines have reason, line and byte, and for P the two places. Any other letter ends the run.
+// The letter T is `ringkit_rewrite_table`, R is `ringkit_route`, S is `ringkit_rewrite_sheet`, W is `ringkit_write_matrix`, and a digit is
+// `ringkit_read_matrix` with so many fibres. C is `ringkit_check` and P is `ringkit_parallel`: these lend no buffer, so their lines have reason, line and byte,
+// and for P the two places. Any other letter ends the run.
 ghost use Rattle.std.specs.Prelude.{◌≤◌, ◌<◌};
 
 use checker::Pair;

@@ -12,7 +12,7 @@ use Rattle.table.specs.declared.finding.Finding.{Finding}
 use Rattle.table.specs.declared.reason.Refusal.{Refusal}
 use Rattle.judge.specs.Findings.{findings}
 use Rattle.judge.proofs.Tests.{judged-is}
-use Rattle.sheet.specs.Answer.{with_values}
+use Rattle.sheet.specs.ReadInto.{with_values}
 use Rattle.sheet.specs.Read.{read_sheet}
 use Rattle.ring.specs.Sheet.{sheet_in}
 use Rattle.ring.specs.declared.types.Figures.{Figures}
@@ -29,7 +29,7 @@ module _ (s : List ℕ) (rs : List Routed) (ls : List Link) (answer : Either Fig
     read = sym e ∙ ap (with_values rs ls) a
 
     pub links-there : x.ring.nodes ≤ desk.nodes
-    links-there = ((read-as s (sheet_in x rs ls)).0 read).range.many
+    links-there = ((read-as s (sheet_in x rs ls)).0 read).range.within.many
 
     module _ (held : List Link) (same : held ≡ ls) (v : Either Unit Finding) (first : First (findings desk (sheet_in x rs held)) v) where
       judged-so : check desk s ≡ judged_on (sheet_in x rs ls) v

@@ -14,6 +14,7 @@ use Rattle.ring.specs.Lists.{Each, none, more}
 use Rattle.ring.specs.Demand.{OnRing}
 use Rattle.ring.specs.Sheet.{Sheet, true_link}
 use Rattle.ring.proofs.Lists.{each-of-map}
+use Rattle.ring.proofs.Small.{demands-length}
 use Rattle.table.specs.Findings.{Findings, nothing, finding, then, found, First, ring_findings, demand_findings}
 use Rattle.table.specs.declared.finding.Finding.{Finding}
 use Rattle.table.specs.declared.reason.Reason.{Reason}
@@ -67,11 +68,11 @@ all-links due k (x ∷ ls) = (λ _. a_link, all-links due (k + 1) ls)
 
 pub all-figures : (limits : Limits) (x : Sheet) → InRange limits x → All OfFigures (findings limits x)
 all-figures limits x range =
-    let on = each-of-map (λ (r : Routed). r.sent) x.rows (each-of-map (λ s. s.demand) _ range.rows.nodes) in
-    let amounts = each-of-map (λ (r : Routed). r.sent) x.rows (each-of-map (λ s. s.demand) _ range.amounts) in
+    let on = each-of-map (λ (r : Routed). r.sent) x.rows (each-of-map (λ s. s.demand) _ range.within.rows.nodes) in
+    let amounts = each-of-map (λ (r : Routed). r.sent) x.rows (each-of-map (λ s. s.demand) _ range.within.amounts) in
     all-then _ (ring_findings limits x.ring) _
-    (⊎_elim (λ l. absurd (omega (arith, range.few))) (λ l. absurd (omega (arith, range.many))), (λ d. absurd (d range.fibres), tt))
-    (all-then _ (rows_findings limits x.ring.nodes 1 None x.rows) _ (all-rows limits x.ring.nodes 1 None x.rows on amounts range.rows.order (omega (arith, range.count)))
+    (⊎_elim (λ l. absurd (omega (arith, range.within.few))) (λ l. absurd (omega (arith, range.within.many))), (λ d. absurd (d range.within.fibres), tt))
+    (all-then _ (rows_findings limits x.ring.nodes 1 None x.rows) _ (all-rows limits x.ring.nodes 1 None x.rows on amounts range.within.rows.order (omega (arith, range.within.count, demands-length x.rows)))
     (all-then _ (cut_findings x.ring.nodes x.rows x.cut) _ (λ _. a_cut, tt)
     (all-then _ (loads_findings x.ring.nodes (true_link x.rows) x.links) _ (λ _. a_link, all-links (true_link x.rows) 1 x.links)
     (λ _. a_last, (λ _. a_peak, (λ _. a_bound, tt))))))

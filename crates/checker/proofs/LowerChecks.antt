@@ -79,7 +79,7 @@ module _ (t : List ℕ) (x : Sheet) (e : check desk t ≡ accepted x) where
       go : {y : SheetResult} → LowerSheet old x y → LowerSheet old x (check_read old y)
       go (more-nodes n) = more-nodes n
       go (more-rows n r) = more-rows n r
-      go (same n r) = rw (judged-same old-lower x h.1.0.few n r, sym (judged-is x (Ok tt) ((accepted-as t x).0 e).1)) (same n r)
+      go (same n r) = rw (judged-same old-lower x h.1.0.within.few n r, sym (judged-is x (Ok tt) ((accepted-as t x).0 e).1)) (same n r)
 
   pub old-nodes : old.nodes < x.ring.nodes → check old t ≡ refused RingSize 1 3
   old-nodes big = go old-check

@@ -5,18 +5,17 @@ use mathlib.Core.Path.{◌≡◌, refl}
 use native.Mathlib.Omega.{arith}
 use Rattle.ring.specs.Limits.{desk}
 use Rattle.ring.specs.Sheet.{plan}
-use Rattle.ring.proofs.Small.{demands-length}
 use Rattle.ring.proofs.NoLower.{no_lower}
 use Rattle.ring.proofs.OurPlan.{plan-true}
 use Rattle.table.specs.Findings.{found}
 use Rattle.judge.specs.Findings.{findings}
 use Rattle.table.specs.Reasons.{rank_of}
+use Rattle.table.specs.RowReasons.{says_too_long, says_misshapen, says_ring_size, says_fibres, says_no_such_node, says_not_below, says_out_of_order, says_too_many, says_too_much}
 use Rattle.table.specs.declared.reason.Reason.{Reason}
-use Rattle.table.specs.declared.reason.Reason.TheVariants.{TooLong, Misshapen, RingSize, Fibres, NoSuchNode, NotBelow, OutOfOrder, TooMany, TooMuch, NoRow, Full, WrongSum, WrongWay, WrongCut, WrongLink, WrongLast, NotTight, OverBound, NotZero, NotSymmetric, SumTooMuch, NoRoom}
+use Rattle.table.specs.declared.reason.Reason.TheVariants.{WrongSum, OverBound}
 use Rattle.table.proofs.TableText.{desk-spelled}
 use Rattle.sheet.specs.Read.{SheetResult, accepted, refused, read_sheet}
 use Rattle.sheet.specs.Says as reading
-use Rattle.sheet.specs.Says.{Says}
 use Rattle.sheet.specs.WriteSheet.{write_sheet}
 use Rattle.sheet.proofs.Promised.{same-sheet}
 use Rattle.sheet.proofs.SheetReasons.{given as read-given, well-formed-is}
@@ -37,11 +36,11 @@ no-lower-peak x range a =
     no_lower x (rw e text.1.1)
 
 pub judged-in-range : JudgedInRange
-judged-in-range x f t = true-in-range desk desk-fits x t f.many f.fibres f.rows (omega (arith, f.count, demands-length x.rows)) f.amounts f.few
+judged-in-range x f t = true-in-range desk desk-fits x t f
 
 -- the sheet of a table's plan is accepted
 pub plan-accepted : PlanAccepted
-plan-accepted ring rs h = true-accepted (plan ring rs) (plan-in-range ring rs h) (plan-true ring rs h.few h.rows)
+plan-accepted ring rs h = true-accepted (plan ring rs) (plan-in-range ring rs h) (plan-true ring rs h.within.few h.within.rows)
 
 -- ---- 8 to 14 judge figures, the reasons of reading come before them
 
@@ -54,30 +53,16 @@ late a_last = (omega arith, omega arith)
 late a_peak = (omega arith, omega arith)
 late a_bound = (omega arith, omega arith)
 
-of-reading : (t : List ℕ) (r : Reason) (line : ℕ) → reading.Says desk t r line → rank_of r < rank_of WrongSum
-unfolding Says
-of-reading t TooLong line h = omega arith
-of-reading t Misshapen line h = omega arith
-of-reading t RingSize line h = omega arith
-of-reading t Fibres line h = omega arith
-of-reading t NoSuchNode line h = omega arith
-of-reading t NotBelow line h = omega arith
-of-reading t OutOfOrder line h = omega arith
-of-reading t TooMany line h = omega arith
-of-reading t TooMuch line h = omega arith
-of-reading t NoRow line h = absurd h
-of-reading t Full line h = absurd h
-of-reading t WrongSum line h = absurd h
-of-reading t WrongWay line h = absurd h
-of-reading t WrongCut line h = absurd h
-of-reading t WrongLink line h = absurd h
-of-reading t WrongLast line h = absurd h
-of-reading t NotTight line h = absurd h
-of-reading t OverBound line h = absurd h
-of-reading t NotZero line h = absurd h
-of-reading t NotSymmetric line h = absurd h
-of-reading t SumTooMuch line h = absurd h
-of-reading t NoRoom line h = absurd h
+of-reading : {t : List ℕ} {r : Reason} {line : ℕ} → reading.Says desk t r line → rank_of r < rank_of WrongSum
+of-reading (says_too_long e long) = omega arith
+of-reading (says_misshapen w) = omega arith
+of-reading (says_ring_size e x w) = omega arith
+of-reading (says_fibres e x w) = omega arith
+of-reading (says_no_such_node x y w) = omega arith
+of-reading (says_not_below y w) = omega arith
+of-reading (says_out_of_order e x y w) = omega arith
+of-reading (says_too_many y w) = omega arith
+of-reading (says_too_much y w) = omega arith
 
 pub formed-is : FormedIs desk
 formed-is t = (λ w r line byte g. to_late w g, λ all. formed all (read_sheet desk t) refl)
@@ -90,5 +75,5 @@ formed-is t = (λ w r line byte g. to_late w g, λ all. formed all (read_sheet d
     formed all (accepted x) e = (well-formed-is desk t).0 (record { x = x; is = e })
     formed all (refused r line byte) e =
         let g = (read-given desk t r line byte).0 e in
-        let early : rank_of r < rank_of WrongSum = of-reading t r line g.holds in
+        let early : rank_of r < rank_of WrongSum = of-reading g.holds in
         absurd (omega (arith, (all r line byte (of_form g)).0))

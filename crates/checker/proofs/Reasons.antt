@@ -8,27 +8,23 @@ use mathlib.Core.Path.{◌≡◌, refl, ap, ◌∙◌, sym, subst}
 use native.Mathlib.Omega.{arith}
 use Rattle.std.specs.Prelude.{Result, Ok, Err}
 use Rattle.ring.specs.Limits.{Limits, desk}
-use Rattle.ring.specs.Sheet.{Sheet, sents, demands}
-use Rattle.ring.proofs.Small.{demands-length}
-use Rattle.table.specs.Table.{LimitsSpelled}
-use Rattle.table.proofs.Short.{desk-narrow, table-short}
+use Rattle.ring.specs.Sheet.{Sheet}
 use Rattle.ring.specs.True.{TrueSheet}
 use Rattle.table.specs.Findings.{First, found}
 use Rattle.table.specs.Reasons.{number_of}
 use Rattle.table.specs.declared.reason.Reason.TheVariants.{NoRoom}
-use Rattle.table.proofs.ReasonNumbers.{same-reason}
 use Rattle.table.specs.declared.finding.Finding.{Finding}
 use Rattle.table.specs.declared.reason.Reason.{Reason}
-use Rattle.judge.specs.Findings.{findings, Fits}
+use Rattle.judge.specs.Findings.{findings}
 use Rattle.judge.specs.Tests.{sheet_judged}
 use Rattle.judge.proofs.Tests.{first-judged, first-is-judged}
 use Rattle.judge.proofs.Accepted.{fine-accepted, true-fine}
 use Rattle.table.proofs.TableText.{desk-spelled}
+use Rattle.table.proofs.Spelled.{LimitsSpelled}
 use Rattle.sheet.specs.Range.{InRange}
 use Rattle.sheet.specs.Read.{SheetResult, accepted, refused, read_sheet}
-use Rattle.sheet.specs.Says as reading
-use Rattle.sheet.specs.Says.{Says}
 use Rattle.sheet.specs.WriteSheet.{write_sheet}
+use Rattle.table.proofs.Said.{not-15 as reading-not-15}
 use Rattle.sheet.proofs.SheetText.{sheet-text}
 use Rattle.sheet.proofs.SheetReasons.{given as read-given}
 use Rattle.checker.specs.Check.{line_of, byte_on, on_line, judged_on, check_read, check}
@@ -60,10 +56,6 @@ module _ (x : Sheet) where
   on-its-line (of_last {k}) = rw (byte-1 (length x.rows + x.ring.nodes + 3) (omega arith)) refl
   on-its-line of_peak = refl
   on-its-line of_bound = refl
-
-no-room : (t : List ℕ) (line : ℕ) → reading.Says desk t NoRoom line → ⊥
-unfolding Says
-no-room t line h = h
 
 figures-not-15 : {r : Reason} → OfFigures r → number_of r ≡ number_of NoRoom → ⊥
 figures-not-15 a_sum e = omega arith
@@ -161,21 +153,8 @@ module _ (t : List ℕ) where
   pub check-text : (x : Sheet) → (check desk t ≡ accepted x) ↔ ((t ≡ write_sheet x) × (InRange desk x × TrueSheet x))
   check-text x = (
     λ e. let a = (accepted-as x).0 e in (a.0.text, (a.0.range, (fine-accepted x a.1).1)),
-    λ h. (accepted-as x).1 (record { text = h.0; range = h.1.0 }, true-fine x (fits h.1.0) h.1.1),
+    λ h. (accepted-as x).1 (record { text = h.0; range = h.1.0 }, true-fine x h.1.0.within h.1.1),
   )
-    where
-      fits : InRange desk x → Fits desk x
-      fits r =
-          let count : length (demands (sents x.rows)) ≤ desk.rows = omega (arith, r.count, demands-length x.rows) in
-          record {
-            few = r.few;
-            many = r.many;
-            fibres = r.fibres;
-            rows = r.rows;
-            count = count;
-            amounts = r.amounts;
-            short = omega (arith, table-short desk desk-narrow x.ring (demands (sents x.rows)) r.many r.fibres r.rows.nodes count r.amounts);
-          }
 
   -- a text that is read to this sheet is accepted exactly when that is true
   pub accepted-if-true : (x : Sheet) → ReadTo desk t x → (check desk t ≡ accepted x) ↔ TrueSheet x
@@ -199,5 +178,5 @@ module _ (t : List ℕ) where
 
   -- 15 is given by the calls, and not here
   pub not-15 : (r : Reason) {line byte : ℕ} → Given desk t r line byte → number_of r ≡ number_of NoRoom → ⊥
-  not-15 r {line} (of_form g) e = no-room t line (subst (λ s. reading.Says desk t s line) (same-reason r NoRoom e) g.holds)
+  not-15 r {line} (of_form g) e = reading-not-15 r g.holds e
   not-15 r (of_figures x place is first stands) e = figures-not-15 (first-is _ (findings desk x) (found r place) (all-figures desk x is.range) first) e

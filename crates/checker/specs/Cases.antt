@@ -46,90 +46,90 @@ Text = List String
 
 pub data Case : Type 0 where
   -- a table; the sheet that is routed for it, which the checker accepts; and what is stated of that sheet
-  plan_of : Text → Text → List Claim → Case
+  plan_case : Text → Text → List Claim → Case
   -- a sheet; the reason, the line and the byte that the checker refuses it with; and what is stated of it
-  refusal_of : Text → ℕ → ℕ → ℕ → List Claim → Case
+  refusal_case : Text → ℕ → ℕ → ℕ → List Claim → Case
 
 -- the list
 unfoldable pub cases : List Case
 cases =
     -- the square
-    plan_of ("R|4|4" ∷ "D|1|3|1" ∷ "D|2|4|1" ∷ [])
+    plan_case ("R|4|4" ∷ "D|1|3|1" ∷ "D|2|4|1" ∷ [])
     ("R|4|4" ∷ "D|1|3|1|1|1|F" ∷ "D|2|4|1|1|1|B" ∷ "C|1|3|2" ∷ "L|1|2|2" ∷ "L|2|2|1" ∷ "L|3|2|0" ∷ "L|4|2|1" ∷ "Z|2|3" ∷ [])
     (M_is 2 ∷ 4 at-most 2 plus 3 ∷ []) ∷
     -- n = 2, no rows
-    plan_of ("R|2|4" ∷ [])
+    plan_case ("R|2|4" ∷ [])
     ("R|2|4" ∷ "C|1|2|0" ∷ "L|1|0|0" ∷ "L|2|0|0" ∷ "Z|0|3" ∷ [])
     [] ∷
     -- n = 2, 1-2 of 5
-    plan_of ("R|2|4" ∷ "D|1|2|5" ∷ [])
+    plan_case ("R|2|4" ∷ "D|1|2|5" ∷ [])
     ("R|2|4" ∷ "D|1|2|5|5|5|F" ∷ "C|1|2|5" ∷ "L|1|5|5" ∷ "L|2|5|0" ∷ "Z|5|12" ∷ [])
     [] ∷
     -- n = 4, 1-2 of 1
-    plan_of ("R|4|4" ∷ "D|1|2|1" ∷ [])
+    plan_case ("R|4|4" ∷ "D|1|2|1" ∷ [])
     ("R|4|4" ∷ "D|1|2|1|1|1|F" ∷ "C|1|2|1" ∷ "L|1|1|1" ∷ "L|2|1|0" ∷ "L|3|1|0" ∷ "L|4|1|0" ∷ "Z|1|3" ∷ [])
     [] ∷
     -- six demands between five offices: rule B splits 1-4 as 6/4 and 2-4 as 4/18
-    plan_of ("R|5|4" ∷ "D|1|2|2" ∷ "D|1|4|5" ∷ "D|2|3|9" ∷ "D|2|4|11" ∷ "D|3|4|4" ∷ "D|3|5|3" ∷ [])
+    plan_case ("R|5|4" ∷ "D|1|2|2" ∷ "D|1|4|5" ∷ "D|2|3|9" ∷ "D|2|4|11" ∷ "D|3|4|4" ∷ "D|3|5|3" ∷ [])
     ("R|5|4" ∷ "D|1|2|2|4|0|F" ∷ "D|1|4|5|0|10|B" ∷ "D|2|3|9|18|0|F" ∷ "D|2|4|11|10|12|B" ∷ "D|3|4|4|8|0|F" ∷ "D|3|5|3|6|0|F" ∷
     "C|2|4|28" ∷ "L|1|16|13" ∷ "L|2|28|9" ∷ "L|3|24|7" ∷ "L|4|28|19" ∷ "L|5|22|16" ∷ "Z|19|48" ∷ [])
     (sent_by_B (4 & 0 ∷ 6 & 4 ∷ 18 & 0 ∷ 4 & 18 ∷ 8 & 0 ∷ 6 & 0 ∷ []) ∷ []) ∷
     -- two short rows inside two longer ones: the best possible peak is 3, ours is 4 and within the bound
-    plan_of ("R|8|4" ∷ "D|1|4|1" ∷ "D|2|3|1" ∷ "D|5|8|2" ∷ "D|6|7|2" ∷ [])
+    plan_case ("R|8|4" ∷ "D|1|4|1" ∷ "D|2|3|1" ∷ "D|5|8|2" ∷ "D|6|7|2" ∷ [])
     ("R|8|4" ∷ "D|1|4|1|2|0|F" ∷ "D|2|3|1|2|0|F" ∷ "D|5|8|2|4|0|F" ∷ "D|6|7|2|2|2|F" ∷ "C|2|6|6" ∷
     "L|1|4|1" ∷ "L|2|6|2" ∷ "L|3|4|1" ∷ "L|4|2|0" ∷ "L|5|6|2" ∷ "L|6|6|4" ∷ "L|7|6|2" ∷ "L|8|2|0" ∷ "Z|4|12" ∷ [])
     (best_peak_is 3 ∷ 8 at-most 6 plus 6 ∷ []) ∷
     -- n = 2, 1-2 of 768
-    plan_of ("R|2|4" ∷ "D|1|2|768" ∷ [])
+    plan_case ("R|2|4" ∷ "D|1|2|768" ∷ [])
     ("R|2|4" ∷ "D|1|2|768|768|768|F" ∷ "C|1|2|768" ∷ "L|1|768|768" ∷ "L|2|768|0" ∷ "Z|768|768" ∷ [])
     [] ∷
     -- of 769
-    plan_of ("R|2|4" ∷ "D|1|2|769" ∷ [])
+    plan_case ("R|2|4" ∷ "D|1|2|769" ∷ [])
     ("R|2|4" ∷ "D|1|2|769|769|769|F" ∷ "C|1|2|769" ∷ "L|1|769|769" ∷ "L|2|769|0" ∷ "Z|769|0" ∷ [])
     [] ∷
     -- n = 4, 1-2 of 1 sent 0/2, B, with cut 1, 2 across 1 and true figures: 13
-    refusal_of ("R|4|4" ∷ "D|1|2|1|0|2|B" ∷ "C|1|2|1" ∷ "L|1|0|0" ∷ "L|2|2|1" ∷ "L|3|2|1" ∷ "L|4|2|1" ∷ "Z|1|3" ∷ [])
+    refusal_case ("R|4|4" ∷ "D|1|2|1|0|2|B" ∷ "C|1|2|1" ∷ "L|1|0|0" ∷ "L|2|2|1" ∷ "L|3|2|1" ∷ "L|4|2|1" ∷ "Z|1|3" ∷ [])
     13 0 0
     (not_tight 2 1 ∷ 2 at-most 2 plus 0 ∷ []) ∷
     -- n = 8, rows k to k+4 for k = 1..4 of 1, each 1/1, all F, cut 4, 8 across 4, true figures: unsplit peak 4, 8 > 4 + 3, so 14
-    refusal_of
+    refusal_case
     ("R|8|4" ∷ "D|1|5|1|1|1|F" ∷ "D|2|6|1|1|1|F" ∷ "D|3|7|1|1|1|F" ∷ "D|4|8|1|1|1|F" ∷ "C|4|8|4" ∷
     "L|1|4|1" ∷ "L|2|4|2" ∷ "L|3|4|3" ∷ "L|4|4|4" ∷ "L|5|4|3" ∷ "L|6|4|2" ∷ "L|7|4|1" ∷ "L|8|4|0" ∷ "Z|4|12" ∷ [])
     14 0 0
     (tight 4 4 ∷ 8 above 4 plus 3 ∷ []) ∷
     -- three circuits between offices 1 and 3 of the square, of which rule B splits the second
-    plan_of ("R|4|4" ∷ "D|1|3|1" ∷ "D|1|3|1" ∷ "D|1|3|1" ∷ "D|2|4|1" ∷ [])
+    plan_case ("R|4|4" ∷ "D|1|3|1" ∷ "D|1|3|1" ∷ "D|1|3|1" ∷ "D|2|4|1" ∷ [])
     ("R|4|4" ∷ "D|1|3|1|2|0|F" ∷ "D|1|3|1|1|1|F" ∷ "D|1|3|1|0|2|B" ∷ "D|2|4|1|1|1|B" ∷ "C|1|3|4" ∷
     "L|1|4|3" ∷ "L|2|4|2" ∷ "L|3|4|1" ∷ "L|4|4|2" ∷ "Z|3|3" ∷ [])
     (M_is 4 ∷ 6 at-most 4 plus 3 ∷ []) ∷
     -- a row below the row before, behind one of the same nodes: 6
-    refusal_of ("R|4|4" ∷ "D|1|3|1|1|1|F" ∷ "D|1|3|1|1|1|B" ∷ "D|1|2|1|2|0|F" ∷ [])
+    refusal_case ("R|4|4" ∷ "D|1|3|1|1|1|F" ∷ "D|1|3|1|1|1|B" ∷ "D|1|2|1|2|0|F" ∷ [])
     6 4 1
     [] ∷
     -- n = 2, 1-2 of 384 on two fibres: twice 384 is 768
-    plan_of ("R|2|2" ∷ "D|1|2|384" ∷ [])
+    plan_case ("R|2|2" ∷ "D|1|2|384" ∷ [])
     ("R|2|2" ∷ "D|1|2|384|384|384|F" ∷ "C|1|2|384" ∷ "L|1|384|384" ∷ "L|2|384|0" ∷ "Z|384|768" ∷ [])
     [] ∷
     -- of 385: no size is at least 770
-    plan_of ("R|2|2" ∷ "D|1|2|385" ∷ [])
+    plan_case ("R|2|2" ∷ "D|1|2|385" ∷ [])
     ("R|2|2" ∷ "D|1|2|385|385|385|F" ∷ "C|1|2|385" ∷ "L|1|385|385" ∷ "L|2|385|0" ∷ "Z|385|0" ∷ [])
     [] ∷
     -- the square on two fibres: only its R line and its Z line differ
-    plan_of ("R|4|2" ∷ "D|1|3|1" ∷ "D|2|4|1" ∷ [])
+    plan_case ("R|4|2" ∷ "D|1|3|1" ∷ "D|2|4|1" ∷ [])
     ("R|4|2" ∷ "D|1|3|1|1|1|F" ∷ "D|2|4|1|1|1|B" ∷ "C|1|3|2" ∷ "L|1|2|2" ∷ "L|2|2|1" ∷ "L|3|2|0" ∷ "L|4|2|1" ∷ "Z|2|12" ∷ [])
     [] ∷
     -- the square on two fibres with the size for four: 12
-    refusal_of ("R|4|2" ∷ "D|1|3|1|1|1|F" ∷ "D|2|4|1|1|1|B" ∷ "C|1|3|2" ∷ "L|1|2|2" ∷ "L|2|2|1" ∷ "L|3|2|0" ∷ "L|4|2|1" ∷ "Z|2|3" ∷ [])
+    refusal_case ("R|4|2" ∷ "D|1|3|1|1|1|F" ∷ "D|2|4|1|1|1|B" ∷ "C|1|3|2" ∷ "L|1|2|2" ∷ "L|2|2|1" ∷ "L|3|2|0" ∷ "L|4|2|1" ∷ "Z|2|3" ∷ [])
     12 9 1
     [] ∷
     -- three fibres: 20, but 3 where n is wrong too; without the number the line has the wrong shape: 2
-    refusal_of ("R|4|3" ∷ [])
+    refusal_case ("R|4|3" ∷ [])
     20 1 5
     [] ∷
-    refusal_of ("R|65|3" ∷ [])
+    refusal_case ("R|65|3" ∷ [])
     3 1 3
     [] ∷
-    refusal_of ("R|4" ∷ "C|1|2|0" ∷ [])
+    refusal_case ("R|4" ∷ "C|1|2|0" ∷ [])
     2 1 4
     [] ∷
     []
@@ -174,44 +174,44 @@ truth x (best_peak_is p) = best_peak_is (best_peak x.ring.nodes [] (sents x.rows
 -- ---- the answers
 
 -- the text of a sheet; Y; E, a reason, a line and a byte; or a claim
-pub data Answer : Type 0 where
-  text : List ℕ → Answer
-  Y : Answer
-  E : ℕ → ℕ → ℕ → Answer
-  claim : Claim → Answer
+pub data CaseAnswer : Type 0 where
+  text : List ℕ → CaseAnswer
+  Y : CaseAnswer
+  E : ℕ → ℕ → ℕ → CaseAnswer
+  claim : Claim → CaseAnswer
 
 -- the router's
-unfoldable pub routing : TableResult → Answer
+unfoldable pub routing : TableResult → CaseAnswer
 unfolding plan write_sheet
 routing (a-table ring rs) = text (write_sheet (plan ring rs))
 routing (no_table reason line byte) = E (number_of reason) line byte
 
 -- the checker's
-unfoldable pub checking : SheetResult → Answer
+unfoldable pub checking : SheetResult → CaseAnswer
 checking (accepted x) = Y
 checking (refused reason line byte) = E (number_of reason) line byte
 
 -- to a claim: any well-formed sheet can be asked, true or not
-unfoldable pub claiming : SheetResult → Claim → Answer
+unfoldable pub claiming : SheetResult → Claim → CaseAnswer
 unfolding truth
 claiming (accepted x) c = claim (truth x c)
 claiming (refused reason line byte) c = E (number_of reason) line byte
 
 -- all answers as they are stated
-unfoldable pub stated : List Case → List Answer
+unfoldable pub stated : List Case → List CaseAnswer
 unfolding printed
 stated [] = []
-stated (plan_of table sheet claims ∷ cs) = text (printed sheet) ∷ Y ∷ map claim claims ++ stated cs
-stated (refusal_of sheet reason line byte claims ∷ cs) = E reason line byte ∷ map claim claims ++ stated cs
+stated (plan_case table sheet claims ∷ cs) = text (printed sheet) ∷ Y ∷ map claim claims ++ stated cs
+stated (refusal_case sheet reason line byte claims ∷ cs) = E reason line byte ∷ map claim claims ++ stated cs
 
 -- and as the definitions have them
-unfoldable pub computed : List Case → List Answer
+unfoldable pub computed : List Case → List CaseAnswer
 unfolding printed table_of routing check checking read_sheet claiming
 computed [] = []
-computed (plan_of table sheet claims ∷ cs) =
+computed (plan_case table sheet claims ∷ cs) =
     routing (table_of desk (printed table)) ∷ checking (check desk (printed sheet)) ∷
     map (claiming (read_sheet desk (printed sheet))) claims ++ computed cs
-computed (refusal_of sheet reason line byte claims ∷ cs) =
+computed (refusal_case sheet reason line byte claims ∷ cs) =
     checking (check desk (printed sheet)) ∷ map (claiming (read_sheet desk (printed sheet))) claims ++ computed cs
 
 -- they are the same

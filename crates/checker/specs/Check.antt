@@ -8,8 +8,8 @@ use Rattle.table.specs.declared.reason.Reason.TheVariants.{WrongSum, WrongWay, W
 use Rattle.judge.specs.Tests.{sheet_judged}
 use Rattle.sheet.specs.Read.{SheetResult, accepted, refused, read_sheet}
 
--- the line of a finding in a sheet of so many rows and nodes, by its reason and its place; 0 where it is against the sheet as a whole, and no other reason is found against
--- values that were read
+-- the line of a finding in a sheet of so many rows and nodes, by its reason and its place; 0 where it is against the sheet as a whole, and no other reason is
+-- found against values that were read
 unfoldable pub line_of : ℕ → ℕ → Reason → ℕ → ℕ
 line_of rows nodes WrongSum k = k + 1
 line_of rows nodes WrongWay k = k + 1

@@ -38,5 +38,6 @@ NoneFrom k ss = (p q : ℕ) → PairAt k ss p q → ⊥
 abbrev pub FirstPair : List Sent → ℕ → ℕ → Type 0
 FirstPair ss p q = FirstFrom 1 ss p q
 
+-- no two rows, counted from 1, are such
 abbrev pub NoPair : List Sent → Type 0
 NoPair ss = NoneFrom 1 ss

@@ -1,4 +1,5 @@
--- To believe: what checking a sheet's text gives (Rules, reasons): the refusal that reading it gives; or else the first finding against the values that it is read to, on the line where that stands; and what an accepted sheet is.
+-- To believe: what checking a sheet's text gives (Rules, reasons): the refusal that reading it gives; or else the first finding against the values that it is
+-- read to, on the line where that stands; and what an accepted sheet is.
 use Rattle.std.specs.Prelude.{ℕ, ◌+◌, List, ◌≡◌, length}
 use Rattle.ring.specs.Limits.{Limits}
 use Rattle.ring.specs.Sheet.{Sheet}
@@ -15,8 +16,8 @@ pub record ReadTo (limits : Limits) (t : List ℕ) (x : Sheet) : Type 0 where
   pub text : t ≡ write_sheet x
   pub range : InRange limits x
 
--- where a finding against a sheet stands in its text, by reason and place: the line, and the byte of it. Behind the R line stand the rows, the cut, a line for each link, and the last line; what is
--- found against the sheet as a whole has line 0 and byte 0
+-- where a finding against a sheet stands in its text, by reason and place: the line, and the byte of it. Behind the R line stand the rows, the cut, a line for
+-- each link, and the last line; what is found against the sheet as a whole has line 0 and byte 0
 pub data Stands (x : Sheet) : Reason → ℕ → ℕ → ℕ → Type 0 where
   of_sum : {k : ℕ} → Stands x WrongSum k (k + 1) 1
   of_way : {k : ℕ} → Stands x WrongWay k (k + 1) 1

@@ -1,7 +1,7 @@
 //! A sheet's text, checked: it is read, and then what was read is judged.
 ghost use Rattle.std.specs.Prelude.{◌≡◌, [], ◌≤◌, ◌+◌, IfErr};
 ghost use Rattle.ring.specs.Limits.{desk};
-ghost use Rattle.sheet.specs.Answer.{with_values};
+ghost use Rattle.sheet.specs.ReadInto.{with_values};
 ghost use Rattle.checker.specs.Check.{line_of, check};
 
 use arrayvec::ArrayVec;
@@ -32,8 +32,8 @@ fn line_of(count: usize, nodes: u32, found: Finding) -> u32
 }
 
 /// Checks a sheet's text, whatever tool it comes from: its figures are answered, and its rows and its links, link k the k-th, are put into what is lent.
-/// A refusal names the first reason that holds, with its line and its byte: those for which no sheet is read, and then 8 to 14, with byte 1 of their line, or, against the
-/// sheet as a whole, with line 0 and byte 0. After it no row is left, and no link.
+/// A refusal names the first reason that holds, with its line and its byte: those for which no sheet is read, and then 8 to 14, with byte 1 of their line, or,
+/// against the sheet as a whole, with line 0 and byte 0. After it no row is left, and no link.
 pub fn check_sheet(
     text: &[u8],
     rows: &mut Columns,

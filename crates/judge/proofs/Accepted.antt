@@ -1,5 +1,5 @@
 -- Nothing is found exactly where a sheet keeps to the limits and is true.
-use Rattle.std.proofs.Common.{ℕ, ◌+◌, ◌*◌, ◌<◌, ◌≤◌, List, [], ◌∷◌, map, None, Result, Ok, Err, IsOk, ◌↔◌, inl, inr, ◌≡◌, refl, ap, sym, ◌∙◌, length, arith}
+use Rattle.std.proofs.Common.{ℕ, ◌+◌, ◌*◌, ◌<◌, ◌≤◌, List, [], ◌∷◌, None, Result, Ok, Err, IsOk, ◌↔◌, inl, inr, ◌≡◌, refl, ap, sym, ◌∙◌, length, arith}
 use Rattle.std.proofs.lemmas.List.{length-map}
 use mathlib.Core.Logic.{⊎_elim}
 use native.Mathlib.Decide.{dec_lt, dec_le}
@@ -14,20 +14,15 @@ use Rattle.ring.specs.Demand.{OnRing}
 use Rattle.ring.specs.Cut.{IsCut}
 use Rattle.ring.specs.Sheet.{Sheet, figures_of, numbers_from, sents, demands, true_link, split_peak, unsplit_peak, largest_split_of}
 use Rattle.ring.specs.True.{SumsTo2d, GoesByRuleD, TrueSheet}
-use Rattle.ring.proofs.Lists.{each, each-of-map}
+use Rattle.ring.proofs.Lists.{each, each-map, each-of-map}
 use Rattle.ring.proofs.Small.{demands-length}
 use Rattle.table.specs.Findings.{Findings, then, First, ring_findings}
 use Rattle.table.specs.declared.finding.Finding.{Finding}
 use Rattle.table.proofs.Findings.{fine, then-on, none-of, both-of, one-answer}
-use Rattle.table.proofs.Short.{desk-narrow, table-short}
 use Rattle.judge.specs.Findings.{rows_findings, cut_findings, loads_findings, last_findings, findings, Fits}
 use Rattle.judge.proofs.Rows.{same-number, Fine, rows-fine, fine-rows}
 use Rattle.judge.proofs.Links.{links-true, true-links, length-numbers}
 use Rattle.judge.proofs.Judging.{ring-fine}
-
-each-map : {A B : Type 0} (g : A → B) {P : B → Type 0} (l : List A) → Each (λ a. P (g a)) l → Each P (map g l)
-each-map g [] none = none
-each-map g (a ∷ l) (more p e) = more p (each-map g l e)
 
 is-cut : (n : ℕ) (c : Cut) → ((IsCut n c → ⊥) → ⊥) → IsCut n c
 is-cut n c is = record {
@@ -64,7 +59,6 @@ module _ (x : Sheet) where
         rows = record { nodes = nodes; order = rows.order };
         count = count;
         amounts = amounts;
-        short = omega (arith, table-short desk desk-narrow x.ring rs ring.many ring.fibres nodes count amounts);
       }
 
   pub fine-true : First (findings desk x) fine → TrueSheet x

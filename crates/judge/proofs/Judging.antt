@@ -1,12 +1,10 @@
 -- All findings, part by part: what is given of a part is given of all, where nothing is found before it.
 use Rattle.std.proofs.Common.{ℕ, ◌*◌, ◌^◌, ◌<◌, ◌≤◌, List, None, Result, Ok, Err, MatchResult, IsErrAnd, inl, inr, ◌≡◌, ap, ◌∙◌, arith}
 use Rattle.std.proofs.lemmas.Result.{err_from_is_err_and}
-use mathlib.Core.Logic.{⊎_elim}
-use native.Mathlib.Decide.{ℕ_discrete}
 use Rattle.ring.specs.declared.types.Ring.{Ring}
 use Rattle.ring.specs.declared.types.Routed.{Routed}
 use Rattle.ring.specs.Limits.{Limits, desk}
-use Rattle.ring.specs.LineSize.{IsFibres, two_fibres, four_fibres}
+use Rattle.ring.specs.LineSize.{IsFibres}
 use Rattle.ring.specs.Sheet.{Sheet, figures_of, true_link, largest_split_of}
 use Rattle.ring.proofs.Lists.{each}
 use Rattle.table.specs.Faults.{ring_found}
@@ -14,7 +12,7 @@ use Rattle.table.specs.Findings.{First, found, found_at, ring_findings}
 use Rattle.table.specs.declared.fault.Fault.{Fault}
 use Rattle.table.proofs.Faults.{ring_given}
 use Rattle.table.specs.declared.finding.Finding.{Finding}
-use Rattle.table.proofs.Findings.{fine, then-on, then-stop, none-of}
+use Rattle.table.proofs.Findings.{fine, then-on, then-stop, none-of, fibres-of}
 use Rattle.weight.specs.Rows.{Fit}
 use Rattle.weight.specs.Weighed.{weight_in}
 use Rattle.weight.specs.declared.Weight.{Weight}
@@ -30,10 +28,6 @@ pub record FineRing (limits : Limits) (ring : Ring) : Type 0 where
   pub few : limits.fewest ≤ ring.nodes
   pub many : ring.nodes ≤ limits.nodes
   pub fibres : IsFibres ring.fibres
-
-fibres-of : (fibres : ℕ) → ((IsFibres fibres → ⊥) → ⊥) → IsFibres fibres
-fibres-of fibres n =
-    elim (ℕ_discrete fibres two_fibres) [ yes e ↦ inl e | no a ↦ elim (ℕ_discrete fibres four_fibres) [ yes e ↦ inr e | no b ↦ absurd (n (⊎_elim a b)) ] ]
 
 pub ring-fine : (limits : Limits) (ring : Ring) → First (ring_findings limits ring) fine → FineRing limits ring
 ring-fine limits ring h =

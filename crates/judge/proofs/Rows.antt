@@ -13,7 +13,7 @@ use Rattle.ring.specs.Demand.{OnRing}
 use Rattle.ring.specs.TableRows.{PairBefore, InTableOrder}
 use Rattle.ring.specs.Sheet.{sents, demands}
 use Rattle.ring.specs.True.{SumsTo2d, GoesByRuleD}
-use Rattle.table.specs.Says.{NoNode}
+use Rattle.table.specs.RowReasons.{NoNode}
 use Rattle.table.specs.Findings.{then, First, Falls, found_at, demand_findings}
 use Rattle.table.specs.Faults.{row_found}
 use Rattle.table.specs.declared.fault.Fault.{Fault}

@@ -10,8 +10,8 @@ use Rattle.ring.specs.Limits.{Limits}
 use Rattle.ring.specs.LineSize.{line_size}
 use Rattle.ring.specs.Cut.{IsCut, across}
 use Rattle.ring.specs.Sheet.{Sheet, figures_of, sents, demands, true_link, split_peak, unsplit_peak, largest_split_of}
+use Rattle.ring.specs.WithinLimits.{WithinLimits}
 use Rattle.ring.specs.True.{SumsTo2d, GoesByRuleD}
-use Rattle.table.specs.Table.{InRange}
 use Rattle.table.specs.Findings.{Findings, nothing, finding, then, ring_findings, demand_findings}
 use Rattle.table.specs.declared.reason.Reason.TheVariants.{WrongSum, WrongWay, WrongCut, WrongLink, WrongLast, NotTight, OverBound}
 
@@ -59,6 +59,7 @@ last_findings x split unsplit largest =
 
 -- ---- all of them
 
+-- of the ring, of the rows, of the cut, of the links, and of the last line
 abbrev pub findings : Limits → Sheet → Findings
 findings limits x =
     then (ring_findings limits x.ring)
@@ -69,7 +70,6 @@ findings limits x =
 
 -- ---- what is accepted
 
--- a sheet keeps to the limits where its ring and its demands are what a table can hold (that such a table's text is short enough follows from the rest); what is
--- accepted is also true (`TrueSheet`)
+-- a sheet keeps to the limits where its ring and its demands do; what is accepted is also true (`TrueSheet`)
 abbrev pub Fits : Limits → Sheet → Type 0
-Fits limits x = InRange limits x.ring (demands (sents x.rows))
+Fits limits x = WithinLimits limits x.ring (demands (sents x.rows))

@@ -3,19 +3,18 @@ ghost use Rattle.std.specs.Prelude.{◌*◌, ◌^◌, ◌<◌};
 ghost use Rattle.table.specs.Findings.{First};
 ghost use Rattle.judge.specs.Findings.{last_findings};
 
-use ring::{Figures, must_carry, wide};
-use sonet::Sonet;
+use ring::{Figures, wide};
 use table::{Finding, Reason};
 use weight::Weight;
 
-/// 12: unsplit peak or size false; 13: the split peak, in halves, is not the across number; 14: twice the unsplit peak is above the split peak and 3D, where D is `largest`, in units.
-#[tactic(auto, unfolding(ring::specs::LineSize::line_size))]
+/// 12: unsplit peak or size false; 13: the split peak, in halves, is not the across number; 14: twice the unsplit peak is above the split peak plus 3D, where D
+/// is `largest`, in units.
 pub(crate) fn judge_last(figures: Figures, weight: &Weight, largest: u32) -> Result<(), Finding>
     requires { 2 * weight.now.unsplit_peak < 2 ^ 32 }
     ensures { First (last_findings figures weight.now.split_peak weight.now.unsplit_peak largest)
         result }
 {
-    let size = Sonet::size(must_carry(figures.ring.fibres, weight.unsplit_peak));
+    let size = figures.ring.line_size(weight.unsplit_peak);
     if figures.peak != weight.unsplit_peak || figures.size != size {
         return Err(Finding::at(Reason::WrongLast, 0));
     }

@@ -28,7 +28,8 @@ fn judge_ring(ring: Ring) -> Result<(), Finding>
     check_ring(ring).map_err(|fault| Finding::at(fault.reason, 0))
 }
 
-// Part by part, as far as the first that is at fault. Apart from `judge` for its proof alone: five ways out with one clause each, and all other clauses follow from that one.
+// Part by part, as far as the first that is at fault. Apart from `judge` for its proof alone: five ways out with one clause each, and all other clauses follow
+// from that one.
 fn judge_parts<R: Rows>(figures: Figures, rows: &R, links: &[Link]) -> Result<(), Finding>
     ensures { let x = sheet_in figures (R.rows rows.now) links.now in
         First (findings desk x) result }
@@ -44,7 +45,8 @@ fn judge_parts<R: Rows>(figures: Figures, rows: &R, links: &[Link]) -> Result<()
 
 /// Judges a sheet by its values, however its rows are held: accepted, or the first reason that holds, with its place, counted from 1: that of the row for 4 to 9 and
 /// 16, and that of the link for 11; 0 for all else, and for 11 where there are not as many links as the ring has. Amounts, the cut's `across`, a link's
-/// `unsplit` and the figure `peak` are in units; a row's `front` and `back` and a link's `split` are in halves. Each may be any number, and there may be any number of rows and links.
+/// `unsplit` and the figure `peak` are in units; a row's `front` and `back` and a link's `split` are in halves. Each may be any number, and there may be any
+/// number of rows and links.
 pub fn judge<R: Rows>(figures: Figures, rows: &R, links: &[Link]) -> Result<(), Finding>
     // The first of the findings that holds, with its place.
     ensures first { let x = sheet_in figures (R.rows rows.now) links.now in

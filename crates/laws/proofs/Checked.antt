@@ -18,8 +18,8 @@ use Rattle.checker.specs.Says as sheet
 use Rattle.checker.proofs.Promised.{plan-accepted}
 use Rattle.sheet.proofs.SheetLines.{way_back}
 use Rattle.sheet.proofs.Short.{plan-in-range}
-use Rattle.ringkit.specs.Texts.{TableDue, SomeDue, sheet_due}
-use Rattle.ringkit.proofs.TableCalls.{due-accepted, due-short}
+use Rattle.ringkit.specs.Texts.{TableDue, sheet_due}
+use Rattle.ringkit.proofs.TableCalls.{due-accepted, due-short, SomeDue}
 use Rattle.laws.specs.Calls.{RoutedChecked, RoutedJudged}
 
 due-checked : (t text : List ℕ) → TableDue sheet_due t text → sheet.Accepted desk text
@@ -39,7 +39,7 @@ unfolding plan
 plan-ring ring rs = refl
 
 plan-fits : (ring : Ring) (rs : List Demand) → table.InRange desk ring rs → Fits desk (plan ring rs)
-plan-fits ring rs h = rw (plan-ring ring rs, plan-demands ring rs h.few h.rows) h
+plan-fits ring rs h = rw (plan-ring ring rs, plan-demands ring rs h.within.few h.within.rows) h.within
 
 -- rows as C holds them
 as_held : List Routed → List SheetRow
@@ -72,5 +72,5 @@ routed-judged t old new r p a room =
       rows = as_held x.rows;
       same = λ i. record { ring = x.ring; rows = held-same x.rows i; cut = x.cut; links = x.links; peak = x.peak; size = x.size };
       success = rw d.is at ((p.succeeds s.text).1 (s.is, omega arith));
-      judged = λ q j. j.accepts.1 (plan-fits d.ring d.rs range, plan-true d.ring d.rs range.few range.rows);
+      judged = λ q j. j.accepts.1 (plan-fits d.ring d.rs range, plan-true d.ring d.rs range.within.few range.within.rows);
     }

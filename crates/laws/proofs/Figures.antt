@@ -1,7 +1,6 @@
 -- The figures of a sheet whose values judging accepts: none is large (`figures-small`), so each has few digits (`number-wide`).
 use Prim.Native.Nat.{ℕ, suc, ◌^◌, ◌≤◌, ◌<◌}
 use native.Mathlib.Omega.{arith}
-use lib.ListN.{length}
 use mathlib.Core.Logic.{inl, inr}
 use Rattle.ring.specs.Limits.{desk}
 use Rattle.ring.specs.Lists.{Each}
@@ -11,7 +10,7 @@ use Rattle.ring.specs.declared.types.Sent.{Sent}
 use Rattle.ring.specs.Sheet.{Sheet, sents}
 use Rattle.ring.specs.True.{TrueSheet}
 use Rattle.ring.proofs.Lists.{each, each-of-map}
-use Rattle.ring.proofs.Small.{SmallFigures, figures-small, demands-length}
+use Rattle.ring.proofs.Small.{SmallFigures, figures-small}
 use Rattle.text.specs.Number.{base}
 use Rattle.text.specs.Field.{spell}
 use Rattle.text.proofs.Widths.{number-wide}
@@ -19,21 +18,18 @@ use Rattle.judge.specs.Findings.{Fits}
 use Rattle.sheet.specs.Range.{Spelled}
 use Rattle.sheet.proofs.Short.{desk-fits, numbers, true-short, true-spelled}
 use Rattle.checker.proofs.Promised.{judged-in-range, true-accepted}
-use Rattle.laws.specs.Figures.{Digits, ShortNodes, ShortAmounts, ShortHalves, ShortLoads, FitsText, WrittenAccepted}
+use Rattle.laws.specs.Digits.{Digits, ShortNodes, ShortAmounts, ShortHalves, ShortLoads, FitsText, WrittenAccepted}
 
 few-digits : (k v : ℕ) → k ≤ 9 → v < base ^ suc k → Digits (suc k) v
 unfolding spell
 few-digits k v l h = number-wide k v l h
 
 module _ (x : Sheet) (f : Fits desk x) (t : TrueSheet x) where
-  count : length x.rows ≤ desk.rows
-  count = omega (arith, f.count, demands-length x.rows)
-
   small : SmallFigures desk.amount x
   small = figures-small desk.amount x t f.amounts
 
   spelled : Spelled desk x
-  spelled = true-spelled desk desk-fits x t f.many f.fibres f.rows count f.amounts
+  spelled = true-spelled desk desk-fits x t f
 
   on-ring : Each (λ (r : Routed). OnRing x.ring.nodes r.sent.demand) x.rows
   on-ring = each-of-map (λ (r : Routed). r.sent) {P = λ s. OnRing x.ring.nodes s.demand} x.rows (each-of-map (λ (s : Sent). s.demand) {P = OnRing x.ring.nodes} (sents x.rows) f.rows.nodes)
@@ -46,7 +42,7 @@ module _ (x : Sheet) (f : Fits desk x) (t : TrueSheet x) where
         first = each (λ r on. few-digits 1 r.sent.demand.first (omega arith) (omega (arith, on.order, on.high, f.many))) on-ring;
         second = each (λ r on. few-digits 1 r.sent.demand.second (omega arith) (omega (arith, on.high, f.many))) on-ring;
         cut = (few-digits 1 x.cut.g (omega arith) (omega (arith, t.cut.order, t.cut.high, f.many)), few-digits 1 x.cut.h (omega arith) (omega (arith, t.cut.high, f.many)));
-        links = each (λ l h. few-digits 1 l.link (omega arith) h) (numbers desk desk-fits x t f.many f.fibres f.rows count f.amounts);
+        links = each (λ l h. few-digits 1 l.link (omega arith) h) (numbers desk desk-fits x t f);
       }
 
   pub short-amounts : ShortAmounts x
@@ -66,7 +62,7 @@ module _ (x : Sheet) (f : Fits desk x) (t : TrueSheet x) where
       }
 
   pub fits-text : FitsText x
-  fits-text = record { sheet = true-short desk desk-fits x t f.many f.fibres f.rows count f.amounts; text = omega arith }
+  fits-text = record { sheet = true-short desk desk-fits x t f; text = omega arith }
 
   -- values that judging accepts are in range, and true (`judged-in-range`, `true-accepted`)
   pub written-accepted : WrittenAccepted x

@@ -7,10 +7,10 @@ use Rattle.ring.specs.declared.types.Sent.{Sent}
 use Rattle.ring.proofs.LargestCut.{rule-A, one-best}
 use Rattle.ring.proofs.Move.{moved}
 use Rattle.ring.proofs.OurPlan.{rule-B, rule-B-peak, untangled, final-divides, rule-C-peak, split-rows-rise, directed, rule-D-peak, table-order, one-circuit-split}
-use Rattle.ring.proofs.Parallel.{disjoint-is, holds-is, parallel-is, parallel-either}
+use Rattle.ring.proofs.Parallel.{disjoint-is, encloses-is, parallel-is, parallel-either}
 use Rattle.ring.proofs.SameNodes.{first-is-outer}
 use Rattle.ring.proofs.Splits.{split, whole, splitting, is-split}
-use Rattle.laws.specs.Rules.{DisjointIs, HoldsIs, ParallelIs, ParallelEither, SplitIs, CutIsBest, CutIsOne}
+use Rattle.laws.specs.Rules.{DisjointIs, EnclosesIs, ParallelIs, ParallelEither, SplitIs, CutIsBest, CutIsOne}
 use Rattle.laws.specs.Rules.{RowsAreSent, SendingIsOne, SentPeakIsM, OneIsSplit}
 use Rattle.laws.specs.Rules.{MoveIs, EarlierIsOuter, RowsAreUntangled, UntangledDivides, UntangledPeakIsM}
 use Rattle.laws.specs.Rules.{SplitRowsRise, RowsAreDirected, DirectionsAreOne, DirectedPeak}
@@ -21,8 +21,8 @@ use Rattle.laws.proofs.OneResult.{one-sending, one-run}
 pub disjoint-rows : DisjointIs
 disjoint-rows n a b oa ob = disjoint-is a b oa.order ob.order
 
-pub holding-rows : HoldsIs
-holding-rows n a b oa ob = holds-is a b oa.order ob.order
+pub enclosing-rows : EnclosesIs
+enclosing-rows n a b oa ob = encloses-is a b oa.order ob.order
 
 pub parallel-rows : ParallelIs
 parallel-rows n a b oa ob = parallel-is a b oa.order ob.order

@@ -4,11 +4,11 @@ use mathlib.Core.List.{List}
 use mathlib.Core.Path.{◌≡◌, refl, ◌∙◌, sym}
 use Rattle.ring.specs.Limits.{Limits, old, desk}
 use Rattle.ring.specs.Sheet.{Sheet, plan}
-use Rattle.table.specs.Table.{LimitsSpelled}
 use Rattle.table.specs.declared.reason.Reason.TheVariants.{RingSize, TooMany}
 use Rattle.table.proofs.LowerLimits.{old-lower, low-spelled, old-table-accepted}
 use Rattle.table.proofs.ReasonsGiven.{accepted-is}
 use Rattle.table.proofs.TableText.{desk-spelled, table-text}
+use Rattle.table.proofs.Spelled.{LimitsSpelled}
 use Rattle.sheet.specs.Read.{accepted}
 use Rattle.sheet.specs.WriteSheet.{write_sheet}
 use Rattle.sheet.proofs.LowerSheets.{same-bytes}

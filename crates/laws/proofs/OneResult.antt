@@ -36,12 +36,12 @@ one-sending {n} (sent_then {room} {r} {rest} {t} {ts} a later) (sent_then {t = u
 -- ---- D
 
 -- what one row leaves behind
-record Left (most added taken added' taken' : ℕ) (r q : Routed) (added'' taken'' : ℕ) : Type 0 where
+record Left (largest added taken added' taken' : ℕ) (r q : Routed) (added'' taken'' : ℕ) : Type 0 where
   way : r ≡ q
   adds : added' ≡ added''
   takes : taken' ≡ taken''
 
-one-step : {most added taken : ℕ} {s : Sent} {r q : Routed} {a b c d : ℕ} → Step most added taken s r a b → Step most added taken s q c d → Left most added taken a b r q c d
+one-step : {largest added taken : ℕ} {s : Sent} {r q : Routed} {a b c d : ℕ} → Step largest added taken s r a b → Step largest added taken s q c d → Left largest added taken a b r q c d
 one-step (goes_F p l) (goes_F q m) = record { way = refl; adds = refl; takes = refl }
 one-step (goes_F p l) (goes_B q m) = absurd (omega (arith, l, m))
 one-step (goes_F p l) (stays_F z) = absurd (omega (arith, p.1, z))
@@ -59,9 +59,9 @@ one-step (stays_B z l) (goes_B q m) = absurd (omega (arith, q.0, z))
 one-step (stays_B z l) (stays_F y) = absurd (omega (arith, y, l))
 one-step (stays_B z l) (stays_B y m) = record { way = refl; adds = refl; takes = refl }
 
-pub one-run : {most added taken : ℕ} {ss : List Sent} {rs qs : List Routed} → Run most added taken ss rs → Run most added taken ss qs → rs ≡ qs
+pub one-run : {largest added taken : ℕ} {ss : List Sent} {rs qs : List Routed} → Run largest added taken ss rs → Run largest added taken ss qs → rs ≡ qs
 one-run done done = refl
-one-run {most} (next {added' = a} {taken' = b} {r} {ss} {rs} x xs) (next {added' = c} {taken' = d} {r = q} {rs = qs} y ys) =
+one-run {largest} (next {added' = a} {taken' = b} {r} {ss} {rs} x xs) (next {added' = c} {taken' = d} {r = q} {rs = qs} y ys) =
     let e = one-step x y in
     ap₂ (λ (z : Routed) (l : List Routed). z ∷ l) e.way
-    (one-run xs (subst (λ t. Run most a t ss qs) (sym e.takes) (subst (λ s. Run most s d ss qs) (sym e.adds) ys)))
+    (one-run xs (subst (λ t. Run largest a t ss qs) (sym e.takes) (subst (λ s. Run largest s d ss qs) (sym e.adds) ys)))

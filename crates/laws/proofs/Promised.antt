@@ -12,7 +12,7 @@ use Rattle.sheet.specs.WriteSheet.{write_sheet}
 use Rattle.checker.specs.Check.{check}
 use Rattle.checker.specs.Printed.{printed}
 use Rattle.checker.specs.Says.{Accepted}
-use Rattle.checker.specs.Cases.{Claim, Case, plan_of, refusal_of, Answer, text, Y, E, claim, routing, checking, claiming, computed, stated, cases}
+use Rattle.checker.specs.Cases.{Claim, Case, plan_case, refusal_case, CaseAnswer, text, Y, E, claim, routing, checking, claiming, computed, stated, cases}
 use Rattle.checker.proofs.CasesHold.{cases-hold}
 use Rattle.checker.proofs.Reasons.{given, accepted-is}
 use Rattle.ringkit.specs.Texts.{TableDue, sheet_due}
@@ -52,7 +52,7 @@ sheet-refused t number line byte (refused reason on at) e a =
 -- ---- the list
 
 -- behind as many answers to claims the lists go on alike
-behind : (f g : Claim → Answer) (claims : List Claim) {us vs : List Answer} → map f claims ++ us ≡ map g claims ++ vs → us ≡ vs
+behind : (f g : Claim → CaseAnswer) (claims : List Claim) {us vs : List CaseAnswer} → map f claims ++ us ≡ map g claims ++ vs → us ≡ vs
 behind f g [] e = e
 behind f g (c ∷ cs) {us = us} {vs = vs} e =
     let tails : map f cs ++ us ≡ map g cs ++ vs = cc in
@@ -61,13 +61,13 @@ behind f g (c ∷ cs) {us = us} {vs = vs} e =
 promised : (cs : List Case) → computed cs ≡ stated cs → Each Promised cs
 unfolding computed stated
 promised [] e = none
-promised (plan_of rows sheet claims ∷ cs) e =
+promised (plan_case rows sheet claims ∷ cs) e =
     let routed : routing (table.table_of desk (printed rows)) ≡ text (printed sheet) = cc in
     let checked : checking (check desk (printed sheet)) ≡ Y = cc in
     let rest : map (claiming (read_sheet desk (printed sheet))) claims ++ computed cs ≡ map claim claims ++ stated cs = cc in
     more (planned (due (printed rows) (printed sheet) _ refl routed) (sheet-accepted (printed sheet) _ refl checked))
     (promised cs (behind (claiming (read_sheet desk (printed sheet))) claim claims rest))
-promised (refusal_of sheet reason line byte claims ∷ cs) e =
+promised (refusal_case sheet reason line byte claims ∷ cs) e =
     let checked : checking (check desk (printed sheet)) ≡ E reason line byte = cc in
     let rest : map (claiming (read_sheet desk (printed sheet))) claims ++ computed cs ≡ map claim claims ++ stated cs = cc in
     more (refused_case (sheet-refused (printed sheet) reason line byte _ refl checked))

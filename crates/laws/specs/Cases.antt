@@ -6,7 +6,7 @@ use Rattle.table.specs.Reasons.{number_of}
 use Rattle.table.specs.declared.reason.Reason.{Reason}
 use Rattle.checker.specs.Printed.{printed}
 use Rattle.checker.specs.Says.{Given, Accepted}
-use Rattle.checker.specs.Cases.{Text, Claim, Case, plan_of, refusal_of, cases}
+use Rattle.checker.specs.Cases.{Text, Claim, Case, plan_case, refusal_case, cases}
 use Rattle.ringkit.specs.Texts.{TableDue, sheet_due}
 
 -- the reason of this number is given, with its line and byte
@@ -19,9 +19,9 @@ pub record GivenNumber (sheet : List ℕ) (number line byte : ℕ) : Type 0 wher
 -- `CasesHold` (checker)
 pub data Promised : Case → Type 0 where
   planned : {table sheet : Text} {claims : List Claim} → TableDue sheet_due (printed table) (printed sheet) → Accepted desk (printed sheet)
-      → Promised (plan_of table sheet claims)
+      → Promised (plan_case table sheet claims)
   refused : {sheet : Text} {reason line byte : ℕ} {claims : List Claim} → GivenNumber (printed sheet) reason line byte
-      → Promised (refusal_of sheet reason line byte claims)
+      → Promised (refusal_case sheet reason line byte claims)
 
 -- each case of the list is so
 abbrev pub CasesPromised : Type 0

@@ -1,5 +1,5 @@
--- To believe: what the desk of the limits before these answers, 32 nodes, 496 rows and numbers of 7 digits. A table that it accepts is routed to the same bytes; a sheet that it accepts is accepted,
--- and each of its refusals but 2, 3 and 16 is given; and an accepted sheet beyond its limits it refuses by 3 or 16.
+-- To believe: what the desk of the limits before these answers, 32 nodes, 496 rows and numbers of 7 digits. A table that it accepts is routed to the same
+-- bytes; a sheet that it accepts is accepted, and each of its refusals but 2, 3 and 16 is given; and an accepted sheet beyond its limits it refuses by 3 or 16.
 use Rattle.std.specs.Prelude.{ℕ, ◌+◌, ◌≤◌, ◌<◌, List, ◌≡◌, length}
 use Rattle.ring.specs.Limits.{Limits, old, desk}
 use Rattle.ring.specs.declared.types.Ring.{Ring}
@@ -42,13 +42,14 @@ pub record AcceptedAs (limits : Limits) (t : List ℕ) (x : Sheet) : Type 0 wher
   pub is : ReadTo limits t x
   pub none : found.NoneHolds (findings limits x)
 
--- what the old desk answers to a text that is accepted as this sheet: 3 at n where it has too many nodes, which stand at byte 3 of line 1; else 16 at the first row too many,
--- where it has such a row; else it accepts it
+-- what the old desk answers to a text that is accepted as this sheet: 3 at n where it has too many nodes, which stand at byte 3 of line 1; else 16 at the first
+-- row too many, where it has such a row; else it accepts it
 pub record OldAnswers (t : List ℕ) (x : Sheet) : Type 0 where
   pub nodes : old.nodes < x.ring.nodes → Given old t RingSize 1 3
   pub rows : x.ring.nodes ≤ old.nodes → old.rows < length x.rows → Given old t TooMany (old.rows + 2) 1
   pub within : x.ring.nodes ≤ old.nodes → length x.rows ≤ old.rows → AcceptedAs old t x
 
+-- so it is of every accepted sheet
 abbrev pub BeyondOld : Type 0
 BeyondOld = (t : List ℕ) (x : Sheet) → AcceptedAs desk t x → OldAnswers t x
 

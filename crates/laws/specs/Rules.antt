@@ -11,13 +11,14 @@ use Rattle.ring.specs.declared.types.Cut.{Cut}
 use Rattle.ring.specs.Routing.{is_split, Split, split_load, unsplit_load, peak, Attains}
 use Rattle.ring.specs.declared.types.Sent.{Sent}
 use Rattle.ring.specs.declared.types.Routed.{Routed}
-use Rattle.ring.specs.Crossing.{parallel, disjoint, holds, Disjoint, Holds}
+use Rattle.ring.specs.Crossing.{parallel, disjoint, encloses, Disjoint, Encloses}
 use Rattle.ring.specs.Division.{Divides}
 use Rattle.ring.specs.LineSize.{line_size, SizeRule}
-use Rattle.ring.specs.RuleA.{rule_a}
+use Rattle.ring.specs.RuleA.{rule_a, largest_across}
 use Rattle.ring.specs.RuleB.{rule_b}
 use Rattle.ring.specs.RuleC.{both, to_front, to_back, inward, move, rule_c}
-use Rattle.ring.specs.RuleD.{largest_split, rule_d}
+use Rattle.ring.specs.RuleD.{largest_split}
+use Rattle.ring.specs.Sheet.{split_routing, unsplit_routing}
 use Rattle.ring.specs.Rules.{Best, Sends, SameNodes, NotBoth, Moved, OncePerPair, Untangled, Staggered, Largest, Directed}
 
 -- it holds for the rows of every table, on a ring of two nodes or more
@@ -43,12 +44,12 @@ abbrev pub DisjointIs : Type 0
 DisjointIs = OfTwoRows (λ a b. (disjoint a b ≡ true) ↔ Disjoint a b)
 
 -- the test of one front inside the other says that each link of the inner is in the outer
-abbrev pub HoldsIs : Type 0
-HoldsIs = OfTwoRows (λ a b. (holds a b ≡ true) ↔ Holds a b)
+abbrev pub EnclosesIs : Type 0
+EnclosesIs = OfTwoRows (λ a b. (encloses a b ≡ true) ↔ Encloses a b)
 
 -- two rows are parallel exactly where their fronts are disjoint or one lies inside the other
 abbrev pub ParallelIs : Type 0
-ParallelIs = OfTwoRows (λ a b. (parallel a b ≡ true) ↔ (Disjoint a b ⊎ (Holds a b ⊎ Holds b a)))
+ParallelIs = OfTwoRows (λ a b. (parallel a b ≡ true) ↔ (Disjoint a b ⊎ (Encloses a b ⊎ Encloses b a)))
 
 -- whichever is named first
 abbrev pub ParallelEither : Type 0
@@ -86,10 +87,6 @@ CutBounds = (q n : ℕ) (rs : List Demand) (ss : List Sent) → Divides q rs ss 
 
 -- ---- A, the cut
 
--- M, the across number of the cut that rule A gives
-abbrev pub most_across : ℕ → List Demand → ℕ
-most_across n rs = (rule_a n rs).across
-
 -- the cut is the first of those with the largest across number
 abbrev pub CutIsBest : Type 0
 CutIsBest = OfTables (λ n rs. Best (across rs) (IsCut n) (rule_a n rs))
@@ -102,15 +99,15 @@ CutIsOne = OfTables (λ n rs. (c : Cut) → Best (across rs) (IsCut n) c → c �
 
 -- the rows are sent from rooms M: the s of each is even, no slack is cut off at 0, and no link gets more than its room
 abbrev pub RowsAreSent : Type 0
-RowsAreSent = OfTables (λ n rs. Sends n (λ k. most_across n rs) rs (rule_b n rs))
+RowsAreSent = OfTables (λ n rs. Sends n (λ k. largest_across n rs) rs (rule_b n rs))
 
 -- no other sending is so
 abbrev pub SendingIsOne : Type 0
-SendingIsOne = OfTables (λ n rs. (ss : List Sent) → Sends n (λ k. most_across n rs) rs ss → ss ≡ rule_b n rs)
+SendingIsOne = OfTables (λ n rs. (ss : List Sent) → Sends n (λ k. largest_across n rs) rs ss → ss ≡ rule_b n rs)
 
 -- the split peak is M
 abbrev pub SentPeakIsM : Type 0
-SentPeakIsM = OfTables (λ n rs. peak (split_load (rule_b n rs)) n ≡ most_across n rs)
+SentPeakIsM = OfTables (λ n rs. peak (split_load (rule_b n rs)) n ≡ largest_across n rs)
 
 -- of the rows of the same two nodes one at most is split
 abbrev pub OneIsSplit : Type 0
@@ -137,21 +134,21 @@ MovedIsOne = (ss new : List Sent) → OncePerPair ss new → new ≡ rule_c ss
 
 -- no load rises, demands and sums stay, and no two split rows are parallel afterwards
 abbrev pub RowsAreUntangled : Type 0
-RowsAreUntangled = OfTables (λ n rs. Untangled (rule_b n rs) (rule_c (rule_b n rs)))
+RowsAreUntangled = OfTables (λ n rs. Untangled (rule_b n rs) (split_routing n rs))
 
 -- so the rows still divide the table's demands in halves
 abbrev pub UntangledDivides : Type 0
-UntangledDivides = OfTables (λ n rs. Divides 2 rs (rule_c (rule_b n rs)))
+UntangledDivides = OfTables (λ n rs. Divides 2 rs (split_routing n rs))
 
 -- and the split peak stays M
 abbrev pub UntangledPeakIsM : Type 0
-UntangledPeakIsM = OfTables (λ n rs. peak (split_load (rule_c (rule_b n rs))) n ≡ most_across n rs)
+UntangledPeakIsM = OfTables (λ n rs. peak (split_load (split_routing n rs)) n ≡ largest_across n rs)
 
 -- ---- D, unsplit directions
 
 -- split rows are taken by rising first node: of two the later begins later, inside the front of the earlier, and ends later
 abbrev pub SplitRowsRise : Type 0
-SplitRowsRise = OfTables (λ n rs. Pairs Staggered (rule_c (rule_b n rs)))
+SplitRowsRise = OfTables (λ n rs. Pairs Staggered (split_routing n rs))
 
 -- D is the largest amount of a split row, 0 if none is split
 abbrev pub LargestSplitIs : Type 0
@@ -159,16 +156,16 @@ LargestSplitIs = (ss : List Sent) → Largest ss (largest_split ss)
 
 -- the rows go from S = 0 as the rule says, those that are not split are kept, and each link keeps to the bound
 abbrev pub RowsAreDirected : Type 0
-RowsAreDirected = OfTables (λ n rs. Directed (rule_c (rule_b n rs)) (rule_d (rule_c (rule_b n rs))))
+RowsAreDirected = OfTables (λ n rs. Directed (split_routing n rs) (unsplit_routing n rs))
 
 -- no other directions are so
 abbrev pub DirectionsAreOne : Type 0
-DirectionsAreOne = OfTables (λ n rs. (routed : List Routed) → Directed (rule_c (rule_b n rs)) routed → routed ≡ rule_d (rule_c (rule_b n rs)))
+DirectionsAreOne = OfTables (λ n rs. (routed : List Routed) → Directed (split_routing n rs) routed → routed ≡ unsplit_routing n rs)
 
--- in halves, the unsplit peak is at most M and 3D
+-- in halves, the unsplit peak is at most M plus 3D
 abbrev pub DirectedPeak : Type 0
 DirectedPeak =
-    OfTables (λ n rs. 2 * peak (unsplit_load (rule_d (rule_c (rule_b n rs)))) n ≤ most_across n rs + 3 * largest_split (rule_c (rule_b n rs)))
+    OfTables (λ n rs. 2 * peak (unsplit_load (unsplit_routing n rs)) n ≤ largest_across n rs + 3 * largest_split (split_routing n rs))
 
 -- ---- line sizes
 

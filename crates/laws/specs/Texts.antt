@@ -1,4 +1,5 @@
--- To believe: how numbers are spelled, what a line of a shape says, which texts are a sheet or a matrix, and how reasons are numbered: each the contract of a function that does nothing.
+-- To believe: how numbers are spelled, what a line of a shape says, which texts are a sheet or a matrix, and how reasons are numbered: each the contract of a
+-- function that does nothing.
 use Rattle.std.specs.Prelude.{ℕ, ◌≤◌, ◌<◌, List, ◌↔◌, ◌≡◌}
 use Rattle.ring.specs.Limits.{Limits, desk}
 use Rattle.text.specs.Number.{limit, digits, Spelling}
@@ -11,8 +12,8 @@ use Rattle.matrix.specs.Says as matrix
 use Rattle.sheet.specs.Says as sheet
 use Rattle.ringkit.specs.Texts.{SomeForm, SomeMatrix}
 
--- within any limits bytes spell a number exactly where it is below the least that has too many digits, and they are its digits: the desk's 1 to 8 digits with no leading zero but 0
--- itself leave each number one spelling
+-- within any limits bytes spell a number exactly where it is below the least that has too many digits, and they are its digits: the desk's 1 to 8 digits with
+-- no leading zero but 0 itself leave each number one spelling
 abbrev pub SpellingIs : Type 0
 SpellingIs = (limits : Limits) (number : ℕ) (bytes : List ℕ) → Spelling limits.digits number bytes ↔ ((number < limit limits.digits) × (bytes ≡ digits number))
 

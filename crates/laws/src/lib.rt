@@ -16,7 +16,8 @@ pub use rules::{
     sending_rule,
 };
 pub use texts::{
-    accepted_matrix, cases_as_promised, cases_hold, digits_of_figures, judged_in_range,
-    lines_of_a_shape, no_lower_peak, numbers_spelled, plan_accepted, reason_numbers, same_sheet,
-    true_sheet_accepted, turned_cases_hold, well_formed_sheet,
+    accepted_matrix, cases_as_promised, cases_hold, digits_of_figures, falling_order,
+    judged_in_range, lines_of_a_shape, lines_of_a_text, no_lower_peak, numbers_spelled,
+    plan_accepted, reason_numbers, rows_of_a_matrix, same_sheet, true_sheet_accepted,
+    turned_cases_hold, well_formed_sheet,
 };

@@ -6,8 +6,8 @@ pub fn same_bytes()
     ensures { SameBytes }
 {}
 
-/// An accepted sheet beyond its limits it refuses by 3, at byte 3 of line 1, where that has too many nodes, and else by 16, at byte 1 of the first line too many; within them it
-/// accepts it. All else that it answers, but for 2, 3 and 16, is answered alike.
+/// An accepted sheet beyond its limits it refuses by 3, at byte 3 of line 1, where that has too many nodes, and else by 16, at byte 1 of the first line too
+/// many; within them it accepts it. All else that it answers, but for 2, 3 and 16, is answered alike.
 pub fn old_desk()
     ensures beyond { BeyondOld }
     ensures accepted { OldAccepted }

@@ -1,7 +1,7 @@
 // What the four rules give for the rows of every table, what they speak of, and the line sizes.
 ghost use Rattle.std.specs.Prelude.{◌≡◌, [], ◌∷◌};
 ghost use Rattle.ring.specs.Rules.{places, pairs_of_places};
-ghost use Rattle.laws.specs.Rules.{FrontLeads, BackLeads, DisjointIs, HoldsIs, ParallelIs, ParallelEither, SameAreParallel};
+ghost use Rattle.laws.specs.Rules.{FrontLeads, BackLeads, DisjointIs, EnclosesIs, ParallelIs, ParallelEither, SameAreParallel};
 ghost use Rattle.laws.specs.Rules.{SplitIs, PeakIsAbove, PeakIsLoad, EitherOrder, OneLink, CutBounds};
 ghost use Rattle.laws.specs.Rules.{CutIsBest, CutIsOne};
 ghost use Rattle.laws.specs.Rules.{RowsAreSent, SendingIsOne, SentPeakIsM, OneIsSplit};
@@ -19,7 +19,7 @@ pub fn fronts_and_backs()
 /// Rows are parallel exactly where their fronts are disjoint or one lies inside the other.
 pub fn parallel_rows()
     ensures disjoint { DisjointIs }
-    ensures holds { HoldsIs }
+    ensures encloses { EnclosesIs }
     ensures parallel { ParallelIs }
     ensures either { ParallelEither }
     ensures same_nodes { SameAreParallel }

@@ -14,7 +14,7 @@ use Rattle.text.specs.FirstFault.{FirstFault}
 use Rattle.text.proofs.LineLaws.{one-fault}
 use Rattle.table.specs.declared.reason.Reason.{Reason}
 use Rattle.table.specs.declared.reason.Reason.TheVariants.{TooLong, Misshapen, RingSize, TooMany, TooMuch, NotZero, NotSymmetric}
-use Rattle.table.specs.Says.{DueByte}
+use Rattle.table.specs.RowReasons.{DueByte}
 use Rattle.table.proofs.BytesGiven.{one-due}
 use Rattle.table.proofs.LineNumbers.{line-one}
 use Rattle.matrix.specs.Matrix.{entry_byte}

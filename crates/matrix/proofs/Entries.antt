@@ -12,8 +12,9 @@ use Rattle.table.specs.OnLine.{and_then}
 use Rattle.table.specs.Verdict.{Verdict}
 use Rattle.table.specs.declared.reason.Reason.{Reason}
 use Rattle.table.specs.declared.reason.Reason.TheVariants.{NotZero, NotSymmetric}
+use Rattle.table.specs.Refusals.{refuse}
 use Rattle.matrix.specs.Matrix.{entry, Node}
-use Rattle.matrix.specs.Read.{Found, refusing, check_entry, on_entry, byte_of, judge_across, judge_down}
+use Rattle.matrix.specs.Read.{MatrixVerdict, check_entry, on_entry, square_byte, judge_across, judge_down}
 
 -- what is wrong with an entry
 pub data WrongEntry (m : List (List ℕ)) (i j : ℕ) : Reason → Type 0 where
@@ -48,12 +49,12 @@ module _ (m : List (List ℕ)) where
       mirror-right e z (not_mirror f w) = w z
 
   -- the entries j and on of line i, k of them
-  data AcrossJudged (i j k : ℕ) (next : Found) : Found → Type 0 where
+  data AcrossJudged (i j k : ℕ) (next : MatrixVerdict) : MatrixVerdict → Type 0 where
     across_wrong : {r : Reason} (at : ℕ) → j ≤ at → at < j + k → WrongEntry m i at r → ((x : ℕ) (s : Reason) → j ≤ x → x < at → WrongEntry m i x s → ⊥)
-        → AcrossJudged i j k next (refusing r i (byte_of m i at))
+        → AcrossJudged i j k next (refuse r i (square_byte m i at))
     across_right : ((x : ℕ) (s : Reason) → j ≤ x → x < j + k → WrongEntry m i x s → ⊥) → AcrossJudged i j k next next
 
-  across-judged : (i j k : ℕ) (next : Found) → AcrossJudged i j k next (judge_across m i j k next)
+  across-judged : (i j k : ℕ) (next : MatrixVerdict) → AcrossJudged i j k next (judge_across m i j k next)
   unfolding judge_across on_entry and_then
   across-judged i j zero next = across_right (λ x s l h w. omega arith)
   across-judged i j (suc k) next = go (entry-judged i j) (across-judged i (j + 1) k next)
@@ -65,16 +66,16 @@ module _ (m : List (List ℕ)) where
             | no e ↦ later (omega arith) w
           ]
 
-      go : {v : Verdict} {w : Found} → EntryJudged m i j v → AcrossJudged i (j + 1) k next w → AcrossJudged i j (suc k) next (and_then (on_entry v i (byte_of m i j)) λ u. w)
+      go : {v : Verdict} {w : MatrixVerdict} → EntryJudged m i j v → AcrossJudged i (j + 1) k next w → AcrossJudged i j (suc k) next (and_then (on_entry v i (square_byte m i j)) λ u. w)
       go (entry_wrong h) rest = across_wrong j (omega arith) (omega arith) h (λ x s l m w. omega arith)
       go (entry_right none) (across_wrong at l m h first) = across_wrong at (omega arith) (omega arith) h (λ x s p q. first-right none x s (λ u. first x s u q) p)
       go (entry_right none) (across_right all) = across_right (λ x s p q. first-right none x s (λ u. all x s u (omega arith)) p)
 
   -- the lines i and on, k of them, each of n entries: the first wrong entry stands on `line` at `at`, or there is none
-  pub data DownJudged (n i k : ℕ) : Found → Type 0 where
+  pub data DownJudged (n i k : ℕ) : MatrixVerdict → Type 0 where
     down_wrong : {r : Reason} {line : ℕ} (at : ℕ) → i ≤ line → line < i + k → Node n at → WrongEntry m line at r
         → ((x y : ℕ) (s : Reason) → i ≤ x → Node n y → PairBefore x y line at → WrongEntry m x y s → ⊥)
-        → DownJudged n i k (refusing r line (byte_of m line at))
+        → DownJudged n i k (refuse r line (square_byte m line at))
     down_right : ((x y : ℕ) (s : Reason) → i ≤ x → x < i + k → Node n y → WrongEntry m x y s → ⊥) → DownJudged n i k (Ok tt)
 
   pub down-judged : (n i k : ℕ) → DownJudged n i k (judge_down m n i k)
@@ -91,7 +92,7 @@ module _ (m : List (List ℕ)) where
           let e : x ≡ i = omega arith in
           all y s u.0 (omega (arith, u.1)) (rw e at w)
 
-      rest-right : ((y : ℕ) (s : Reason) → 1 ≤ y → y < 1 + n → WrongEntry m i y s → ⊥) → {w : Found} → DownJudged n (i + 1) k w → DownJudged n i (suc k) w
+      rest-right : ((y : ℕ) (s : Reason) → 1 ≤ y → y < 1 + n → WrongEntry m i y s → ⊥) → {w : MatrixVerdict} → DownJudged n (i + 1) k w → DownJudged n i (suc k) w
       rest-right all (down_wrong {line = line} at l o q h first) =
           down_wrong {line = line} at (omega arith) (omega arith) q h
           (λ x y s p u b w.
@@ -106,7 +107,7 @@ module _ (m : List (List ℕ)) where
             | no z ↦ line-right all x y s (λ later. omega arith) p u w
           ])
 
-      go : {v next : Found} → AcrossJudged i 1 n next v → DownJudged n (i + 1) k next → DownJudged n i (suc k) v
+      go : {v next : MatrixVerdict} → AcrossJudged i 1 n next v → DownJudged n (i + 1) k next → DownJudged n i (suc k) v
       go (across_wrong at l o h first) rest =
           down_wrong {line = i} at (omega arith) (omega arith) (l, omega arith) h
           (λ x y s p q b w. let o = on_first p b in first y s q.0 o.1 (let e = o.0 in rw e at w))

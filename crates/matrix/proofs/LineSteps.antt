@@ -22,8 +22,9 @@ use Rattle.matrix.specs.Matrix.{entry_byte}
 use Rattle.std.specs.List.{count_by}
 use Rattle.std.proofs.lemmas.List.Recursion.{is_count_by}
 use Rattle.matrix.proofs.AnyFields.{fields-some}
-use Rattle.table.specs.OnLine.{refusal, and_then, values_on}
-use Rattle.matrix.specs.Answer.{read_as}
+use Rattle.table.specs.OnLine.{and_then, values_on}
+use Rattle.table.specs.Refusals.{refuse}
+use Rattle.matrix.specs.ReadInto.{read_as}
 use Rattle.matrix.specs.Read.{Numbers, is_tab, fields_in, first_numbers, first_over, unless_over, amounts_in}
 use Rattle.matrix.proofs.LinesText.{NumbersRead, are_numbers, numbers-read}
 
@@ -147,7 +148,7 @@ module _ (n line : ℕ) (l : List ℕ) (x : Numbers) (ex : x ≡ values_on line 
         go vs h (are_numbers t k s) = sym (take_all desk.nodes vs (omega arith)) ∙ h
 
     module _ (v : Option ℕ) (ev : v ≡ first_over desk read) where
-      pub numbers-over : (k byte : ℕ) → v ≡ Some k → byte ≡ entry_byte read k → read_as (Err (refusal TooMuch line byte)) read ≡ amounts_in desk line (read_line desk.digits (numbers n) l)
+      pub numbers-over : (k byte : ℕ) → v ≡ Some k → byte ≡ entry_byte read k → read_as (refuse TooMuch line byte) read ≡ amounts_in desk line (read_line desk.digits (numbers n) l)
       unfolding amounts_in and_then values_on unless_over read_as
       numbers-over k byte f b = rw (all-kept, ← ev, f, b)
 

@@ -28,8 +28,9 @@ use Rattle.table.specs.declared.reason.Refusal.{Refusal}
 use Rattle.table.specs.declared.reason.Reason.TheVariants.{Misshapen, TooMuch}
 use Rattle.table.proofs.LinesOf.{NoLf, FirstLine, written-first}
 use Rattle.matrix.specs.Matrix.{write_matrix, entry_byte}
-use Rattle.table.specs.OnLine.{refusal, and_then, values_on}
-use Rattle.matrix.specs.Read.{SquareRead, Numbers, first_over, unless_over, amounts_in, lines_of}
+use Rattle.table.specs.OnLine.{and_then, values_on}
+use Rattle.table.specs.Refusals.{refuse}
+use Rattle.matrix.specs.Read.{SquareRead, Numbers, first_over, unless_over, amounts_in, square_lines}
 
 -- ---- one line
 
@@ -134,9 +135,9 @@ module _ (limits : Limits) (vs : List ℕ) where
 -- what a line is read to where n numbers within the limit are due
 pub data LineRead (limits : Limits) (n line : ℕ) (l : List ℕ) : Numbers → Type 0 where
   line_is : {vs : List ℕ} → l ≡ numbers_line vs → length vs ≡ n → Spelled limits vs → Each (λ v. v ≤ limits.amount) vs → LineRead limits n line l (Ok vs)
-  line_over : {vs : List ℕ} (x : ℕ) → l ≡ numbers_line vs → length vs ≡ n → Spelled limits vs → FirstOver limits vs x → LineRead limits n line l (Err (refusal TooMuch line (entry_byte vs x)))
+  line_over : {vs : List ℕ} (x : ℕ) → l ≡ numbers_line vs → length vs ≡ n → Spelled limits vs → FirstOver limits vs x → LineRead limits n line l (refuse TooMuch line (entry_byte vs x))
   line_not : {p : ℕ} → ((vs : List ℕ) → l ≡ numbers_line vs → length vs ≡ n → Spelled limits vs → ⊥) → FirstFault limits.digits (numbers n) l p
-      → LineRead limits n line l (Err (refusal Misshapen line (p + 1)))
+      → LineRead limits n line l (refuse Misshapen line (p + 1))
 
 pub line-read : (limits : Limits) (n line : ℕ) (l : List ℕ) → LineRead limits n line l (amounts_in limits line (read_line limits.digits (numbers n) l))
 unfolding amounts_in and_then values_on unless_over
@@ -173,15 +174,15 @@ module _ {limits : Limits} {n : ℕ} where
       lines_are (vs ∷ rest) (whole ∙ append_assoc m (vs ∷ []) rest) (rw (e, text)) (ap suc many) (more k wide) (more a within)
   line-more e k a lines_refused = lines_refused
 
-  pub lines-read : (ls : List (List ℕ)) (line left : ℕ) (m : List (List ℕ)) → LinesRead limits n left m ls (lines_of limits n line left m ls)
-  unfolding lines_of and_then write_matrix flatten
+  pub lines-read : (ls : List (List ℕ)) (line left : ℕ) (m : List (List ℕ)) → LinesRead limits n left m ls (square_lines limits n line left m ls)
+  unfolding square_lines and_then write_matrix flatten
   lines-read [] line zero m = lines_are [] (sym (append-nil m)) refl refl none none
   lines-read (l ∷ ls) line zero m = lines_refused
   lines-read [] line (suc left) m = lines_refused
   lines-read (l ∷ ls) line (suc left) m = go (line-read limits n line l) (λ vs. lines-read ls (line + 1) left (m ++ vs ∷ []))
     where
       next : List ℕ → SquareRead
-      next vs = lines_of limits n (line + 1) left (m ++ vs ∷ []) ls
+      next vs = square_lines limits n (line + 1) left (m ++ vs ∷ []) ls
 
       go : {x : Numbers} → LineRead limits n line l x → ((vs : List ℕ) → LinesRead limits n left (m ++ vs ∷ []) ls (next vs)) → LinesRead limits n (suc left) m (l ∷ ls) (and_then x next)
       go (line_is {vs} e k s a) rest = line-more e k a (rest vs)
@@ -190,8 +191,8 @@ module _ {limits : Limits} {n : ℕ} where
 
 -- and back
 pub written-lines-read : (limits : Limits) (n : ℕ) → limits.amount < limit limits.digits → 1 ≤ n → (line : ℕ) (m rest : List (List ℕ)) → Wide n rest → Within limits rest
-    → lines_of limits n line (length rest) m (lines (write_matrix rest)) ≡ Ok (n, m ++ rest)
-unfolding lines_of and_then values_on amounts_in unless_over write_matrix lines
+    → square_lines limits n line (length rest) m (lines (write_matrix rest)) ≡ Ok (n, m ++ rest)
+unfolding square_lines and_then values_on amounts_in unless_over write_matrix lines
 written-lines-read limits n small some line m [] none none = ap (λ l. Ok (n, l)) (sym (append-nil m))
 written-lines-read limits n small some line m (vs ∷ rest) (more k ks) (more a bs) =
     let s : Spelled limits vs = spelled-line limits small a in

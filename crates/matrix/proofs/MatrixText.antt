@@ -26,7 +26,7 @@ use Rattle.table.proofs.LinesOf.{join-lines}
 use Rattle.matrix.specs.Matrix.{entry, write_matrix, Node}
 use Rattle.matrix.specs.Range.{InRange}
 use Rattle.matrix.specs.Demands.{rows_of_matrix}
-use Rattle.matrix.specs.Read.{SquareRead, Found, fields_in, lines_of, judge_down, judge_count, square_judged, on_first, matrix_lines, matrix_of}
+use Rattle.matrix.specs.Read.{SquareRead, MatrixVerdict, fields_in, square_lines, judge_down, judge_count, square_judged, on_first, matrix_lines, matrix_of}
 use Rattle.std.specs.Prelude.{Ok, Err}
 use Rattle.table.specs.OnLine.{and_then, values_on}
 use Rattle.table.specs.declared.reason.Refusal.{Refusal}
@@ -74,11 +74,11 @@ module _ {limits : Limits} {t : List ℕ} (short : length t ≤ limits.bytes) wh
   square-read few many whole lines_refused = matrix_refused
   square-read {n} few many whole (lines_are {all = m} rest is text tall wide within) = go (down-judged m n 1 n)
     where
-      go : {z : Found} → DownJudged m n 1 n z → MatrixRead limits t (and_then z (λ u. and_then (judge_count limits n m) (λ w. Ok (n, m))))
+      go : {z : MatrixVerdict} → DownJudged m n 1 n z → MatrixRead limits t (and_then z (λ u. and_then (judge_count limits n m) (λ w. Ok (n, m))))
       go (down_wrong at a b c d e) = matrix_refused
       go (down_right right) =
           let written : t ≡ write_matrix m = whole ∙ text ∙ ap write_matrix (sym is) in
-          cond-elim (λ (z : Found). MatrixRead limits t (and_then z (λ w. Ok (n, m)))) _ _ _ (λ e. matrix_refused)
+          cond-elim (λ (z : MatrixVerdict). MatrixRead limits t (and_then z (λ w. Ok (n, m)))) _ _ _ (λ e. matrix_refused)
           (λ e. matrix_is written (record {
             few = few;
             many = many;
@@ -100,7 +100,7 @@ module _ {limits : Limits} {t : List ℕ} (short : length t ≤ limits.bytes) wh
   lines-matrix (l ∷ ls) whole = go (numbers-read limits (fields_in l) l) (size-judged limits (fields_in l))
     where
       next : SquareRead
-      next = square_judged limits (lines_of limits (fields_in l) 1 (fields_in l) [] (l ∷ ls))
+      next = square_judged limits (square_lines limits (fields_in l) 1 (fields_in l) [] (l ∷ ls))
 
       ring : {v : of_table.Verdict} → SizeJudged limits (fields_in l) v → MatrixRead limits t (and_then (on_first v) (λ u. next))
       ring (not_so_many w) = matrix_refused
@@ -125,7 +125,7 @@ right-square limits n m range = go (down-judged m n 1 n)
     right {i} p q (not_zero e w) = w (rw (← e) (range.zeros i p))
     right {i} {j} p q (not_mirror e w) = w (range.symmetric i j p q)
 
-    go : {z : Found} → DownJudged m n 1 n z → z ≡ Ok tt
+    go : {z : MatrixVerdict} → DownJudged m n 1 n z → z ≡ Ok tt
     go (down_wrong at a b c d e) = absurd (right (a, omega arith) c d)
     go (down_right all) = refl
 
@@ -135,10 +135,10 @@ module _ (limits : Limits) (possible : Possible limits) where
   first-written n [] range l e = absurd (omega (arith, range.square.tall, range.few, possible.some))
   first-written n (vs ∷ m) range l e = go range.square.wide range.amounts
     where
-      lines-back : (ls : List (List ℕ)) → lines (write_matrix (vs ∷ m)) ≡ ls → lines_of limits n 1 n [] ls ≡ Ok (n, vs ∷ m)
+      lines-back : (ls : List (List ℕ)) → lines (write_matrix (vs ∷ m)) ≡ ls → square_lines limits n 1 n [] ls ≡ Ok (n, vs ∷ m)
       lines-back ls e =
           rw (← e)
-          (subst (λ k. lines_of limits n 1 k [] (lines (write_matrix (vs ∷ m))) ≡ Ok (n, vs ∷ m)) range.square.tall
+          (subst (λ k. square_lines limits n 1 k [] (lines (write_matrix (vs ∷ m))) ≡ Ok (n, vs ∷ m)) range.square.tall
           (written-lines-read limits n possible.amount (omega (arith, range.few, possible.some)) 1 [] (vs ∷ m) range.square.wide range.amounts))
 
       go : Each (λ us. length us ≡ n) (vs ∷ m) → Each (Each (λ v. v ≤ limits.amount)) (vs ∷ m) → matrix_lines limits l ≡ Ok (n, vs ∷ m)

@@ -42,10 +42,10 @@ rising-small most (more {a = r} {l = rs} o os) (more d ds) (next_row p rest) i j
 pub one-each-fit : (ring : Ring) (rs : List Demand) → TableInRange desk ring rs → OneEach rs → (k : ℕ) → Passes desk rs k → ⊥
 one-each-fit ring rs table each k p =
     let r : Demand = get_or rs (k - 1) (demand 0 0 0) in
-    let o : OnRing ring.nodes r = each_at table.rows.nodes (demand 0 0 0) (k - 1) (omega (arith, p.low, p.high)) in
+    let o : OnRing ring.nodes r = each_at table.within.rows.nodes (demand 0 0 0) (k - 1) (omega (arith, p.low, p.high)) in
     omega (
       arith,
       p.wrong,
       take-small k rs r.first r.second,
-      rising-small desk.amount table.rows.nodes table.amounts (rising-rows table.rows.nodes table.rows.order each.one) r.first r.second o.order,
+      rising-small desk.amount table.within.rows.nodes table.within.amounts (rising-rows table.within.rows.nodes table.within.rows.order each.one) r.first r.second o.order,
     )

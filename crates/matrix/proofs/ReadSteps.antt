@@ -20,9 +20,10 @@ use Rattle.table.specs.declared.reason.Reason.TheVariants.{TooLong, Misshapen}
 use Rattle.table.specs.declared.reason.Refusal.{Refusal}
 use Rattle.table.proofs.Judged.{SizeJudged, right_size, size-judged}
 use Rattle.matrix.specs.Demands.{rows_of_matrix}
-use Rattle.table.specs.OnLine.{refusal, and_then, values_on}
-use Rattle.matrix.specs.Read.{SquareRead, Found, Numbers, fields_in, first_numbers, amounts_in, lines_of, judge_down, judge_count, square_judged, on_first, matrix_of}
-use Rattle.matrix.specs.Answer.{read_to, IsMatrix, IsGiven}
+use Rattle.table.specs.OnLine.{and_then, values_on}
+use Rattle.table.specs.Refusals.{refusal, refuse}
+use Rattle.matrix.specs.Read.{SquareRead, MatrixVerdict, Numbers, fields_in, first_numbers, amounts_in, square_lines, judge_down, judge_count, square_judged, on_first, matrix_of}
+use Rattle.matrix.specs.ReadInto.{read_to, IsMatrix, IsGiven}
 use Rattle.matrix.proofs.LineSteps.{told-bad, told-good}
 use Rattle.matrix.proofs.LinesText.{LineRead, line_is, line-read, LinesRead, lines_are, lines-read}
 use Rattle.matrix.proofs.MatrixText.{desk-possible, matrix-text}
@@ -30,7 +31,7 @@ use Rattle.matrix.proofs.ReasonsGiven.{given}
 
 -- ---- the first line
 
-pub ring-few : (n : ℕ) (v : of_table.Verdict) → v ≡ check_size desk n → (y : Found) → y ≡ on_first v → y ≡ Ok tt → n ≤ desk.nodes
+pub ring-few : (n : ℕ) (v : of_table.Verdict) → v ≡ check_size desk n → (y : MatrixVerdict) → y ≡ on_first v → y ≡ Ok tt → n ≤ desk.nodes
 unfolding on_first
 ring-few n v e y ey f = go v (rw (← e) at (size-judged desk n)) (sym ey ∙ f)
   where
@@ -39,12 +40,12 @@ ring-few n v e y ey f = go v (rw (← e) at (size-judged desk n)) (sym ey ∙ f)
     go (Err r) judged g = absurd (cc)
 
 module _ (s : List ℕ) where
-  pub too_long : desk.bytes < length s → matrix_of desk s ≡ Err (refusal TooLong 0 0)
+  pub too_long : desk.bytes < length s → matrix_of desk s ≡ refuse TooLong 0 0
   unfolding matrix_of
   too_long h = rw (lt-ltb _ _ h)
 
   module _ (short : length s ≤ desk.bytes) where
-    pub no_line : lines s ≡ [] → matrix_of desk s ≡ Err (refusal Misshapen 1 1)
+    pub no_line : lines s ≡ [] → matrix_of desk s ≡ refuse Misshapen 1 1
     unfolding matrix_of
     no_line none = rw (le-ltb desk.bytes (length s) short, none)
 
@@ -54,8 +55,8 @@ module _ (s : List ℕ) where
         unfolding matrix_of and_then
         first-misshapen r f = rw (le-ltb desk.bytes (length s) short, left, ← ec, told-bad count 1 first x ex r f)
 
-        module _ (read : List ℕ) (f : x ≡ Ok read) (v : of_table.Verdict) (ev : v ≡ check_size desk count) (y : Found) (ey : y ≡ on_first v) where
-          size-told : matrix_of desk s ≡ and_then y (λ u. square_judged desk (lines_of desk count 1 count [] (lines s)))
+        module _ (read : List ℕ) (f : x ≡ Ok read) (v : of_table.Verdict) (ev : v ≡ check_size desk count) (y : MatrixVerdict) (ey : y ≡ on_first v) where
+          size-told : matrix_of desk s ≡ and_then y (λ u. square_judged desk (square_lines desk count 1 count [] (lines s)))
           unfolding matrix_of and_then values_on
           size-told = rw (le-ltb desk.bytes (length s) short, left, ← ec, (told-good count 1 first x ex read f).is, ← ev, ← ey)
 
@@ -63,14 +64,14 @@ module _ (s : List ℕ) where
           unfolding and_then
           ring-fault r g = size-told ∙ rw g
 
-          pub then-square : y ≡ Ok tt → matrix_of desk s ≡ square_judged desk (lines_of desk count 1 count [] (lines s))
+          pub then-square : y ≡ Ok tt → matrix_of desk s ≡ square_judged desk (square_lines desk count 1 count [] (lines s))
           unfolding and_then
           then-square g = size-told ∙ rw g
 
 -- ---- line by line: those before `line` are read, and `left` are left of the lines ls
 
 pub record ReadingLines (ls : List (List ℕ)) (n : ℕ) (square : List (List ℕ)) (line : ℕ) (left : List (List ℕ)) : Type 0 where
-  pub rest : lines_of desk n 1 n [] ls ≡ lines_of desk n line (n + 1 - line) (take (line - 1) square) left
+  pub rest : square_lines desk n 1 n [] ls ≡ square_lines desk n line (n + 1 - line) (take (line - 1) square) left
   pub tall : length square ≡ n
 
 -- a line that was read has as many numbers as are due
@@ -89,7 +90,7 @@ amounts-within n line l x ex vs e = go (rw (sym ex ∙ e) at (line-read desk n l
 
 module _ (ls : List (List ℕ)) (n : ℕ) (square : List (List ℕ)) (line : ℕ) (left : List (List ℕ)) (on : ReadingLines ls n square line left) (low : 1 ≤ line) where
   abbrev whole : SquareRead
-  whole = lines_of desk n 1 n [] ls
+  whole = square_lines desk n 1 n [] ls
 
   module _ (due : line < n + 1) where
     one-more : n + 1 - line ≡ suc (n - line)
@@ -97,12 +98,12 @@ module _ (ls : List (List ℕ)) (n : ℕ) (square : List (List ℕ)) (line : ℕ
 
     -- no line is left, and one is missing
     pub missing : left ≡ [] → (r : Refusal) → r ≡ refusal Misshapen line 1 → read_to (Err r) square ≡ whole
-    unfolding lines_of and_then read_to
+    unfolding square_lines and_then read_to
     missing none r e = sym (on.rest ∙ rw (one-more, none, e))
 
     module _ (l : List ℕ) (behind : List (List ℕ)) (there : left ≡ l ∷ behind) (x : Numbers) (ex : x ≡ amounts_in desk line (read_line desk.digits (numbers n) l)) where
-      next-line : whole ≡ and_then x λ vs. lines_of desk n (line + 1) (n - line) (take (line - 1) square ++ vs ∷ []) behind
-      unfolding lines_of
+      next-line : whole ≡ and_then x λ vs. square_lines desk n (line + 1) (n - line) (take (line - 1) square ++ vs ∷ []) behind
+      unfolding square_lines
       next-line = on.rest ∙ rw (one-more, there, ← ex)
 
       pub line-refused : (r : Refusal) → x ≡ Err r → read_to (Err r) square ≡ whole
@@ -122,15 +123,15 @@ module _ (ls : List (List ℕ)) (n : ℕ) (square : List (List ℕ)) (line : ℕ
     none-due = omega arith
 
     -- a line behind the n-th is left over
-    pub lines-over : line ≤ n + 1 → (x : Found) → IfOk x (λ _. left ≡ []) → IfErr x (λ r. (r ≡ refusal Misshapen (n + 1) 1) × (left ≡ [] → ⊥)) → read_to x square ≡ whole
-    unfolding read_to and_then lines_of
+    pub lines-over : line ≤ n + 1 → (x : MatrixVerdict) → IfOk x (λ _. left ≡ []) → IfErr x (λ r. (r ≡ refusal Misshapen (n + 1) 1) × (left ≡ [] → ⊥)) → read_to x square ≡ whole
+    unfolding read_to and_then square_lines
     lines-over high (Ok tt) none over = sym (on.rest ∙ rw (none-due, none, take_all (line - 1) square (omega (arith, on.tall)), on.tall))
     lines-over high (Err r) none over = sym (on.rest ∙ rw (none-due, over.0) (left-over left over.1))
       where
         k : n + 1 ≡ line
         k = omega arith
 
-        left-over : (ls : List (List ℕ)) → (ls ≡ [] → ⊥) → lines_of desk n line 0 (take (line - 1) square) ls ≡ Err (refusal Misshapen (n + 1) 1)
+        left-over : (ls : List (List ℕ)) → (ls ≡ [] → ⊥) → square_lines desk n line 0 (take (line - 1) square) ls ≡ refuse Misshapen (n + 1) 1
         left-over [] some = absurd (some refl)
         left-over (l ∷ ls) some = rw k refl
 
@@ -139,16 +140,16 @@ module _ (ls : List (List ℕ)) (n : ℕ) (square : List (List ℕ)) (line : ℕ
 pub told-refusal : (s : List ℕ) (r : Refusal) → matrix_of desk s ≡ Err r → IsGiven s r
 told-refusal s r e = (given desk s r).0 e
 
-module _ (s : List ℕ) (n : ℕ) (is : matrix_of desk s ≡ square_judged desk (lines_of desk n 1 n [] (lines s))) where
+module _ (s : List ℕ) (n : ℕ) (is : matrix_of desk s ≡ square_judged desk (square_lines desk n 1 n [] (lines s))) where
   module _ (square old : List (List ℕ)) (tall : length old ≡ n) where
-    lines-are : (x : Found) → read_to x square ≡ lines_of desk (length old) 1 (length old) [] (lines s) → matrix_of desk s ≡ square_judged desk (read_to x square)
+    lines-are : (x : MatrixVerdict) → read_to x square ≡ square_lines desk (length old) 1 (length old) [] (lines s) → matrix_of desk s ≡ square_judged desk (read_to x square)
     lines-are x e = is ∙ ap (square_judged desk) (sym (rw tall at e))
 
-    pub told-lines : (x : Found) → read_to x square ≡ lines_of desk (length old) 1 (length old) [] (lines s) → (r : Refusal) → x ≡ Err r → IsGiven s r
+    pub told-lines : (x : MatrixVerdict) → read_to x square ≡ square_lines desk (length old) 1 (length old) [] (lines s) → (r : Refusal) → x ≡ Err r → IsGiven s r
     unfolding square_judged and_then read_to
     told-lines x e r f = told-refusal s r (lines-are x e ∙ rw f)
 
-    module _ (x : Found) (e : read_to x square ≡ lines_of desk (length old) 1 (length old) [] (lines s)) (f : x ≡ Ok tt) (v : Found) (ev : v ≡ judge_down square (length square) 1 (length square)) where
+    module _ (x : MatrixVerdict) (e : read_to x square ≡ square_lines desk (length old) 1 (length old) [] (lines s)) (f : x ≡ Ok tt) (v : MatrixVerdict) (ev : v ≡ judge_down square (length square) 1 (length square)) where
       judged : matrix_of desk s ≡ and_then v (λ u. and_then (judge_count desk (length square) square) (λ w. Ok (length square, square)))
       unfolding square_judged and_then read_to
       judged = lines-are x e ∙ rw (f, ev)
@@ -157,7 +158,7 @@ module _ (s : List ℕ) (n : ℕ) (is : matrix_of desk s ≡ square_judged desk 
       unfolding and_then
       told-entries r g = told-refusal s r (judged ∙ rw g)
 
-      module _ (g : v ≡ Ok tt) (w : Found) (ew : w ≡ judge_count desk (length square) square) where
+      module _ (g : v ≡ Ok tt) (w : MatrixVerdict) (ew : w ≡ judge_count desk (length square) square) where
         pub told-count : (r : Refusal) → w ≡ Err r → IsGiven s r
         unfolding and_then
         told-count r h = told-refusal s r (judged ∙ rw (g, ← ew, h))
@@ -169,7 +170,7 @@ module _ (s : List ℕ) (n : ℕ) (is : matrix_of desk s ≡ square_judged desk 
             let k : length square ≡ n = as-many (rw (f, tall) at e) in
             rw (← k) (record { m = square; text = w.0; range = w.1; rows = er })
           where
-            as-many : Ok (length square, square) ≡ lines_of desk n 1 n [] (lines s) → length square ≡ n
+            as-many : Ok (length square, square) ≡ square_lines desk n 1 n [] (lines s) → length square ≡ n
             as-many q = go (subst (LinesRead desk n n [] (lines s)) (sym q) (lines-read (lines s) 1 n []))
               where
                 go : {k : ℕ} → LinesRead desk n n [] (lines s) (Ok (k, square)) → k ≡ n

@@ -16,21 +16,23 @@ use Rattle.ring.proofs.Side.{cond-elim}
 use Rattle.text.specs.ReadLine.{Reading}
 use Rattle.text.specs.Shapes.{numbers, numbers_line}
 use Rattle.text.specs.FirstFault.{FirstFault}
-use Rattle.table.specs.Lines.{lines}
 use Rattle.table.specs.Reasons.{rank_of}
-use Rattle.table.specs.Says.{LineIs, at_first, behind, DueByte, line_missing, line_faulty}
+use Rattle.table.specs.Lines.{lines, LineIs}
+use Rattle.table.specs.RowReasons.{DueByte, line_missing, line_faulty}
 use Rattle.table.specs.declared.reason.Reason.{Reason}
 use Rattle.table.specs.declared.reason.Reason.TheVariants.{TooLong, Misshapen, RingSize, TooMany, TooMuch, NotZero, NotSymmetric}
 use Rattle.std.specs.Prelude.{Ok, Err}
-use Rattle.table.specs.OnLine.{refusal, and_then, values_on}
+use Rattle.table.specs.OnLine.{and_then, values_on}
 use Rattle.table.specs.declared.reason.Refusal.{Refusal}
 use Rattle.table.specs.Verdict as of_table
+use Rattle.table.specs.Refusals.{refuse}
 use Rattle.table.proofs.Judged.{SizeJudged, not_so_many, right_size, size-judged}
-use Rattle.table.proofs.LineNumbers.{line-one, LinesFrom, from_first, from_next, line-here, no-line-left}
-use Rattle.table.proofs.ReasonNumbers.{same_rank, no-rank-0}
+use Rattle.table.proofs.Walked.{one-first, same-place as same-on-lines}
+use Rattle.table.proofs.LineNumbers.{line-low, line-one, LinesFrom, from_first, from_next, line-here, no-line-left}
+use Rattle.table.proofs.ReasonNumbers.{no-rank-0}
 use Rattle.matrix.specs.Matrix.{entry, entry_byte, Node}
 use Rattle.matrix.specs.Demands.{pairs_from, above_zero, rows_by, rows_of_matrix}
-use Rattle.matrix.specs.Read.{SquareRead, Numbers, Found, fields_in, lines_of, byte_of, judge_count, square_judged, on_first, matrix_lines, matrix_of}
+use Rattle.matrix.specs.Read.{SquareRead, Numbers, MatrixVerdict, fields_in, square_lines, square_byte, judge_count, square_judged, on_first, matrix_lines, matrix_of}
 use Rattle.matrix.specs.Says.{NumbersAre, EntryIs, NoFirstLine, NoLaterLine, LeftOver, SaysRingSize, SaysTooMuch, WrongEntry, not_zero, not_mirror, FirstFaulty, SaysTooMany, Says, LineByte, first_due, later_due, none_due, EntryStarts, FaultyByte, ByteIs, stage, Earlier, Given, Accepted}
 use Rattle.matrix.proofs.LinesText.{NumbersRead, are_numbers, no_numbers, numbers-read, FirstOver, LineRead, line_is, line_over, line_not, line-read, Spelled, each_by, each_at}
 use Rattle.matrix.proofs.MatrixText.{fields-are}
@@ -68,10 +70,6 @@ told NotSymmetric h = of_square refl h
 told TooMany h = of_rows refl h
 told _ h = absurd h
 
-line_low : {ls : List (List ℕ)} {line : ℕ} {l : List ℕ} → LineIs ls line l → 1 ≤ line
-line_low at_first = omega arith
-line_low (behind p) = omega arith
-
 -- ---- a result that is right by what the reasons say
 
 data Right (limits : Limits) (t : List ℕ) : SquareRead → Type 0 where
@@ -101,9 +99,9 @@ module _ {limits : Limits} {t : List ℕ} where
       go l (too_long e long) = omega arith
       go l (no_first h) = omega (arith, h.at)
       go l (no_later h) = omega (arith, h.next)
-      go l (left_over h) = omega (arith, line_low h.is)
+      go l (left_over h) = omega (arith, line-low h.is)
       go l (wrong_n h) = omega (arith, h.at)
-      go l (wrong_amount h) = omega (arith, line_low h.is.text)
+      go l (wrong_amount h) = omega (arith, line-low h.is.text)
 
   clean-next : {line : ℕ} → Clean limits t line → ((s : Reason) → Said limits t line s → ⊥) → Clean limits t (line + 1)
   clean-next {line} clean out = record { nothing = go }
@@ -143,7 +141,7 @@ module _ (limits : Limits) (t : List ℕ) (us : List ℕ) (first : NumbersAre li
   size-first : {s : Reason} → rank_of s < rank_of RingSize → Said limits t 1 s → ⊥
   size-first l (too_long e long) = omega arith
   size-first l (no_first h) = h.none us first
-  size-first l (no_later h) = omega (arith, h.next, line_low h.there)
+  size-first l (no_later h) = omega (arith, h.next, line-low h.there)
   size-first l (left_over h) = omega (arith, h.wrong, h.first.some)
   size-first l (wrong_n h) = omega arith
   size-first l (wrong_amount h) = omega arith
@@ -226,7 +224,7 @@ module _ (limits : Limits) (t : List ℕ) (us : List ℕ) (first : NumbersAre li
 
       entry_in : {i j v : ℕ} → EntryIs limits t i j v → InSquare i j v
       entry_in {i} {j} h =
-          let low : 1 ≤ i = line_low h.line.text in
+          let low : 1 ≤ i = line-low h.line.text in
           let high : i ≤ length m = omega (arith, no-line-left from h.line.text, held.count) in
           let e : h.vs ≡ get_or m (i - 1) [] = numbers-one h.line (held.at i low high) refl in
           record {
@@ -269,7 +267,7 @@ module _ (limits : Limits) (t : List ℕ) (us : List ℕ) (first : NumbersAre li
       faulty-byte (zero-wrong e w) h = h
       faulty-byte (mirror-wrong e w) h = h
 
-      starts-at : (i j : ℕ) → Node n i → EntryStarts limits t i j (byte_of m i j)
+      starts-at : (i j : ℕ) → Node n i → EntryStarts limits t i j (square_byte m i j)
       starts-at i j p = record { vs = get_or m (i - 1) []; is = held.at i p.0 (omega (arith, p.1)); at = refl }
 
       -- a text has one square
@@ -315,10 +313,10 @@ module _ (limits : Limits) (t : List ℕ) (us : List ℕ) (first : NumbersAre li
           go s other (inl e) (of_rows z h) = omega (arith, ap stage z)
           go s other (inr e) (of_rows z h) = ⊎_elim (λ l. omega arith) (λ l. omega (arith, l.1, ap rank_of z)) e.1
 
-      square-right : {z : Found} → DownJudged m n 1 n z → Right limits t (and_then z (λ u. and_then (judge_count limits n m) (λ w. Ok (n, m))))
+      square-right : {z : MatrixVerdict} → DownJudged m n 1 n z → Right limits t (and_then z (λ u. and_then (judge_count limits n m) (λ w. Ok (n, m))))
       unfolding and_then
       square-right (down_right all) =
-          cond-elim (λ (z : Found). Right limits t (and_then z (λ w. Ok (n, m)))) _ _ _ (λ e. first_holds (many-given right (ltb-true limits.rows (length (rows_of_matrix n m)) e)))
+          cond-elim (λ (z : MatrixVerdict). Right limits t (and_then z (λ w. Ok (n, m)))) _ _ _ (λ e. first_holds (many-given right (ltb-true limits.rows (length (rows_of_matrix n m)) e)))
           (λ e. none_holds (λ r other h. go (ltb-false limits.rows (length (rows_of_matrix n m)) e) (told r h)))
         where
           right : (x y : ℕ) (s : Reason) → WrongEntry limits t x y s → ⊥
@@ -379,11 +377,11 @@ module _ (limits : Limits) (t : List ℕ) (us : List ℕ) (first : NumbersAre li
     no-line-byte : {line byte : ℕ} → Prev line → line ≤ n → ((vs : List ℕ) → length vs ≡ n → NumbersAre limits t line vs → ⊥) → DueByte t line (FirstFault limits.digits (numbers n)) byte
         → LineByte limits t line byte
     no-line-byte (is_first e) due out b = absurd (out us refl (subst (λ x. NumbersAre limits t x us) (sym e) first))
-    no-line-byte (is_later stands next) due out b = later_due (omega (arith, line_low stands)) first due b
+    no-line-byte (is_later stands next) due out b = later_due (omega (arith, line-low stands)) first due b
 
     -- a line that is due is missing, or is not n numbers
     not-numbers : {line byte : ℕ} → Prev line → 1 ≤ line → line ≤ n → Clean limits t line → ((vs : List ℕ) → length vs ≡ n → NumbersAre limits t line vs → ⊥)
-        → DueByte t line (FirstFault limits.digits (numbers n)) byte → Right limits t (Err (refusal Misshapen line byte))
+        → DueByte t line (FirstFault limits.digits (numbers n)) byte → Right limits t (refuse Misshapen line byte)
     not-numbers prev low due clean out b = first_holds (misshapen-here low clean (no-line-here prev low due out) (no-line-byte prev due out b))
 
     left-over-here : {line : ℕ} {l : List ℕ} → LineIs (lines t) line l → n < line → Says limits t Misshapen line
@@ -397,8 +395,8 @@ module _ (limits : Limits) (t : List ℕ) (us : List ℕ) (first : NumbersAre li
         given-here TooMuch refl clean (record { vs = vs; is = is; wrong = f.some }) (amount-first line low due vs is wide) (amount-byte x is f)
 
     lines-right : (ls : List (List ℕ)) (line left : ℕ) (m : List (List ℕ)) → 1 ≤ line → line + left ≡ n + 1 → LinesFrom (lines t) line ls → Prev line → Clean limits t line
-        → Held m line → Right limits t (square_judged limits (lines_of limits n line left m ls))
-    unfolding lines_of and_then square_judged
+        → Held m line → Right limits t (square_judged limits (square_lines limits n line left m ls))
+    unfolding square_lines and_then square_judged
     lines-right [] line zero m low due from prev clean held =
         square-right m line held (omega (arith, held.count)) clean from (down-judged m n 1 n)
     lines-right (l ∷ ls) line zero m low due from prev clean held =
@@ -409,7 +407,7 @@ module _ (limits : Limits) (t : List ℕ) (us : List ℕ) (first : NumbersAre li
         go (line-read limits n line l) (λ vs clean held. lines-right ls (line + 1) left (m ++ vs ∷ []) (omega arith) (omega arith) (from_next from) (is_later (line-here from) refl) clean held)
       where
         next : List ℕ → SquareRead
-        next vs = lines_of limits n (line + 1) left (m ++ vs ∷ []) ls
+        next vs = square_lines limits n (line + 1) left (m ++ vs ∷ []) ls
 
         here-is : {vs : List ℕ} → l ≡ numbers_line vs → length vs ≡ n → Spelled limits vs → NumbersAre limits t line vs
         here-is e wide spelled = record { text = subst (LineIs (lines t) line) e (line-here from); some = omega (arith, first.some); spelled = spelled }
@@ -444,13 +442,13 @@ module _ (limits : Limits) (t : List ℕ) where
   all_right short (l ∷ ls) from = go (numbers-read limits (fields_in l) l) (size-judged limits (fields_in l))
     where
       next : SquareRead
-      next = square_judged limits (lines_of limits (fields_in l) 1 (fields_in l) [] (l ∷ ls))
+      next = square_judged limits (square_lines limits (fields_in l) 1 (fields_in l) [] (l ∷ ls))
 
       ring : (us : List ℕ) {v : of_table.Verdict} → NumbersAre limits t 1 us → length us ≡ fields_in l → SizeJudged limits (fields_in l) v → Right limits t (and_then (on_first v) (λ u. next))
       ring us first k (not_so_many w) =
           first_holds (size-given short first (subst (λ x. (x < limits.fewest) ⊎ (limits.nodes < x)) (sym k) w))
       ring us first k (right_size few many) =
-          subst (λ x. Right limits t (square_judged limits (lines_of limits x 1 x [] (l ∷ ls)))) k
+          subst (λ x. Right limits t (square_judged limits (square_lines limits x 1 x [] (l ∷ ls)))) k
           (lines-right limits t us first (omega arith) (omega arith) (l ∷ ls) 1 (length us) [] (omega arith) (omega arith) from (is_first refl) (clean-start short)
           (record { count = refl; at = λ i p q. absurd (omega arith); wide = λ i p q. absurd (omega arith) }))
 
@@ -480,19 +478,16 @@ right limits t =
 
 -- ---- the laws
 
--- a text has one first reason, with one byte
-pub one-given : {limits : Limits} {t : List ℕ} {r s : Reason} {line other byte on : ℕ} → Given limits t r line byte → Given limits t s other on → (r ≡ s) × (line ≡ other) × (byte ≡ on)
-one-given {limits} {t} {r} {s} {line} {other} {byte} {on} f g =
-    let x : stage r < stage s → ⊥ = λ l. g.first r line (inl l) f.holds in
-    let y : stage s < stage r → ⊥ = λ l. f.first s other (inl l) g.holds in
+same-place : (r s : Reason) (line other : ℕ) → (Earlier r line s other → ⊥) → (Earlier s other r line → ⊥) → (r ≡ s) × (line ≡ other)
+same-place r s line other up down =
+    let x : stage r < stage s → ⊥ = λ l. up (inl l) in
+    let y : stage s < stage r → ⊥ = λ l. down (inl l) in
     let z : stage r ≡ stage s = omega arith in
-    let a : line < other → ⊥ = λ l. g.first r line (inr (z, inl l)) f.holds in
-    let b : other < line → ⊥ = λ l. f.first s other (inr (sym z, inl l)) g.holds in
-    let e : line ≡ other = omega arith in
-    let c : rank_of r < rank_of s → ⊥ = λ l. g.first r line (inr (z, inr (e, l))) f.holds in
-    let d : rank_of s < rank_of r → ⊥ = λ l. f.first s other (inr (sym z, inr (sym e, l))) g.holds in
-    let k : r ≡ s = same_rank r s (omega arith) in
-    (k, e, one_byte limits t other byte on s (rw (k, e) at f.byte_is) g.byte_is)
+    same-on-lines r s line other (λ e. up (inr (z, e))) (λ e. down (inr (sym z, e)))
+
+-- a text has one first reason, with one byte
+pub one-given : (limits : Limits) (t : List ℕ) {r s : Reason} {line other byte on : ℕ} → Given limits t r line byte → Given limits t s other on → (r ≡ s) × (line ≡ other) × (byte ≡ on)
+one-given limits t f g = one-first same-place (λ line b c r x y. one_byte limits t line b c r x y) f g
 
 pub given : (limits : Limits) (t : List ℕ) (r : Refusal) → (matrix_of limits t ≡ Err r) ↔ Given limits t r.reason r.line r.byte
 given limits t r = (λ e. there (subst (Right limits t) e (right limits t)), λ g. back g (right limits t))
@@ -502,7 +497,7 @@ given limits t r = (λ e. there (subst (Right limits t) e (right limits t)), λ 
 
     back : Given limits t r.reason r.line r.byte → {x : SquareRead} → Right limits t x → x ≡ Err r
     back g (none_holds out) = absurd (out r.reason r.line g.holds)
-    back g (first_holds f) = let o = one-given f g in let a = o.0 in let b = o.1 in let c = o.2 in ap Err (λ i. record { reason = a i; line = b i; byte = c i })
+    back g (first_holds f) = let o = one-given limits t f g in let a = o.0 in let b = o.1 in let c = o.2 in ap Err (λ i. record { reason = a i; line = b i; byte = c i })
 
 -- a text is read to a matrix
 pub record Reads (limits : Limits) (t : List ℕ) : Type 0 where

@@ -69,16 +69,16 @@ module _ (ring : Ring) (rs : List Demand) (table : TableInRange desk ring rs) (f
   pub matrix-in-range : InRange desk ring.nodes (matrix_of_rows ring.nodes rs)
   matrix-in-range =
       record {
-        few = table.few;
-        many = table.many;
+        few = table.within.few;
+        many = table.within.many;
         square = square-of-rows;
         amounts = amounts-of-rows;
-        zeros = λ i p. entry-sum ring.nodes rs i i p p ∙ sum-diagonal table.rows.nodes i;
+        zeros = λ i p. entry-sum ring.nodes rs i i p p ∙ sum-diagonal table.within.rows.nodes i;
         symmetric = λ i j p q. entry-sum ring.nodes rs i j p q ∙ sum-either rs i j ∙ sym (entry-sum ring.nodes rs j i q p);
-        count = omega (arith, rows-no-more ring.nodes rs, table.count);
-        short = omega (arith, matrix-room ring.nodes (matrix_of_rows ring.nodes rs) table.many square-of-rows amounts-of-rows);
+        count = omega (arith, rows-no-more ring.nodes rs, table.within.count);
+        short = omega (arith, matrix-room ring.nodes (matrix_of_rows ring.nodes rs) table.within.many square-of-rows amounts-of-rows);
       }
 
   -- and has room
   pub room-for-matrix : length (write_matrix (matrix_of_rows ring.nodes rs)) ≤ matrix_room desk
-  room-for-matrix = matrix-room ring.nodes (matrix_of_rows ring.nodes rs) table.many square-of-rows amounts-of-rows
+  room-for-matrix = matrix-room ring.nodes (matrix_of_rows ring.nodes rs) table.within.many square-of-rows amounts-of-rows

@@ -19,6 +19,7 @@ use Rattle.table.specs.Table.{write_table, table_room, InRange as TableInRange}
 use Rattle.table.proofs.Short.{desk-narrow, table-short}
 use Rattle.matrix.specs.Matrix.{entry, IsSquare, Node}
 use Rattle.matrix.specs.Range.{InRange}
+use Rattle.matrix.specs.Laws.{RowsOfMatrixIs}
 use Rattle.matrix.specs.Demands.{rows_of_matrix, sum_of, matrix_of_rows, OneEach}
 use Rattle.matrix.proofs.LinesText.{each_at}
 use Rattle.matrix.proofs.SumLaws.{part-other, sum-either, sum-diagonal, Rising, no_row, next_row, same-sums}
@@ -183,14 +184,31 @@ table-room n fibres m two_or_four range =
 pub rows-in-range : (n fibres : ℕ) (m : List (List ℕ)) → IsFibres fibres → InRange desk n m → TableInRange desk (ring_of n fibres) (rows_of_matrix n m)
 rows-in-range n fibres m two_or_four range =
     record {
-      few = range.few;
-      many = range.many;
-      fibres = two_or_four;
-      rows = record { nodes = rows_on (entry m) n; order = rising-steps (rows-rising (entry m) n) };
-      count = range.count;
-      amounts = rows-small desk n m range;
+      within =
+          record {
+            few = range.few;
+            many = range.many;
+            fibres = two_or_four;
+            rows = record { nodes = rows_on (entry m) n; order = rising-steps (rows-rising (entry m) n) };
+            count = range.count;
+            amounts = rows-small desk n m range;
+          };
       short = omega (arith, table-room n fibres m two_or_four range);
     }
 
 pub rows-one-each : (n : ℕ) (m : List (List ℕ)) → OneEach (rows_of_matrix n m)
 rows-one-each n m = record { one = rising-pairs (rows-rising (entry m) n); some = rows-some (entry m) n }
+
+-- ---- the rows of a matrix are the only ones that say it
+
+pub rows-of-matrix-is : (limits : Limits) → RowsOfMatrixIs limits
+rows-of-matrix-is limits n m range =
+    record {
+      are =
+          record {
+            rows = record { nodes = rows_on (entry m) n; order = rising-steps (rows-rising (entry m) n) };
+            each = rows-one-each n m;
+            sums = matrix-back limits n m range;
+          };
+      only = λ rs of. sym (let e = of.sums in rw e at (table-back n rs of.rows of.each));
+    }

@@ -11,7 +11,7 @@ use Rattle.ring.specs.Demand.{demand}
 use Rattle.ring.specs.declared.types.Demand.{Demand}
 use Rattle.matrix.specs.Demands.{sum_of, Passes, PassesAt}
 use Rattle.std.specs.Prelude.{Ok}
-use Rattle.matrix.specs.Read.{Found}
+use Rattle.matrix.specs.Read.{MatrixVerdict}
 use Rattle.matrix.specs.Judged.{passes_at, sums_from, judge_sums}
 use Rattle.matrix.proofs.SumLaws.{sum_more, part-other, sum-either}
 
@@ -23,7 +23,7 @@ record PassesIn (limits : Limits) (before rs : List Demand) (k : ℕ) : Type 0 w
   pub high : k ≤ length rs
   pub wrong : limits.amount < sum_of (before ++ take k rs) (get_or rs (k - 1) (demand 0 0 0)).first (get_or rs (k - 1) (demand 0 0 0)).second
 
-data SumsRead (limits : Limits) (line : ℕ) (before rs : List Demand) : Found → Type 0 where
+data SumsRead (limits : Limits) (line : ℕ) (before rs : List Demand) : MatrixVerdict → Type 0 where
   passes : {found : ℕ} (k : ℕ) → found + 1 ≡ line + k → PassesIn limits before rs k → ((other : ℕ) → other < k → PassesIn limits before rs other → ⊥)
       → SumsRead limits line before rs (passes_at found)
   all_fit : ((k : ℕ) → PassesIn limits before rs k → ⊥) → SumsRead limits line before rs (Ok tt)
@@ -69,12 +69,12 @@ sums-read limits (r ∷ rs) before line =
       | no l ↦ let f : sum_of (before ++ r ∷ []) r.first r.second ≤ limits.amount = omega arith in rw (le-ltb _ _ f) (go f (sums-read limits rs (before ++ r ∷ []) (line + 1)))
     ]
   where
-    go : {x : Found} → sum_of (before ++ r ∷ []) r.first r.second ≤ limits.amount → SumsRead limits (line + 1) (before ++ r ∷ []) rs x → SumsRead limits line before (r ∷ rs) x
+    go : {x : MatrixVerdict} → sum_of (before ++ r ∷ []) r.first r.second ≤ limits.amount → SumsRead limits (line + 1) (before ++ r ∷ []) rs x → SumsRead limits line before (r ∷ rs) x
     go f (passes {found} k e p first) = passes {found = found} (suc k) (omega arith) (passes-next limits before r rs k p) (none_before limits before r rs f k first)
     go f (all_fit none) = all_fit (λ k p. not_first limits before r rs f k p none)
 
 -- whether each sum is an amount, or where one passes it
-pub data SumsJudged (limits : Limits) (rs : List Demand) : Found → Type 0 where
+pub data SumsJudged (limits : Limits) (rs : List Demand) : MatrixVerdict → Type 0 where
   sums_pass : {line : ℕ} → PassesAt limits rs line → SumsJudged limits rs (passes_at line)
   sums_fit : ((k : ℕ) → Passes limits rs k → ⊥) → SumsJudged limits rs (Ok tt)
 
@@ -82,7 +82,7 @@ pub sums-judged : (limits : Limits) (rs : List Demand) → SumsJudged limits rs 
 unfolding judge_sums
 sums-judged limits rs = go (sums-read limits rs [] 2)
   where
-    go : {x : Found} → SumsRead limits 2 [] rs x → SumsJudged limits rs x
+    go : {x : MatrixVerdict} → SumsRead limits 2 [] rs x → SumsJudged limits rs x
     go (passes k e p first) =
         sums_pass (record {
           k = k;

@@ -30,6 +30,7 @@ rows_of_matrix n m = rows_by n (entry m)
 
 -- ---- to a matrix
 
+-- the pair a, b is i, j
 unfoldable pub same_pair : ℕ → ℕ → ℕ → ℕ → Bool
 same_pair a b i j = eqb a i && eqb b j
 

@@ -2,9 +2,10 @@
 pub mod Matrix
 pub mod Demands
 pub mod Range
+pub mod Laws
 pub mod Read
 pub mod Judged
 pub mod Square
 pub mod Room
 pub mod Says
-pub mod Answer
+pub mod ReadInto

@@ -1,5 +1,6 @@
 -- To believe: what a matrix is and how it is written (Rules, matrices), n lines of n numbers parted by tabs, symmetric and 0 on the diagonal.
-use Rattle.std.specs.Prelude.{ℕ, ◌+◌, ◌-◌, ◌≤◌, List, [], ◌∷◌, ◌++◌, ◌≡◌, length, get_or, take}
+use Rattle.std.specs.Prelude.{ℕ, ◌+◌, ◌-◌, ◌≤◌, List, [], ◌≡◌, length, get_or, take}
+use Rattle.std.specs.List.{flat_map}
 use Rattle.ring.specs.Lists.{Each}
 use Rattle.text.specs.Shapes.{numbers_line}
 
@@ -9,8 +10,7 @@ entry m i j = get_or (get_or m (i - 1) []) (j - 1) 0
 
 -- the lines, one behind the other
 unfoldable pub write_matrix : List (List ℕ) → List ℕ
-write_matrix [] = []
-write_matrix (vs ∷ m) = numbers_line vs ++ write_matrix m
+write_matrix m = flat_map numbers_line m
 
 -- where the entry behind k others starts in the line of the numbers vs, counted from 1: one more than the length of what is written before it
 abbrev pub entry_byte : List ℕ → ℕ → ℕ

@@ -6,11 +6,11 @@ use Rattle.text.specs.ReadLine.{Reading, read_line}
 use Rattle.text.specs.Shapes.{numbers}
 use Rattle.table.specs.Lines.{lines}
 use Rattle.table.specs.Judge.{check_size}
-use Rattle.table.specs.OnLine.{refusal, and_then, values_on}
+use Rattle.table.specs.OnLine.{and_then, values_on}
 use Rattle.table.specs.Verdict as of_table
-use Rattle.table.specs.declared.reason.Reason.{Reason}
 use Rattle.table.specs.declared.reason.Refusal.{Refusal}
 use Rattle.table.specs.declared.reason.Reason.TheVariants.{TooLong, Misshapen, TooMany, TooMuch, NotZero, NotSymmetric}
+use Rattle.table.specs.Refusals.{refuse}
 use Rattle.matrix.specs.Matrix.{entry, entry_byte}
 use Rattle.matrix.specs.Demands.{rows_of_matrix}
 
@@ -19,11 +19,8 @@ abbrev pub SquareRead : Type 0
 SquareRead = Result (ℕ × List (List ℕ)) Refusal
 
 -- what is found against what was read: nothing, or a refusal
-abbrev pub Found : Type 0
-Found = Result Unit Refusal
-
-abbrev pub refusing : Reason → ℕ → ℕ → Found
-refusing reason line byte = Err (refusal reason line byte)
+abbrev pub MatrixVerdict : Type 0
+MatrixVerdict = Result Unit Refusal
 
 -- ---- one line
 
@@ -50,7 +47,7 @@ Numbers = Result (List ℕ) Refusal
 
 unfoldable pub unless_over : Option ℕ → ℕ → List ℕ → Numbers
 unless_over None line vs = Ok vs
-unless_over (Some k) line vs = Err (refusal TooMuch line (entry_byte vs k))
+unless_over (Some k) line vs = refuse TooMuch line (entry_byte vs k)
 
 unfoldable pub amounts_in : Limits → ℕ → Reading → Numbers
 unfolding and_then values_on unless_over
@@ -59,13 +56,13 @@ amounts_in limits line reading = and_then (values_on line reading) λ vs. unless
 -- ---- the lines in order
 
 -- `left` lines of n numbers are due in ls, of which the first has the number `line`, behind the lines m
-unfoldable pub lines_of : Limits → ℕ → ℕ → ℕ → List (List ℕ) → List (List ℕ) → SquareRead
+unfoldable pub square_lines : Limits → ℕ → ℕ → ℕ → List (List ℕ) → List (List ℕ) → SquareRead
 unfolding and_then amounts_in
-lines_of limits n line zero m [] = Ok (n, m)
-lines_of limits n line zero m (l ∷ ls) = Err (refusal Misshapen line 1)
-lines_of limits n line (suc left) m [] = Err (refusal Misshapen line 1)
-lines_of limits n line (suc left) m (l ∷ ls) =
-    and_then (amounts_in limits line (read_line limits.digits (numbers n) l)) λ vs. lines_of limits n (line + 1) left (m ++ vs ∷ []) ls
+square_lines limits n line zero m [] = Ok (n, m)
+square_lines limits n line zero m (l ∷ ls) = refuse Misshapen line 1
+square_lines limits n line (suc left) m [] = refuse Misshapen line 1
+square_lines limits n line (suc left) m (l ∷ ls) =
+    and_then (amounts_in limits line (read_line limits.digits (numbers n) l)) λ vs. square_lines limits n (line + 1) left (m ++ vs ∷ []) ls
 
 -- ---- the entries in order
 
@@ -74,30 +71,30 @@ unfoldable pub check_entry : ℕ → ℕ → ℕ → ℕ → of_table.Verdict
 check_entry i j x y = cond (eqb i j) (cond (eqb x 0) (Ok tt) (Err NotZero)) (cond (eqb x y) (Ok tt) (Err NotSymmetric))
 
 -- what is found against an entry that starts there
-unfoldable pub on_entry : of_table.Verdict → ℕ → ℕ → Found
+unfoldable pub on_entry : of_table.Verdict → ℕ → ℕ → MatrixVerdict
 on_entry (Ok tt) line byte = Ok tt
-on_entry (Err reason) line byte = refusing reason line byte
+on_entry (Err reason) line byte = refuse reason line byte
 
 -- where the entry i, j starts in its line
-abbrev pub byte_of : List (List ℕ) → ℕ → ℕ → ℕ
-byte_of m i j = entry_byte (get_or m (i - 1) []) (j - 1)
+abbrev pub square_byte : List (List ℕ) → ℕ → ℕ → ℕ
+square_byte m i j = entry_byte (get_or m (i - 1) []) (j - 1)
 
 -- the entries i, j and on, k of them, then what is next
-unfoldable pub judge_across : List (List ℕ) → ℕ → ℕ → ℕ → Found → Found
+unfoldable pub judge_across : List (List ℕ) → ℕ → ℕ → ℕ → MatrixVerdict → MatrixVerdict
 unfolding check_entry on_entry and_then
 judge_across m i j zero next = next
 judge_across m i j (suc k) next =
-    and_then (on_entry (check_entry i j (entry m i j) (entry m j i)) i (byte_of m i j)) λ u. judge_across m i (j + 1) k next
+    and_then (on_entry (check_entry i j (entry m i j) (entry m j i)) i (square_byte m i j)) λ u. judge_across m i (j + 1) k next
 
 -- the lines i and on, k of them, each of n entries
-unfoldable pub judge_down : List (List ℕ) → ℕ → ℕ → ℕ → Found
+unfoldable pub judge_down : List (List ℕ) → ℕ → ℕ → ℕ → MatrixVerdict
 unfolding judge_across
 judge_down m n i zero = Ok tt
 judge_down m n i (suc k) = judge_across m i 1 n (judge_down m n (i + 1) k)
 
 -- 16, of all rows together
-abbrev pub judge_count : Limits → ℕ → List (List ℕ) → Found
-judge_count limits n m = cond (ltb limits.rows (length (rows_of_matrix n m))) (refusing TooMany 0 0) (Ok tt)
+abbrev pub judge_count : Limits → ℕ → List (List ℕ) → MatrixVerdict
+judge_count limits n m = cond (ltb limits.rows (length (rows_of_matrix n m))) (refuse TooMany 0 0) (Ok tt)
 
 unfoldable pub square_judged : Limits → SquareRead → SquareRead
 unfolding judge_down and_then
@@ -106,19 +103,19 @@ square_judged limits x = and_then x λ s. and_then (judge_down s.1 s.0 1 s.0) λ
 -- ---- the whole
 
 -- what is found against the number of fields of the first line
-unfoldable pub on_first : of_table.Verdict → Found
+unfoldable pub on_first : of_table.Verdict → MatrixVerdict
 on_first (Ok tt) = Ok tt
-on_first (Err reason) = refusing reason 1 1
+on_first (Err reason) = refuse reason 1 1
 
 -- n is the number of fields of the first line
 unfoldable pub matrix_lines : Limits → List (List ℕ) → SquareRead
-unfolding and_then values_on on_first lines_of square_judged fields_in
-matrix_lines limits [] = Err (refusal Misshapen 1 1)
+unfolding and_then values_on on_first square_lines square_judged fields_in
+matrix_lines limits [] = refuse Misshapen 1 1
 matrix_lines limits (l ∷ ls) =
     and_then (values_on 1 (read_line limits.digits (numbers (fields_in l)) l)) λ vs.
     and_then (on_first (check_size limits (fields_in l))) λ u.
-    square_judged limits (lines_of limits (fields_in l) 1 (fields_in l) [] (l ∷ ls))
+    square_judged limits (square_lines limits (fields_in l) 1 (fields_in l) [] (l ∷ ls))
 
 unfoldable pub matrix_of : Limits → List ℕ → SquareRead
 unfolding matrix_lines
-matrix_of limits t = cond (ltb limits.bytes (length t)) (Err (refusal TooLong 0 0)) (matrix_lines limits (lines t))
+matrix_of limits t = cond (ltb limits.bytes (length t)) (refuse TooLong 0 0) (matrix_lines limits (lines t))

@@ -6,9 +6,9 @@ use Rattle.ring.specs.TableRows.{PairBefore}
 use Rattle.text.specs.Number.{limit}
 use Rattle.text.specs.FirstFault.{Agrees, FirstFault}
 use Rattle.text.specs.Shapes.{numbers, numbers_line}
-use Rattle.table.specs.Lines.{lines}
-use Rattle.table.specs.Reasons.{rank_of}
-use Rattle.table.specs.Says.{LineIs, DueByte}
+use Rattle.table.specs.Lines.{lines, LineIs}
+use Rattle.table.specs.Reasons.{rank_of, FirstReason, NoReason}
+use Rattle.table.specs.RowReasons.{DueByte}
 use Rattle.table.specs.declared.reason.Reason.{Reason}
 use Rattle.table.specs.declared.reason.Reason.TheVariants.{TooLong, Misshapen, RingSize, TooMany, TooMuch, NotZero, NotSymmetric}
 use Rattle.matrix.specs.Matrix.{entry_byte, IsSquare, Node}
@@ -166,12 +166,9 @@ abbrev pub Earlier : Reason → ℕ → Reason → ℕ → Type 0
 Earlier r line s other =
     (stage r < stage s) ⊎ ((stage r ≡ stage s) × ((line < other) ⊎ ((line ≡ other) × (rank_of r < rank_of s))))
 
--- each reason is given exactly when it holds and nothing before it in the order does, and with it its byte
-pub record Given (limits : Limits) (t : List ℕ) (r : Reason) (line byte : ℕ) : Type 0 where
-  pub holds : Says limits t r line
-  pub first : (s : Reason) (other : ℕ) → Earlier s other r line → Says limits t s other → ⊥
-  pub byte_is : ByteIs limits t r line byte
+abbrev pub Given : Limits → List ℕ → Reason → ℕ → ℕ → Type 0
+Given limits t = FirstReason (Says limits t) Earlier (ByteIs limits t)
 
 -- a matrix is accepted when no reason holds that judges its own length or lines; the 20 that its reader is told is not in `Says`
 abbrev pub Accepted : Limits → List ℕ → Type 0
-Accepted limits t = (r : Reason) (line : ℕ) → Says limits t r line → ⊥
+Accepted limits t = NoReason (Says limits t)

@@ -3,8 +3,8 @@ ghost use Rattle.std.specs.Prelude.{◌≡◌, [], ◌≤◌, length, IfOk, IfEr
 ghost use Rattle.ring.specs.Limits.{desk};
 ghost use Rattle.ring.specs.Sheet.{sents, demands};
 ghost use Rattle.table.specs.Lines.{lines as lines_in};
-ghost use Rattle.matrix.specs.Read.{lines_of, square_judged, matrix_of};
-ghost use Rattle.matrix.specs.Answer.{read_to, IsMatrix, IsGiven};
+ghost use Rattle.matrix.specs.Read.{square_lines, square_judged, matrix_of};
+ghost use Rattle.matrix.specs.ReadInto.{read_to, IsMatrix, IsGiven};
 
 use crate::fill::fill;
 use crate::judge::{judge_count, judge_square};
@@ -20,7 +20,7 @@ use table::{Lines, Refusal, check_size};
 fn nodes_of(text: &[u8]) -> Result<u32, Refusal>
     ensures goes_on { IfOk result (λ n.
         matrix_of desk text.now
-        ≡ square_judged desk (lines_of desk n 1 n [] (lines_in text.now))) }
+        ≡ square_judged desk (square_lines desk n 1 n [] (lines_in text.now))) }
     ensures few { IfOk result (λ n. n ≤ desk.nodes) }
     ensures refused { IfErr result
         (λ r. matrix_of desk text.now ≡ Err r) }
@@ -40,7 +40,7 @@ fn nodes_of(text: &[u8]) -> Result<u32, Refusal>
 /// Reads the lines of a matrix into a square of its nodes. A missing line is the one after the last, and a line behind them is left over.
 fn read_lines(lines: &mut Lines, square: &mut Square) -> Result<(), Refusal>
     ensures { let n = length square.old in
-        read_to result square.new ≡ lines_of desk n 1 n [] lines.old }
+        read_to result square.new ≡ square_lines desk n 1 n [] lines.old }
 {
     let nodes = square.nodes();
     let mut values = Numbers::new();
@@ -52,9 +52,9 @@ fn read_lines(lines: &mut Lines, square: &mut Square) -> Result<(), Refusal>
     lines.end(nodes + 1)
 }
 
-/// Reads a matrix into columns: a row for each pair of nodes whose entry is above 0, in table order; how it is sent is not said. It answers how many nodes the ring has; of
-/// its fibres a matrix says nothing. A text is refused by the first reason that holds, with its line and byte; then the columns hold no row. Not made one with its caller, whose
-/// stack would hold the square before the columns are made and after they are filled.
+/// Reads a matrix into columns: a row for each pair of nodes whose entry is above 0, in table order; how it is sent is not said. It answers how many nodes the
+/// ring has; of its fibres a matrix says nothing. A text is refused by the first reason that holds, with its line and byte; then the columns hold no row. Not
+/// made one with its caller, whose stack would hold the square before the columns are made and after they are filled.
 #[inline(never)]
 pub fn read_matrix(text: &[u8], rows: &mut Columns) -> Result<u32, Refusal>
     ensures accepted { IfOk result (λ n. IsMatrix text.now n (demands (sents rows.new))) }

@@ -3,7 +3,7 @@ ghost use Rattle.std.specs.Prelude.{◌≡◌, [], ◌-◌, ◌≤◌, length, g
 ghost use Rattle.ring.specs.Limits.{desk};
 ghost use Rattle.ring.specs.Lists.{Each};
 ghost use Rattle.matrix.specs.Matrix.{entry, IsSquare, Node};
-ghost use Rattle.matrix.specs.Read.{byte_of};
+ghost use Rattle.matrix.specs.Read.{square_byte};
 
 use crate::numbers::{Numbers, byte_of};
 use ring::{LINKS, wide};
@@ -88,7 +88,7 @@ impl Square {
     pub(crate) fn byte_of(&self, i: u32, j: u32) -> u32
         requires line { Node (length self.now) i }
         requires place { Node (length self.now) j }
-        ensures { result ≡ byte_of self.now i j }
+        ensures { result ≡ square_byte self.now i j }
     {
         // opens the value, so that its invariant is known: how many entries there are
         let _ = &self.nodes;

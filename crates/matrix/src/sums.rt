@@ -33,7 +33,7 @@ pub(crate) fn sum_of<R: Rows>(rows: &R, count: usize, i: u32, j: u32) -> u32
         .sum()
 }
 
-/// Whether each pair's sum is an amount; or the refusal on the line of the first row at which one passes it. The first row stands on line 2.
+/// Each pair's sum is an amount, at most 9,999 units; or 19, on the line of the first row at which its pair's sum passes that. The first row stands on line 2.
 pub fn judge_sums<R: Rows>(rows: &R) -> Result<(), Refusal>
     requires { Amounts (demands (sents (R.rows rows.now))) }
     ensures { result ≡ judge_sums desk (demands (sents (R.rows rows.now))) }

@@ -20,7 +20,3 @@ InTableOrder a b = PairUpTo a.first a.second b.first b.second
 pub record TableRows (n : ℕ) (rs : List Demand) : Type 0 where
   pub nodes : Each (OnRing n) rs
   pub order : Steps InTableOrder rs
-
--- all that the rules need of the order: first nodes do not fall
-abbrev pub NoFall : Demand → Demand → Type 0
-NoFall a b = a.first ≤ b.first

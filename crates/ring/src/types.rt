@@ -1,7 +1,12 @@
 // The records of the subject, one for each thing: the definitions speak of these very types.
-ghost use Rattle.std.specs.Prelude.{◌≡◌};
+ghost use Rattle.std.specs.Prelude.{◌≡◌, ◌*◌, ◌^◌, ◌<◌};
+ghost use Rattle.sonet.specs.Size.{sonet_sizes};
 ghost use Rattle.ring.specs.Demand.{in_front};
+ghost use Rattle.ring.specs.LineSize.{needed, line_size};
 ghost use Rattle.ring.specs.Routing.{by_way, way_of, way_number};
+
+use crate::TWO_FIBRES;
+use sonet::Sonet;
 
 /// A ring: its nodes, 1 to `nodes`, and its fibres. Link k joins nodes k and k + 1, the last link the last node and node 1.
 #[repr(C)]
@@ -11,8 +16,33 @@ pub struct Ring {
     pub fibres: u32,
 }
 
+impl Ring {
+    // What a line must carry for an unsplit peak, in units: on two fibres twice it, since half of the bandwidth is kept for protection there.
+    #[tactic(auto, unfolding(crate::specs::LineSize::needed))]
+    fn must_carry(self, peak: u32) -> u32
+        requires { 2 * peak < 2 ^ 32 }
+        ensures { result ≡ needed self.fibres peak }
+    {
+        if self.fibres == TWO_FIBRES {
+            2 * peak
+        } else {
+            peak
+        }
+    }
+
+    /// Its line size for an unsplit peak in units, the smallest of the SONET sizes that carries it, 0 if none does. A peak that is asked for is a sum of at most
+    /// 1,024 amounts, so twice it fits.
+    #[tactic(auto, unfolding(crate::specs::LineSize::line_size))]
+    pub fn line_size(self, peak: u32) -> u32
+        requires { 2 * peak < 2 ^ 32 }
+        ensures { result ≡ line_size sonet_sizes self.fibres peak }
+    {
+        Sonet::size(self.must_carry(peak))
+    }
+}
+
 /// A demand of so many units between two nodes, the first below the second in every table.
-#[derive(Clone, Copy)]
+#[derive(Clone, Copy, Default)]
 pub struct Demand {
     pub first: u32,
     pub second: u32,
@@ -81,7 +111,7 @@ pub struct Routed {
     pub way: Way,
 }
 
-/// Two links and the across number that is said of them.
+/// Two links and the across number that is said of them, in units.
 #[repr(C)]
 #[derive(Clone, Copy)]
 pub struct Cut {

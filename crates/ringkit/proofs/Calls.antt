@@ -12,13 +12,14 @@ use Rattle.std.specs.Prelude.{Result, Ok, Err, IsOk, IfOk}
 use Rattle.table.specs.declared.reason.Reason.{Reason}
 use Rattle.table.specs.declared.reason.Reason.TheVariants.{NoRoom}
 use Rattle.table.specs.declared.reason.Refusal.{Refusal}
+use Rattle.table.specs.Refusals.{refuse}
 use Rattle.ringkit.specs.Outcome.{Outcome, within, answer_of, buffer_after, Fills}
-use Rattle.ringkit.specs.Says.{Answer, refusal, Success, Refused, CallSays, with_room, without_room, none_due, TooLarge, CallPromise, Only}
+use Rattle.ringkit.specs.Says.{Answer, Success, Refused, CallSays, with_room, without_room, none_due, TooLarge, CallPromise, Only}
 
 -- an outcome is a text that is due, or a refusal that is given
 pub data Decided (Due : List ℕ → Type 0) (Given : Reason → ℕ → ℕ → Type 0) : Outcome → Type 0 where
   is_due : {text : List ℕ} → Due text → Decided Due Given (Ok text)
-  is_given : {reason : Reason} {line byte : ℕ} → Given reason line byte → Decided Due Given (Err (refusal reason line byte))
+  is_given : {reason : Reason} {line byte : ℕ} → Given reason line byte → Decided Due Given (refuse reason line byte)
 
 -- there is one of them only, and no refusal is 15
 pub record One (Due : List ℕ → Type 0) (Given : Reason → ℕ → ℕ → Type 0) : Type 0 where

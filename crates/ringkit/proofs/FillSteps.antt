@@ -10,9 +10,10 @@ use borrow.Author.Tests.{lt-ltb}
 use Rattle.std.specs.Prelude.{Result, Ok, Err}
 use Rattle.text.specs.Written.{Written}
 use Rattle.table.specs.declared.reason.Refusal.{Refusal}
-use Rattle.ringkit.specs.Outcome.{Outcome, room_for, within, answer_of, buffer_after, Fills}
+use Rattle.ringkit.specs.Outcome.{Outcome, ask_room, within, answer_of, buffer_after, Fills}
 use Rattle.table.specs.declared.reason.Reason.TheVariants.{NoRoom}
-use Rattle.ringkit.specs.Says.{Answer, refusal}
+use Rattle.table.specs.Refusals.{refuse}
+use Rattle.ringkit.specs.Says.{Answer}
 
 -- a refusal changes nothing
 pub refuses : (outcome : Outcome) (old : List ℕ) (x : Refusal) → outcome ≡ Err x → Fills outcome old old (Err x)
@@ -20,26 +21,26 @@ unfolding within answer_of buffer_after
 refuses outcome old x o = record { answer = rw o; buffer = rw o }
 
 -- there is room for so many bytes where it is answered so
-has-room : (old size : ℕ) (room : Result Unit Refusal) → room ≡ room_for old size → room ≡ Ok tt → size ≤ old
-unfolding room_for
+has-room : (old size : ℕ) (room : Result Unit Refusal) → room ≡ ask_room old size → room ≡ Ok tt → size ≤ old
+unfolding ask_room
 has-room old size room e a =
     elim (dec_lt old size) [
       | yes l ↦
           let f = lt-ltb old size l in
-          let g : room_for old size ≡ Err (refusal NoRoom 0 0) = rw f refl in
-          let h : ◌≡◌ {A = Result Unit Refusal} (Ok tt) (Err (refusal NoRoom 0 0)) = sym a ∙ e ∙ g in
+          let g : ask_room old size ≡ refuse NoRoom 0 0 = rw f refl in
+          let h : ◌≡◌ {A = Result Unit Refusal} (Ok tt) (refuse NoRoom 0 0) = sym a ∙ e ∙ g in
           absurd (cc)
       | no l ↦ omega arith
     ]
 
 -- a text of `size` bytes, by what is answered to the question for room
-module _ (old t : List ℕ) (size : ℕ) (is : size ≡ length t) (room : Result Unit Refusal) (er : room ≡ room_for (length old) size) where
-  asked : room ≡ room_for (length old) (length t)
-  asked = er ∙ ap (room_for (length old)) is
+module _ (old t : List ℕ) (size : ℕ) (is : size ≡ length t) (room : Result Unit Refusal) (er : room ≡ ask_room (length old) size) where
+  asked : room ≡ ask_room (length old) (length t)
+  asked = er ∙ ap (ask_room (length old)) is
 
   pub text-refused : (x : Refusal) → room ≡ Err x → Fills (Ok t) old old (Err x)
   unfolding within answer_of buffer_after
-  text-refused x a = let e : room_for (length old) (length t) ≡ Err x = sym asked ∙ a in record { answer = rw e; buffer = rw e }
+  text-refused x a = let e : ask_room (length old) (length t) ≡ Err x = sym asked ∙ a in record { answer = rw e; buffer = rw e }
 
   pub text-has-room : room ≡ Ok tt → length t ≤ length old
   text-has-room a = omega (arith, has-room (length old) size room er a)
@@ -47,7 +48,7 @@ module _ (old t : List ℕ) (size : ℕ) (is : size ≡ length t) (room : Result
   pub text-fills : room ≡ Ok tt → (new : List ℕ) (n : ℕ) → Written old 0 t new n → Fills (Ok t) old new (Ok n)
   unfolding within answer_of buffer_after
   text-fills a new n w =
-      let e : room_for (length old) (length t) ≡ Ok tt = sym asked ∙ a in
+      let e : ask_room (length old) (length t) ≡ Ok tt = sym asked ∙ a in
       let fits = text-has-room a in
       let z : n ≡ length t = omega (arith, w.place) in
       let s : 0 + length t ≡ length t = omega arith in

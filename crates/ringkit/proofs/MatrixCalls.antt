@@ -25,7 +25,7 @@ use Rattle.table.proofs.ReasonsGiven as table-given
 use Rattle.table.proofs.Said.{not-15 as table-not-15}
 use Rattle.matrix.specs.Matrix.{write_matrix}
 use Rattle.matrix.specs.Demands.{rows_of_matrix, matrix_of_rows, Passes, OneEach}
-use Rattle.matrix.specs.Read.{SquareRead, Found, matrix_of}
+use Rattle.matrix.specs.Read.{SquareRead, MatrixVerdict, matrix_of}
 use Rattle.matrix.specs.Room.{matrix_room}
 use Rattle.matrix.specs.Says.{Says, Accepted}
 use Rattle.matrix.proofs.MatrixText.{desk-possible, matrix-text}
@@ -87,7 +87,7 @@ module _ (fibres : ℕ) (t : List ℕ) where
   one-given-matrix (of_fibres f) (of_fibres g) = (refl, refl, refl)
   one-given-matrix (of_fibres f) (of_matrix g h) = absurd (f g)
   one-given-matrix (of_matrix f h) (of_fibres g) = absurd (g f)
-  one-given-matrix (of_matrix f h) (of_matrix g k) = one-given h k
+  one-given-matrix (of_matrix f h) (of_matrix g k) = one-given desk t h k
 
   due-not-given : {text : List ℕ} {r : Reason} {line byte : ℕ} → MatrixDue fibres t text → MatrixGiven fibres t r line byte → ⊥
   due-not-given d (of_fibres f) = f d.two_or_four
@@ -154,7 +154,7 @@ module _ (t : List ℕ) where
   unfolding of_table and_then
   sums-decided (accepted ring rs) e = go (sums-judged desk rs)
     where
-      go : {x : Found} → SumsJudged desk rs x → Decided (SumsDue t) (SumsGiven t) (and_then x λ u. Ok (write_matrix (matrix_of_rows ring.nodes rs)))
+      go : {x : MatrixVerdict} → SumsJudged desk rs x → Decided (SumsDue t) (SumsGiven t) (and_then x λ u. Ok (write_matrix (matrix_of_rows ring.nodes rs)))
       go (sums_fit fit) = is_due (record { ring = ring; rs = rs; of = (read_is t ring rs).0 e; fit = fit; is = refl })
       go (sums_pass passes) = is_given (of_sums ((read_is t ring rs).0 e) passes)
   sums-decided (refused reason line byte) e = is_given (of_the_table ((table-given.given desk t reason line byte).0 e))
@@ -172,7 +172,7 @@ module _ (t : List ℕ) where
   due-or-given d (of_sums of p) = let e = (same-values of d.of).1 in d.fit p.k (rw e at p.holds)
 
   not_full : {r : Reason} {line byte : ℕ} → SumsGiven t r line byte → r ≡ NoRoom → ⊥
-  not_full (of_the_table {reason} {line} {byte} a) e = table-not-15 desk t line reason a.holds (ap number_of e)
+  not_full (of_the_table {reason} a) e = table-not-15 reason a.holds (ap number_of e)
   not_full (of_sums of p) e = absurd (omega (arith, ap number_of e))
 
   one-sums : One (SumsDue t) (SumsGiven t)
@@ -251,11 +251,11 @@ table-there-and-back t ring rs of each text old new r write done other after q r
     let same = same-values of d.of in
     let er = same.0 in
     let es = same.1 in
-    let back = table-back d.ring.nodes d.rs d.of.range.rows (rw es at each) in
+    let back = table-back d.ring.nodes d.rs d.of.range.within.rows (rw es at each) in
     let fibres : d.ring.fibres ≡ ring.fibres = ap (λ (x : Ring). x.fibres) (sym er) in
     let due : MatrixDue d.ring.fibres text t =
     record {
-      two_or_four = d.of.range.fibres;
+      two_or_four = d.of.range.within.fibres;
       n = d.ring.nodes;
       m = matrix_of_rows d.ring.nodes d.rs;
       of = due-matrix t text d;

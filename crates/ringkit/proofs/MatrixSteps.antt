@@ -1,7 +1,7 @@
 -- Reading a matrix and writing its table, and writing a table's matrix: what reading said is what the writer asks for, and gives the outcome each way out of the call.
 use Prim.Native.Nat.{ℕ, ◌≤◌}
 use mathlib.Core.List.{List}
-use mathlib.Core.Path.{◌≡◌, ◌∙◌, sym}
+use mathlib.Core.Path.{◌≡◌, ◌∙◌}
 use native.Mathlib.Omega.{arith}
 use lib.ListN.{length}
 use Rattle.std.specs.Prelude.{Ok, Err}
@@ -19,9 +19,9 @@ use Rattle.table.specs.Table.{write_table}
 use Rattle.table.specs.declared.reason.Refusal.{Refusal}
 use Rattle.matrix.specs.Matrix.{write_matrix}
 use Rattle.matrix.specs.Demands.{matrix_of_rows}
-use Rattle.matrix.specs.Read.{Found, matrix_of}
+use Rattle.matrix.specs.Read.{MatrixVerdict, matrix_of}
 use Rattle.matrix.specs.Judged.{judge_sums}
-use Rattle.matrix.specs.Answer.{IsMatrix, IsGiven}
+use Rattle.matrix.specs.ReadInto.{IsMatrix, IsGiven}
 use Rattle.matrix.proofs.MatrixText.{desk-possible, matrix-text}
 use Rattle.matrix.proofs.ReasonsGiven.{given}
 use Rattle.ringkit.specs.Says.{Answer}
@@ -31,7 +31,7 @@ use Rattle.ringkit.proofs.FillSteps.{refuses, same-fills}
 
 -- ---- reading a matrix, on a ring of so many fibres
 
-module _ (s old : List ℕ) (fibres : ℕ) (v : Verdict) (ev : v ≡ check_fibres fibres) (found : Found) (ef : found ≡ on_call v) where
+module _ (s old : List ℕ) (fibres : ℕ) (v : Verdict) (ev : v ≡ check_fibres fibres) (found : MatrixVerdict) (ef : found ≡ on_call v) where
   read-is : matrix_read fibres s ≡ and_then found (λ u. table_of_matrix fibres (matrix_of desk s))
   unfolding matrix_read
   read-is = rw (ef, ev)
@@ -62,7 +62,7 @@ matrix-rows-have-room s n rows is =
 
 -- ---- writing a table's matrix
 
-module _ (ring : Ring) (rs : List Demand) (x : Found) (ex : x ≡ judge_sums desk rs) where
+module _ (ring : Ring) (rs : List Demand) (x : MatrixVerdict) (ex : x ≡ judge_sums desk rs) where
   pub sums-refused : (old : List ℕ) (y : Refusal) → x ≡ Err y → Fills (matrix_of_table ring rs) old old (Err y)
   unfolding and_then
   sums-refused old y f = refuses (matrix_of_table ring rs) old y (rw (← ex, f))

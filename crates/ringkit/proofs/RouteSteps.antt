@@ -15,7 +15,7 @@ use Rattle.ring.proofs.OurPlan.{plan-demands}
 use Rattle.table.specs.Table.{InRange}
 use Rattle.std.specs.Prelude.{Ok}
 use Rattle.weight.proofs.Weighing.{links_true}
-use Rattle.router.specs.Arrays.{DemandsFit}
+use Rattle.across.specs.Filled.{DemandsFit}
 use Rattle.router.specs.Planned.{plan_in, plan_of}
 use Rattle.router.specs.declared.Plan.{Plan}
 use Rattle.sheet.specs.WriteSheet.{write_sheet}
@@ -33,11 +33,11 @@ module _ (ring : Ring) (old : List Routed) (range : InRange desk ring (demands (
   whole = plan_of ring old
 
   pub router-takes : DemandsFit ring.nodes (demands (sents old))
-  router-takes = record { links = range.many; few = range.count; each = each_both (λ r on small. record { on = on; small = small }) range.rows.nodes range.amounts }
+  router-takes = record { links = range.within.many; few = range.within.count; each = each_both (λ r on small. record { on = on; small = small }) range.within.rows.nodes range.within.amounts }
 
   module _ (new : List Routed) (is : new ≡ (plan_of ring old).rows) where
     pub rows-few : length new ≤ desk.rows
-    rows-few = omega (arith, ap length is, demands-length whole.rows, ap length (plan-demands ring rows range.few range.rows), range.count)
+    rows-few = omega (arith, ap length is, demands-length whole.rows, ap length (plan-demands ring rows range.within.few range.within.rows), range.within.count)
 
     module _ (p : Plan) (e : p ≡ plan_in (plan_of ring old)) where
       links-are : take ring.nodes p.links ≡ whole.links
@@ -47,7 +47,7 @@ module _ (ring : Ring) (old : List Routed) (range : InRange desk ring (demands (
       -- the links of a plan that a ring has
       module _ (n : ℕ) (nodes : n ≡ ring.nodes) where
         pub links-few : length (take n p.links) ≤ desk.nodes
-        links-few = omega (arith, length-take n p.links, range.many)
+        links-few = omega (arith, length-take n p.links, range.within.many)
 
         same-links : take n p.links ≡ whole.links
         same-links = rw nodes links-are

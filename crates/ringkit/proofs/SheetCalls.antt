@@ -14,6 +14,7 @@ use Rattle.table.specs.Reasons.{number_of}
 use Rattle.table.specs.Says as table
 use Rattle.table.specs.declared.reason.Reason.{Reason}
 use Rattle.table.specs.declared.reason.Refusal.{Refusal}
+use Rattle.table.specs.Refusals.{refuse}
 use Rattle.sheet.specs.Read.{SheetResult, accepted, refused, read_sheet}
 use Rattle.sheet.specs.Says.{WellFormed}
 use Rattle.sheet.proofs.SheetReasons.{well-formed-is}
@@ -32,7 +33,7 @@ use Rattle.ringkit.specs.TableCalls.{table_routed}
 use Rattle.ringkit.specs.SheetCalls.{of_sheet, sheet_checked, sheet_parallel, sheet_afresh}
 use Rattle.ringkit.specs.Says.{Answer, CallPromise, Only}
 use Rattle.ringkit.specs.Texts.{SheetOf, SomeSheet, SomeForm, TableDue, sheet_due, Itself}
-use Rattle.ringkit.specs.Answers.{Checked, Asked, yes, CheckSays, says_yes, says_no, CheckPromise, paired, unpaired, not_asked, PairOf, NoPairOf, PairSays, a_pair, no_pair, refused as pair-refused, PairPromise}
+use Rattle.ringkit.specs.Answers.{Checked, Asked, yes, CheckSays, says_yes, says_no, CheckPromise, paired, unpaired, PairOf, NoPairOf, PairSays, a_pair, no_pair, refused as pair-refused, PairPromise}
 use Rattle.ringkit.specs.Promises.{RewriteSheetPromise}
 use Rattle.ringkit.specs.Sheets.{FormedSheet, BestSheet, RoutedWell}
 use Rattle.ringkit.proofs.Calls.{Decided, is_due, is_given, One, call-promise, call-only, same-err}
@@ -174,7 +175,7 @@ module _ (t : List ℕ) where
   unfolding of_sheet
   said x of f e = ap (of_sheet (λ x. first_pair (sents x.rows))) ((checked-is t x).1 of) ∙ ap (λ (f : Pair). Ok f) e
 
-  said-refusal : (reason : Reason) (line byte : ℕ) → Given desk t reason line byte → sheet_parallel t ≡ not_asked reason line byte
+  said-refusal : (reason : Reason) (line byte : ℕ) → Given desk t reason line byte → sheet_parallel t ≡ refuse reason line byte
   unfolding of_sheet
   said-refusal reason line byte g = ap (of_sheet (λ x. first_pair (sents x.rows))) ((given t reason line byte).1 g)
 
@@ -188,7 +189,7 @@ module _ (t : List ℕ) where
   is_none (no_pair x) e = x
   is_none (pair-refused g) e = absurd (cc)
 
-  is-refusal : (reason : Reason) (line byte : ℕ) {r : Asked} → PairSays t r → r ≡ not_asked reason line byte → Given desk t reason line byte
+  is-refusal : (reason : Reason) (line byte : ℕ) {r : Asked} → PairSays t r → r ≡ refuse reason line byte → Given desk t reason line byte
   is-refusal reason line byte (a_pair x l) e = absurd (cc)
   is-refusal reason line byte (no_pair x) e = absurd (cc)
   is-refusal reason line byte (pair-refused g) e = same-no e g
@@ -221,7 +222,7 @@ module _ (t text : List ℕ) (due : TableDue sheet_due t text) where
       record {
         text = due.is;
         range = plan-in-range due.ring due.rs due.of.range;
-        true_sheet = plan-true due.ring due.rs due.of.range.few due.of.range.rows;
+        true_sheet = plan-true due.ring due.rs due.of.range.within.few due.of.range.within.rows;
       }
 
   accepted-sheet : check desk text ≡ accepted (plan due.ring due.rs)
@@ -236,7 +237,7 @@ module _ (t text : List ℕ) (due : TableDue sheet_due t text) where
       record {
         x = plan due.ring due.rs;
         of = routed-of;
-        none = (no-pair-is (sents (plan due.ring due.rs).rows)).0 (plan-no-pair due.ring due.rs due.of.range.few due.of.range.rows);
+        none = (no-pair-is (sents (plan due.ring due.rs).rows)).0 (plan-no-pair due.ring due.rs due.of.range.within.few due.of.range.within.rows);
       }
 
 -- an accepted table has a sheet, which is written where there is room, is the best, and is accepted
@@ -250,7 +251,7 @@ routed-well t old new r call a =
       due = d;
       written = λ fits. ((route-promise t old new r call).succeeds s.text).1 (d, fits);
       best = best_of s.text (plan d.ring d.rs) (routed-of t s.text d);
-      demands = plan-demands d.ring d.rs d.of.range.few d.of.range.rows;
+      demands = plan-demands d.ring d.rs d.of.range.within.few d.of.range.within.rows;
       checked = due-accepted-sheet t s.text d;
       no_pair = due-no-pair t s.text d;
     }

@@ -10,7 +10,7 @@ use Rattle.ring.specs.Sheet.{Sheet, sents, sheet_in}
 use Rattle.ring.specs.declared.types.Link.{Link}
 use Rattle.ring.specs.declared.types.Routed.{Routed}
 use Rattle.table.specs.declared.reason.Refusal.{Refusal}
-use Rattle.sheet.specs.Answer.{with_values}
+use Rattle.sheet.specs.ReadInto.{with_values}
 use Rattle.sheet.specs.WriteSheet.{write_sheet}
 use Rattle.sheet.specs.Range.{InRange}
 use Rattle.ring.specs.declared.types.Figures.{Figures}
@@ -22,6 +22,7 @@ use Rattle.ringkit.specs.Says.{Answer}
 use Rattle.ringkit.specs.Outcome.{Fills}
 use Rattle.ringkit.specs.SheetCalls.{of_sheet, sheet_checked, sheet_parallel, sheet_afresh}
 use Rattle.ringkit.proofs.FillSteps.{refuses}
+use Rattle.ring.proofs.Small.{demands-length}
 
 module _ (s : List ℕ) (rs : List Routed) (ls : List Link) (answer : Either Figures Refusal) (e : with_values rs ls answer ≡ check desk s) where
   module _ (x : Refusal) (a : answer ≡ Err x) where
@@ -49,10 +50,10 @@ module _ (s : List ℕ) (rs : List Routed) (ls : List Link) (answer : Either Fig
 
     -- there are few enough links and rows to be handed on
     pub links-there : length ls ≤ desk.nodes
-    links-there = let m = range.many in let h = range.links in omega arith
+    links-there = let m = range.within.many in let h = range.links in omega arith
 
     pub rows-there : length rs ≤ desk.rows
-    rows-there = range.count
+    rows-there = omega (arith, range.within.count, demands-length rs)
 
     pub pair-found : (pair : Pair) → pair ≡ first_pair (sents rs) → Ok pair ≡ sheet_parallel s
     unfolding of_sheet

@@ -24,9 +24,14 @@ use Rattle.ringkit.specs.Outcome.{Fills}
 use Rattle.ringkit.specs.TableCalls.{of_table, table_afresh, table_routed}
 use Rattle.ringkit.specs.Says.{Answer, CallPromise, Only}
 use Rattle.ringkit.specs.Back.{TableThereAndBack}
-use Rattle.ringkit.specs.Texts.{TableOf, TableDue, SomeDue, sheet_due, Itself}
+use Rattle.ringkit.specs.Texts.{TableOf, TableDue, sheet_due, Itself}
 use Rattle.ringkit.specs.Promises.{RoutePromise, RewriteTablePromise}
 use Rattle.ringkit.proofs.Calls.{Decided, is_due, is_given, One, call-promise, call-only, length-within, written}
+
+-- something is due
+pub record SomeDue (due : Ring → List Demand → List ℕ) (t : List ℕ) : Type 0 where
+  pub text : List ℕ
+  pub is : TableDue due t text
 
 module _ (t : List ℕ) where
   -- a table is read to the values that it is the table of
@@ -58,7 +63,7 @@ module _ (t : List ℕ) where
               a.is ∙ d ∙ sym b.is;
           refusal = λ f g. one-given f g;
           apart = λ {a} {r} {line} d g. due-accepted.1 (record { text = a; is = d }) r line g.holds;
-          other = λ {r} {line} g e. not-15 desk t line r g.holds (ap number_of e);
+          other = λ {r} g e. not-15 r g.holds (ap number_of e);
         }
 
 -- the same text is the table of one ring and one list of rows
@@ -79,7 +84,7 @@ one-itself t =
       text = λ a b. a.same ∙ sym b.same;
       refusal = λ f g. one-given f g;
       apart = λ {a} {r} {line} d g. d.accepted r line g.holds;
-      other = λ {r} {line} g e. not-15 desk t line r g.holds (ap number_of e);
+      other = λ {r} g e. not-15 r g.holds (ap number_of e);
     }
 
 -- an accepted table is written as the same bytes, with room for them; else 15 or the table's first reason

@@ -11,7 +11,7 @@ use Rattle.ring.specs.declared.types.Routed.{Routed}
 use Rattle.ring.specs.Sheet.{sents, demands}
 use Rattle.ring.proofs.Small.{demands-length}
 use Rattle.table.specs.ReadTable.{table_of}
-use Rattle.table.specs.Answer.{with_rows}
+use Rattle.table.specs.ReadInto.{with_rows}
 use Rattle.std.specs.Prelude.{Result, Ok, Err}
 use Rattle.table.specs.declared.reason.Refusal.{Refusal}
 use Rattle.table.proofs.Told.{read-table, read-refusal, read-range}
@@ -32,4 +32,4 @@ module _ (s : List ℕ) (rs : List Demand) (answer : Result Ring Refusal) (e : w
 -- as many rows as their demands, which are in range
 pub rows-have-room : (s : List ℕ) (rows : List Routed) (answer : Result Ring Refusal) → with_rows (demands (sents rows)) answer ≡ table_of desk s → (ring : Ring) → answer ≡ Ok ring
     → length rows ≤ desk.rows
-rows-have-room s rows answer e ring a = let few = (read-range s (demands (sents rows)) answer e ring a).count in omega (arith, demands-length rows)
+rows-have-room s rows answer e ring a = let few = (read-range s (demands (sents rows)) answer e ring a).within.count in omega (arith, demands-length rows)

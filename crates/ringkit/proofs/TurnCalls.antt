@@ -12,20 +12,20 @@ use Rattle.ring.specs.Sheet.{sents, demands}
 use Rattle.ring.proofs.Small.{demands-length}
 use Rattle.table.specs.ReadTable as read
 use Rattle.table.specs.ReadTable.{accepted, refused, table_of}
-use Rattle.table.specs.Answer.{with_rows}
+use Rattle.table.specs.ReadInto.{with_rows}
 use Rattle.table.specs.Says.{Given, Accepted}
 use Rattle.table.specs.declared.reason.Reason.{Reason}
 use Rattle.table.specs.declared.reason.Refusal.{Refusal}
 use Rattle.table.proofs.Told.{read-table, read-refusal}
 use Rattle.table.proofs.ReasonsGiven.{one-given, given, accepted-is}
 use Rattle.rows.proofs.Places.{first-left, behind-first}
-use Rattle.router.proofs.Zip.{Passed, put-passed, put-taken}
+use Rattle.rows.proofs.Zip.{Passed, put-passed, put-taken}
 use Rattle.turns.specs.declared.Turned.{Turned}
 use Rattle.turns.specs.Turns.{least_start}
 use Rattle.turns.proofs.StartSteps.{promised}
-use Rattle.ringkit.specs.Says.{Only}
+use Rattle.ringkit.specs.Says.{Only, Refused}
 use Rattle.ringkit.specs.Texts.{TableOf}
-use Rattle.ringkit.specs.Turning.{TurnAnswer, turned_table, ways_of, TurnedTo, NotTurned, TurnSays, are_turned, are_not, TurnPromise, TurnedWell}
+use Rattle.ringkit.specs.Turning.{TurnAnswer, turned_table, ways_of, TurnedTo, TurnSays, are_turned, are_not, TurnPromise, TurnedWell}
 use Rattle.ringkit.specs.TurnCalls.{TurnsTable}
 use Rattle.ringkit.proofs.Calls.{same-err}
 use Rattle.ringkit.proofs.TableCalls.{read_is, same-values}
@@ -79,7 +79,7 @@ module _ (t : List ℕ) where
 
   module _ (rs : List Demand) (answer : Result Ring Refusal) (e : with_rows rs answer ≡ table_of desk t) where
     pub turn_refused : (old : List ℕ) (x : Refusal) → answer ≡ Err x → TurnsTable (table_of desk t) old old (Err x)
-    turn_refused old x a = turns-read (refused x.reason x.line x.byte) old old (Err x) (read-refusal t rs answer e x a) (record { answer = refl; ways = refl })
+    turn_refused old x a = turns-read (refused x.reason x.line x.byte) old old (Err x) (read-refusal t rs answer e x a) (record { answer = refl; buffer = refl })
 
     pub turn_fills : (ring : Ring) → answer ≡ Ok ring → (rows : List Routed) (x : Turned) (count : ℕ) (old new : List ℕ) → demands (sents rows) ≡ rs → rows ≡ (least_start ring.nodes rs).rows → x ≡ (least_start ring.nodes rs).figures →
         count ≡ length rows → new ≡ ways_of rows ++ drop (length rows) old → TurnsTable (table_of desk t) old new (turned_table x count)
@@ -108,11 +108,11 @@ module _ (t : List ℕ) where
         is-turned of (are_turned other f) = let e = same-values of other in rw (e.0, e.1) f
         is-turned of (are_not g f) = absurd (apart of g)
 
-        refused-so : {reason : Reason} {line byte : ℕ} → TurnSays t old new r → NotTurned reason line byte old new r → Given desk t reason line byte
+        refused-so : {reason : Reason} {line byte : ℕ} → TurnSays t old new r → Refused reason line byte old new r → Given desk t reason line byte
         refused-so (are_turned of f) n = absurd (let w = sym f.answer ∙ n.answer in let z : ◌≡◌ {A = ℕ} 0 1 = cc in omega arith)
         refused-so (are_not g f) n = subst (λ (x : Refusal). Given desk t x.reason x.line x.byte) (same-err (sym f.answer ∙ n.answer)) g
 
-        is-refused : {reason : Reason} {line byte : ℕ} → TurnSays t old new r → Given desk t reason line byte → NotTurned reason line byte old new r
+        is-refused : {reason : Reason} {line byte : ℕ} → TurnSays t old new r → Given desk t reason line byte → Refused reason line byte old new r
         is-refused (are_turned of f) g = absurd (apart of g)
         is-refused (are_not h f) g = let e = one-given g h in rw (e.0, e.1, e.2) f
 
@@ -122,7 +122,7 @@ module _ (t : List ℕ) where
       where
         go : {other : List ℕ} {q : TurnAnswer} → TurnPromise t old other q → TurnSays t old new r → (other ≡ new) × (q ≡ r)
         go p (are_turned {ring} {rs} of f) = let o = p.turns ring rs of in (o.ways ∙ sym f.ways, o.answer ∙ sym f.answer)
-        go p (are_not {reason} {line} {byte} g f) = let o = (p.refuses reason line byte).1 g in (o.ways ∙ sym f.ways, o.answer ∙ sym f.answer)
+        go p (are_not {reason} {line} {byte} g f) = let o = (p.refuses reason line byte).1 g in (o.buffer ∙ sym f.buffer, o.answer ∙ sym f.answer)
 
     -- of an accepted table
     pub turned_well : TurnsTable (table_of desk t) old new r → Accepted desk t → TurnedWell t new r
@@ -130,7 +130,7 @@ module _ (t : List ℕ) where
         let d = (accepted-is desk t).1 a in
         let of = (read_is t d.ring d.rs).0 d.is in
         let to = (turn_promise f).turns d.ring d.rs of in
-        let p = promised d.ring.nodes d.rs of.range.few in
+        let p = promised d.ring.nodes d.rs of.range.within.few in
         let bytes = ways_of (least_start d.ring.nodes d.rs).rows in
         let many : length bytes ≡ length d.rs = length-map (least_start d.ring.nodes d.rs).rows (λ (r : Routed). way_number r.way) ∙ (sym (demands-length (least_start d.ring.nodes d.rs).rows) ∙ ap length p.demands) in
         record {

@@ -1,14 +1,14 @@
 -- To believe: what the two calls answer that read a sheet and fill no buffer (Rules, the calls).
-use Rattle.std.specs.Prelude.{ℕ, ◌≤◌, List, ◌↔◌, ◌≡◌, Result, Ok, Err}
+use Rattle.std.specs.Prelude.{ℕ, ◌≤◌, List, ◌↔◌, ◌≡◌, Result, Ok}
 use Rattle.ring.specs.Limits.{desk}
 use Rattle.ring.specs.Sheet.{Sheet, sents}
 use Rattle.table.specs.declared.reason.Reason.{Reason}
 use Rattle.table.specs.declared.reason.Refusal.{Refusal}
+use Rattle.table.specs.Refusals.{refuse}
 use Rattle.checker.specs.Pair.{FirstPair, NoPair}
 use Rattle.checker.specs.Says.{Given, Accepted}
 use Rattle.checker.specs.declared.pair.Pair.{Pair}
 use Rattle.checker.specs.declared.pair.Pair.TheVariants.{Are, None}
-use Rattle.ringkit.specs.Says.{refusal}
 use Rattle.ringkit.specs.Texts.{SheetOf, SomeSheet}
 
 -- ---- checking
@@ -17,23 +17,21 @@ use Rattle.ringkit.specs.Texts.{SheetOf, SomeSheet}
 abbrev pub Checked : Type 0
 Checked = Result Unit Refusal
 
+-- the sheet is accepted
 abbrev pub yes : Checked
 yes = Ok tt
-
-abbrev pub no : Reason → ℕ → ℕ → Checked
-no reason line byte = Err (refusal reason line byte)
 
 -- yes, or the reason that is given
 pub data CheckSays (t : List ℕ) : Checked → Type 0 where
   says_yes : Accepted desk t → CheckSays t yes
-  says_no : {reason : Reason} {line byte : ℕ} → Given desk t reason line byte → CheckSays t (no reason line byte)
+  says_no : {reason : Reason} {line byte : ℕ} → Given desk t reason line byte → CheckSays t (refuse reason line byte)
 
 -- all that checking promises
 pub record CheckPromise (t : List ℕ) (r : Checked) : Type 0 where
   pub cases : CheckSays t r
   pub accepts : (r ≡ yes) ↔ Accepted desk t
   pub sheet : (r ≡ yes) ↔ SomeSheet t
-  pub refuses : (reason : Reason) (line byte : ℕ) → (r ≡ no reason line byte) ↔ Given desk t reason line byte
+  pub refuses : (reason : Reason) (line byte : ℕ) → (r ≡ refuse reason line byte) ↔ Given desk t reason line byte
 
 -- ---- the question: the first pair of split rows that are parallel
 
@@ -41,14 +39,13 @@ pub record CheckPromise (t : List ℕ) (r : Checked) : Type 0 where
 abbrev pub Asked : Type 0
 Asked = Result Pair Refusal
 
+-- these two are the first pair
 abbrev pub paired : ℕ → ℕ → Asked
 paired p q = Ok (Are p q)
 
+-- there is none
 abbrev pub unpaired : Asked
 unpaired = Ok None
-
-abbrev pub not_asked : Reason → ℕ → ℕ → Asked
-not_asked reason line byte = Err (refusal reason line byte)
 
 -- the first pair of an accepted sheet
 pub record PairOf (t : List ℕ) (p q : ℕ) : Type 0 where
@@ -66,11 +63,11 @@ pub record NoPairOf (t : List ℕ) : Type 0 where
 pub data PairSays (t : List ℕ) : Asked → Type 0 where
   a_pair : {p q : ℕ} → PairOf t p q → 1 ≤ p → PairSays t (paired p q)
   no_pair : NoPairOf t → PairSays t unpaired
-  refused : {reason : Reason} {line byte : ℕ} → Given desk t reason line byte → PairSays t (not_asked reason line byte)
+  refused : {reason : Reason} {line byte : ℕ} → Given desk t reason line byte → PairSays t (refuse reason line byte)
 
 -- all that the question promises
 pub record PairPromise (t : List ℕ) (r : Asked) : Type 0 where
   pub cases : PairSays t r
   pub pair : (p q : ℕ) → (r ≡ paired p q) ↔ PairOf t p q
   pub none : (r ≡ unpaired) ↔ NoPairOf t
-  pub refuses : (reason : Reason) (line byte : ℕ) → (r ≡ not_asked reason line byte) ↔ Given desk t reason line byte
+  pub refuses : (reason : Reason) (line byte : ℕ) → (r ≡ refuse reason line byte) ↔ Given desk t reason line byte

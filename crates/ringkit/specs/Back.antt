@@ -28,7 +28,8 @@ pub record TableThereAndBack : Type 0 where
   pub rewritten : (t old new : List ℕ) (r : Answer) → RewriteTablePromise t old new r
       → Accepted desk t → length t ≤ length old → Success t old new r
 
--- matrix to table to matrix: reading a matrix wrote a table, whatever the fibres; writing the matrix of that table gives, with room, the bytes of the matrix that was read
+-- matrix to table to matrix: reading a matrix wrote a table, whatever the fibres; writing the matrix of that table gives, with room, the bytes of the matrix
+-- that was read
 abbrev pub MatrixToTableToMatrix : Type 0
 MatrixToTableToMatrix =
     (fibres : ℕ) (t text old new : List ℕ) (r : Answer) → ReadMatrixPromise fibres t old new r

@@ -20,9 +20,11 @@ sheet_given figures rows links = sheet_in figures (map routed_row rows) links
 abbrev pub Judged : Type 0
 Judged = Result Unit Finding
 
+-- the values are accepted
 abbrev pub valid : Judged
 valid = Ok tt
 
+-- they are refused, with a place
 abbrev pub at_fault : Reason → ℕ → Judged
 at_fault reason place = Err (found.found reason place)
 

@@ -10,11 +10,11 @@ use Rattle.table.specs.Verdict.{Verdict}
 use Rattle.table.specs.Table.{write_table}
 use Rattle.table.specs.ReadTable.{table_of}
 use Rattle.table.specs.declared.reason.Refusal.{Refusal}
+use Rattle.table.specs.Refusals.{refuse}
 use Rattle.matrix.specs.Matrix.{write_matrix}
 use Rattle.matrix.specs.Demands.{rows_of_matrix, matrix_of_rows}
 use Rattle.matrix.specs.Read.{SquareRead, matrix_of}
 use Rattle.matrix.specs.Judged.{judge_sums}
-use Rattle.ringkit.specs.Says.{refusal}
 use Rattle.ringkit.specs.Outcome.{Outcome}
 use Rattle.ringkit.specs.TableCalls.{of_table}
 
@@ -26,7 +26,7 @@ table_of_matrix fibres m = and_then m λ s. Ok (write_table (ring_of s.0 fibres)
 -- what is found against the fibres refuses the call as a whole
 unfoldable pub on_call : Verdict → Result Unit Refusal
 on_call (Ok tt) = Ok tt
-on_call (Err reason) = Err (refusal reason 0 0)
+on_call (Err reason) = refuse reason 0 0
 
 -- reading a matrix and writing its table: 20 is tried first of all
 unfoldable pub matrix_read : ℕ → List ℕ → Outcome

@@ -3,20 +3,21 @@ use Rattle.std.specs.Prelude.{ℕ, cond, List, ◌++◌, ◌≡◌, ltb, length,
 use Rattle.table.specs.declared.reason.Reason.TheVariants.{NoRoom}
 use Rattle.table.specs.declared.reason.Refusal.{Refusal}
 use Rattle.table.specs.OnLine.{and_then}
-use Rattle.ringkit.specs.Says.{Answer, refusal}
+use Rattle.table.specs.Refusals.{refuse}
+use Rattle.ringkit.specs.Says.{Answer}
 
 -- a text to be written; or the refusal
 abbrev pub Outcome : Type 0
 Outcome = Result (List ℕ) Refusal
 
 -- 15 is given exactly when the buffer is too short, with line and byte 0
-unfoldable pub room_for : ℕ → ℕ → Result Unit Refusal
-room_for room size = cond (ltb room size) (Err (refusal NoRoom 0 0)) (Ok tt)
+unfoldable pub ask_room : ℕ → ℕ → Result Unit Refusal
+ask_room room size = cond (ltb room size) (refuse NoRoom 0 0) (Ok tt)
 
 -- and comes after all other reasons
 unfoldable pub within : ℕ → Outcome → Outcome
-unfolding room_for and_then
-within room outcome = and_then outcome λ t. and_then (room_for room (length t)) λ u. Ok t
+unfolding ask_room and_then
+within room outcome = and_then outcome λ t. and_then (ask_room room (length t)) λ u. Ok t
 
 -- success answers the text's length
 unfoldable pub answer_of : Outcome → Answer

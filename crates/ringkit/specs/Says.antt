@@ -1,25 +1,22 @@
 -- To believe: what a call that fills a buffer says (Rules, the calls): success, 15, or a refusal of the text itself.
-use Rattle.std.specs.Prelude.{ℕ, ◌≤◌, ◌<◌, List, ◌++◌, ◌↔◌, ◌≡◌, length, drop, Result, Ok, Err}
+use Rattle.std.specs.Prelude.{ℕ, ◌≤◌, ◌<◌, List, ◌++◌, ◌↔◌, ◌≡◌, length, drop, Result, Ok}
 use Rattle.table.specs.declared.reason.Reason.{Reason}
 use Rattle.table.specs.declared.reason.Reason.TheVariants.{NoRoom}
 use Rattle.table.specs.declared.reason.Refusal.{Refusal}
+use Rattle.table.specs.Refusals.{refuse}
 
 -- how many bytes were written; or why nothing was
 abbrev pub Answer : Type 0
 Answer = Result ℕ Refusal
-
--- a reason, with its line and its byte
-abbrev pub refusal : Reason → ℕ → ℕ → Refusal
-refusal reason line byte = record { reason = reason; line = line; byte = byte }
 
 -- success writes the text at the buffer's start, answers its length and keeps the bytes after it
 pub record Success (text old new : List ℕ) (r : Answer) : Type 0 where
   pub answer : r ≡ Ok (length text)
   pub buffer : new ≡ text ++ drop (length text) old
 
--- a refusal answers a reason, a line and a byte of it, and changes no byte of the buffer
-pub record Refused (reason : Reason) (line byte : ℕ) (old new : List ℕ) (r : Answer) : Type 0 where
-  pub answer : r ≡ Err (refusal reason line byte)
+-- a refusal answers a reason, a line and a byte of it, and changes no byte of the buffer that is lent
+pub record Refused {A : Type 0} (reason : Reason) (line byte : ℕ) (old new : List ℕ) (r : Result A Refusal) : Type 0 where
+  pub answer : r ≡ refuse reason line byte
   pub buffer : new ≡ old
 
 -- one of three cases, by which text is due and which refusal is given

@@ -60,11 +60,6 @@ pub record TableDue (due : Ring → List Demand → List ℕ) (t text : List ℕ
   pub of : TableOf t ring rs
   pub is : text ≡ due ring rs
 
--- something is due
-pub record SomeDue (due : Ring → List Demand → List ℕ) (t : List ℕ) : Type 0 where
-  pub text : List ℕ
-  pub is : TableDue due t text
-
 -- the sheet that the four rules give
 abbrev pub sheet_due : Ring → List Demand → List ℕ
 sheet_due ring rs = write_sheet (plan ring rs)

@@ -1,5 +1,5 @@
 -- To believe: what the call answers that turns the rows of a table one at a time (Rules, the calls).
-use Rattle.std.specs.Prelude.{ℕ, ◌≤◌, List, ◌++◌, map, take, drop, length, ◌↔◌, ◌≡◌, Result, Ok, Err}
+use Rattle.std.specs.Prelude.{ℕ, ◌≤◌, List, ◌++◌, map, take, drop, length, ◌↔◌, ◌≡◌, Result, Ok}
 use Rattle.ring.specs.Limits.{desk}
 use Rattle.ring.specs.Routing.{way_number}
 use Rattle.ring.specs.declared.types.Ring.{Ring}
@@ -11,15 +11,17 @@ use Rattle.table.specs.declared.reason.Reason.{Reason}
 use Rattle.table.specs.declared.reason.Refusal.{Refusal}
 use Rattle.turns.specs.declared.Turned.{Turned}
 use Rattle.turns.specs.Turns.{peak_of, from_start, least_start}
-use Rattle.turns.specs.Promised.{largest_across, LeastOfStarts, NoTurnLowers, TurnsLower, StartLoads, StartsEnd, StartsWithinM, WaysFloor}
-use Rattle.ringkit.specs.Says.{refusal}
+use Rattle.ring.specs.RuleA.{largest_across}
+use Rattle.turns.specs.Promised.{LeastOfStarts, NoTurnLowers, TurnsLower, StartLoads, StartsEnd, StartsWithinM, WaysFloor}
 use Rattle.ringkit.specs.Texts.{TableOf}
 use Rattle.ringkit.specs.declared.turning.TurnedTable.{TurnedTable}
+use Rattle.ringkit.specs.Says.{Refused}
 
 -- the figures, and how many rows there are; or why the table is refused
 abbrev pub TurnAnswer : Type 0
 TurnAnswer = Result TurnedTable Refusal
 
+-- the answer of these figures and so many rows
 abbrev pub turned_table : Turned → ℕ → TurnAnswer
 turned_table x count = Ok (record { turned = x; rows = count })
 
@@ -32,15 +34,10 @@ pub record TurnedTo (ring : Ring) (rs : List Demand) (old new : List ℕ) (r : T
   pub answer : r ≡ turned_table (least_start ring.nodes rs).figures (length rs)
   pub ways : new ≡ ways_of (least_start ring.nodes rs).rows ++ drop (length rs) old
 
--- a refusal answers a reason, a line and a byte of it, and changes no byte
-pub record NotTurned (reason : Reason) (line byte : ℕ) (old new : List ℕ) (r : TurnAnswer) : Type 0 where
-  pub answer : r ≡ Err (refusal reason line byte)
-  pub ways : new ≡ old
-
 -- one of two cases
 pub data TurnSays (t old new : List ℕ) (r : TurnAnswer) : Type 0 where
   are_turned : {ring : Ring} {rs : List Demand} → TableOf t ring rs → TurnedTo ring rs old new r → TurnSays t old new r
-  are_not : {reason : Reason} {line byte : ℕ} → Given desk t reason line byte → NotTurned reason line byte old new r → TurnSays t old new r
+  are_not : {reason : Reason} {line byte : ℕ} → Given desk t reason line byte → Refused reason line byte old new r → TurnSays t old new r
 
 -- all that the call promises
 pub record TurnPromise (t old new : List ℕ) (r : TurnAnswer) : Type 0 where
@@ -49,7 +46,7 @@ pub record TurnPromise (t old new : List ℕ) (r : TurnAnswer) : Type 0 where
   -- the rows of an accepted table are turned,
   pub turns : (ring : Ring) (rs : List Demand) → TableOf t ring rs → TurnedTo ring rs old new r
   -- and each reason, with its line and its byte, is answered exactly when it is given to the text
-  pub refuses : (reason : Reason) (line byte : ℕ) → NotTurned reason line byte old new r ↔ Given desk t reason line byte
+  pub refuses : (reason : Reason) (line byte : ℕ) → Refused reason line byte old new r ↔ Given desk t reason line byte
 
 -- an accepted table, with its rows as the bytes send them
 pub record TurnedWell (t new : List ℕ) (r : TurnAnswer) : Type 0 where

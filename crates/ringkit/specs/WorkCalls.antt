@@ -8,7 +8,7 @@ use Rattle.table.specs.Says.{Given}
 use Rattle.table.specs.declared.reason.Reason.{Reason}
 use Rattle.sheet.specs.Range.{longest}
 use Rattle.sheet.specs.WriteSheet.{write_sheet}
-use Rattle.work.specs.Places.{plain_of}
+use Rattle.work.specs.Places.{table_held}
 use Rattle.work.specs.Calls.{Call}
 use Rattle.work.specs.Sorted.{Sorted}
 use Rattle.work.specs.Made.{Made}
@@ -20,7 +20,7 @@ use Rattle.ringkit.specs.Texts.{TableDue, sheet_due}
 -- the table of the rows held, by nodes, then by place
 pub record WorkDue (w : Work) (text : List ℕ) : Type 0 where
   pub rs : List Demand
-  pub sorted : Sorted (plain_of w).places rs
+  pub sorted : Sorted (table_held w).places rs
   pub is : text ≡ write_table w.ring rs
 
 -- but for 15, writing it has no refusal
@@ -29,10 +29,11 @@ NoRefusal reason line byte = ⊥
 
 -- ---- routing what was written
 
+-- the sheet x is written at the start of the buffer, and its cut is the one that the calls played lead to
 pub record RoutedCut (cs : List Call) (w : Work) (old new : List ℕ) (r : Answer) : Type 0 where
   pub x : Sheet
   pub success : Success (write_sheet x) old new r
-  pub cut : Played cs (plain_of w) x.cut
+  pub cut : Played cs (table_held w) x.cut
 
 -- with room for the longest sheet, the table that is due to a struct made by calls is routed, and the cut is the one that the last accepted answer named
 abbrev pub RoutedAsNamed : Type 0

@@ -14,7 +14,7 @@ ghost use Rattle.matrix.specs.Demands.{matrix_of_rows};
 ghost use Rattle.matrix.specs.Room.{matrix_room};
 ghost use Rattle.sheet.specs.WriteSheet.{write_sheet};
 ghost use Rattle.sheet.specs.Range.{longest};
-ghost use Rattle.ringkit.specs.Outcome.{room_for, Fills};
+ghost use Rattle.ringkit.specs.Outcome.{ask_room, Fills};
 
 pub use judging::ringkit_judge;
 use ring::{BYTES, Figures, LINKS, Link, ROWS, Ring};
@@ -57,9 +57,9 @@ pub const fn matrix_bytes() -> usize
 }
 
 // Whether the buffer has room for so many bytes.
-#[tactic(auto, unfolding(crate::specs::Outcome::room_for))]
+#[tactic(auto, unfolding(crate::specs::Outcome::ask_room))]
 fn ask_room(buffer: &[u8], size: usize) -> Result<(), Refusal>
-    ensures { result ≡ room_for (length buffer.now) size }
+    ensures { result ≡ ask_room (length buffer.now) size }
 {
     if buffer.len() < size {
         return Err(Refusal::whole(Reason::NoRoom));

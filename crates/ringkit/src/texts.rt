@@ -67,8 +67,9 @@ fn read_matrix(matrix: &[u8], fibres: u32, buffer: &mut [u8]) -> Result<usize, R
     put_table(buffer, Ring { nodes, fibres }, &rows)
 }
 
-/// Reads a matrix and writes its table, on a ring of so many fibres, 2 or 4, which a matrix does not say. Answers the table's length, at most `table_bytes()`. Else the buffer
-/// stays as it was, and the refusal is 20 of the fibres, which is tried before the text is read, with line 0; or the matrix's first reason, with its line and byte; or 15.
+/// Reads a matrix and writes its table, on a ring of so many fibres, 2 or 4, which a matrix does not say. Answers the table's length, at most `table_bytes()`.
+/// Else the buffer stays as it was, and the refusal is 20 of the fibres, which is tried before the text is read, with line 0; or the matrix's first reason,
+/// with its line and byte; or 15.
 pub fn ringkit_read_matrix(matrix: &[u8], fibres: u32, buffer: &mut [u8]) -> Result<usize, Refusal>
     ensures promise { ReadMatrixPromise fibres matrix.now buffer.old buffer.new result }
     ensures only { Only (ReadMatrixPromise fibres matrix.now buffer.old) buffer.new result }
@@ -91,8 +92,9 @@ fn write_matrix(table: &[u8], buffer: &mut [u8]) -> Result<usize, Refusal>
     put_matrix(buffer, ring, &rows)
 }
 
-/// Reads a table and writes its matrix, in which rows of the same two nodes add up. Answers the matrix's length, at most `matrix_bytes()`. Else the buffer stays as it was, and
-/// the refusal is the table's first reason, with its line and byte; or 19, with the line of the first row at which a pair's sum passes 9,999 units; or 15.
+/// Reads a table and writes its matrix, in which rows of the same two nodes add up. Answers the matrix's length, at most `matrix_bytes()`. Else the buffer
+/// stays as it was, and the refusal is the table's first reason, with its line and byte; or 19, with the line of the first row at which a pair's sum passes
+/// 9,999 units; or 15.
 pub fn ringkit_write_matrix(table: &[u8], buffer: &mut [u8]) -> Result<usize, Refusal>
     ensures promise { WriteMatrixPromise table.now buffer.old buffer.new result }
     ensures only { Only (WriteMatrixPromise table.now buffer.old) buffer.new result }
@@ -112,8 +114,8 @@ fn route(table: &[u8], buffer: &mut [u8]) -> Result<usize, Refusal>
     put_route(buffer, ring, &mut rows)
 }
 
-/// Routes a table by rules A to D and writes its sheet. Answers the sheet's length, at most `sheet_bytes()`. Else the buffer stays as it was, and the refusal is the table's first
-/// reason, with its line and byte; or 15.
+/// Routes a table by rules A to D and writes its sheet. Answers the sheet's length, at most `sheet_bytes()`. Else the buffer stays as it was, and the refusal
+/// is the table's first reason, with its line and byte; or 15.
 pub fn ringkit_route(table: &[u8], buffer: &mut [u8]) -> Result<usize, Refusal>
     ensures promise { RoutePromise table.now buffer.old buffer.new result }
     ensures only { Only (RoutePromise table.now buffer.old) buffer.new result }
@@ -155,7 +157,8 @@ fn first_parallel(sheet: &[u8]) -> Result<Pair, Refusal>
     Ok(checker::first_pair(&rows))
 }
 
-/// The first pair of split rows of a sheet that are parallel, by their places, counted from 1, or that there is none; or why the sheet is refused, as `ringkit_check` says it.
+/// The first pair of split rows of a sheet that are parallel, by their places, counted from 1, or that there is none; or why the sheet is refused, as
+/// `ringkit_check` says it.
 pub fn ringkit_parallel(sheet: &[u8]) -> Result<Pair, Refusal>
     ensures promise { PairPromise sheet.now result }
     ensures only { (other : Asked) → PairPromise sheet.now other → other ≡ result }
@@ -173,8 +176,8 @@ fn rewrite_sheet(sheet: &[u8], buffer: &mut [u8]) -> Result<usize, Refusal>
     put_sheet(buffer, figures, &rows, links.as_slice())
 }
 
-/// Reads a sheet and writes its values afresh, at the start of the buffer: the same bytes as the text, so as many bytes of room suffice. Answers how many they are. Else the
-/// buffer stays as it was, and the refusal is the sheet's first reason, as `ringkit_check` says it; or 15.
+/// Reads a sheet and writes its values afresh, at the start of the buffer: the same bytes as the text, so as many bytes of room suffice. Answers how many they
+/// are. Else the buffer stays as it was, and the refusal is the sheet's first reason, as `ringkit_check` says it; or 15.
 pub fn ringkit_rewrite_sheet(sheet: &[u8], buffer: &mut [u8]) -> Result<usize, Refusal>
     ensures promise { RewriteSheetPromise sheet.now buffer.old buffer.new result }
     ensures only { Only (RewriteSheetPromise sheet.now buffer.old) buffer.new result }

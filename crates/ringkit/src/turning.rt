@@ -42,9 +42,9 @@ fn turn(table: &[u8], ways: &mut [u8; ROWS]) -> Result<TurnedTable, Refusal>
     })
 }
 
-/// Turns a table's rows one at a time, from the start that ends with the least peak. Each row's way is put at its place among the first bytes, 0 for F and 1 for B; the bytes
-/// behind them stay. Answers the peak in units, the link that the start avoided, the number of turns and that of rows. Else no byte changes, and the refusal is the table's first
-/// reason, with its line and byte.
+/// Turns a table's rows one at a time, from the start that ends with the least peak. Each row's way is put at its place among the first bytes, 0 for F and 1
+/// for B; the bytes behind them stay. Answers the peak in units, the link that the start avoided, the number of turns and that of rows. Else no byte changes,
+/// and the refusal is the table's first reason, with its line and byte.
 pub fn ringkit_turn(table: &[u8], ways: &mut [u8; ROWS]) -> Result<TurnedTable, Refusal>
     ensures promise { TurnPromise table.now ways.old ways.new result }
     ensures only { Only (TurnPromise table.now ways.old) ways.new result }

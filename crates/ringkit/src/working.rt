@@ -5,7 +5,8 @@ ghost use Rattle.table.specs.Table.{table_room};
 ghost use Rattle.table.specs.Says.{Accepted};
 ghost use Rattle.work.specs.Calls.{Call, start, add, change, remove};
 ghost use Rattle.work.specs.Changes.{placed_of, work_after, started_in, added_in, changed_in, removed_in, row_in};
-ghost use Rattle.work.specs.True.{TrueTable, Answered};
+ghost use Rattle.work.specs.True.{TrueTable};
+ghost use Rattle.work.specs.Answered.{Answered};
 ghost use Rattle.work.specs.Promises.{WorkPromise, OnlyThis, RowPromise, OnlyRow};
 ghost use Rattle.work.specs.Made.{Made};
 ghost use Rattle.work.specs.Played.{AsPlayed, AnswerAfter};
@@ -31,8 +32,8 @@ fn take_over(work: &mut Work, change: Result<Changed, Reason>) -> Result<Placed,
     Ok(done.placed)
 }
 
-/// Makes the struct a table of this ring that holds no row, whatever bytes were in it. Answers place 0 and the cut of no rows. Refused with 3 where the nodes are outside 2 to 64, then with 20
-/// where the fibres are neither 2 nor 4; no byte of the struct is changed then.
+/// Makes the struct a table of this ring that holds no row, whatever bytes were in it. Answers place 0 and the cut of no rows. Refused with 3 where the nodes
+/// are outside 2 to 64, then with 20 where the fibres are neither 2 nor 4; no byte of the struct is changed then.
 pub fn ringkit_work_start(work: &mut Work, ring: Ring) -> Result<Placed, Reason>
     // On every struct.
     ensures promise { WorkPromise work.old (start ring) result work.new }
@@ -57,8 +58,8 @@ pub fn ringkit_work_start(work: &mut Work, ring: Ring) -> Result<Placed, Reason>
     take_over(work, work::started(ring))
 }
 
-/// Puts a row at the lowest free place; its amount is in units, at most 9,999. Answers that place, counted from 1 to 1,024, and the largest cut of the rows then held. Refused with the first that
-/// holds of 4, 5 and 7 against the row, and 21 where all places are taken; no byte of the struct is changed then.
+/// Puts a row at the lowest free place; its amount is in units, at most 9,999. Answers that place, counted from 1 to 1,024, and the largest cut of the rows
+/// then held. Refused with the first that holds of 4, 5 and 7 against the row, and 21 where all places are taken; no byte of the struct is changed then.
 pub fn ringkit_work_add(work: &mut Work, row: Demand) -> Result<Placed, Reason>
     // On a struct made by calls.
     ensures promise { (calls : List Call) → Made calls work.old →
@@ -80,8 +81,8 @@ pub fn ringkit_work_add(work: &mut Work, row: Demand) -> Result<Placed, Reason>
     take_over(work, work::added(*work, row))
 }
 
-/// Puts a row in place of the one at a place, counted from 1; its amount is in units, at most 9,999. Answers the place and the largest cut of the rows then held. Refused with 22 where the place
-/// holds no row, then with the first that holds of 4, 5 and 7 against the row; no byte of the struct is changed then.
+/// Puts a row in place of the one at a place, counted from 1; its amount is in units, at most 9,999. Answers the place and the largest cut of the rows then
+/// held. Refused with 22 where the place holds no row, then with the first that holds of 4, 5 and 7 against the row; no byte of the struct is changed then.
 pub fn ringkit_work_change(work: &mut Work, place: u32, row: Demand) -> Result<Placed, Reason>
     // On a struct made by calls.
     ensures promise { (calls : List Call) → Made calls work.old →
@@ -104,8 +105,8 @@ pub fn ringkit_work_change(work: &mut Work, place: u32, row: Demand) -> Result<P
     take_over(work, work::changed(*work, place, row))
 }
 
-/// Takes the row off a place, counted from 1, which is free from then on. Answers the place and the largest cut of the rows then held. Refused with 22 where the place holds no row; no byte of the
-/// struct is changed then.
+/// Takes the row off a place, counted from 1, which is free from then on. Answers the place and the largest cut of the rows then held. Refused with 22 where
+/// the place holds no row; no byte of the struct is changed then.
 pub fn ringkit_work_remove(work: &mut Work, place: u32) -> Result<Placed, Reason>
     // On a struct made by calls.
     ensures promise { (calls : List Call) → Made calls work.old →
@@ -148,8 +149,8 @@ fn written(work: &Work, buffer: &mut [u8]) -> Result<usize, Refusal>
     put_table(buffer, work.ring, &rows)
 }
 
-/// Writes the table of the rows held, by nodes, then by place, at the start of the buffer. Answers its length, at most `table_bytes()` of a table that calls made. Where the buffer
-/// is too short the refusal is 15, with line and byte 0, and the buffer stays as it was; there is no other.
+/// Writes the table of the rows held, by nodes, then by place, at the start of the buffer. Answers its length, at most `table_bytes()` of a table that calls
+/// made. Where the buffer is too short the refusal is 15, with line and byte 0, and the buffer stays as it was; there is no other.
 pub fn ringkit_work_write(work: &Work, buffer: &mut [u8]) -> Result<usize, Refusal>
     // On every struct.
     ensures promise { CallPromise (WorkDue work.now) NoRefusal buffer.old buffer.new result }

@@ -1,4 +1,5 @@
--- To believe: what C's structs say of the answers of the calls: reason 0 is success; else the reason's number, with its line and byte or its place, and every other field is 0.
+-- To believe: what C's structs say of the answers of the calls: reason 0 is success; else the reason's number, with its line and byte or its place, and every
+-- other field is 0.
 use Rattle.std.specs.Prelude.{ℕ, List, ◌≡◌, Ok, Err}
 use Rattle.ring.specs.Ring.{ring_of}
 use Rattle.ring.specs.Sheet.{Sheet}

@@ -1,4 +1,5 @@
--- To believe: what C's structs say of the answers of the working table's calls: reason 0 is success; else the reason's number, and every other field is 0. The line is always 0.
+-- To believe: what C's structs say of the answers of the working table's calls: reason 0 is success; else the reason's number, and every other field is 0. The
+-- line is always 0.
 use Rattle.std.specs.Prelude.{Result, Ok, Err}
 use Rattle.ring.specs.declared.types.Demand.{Demand}
 use Rattle.table.specs.Reasons.{number_of}

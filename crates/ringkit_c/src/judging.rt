@@ -10,7 +10,8 @@ use crate::replies::JudgeReply;
 use ring::{Cut, Figures, Link, Ring};
 use rows::SheetRow;
 
-/// Judges a sheet by its values. A row's front and back and a link's split load are in halves, all else in units. The reply is 0 where they are accepted; or the first reason, with the place of the row or the link, counted from 1.
+/// Judges a sheet by its values. A row's front and back and a link's split load are in halves, all else in units. The reply is 0 where they are accepted; or
+/// the first reason, with the place of the row or the link, counted from 1.
 #[unsafe(no_mangle)]
 pub extern "C" fn ringkit_judge(
     rows: &[SheetRow],

@@ -1,6 +1,6 @@
 #![tactic(auto)]
-// The public calls as C links them: each hands on to the call of the same name in `ringkit`, and tells its answer by a struct of numbers. It is a crate of its own since no Rattle crate can
-// name a static library.
+// The public calls as C links them: each hands on to the call of the same name in `ringkit`, and tells its answer by a struct of numbers. It is a crate of its
+// own since no Rattle crate can name a static library.
 mod judging; // the call that judges values
 mod replies; // C's structs, each with what makes it of an answer
 mod texts; // the calls that read a text

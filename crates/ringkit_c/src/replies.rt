@@ -10,8 +10,8 @@ use ringkit::TurnedTable;
 use table::{Finding, Reason, Refusal};
 use work::Placed;
 
-/// The answer of a call that fills a buffer, or that checks a sheet. Reason 0 is success. On a refusal every field but reason, line and byte is 0; line and byte are counted from
-/// 1, and are 0 of a refusal that names no line.
+/// The answer of a call that fills a buffer, or that checks a sheet. Reason 0 is success. On a refusal every field but reason, line and byte is 0; line and
+/// byte are counted from 1, and are 0 of a refusal that names no line.
 #[repr(C)]
 #[derive(Default, Drop)]
 pub struct Reply {
@@ -116,8 +116,8 @@ impl JudgeReply {
     }
 }
 
-/// The answer of turning a table's rows. Reason 0 is success: the peak in units, the link that the start avoided, how many turns it took and how many rows there are; all four are 0 on a
-/// refusal.
+/// The answer of turning a table's rows. Reason 0 is success: the peak in units, the link that the start avoided, how many turns it took and how many rows
+/// there are; all four are 0 on a refusal.
 #[repr(C)]
 #[derive(Default, Drop)]
 pub struct TurnReply {
@@ -153,8 +153,8 @@ impl From<Result<TurnedTable, Refusal>> for TurnReply {
     }
 }
 
-/// The answer of a call that alters a working table. Reason 0 is success: the place that the call names, counted from 1 (0 of a start), and the largest cut from then on, its across
-/// number in units. On a refusal all but the reason is 0. The line is always 0.
+/// The answer of a call that alters a working table. Reason 0 is success: the place that the call names, counted from 1 (0 of a start), and the largest cut
+/// from then on, its across number in units. On a refusal all but the reason is 0. The line is always 0.
 #[repr(C)]
 #[derive(Default, Drop)]
 pub struct WorkReply {

@@ -25,7 +25,8 @@ ghost use Rattle.ringkit_c.specs.Replies.{checked_reply, pair_reply, turn_reply,
 use crate::replies::{PairReply, Reply, TurnReply};
 use ring::ROWS;
 
-/// Reads a table and writes its values afresh: the same bytes. The reply has their number; or the table's first reason with its line and byte, or 15, and then no byte of the buffer has changed.
+/// Reads a table and writes its values afresh: the same bytes. The reply has their number; or the table's first reason with its line and byte, or 15, and then
+/// no byte of the buffer has changed.
 #[unsafe(no_mangle)]
 pub extern "C" fn ringkit_rewrite_table(table: &[u8], buffer: &mut [u8]) -> Reply
     ensures promise { Replies (RewriteTablePromise table.now buffer.old) buffer.new result }
@@ -35,7 +36,8 @@ pub extern "C" fn ringkit_rewrite_table(table: &[u8], buffer: &mut [u8]) -> Repl
     Reply::from(ringkit::ringkit_rewrite_table(table, buffer))
 }
 
-/// Reads a matrix and writes its table, on a ring of so many fibres. The reply has the table's length in bytes; or 20, the matrix's first reason with its line and byte, or 15, and then no byte of the buffer has changed.
+/// Reads a matrix and writes its table, on a ring of so many fibres. The reply has the table's length in bytes; or 20, the matrix's first reason with its line
+/// and byte, or 15, and then no byte of the buffer has changed.
 #[unsafe(no_mangle)]
 pub extern "C" fn ringkit_read_matrix(matrix: &[u8], fibres: u32, buffer: &mut [u8]) -> Reply
     ensures promise { Replies (ReadMatrixPromise fibres matrix.now buffer.old) buffer.new result }
@@ -51,7 +53,8 @@ pub extern "C" fn ringkit_read_matrix(matrix: &[u8], fibres: u32, buffer: &mut [
     Reply::from(ringkit::ringkit_read_matrix(matrix, fibres, buffer))
 }
 
-/// Reads a table and writes its matrix. The reply has the matrix's length in bytes; or the table's first reason or 19, with line and byte, or 15, and then no byte of the buffer has changed.
+/// Reads a table and writes its matrix. The reply has the matrix's length in bytes; or the table's first reason or 19, with line and byte, or 15, and then no
+/// byte of the buffer has changed.
 #[unsafe(no_mangle)]
 pub extern "C" fn ringkit_write_matrix(table: &[u8], buffer: &mut [u8]) -> Reply
     ensures promise { Replies (WriteMatrixPromise table.now buffer.old) buffer.new result }
@@ -64,7 +67,8 @@ pub extern "C" fn ringkit_write_matrix(table: &[u8], buffer: &mut [u8]) -> Reply
     Reply::from(ringkit::ringkit_write_matrix(table, buffer))
 }
 
-/// Routes a table and writes its sheet. The reply has the sheet's length in bytes; or the table's first reason with its line and byte, or 15, and then no byte of the buffer has changed.
+/// Routes a table and writes its sheet. The reply has the sheet's length in bytes; or the table's first reason with its line and byte, or 15, and then no byte
+/// of the buffer has changed.
 #[unsafe(no_mangle)]
 pub extern "C" fn ringkit_route(table: &[u8], buffer: &mut [u8]) -> Reply
     ensures promise { Replies (RoutePromise table.now buffer.old) buffer.new result }
@@ -93,7 +97,8 @@ pub extern "C" fn ringkit_check(sheet: &[u8]) -> Reply
     Reply::from(ringkit::ringkit_check(sheet))
 }
 
-/// The first pair of split rows of a sheet that are parallel, by their places, counted from 1, both 0 where there is none; or the sheet's first reason with its line and byte.
+/// The first pair of split rows of a sheet that are parallel, by their places, counted from 1, both 0 where there is none; or the sheet's first reason with its
+/// line and byte.
 #[unsafe(no_mangle)]
 pub extern "C" fn ringkit_parallel(sheet: &[u8]) -> PairReply
     ensures promise { Told pair_reply (PairPromise sheet.now) result }
@@ -104,7 +109,8 @@ pub extern "C" fn ringkit_parallel(sheet: &[u8]) -> PairReply
     PairReply::from(ringkit::ringkit_parallel(sheet))
 }
 
-/// Reads a sheet and writes its values afresh: the same bytes. The reply has their number; or the sheet's first reason with its line and byte, or 15, and then no byte of the buffer has changed.
+/// Reads a sheet and writes its values afresh: the same bytes. The reply has their number; or the sheet's first reason with its line and byte, or 15, and then
+/// no byte of the buffer has changed.
 #[unsafe(no_mangle)]
 pub extern "C" fn ringkit_rewrite_sheet(sheet: &[u8], buffer: &mut [u8]) -> Reply
     ensures promise { Replies (RewriteSheetPromise sheet.now buffer.old) buffer.new result }
@@ -114,7 +120,8 @@ pub extern "C" fn ringkit_rewrite_sheet(sheet: &[u8], buffer: &mut [u8]) -> Repl
     Reply::from(ringkit::ringkit_rewrite_sheet(sheet, buffer))
 }
 
-/// Turns a table's rows one at a time, and puts their ways at their places, 0 for F and 1 for B. The reply has the peak in units; or the table's first reason with its line and byte, and then no byte of the ways has changed.
+/// Turns a table's rows one at a time, and puts their ways at their places, 0 for F and 1 for B. The reply has the peak in units, the link that the start
+/// avoided, the number of turns and that of rows; or the table's first reason with its line and byte, and then no byte of the ways has changed.
 #[unsafe(no_mangle)]
 pub extern "C" fn ringkit_turn(table: &[u8], ways: &mut [u8; ROWS]) -> TurnReply
     ensures promise { Told turn_reply (TurnPromise table.now ways.old ways.new) result }

@@ -7,7 +7,8 @@ ghost use Rattle.table.specs.Table.{table_room};
 ghost use Rattle.table.specs.Says.{Accepted};
 ghost use Rattle.work.specs.Changes.{placed_of, work_after, started_in, added_in, changed_in, removed_in, row_in};
 ghost use Rattle.work.specs.Calls.{Call, start, add, change, remove};
-ghost use Rattle.work.specs.True.{TrueTable, Answered};
+ghost use Rattle.work.specs.True.{TrueTable};
+ghost use Rattle.work.specs.Answered.{Answered};
 ghost use Rattle.work.specs.Promises.{OnlyThis, RowPromise};
 ghost use Rattle.work.specs.Made.{Made};
 ghost use Rattle.work.specs.Played.{AsPlayed, AnswerAfter};
@@ -49,7 +50,8 @@ pub extern "C" fn ringkit_work_start(work: &mut Work, n: u32, fibres: u32) -> Wo
     WorkReply::from(ringkit::ringkit_work_start(work, Ring { nodes: n, fibres }))
 }
 
-/// Puts a row at the lowest free place; its amount is in units. The reply has the place, counted from 1, and the largest cut; or 4, 5, 7 or 21, and then no byte of the struct has changed.
+/// Puts a row at the lowest free place; its amount is in units. The reply has the place, counted from 1, and the largest cut; or 4, 5, 7 or 21, and then no
+/// byte of the struct has changed.
 #[unsafe(no_mangle)]
 pub extern "C" fn ringkit_work_add(
     work: &mut Work,
@@ -91,7 +93,8 @@ pub extern "C" fn ringkit_work_add(
     WorkReply::from(ringkit::ringkit_work_add(work, row))
 }
 
-/// Puts a row in place of the one at a place, counted from 1; its amount is in units. The reply has the place and the largest cut; or 22, 4, 5 or 7, and then no byte of the struct has changed.
+/// Puts a row in place of the one at a place, counted from 1; its amount is in units. The reply has the place and the largest cut; or 22, 4, 5 or 7, and then
+/// no byte of the struct has changed.
 #[unsafe(no_mangle)]
 pub extern "C" fn ringkit_work_change(
     work: &mut Work,

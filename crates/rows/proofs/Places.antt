@@ -1,5 +1,5 @@
 -- Rows in columns, place by place: what a read gives, and what a write makes of them.
-use Rattle.std.proofs.Common.{List, Some, drop, slice_get, length-drop, ◌≡◌, ℕ, zero, suc, ◌+◌, ◌<◌, ◌≤◌, [], ◌∷◌, ◌++◌, length, get_or, set, sym, ap, ◌∙◌, arith}
+use Rattle.std.proofs.Common.{List, Some, drop, slice_get, ◌≡◌, ℕ, zero, suc, ◌+◌, ◌<◌, ◌≤◌, [], ◌∷◌, ◌++◌, length, get_or, set, sym, ap, ◌∙◌, arith}
 use Rattle.std.proofs.lemmas.List.{same_lists, get_or-set_same, get_or-set_other, length-set}
 use native.Mathlib.Decide.{ℕ_discrete}
 use native.Mathlib.Numerals.{add-one}
@@ -109,6 +109,3 @@ module _ {A : Type 0} where
   behind-first [] (suc k) x rest e = absurd (cc)
   behind-first (y ∷ l) zero x rest e = cc
   behind-first (y ∷ l) (suc k) x rest e = behind-first l k x rest e
-
-  pub none-left : (l : List A) (k : ℕ) → drop k l ≡ [] → length l ≤ k
-  none-left l k e = omega (arith, length-drop k l, ap length e)

@@ -9,9 +9,11 @@ use Rattle.ring.specs.Lists.{listed}
 use Rattle.rows.specs.declared.columns.Columns.TheInside.{Inside}
 use Rattle.rows.specs.declared.columns.Arrays.{Arrays}
 
+-- the row at a place
 abbrev pub row_of : Inside → ℕ → Routed
 row_of c k = routed (sent (get_or c.arrays.first k 0) (get_or c.arrays.second k 0) (get_or c.arrays.amount k 0) (get_or c.arrays.front k 0) (get_or c.arrays.back k 0)) (get_or c.arrays.way k Front)
 
+-- all rows
 abbrev pub rows_of : Inside → List Routed
 rows_of c = listed (row_of c) 0 c.count
 

@@ -91,7 +91,7 @@ impl Columns {
         self.count = 0;
     }
 
-    /// One row more, behind the last.
+    /// One row more, behind the last, of at most 1,024.
     pub fn push(&mut self, row: Routed)
         requires { length self.old < desk.rows }
         ensures { self.new ≡ self.old ++ row ∷ [] }
@@ -100,7 +100,7 @@ impl Columns {
         self.count += 1;
     }
 
-    /// One demand more, behind the last row: nothing is sent yet, and its way is the front.
+    /// One demand more, behind the last row, of at most 1,024 rows: nothing is sent yet, and its way is the front.
     pub fn push_unsent(&mut self, row: Demand)
         requires { length self.old < desk.rows }
         ensures { self.new ≡ self.old ++ unsent row ∷ [] }

@@ -8,6 +8,7 @@ use lib.ListN.{length}
 use borrow.Author.Tests.{ltb-true, ltb-false}
 use Rattle.ring.specs.declared.types.Cut.{Cut}
 use Rattle.ring.specs.Limits.{Limits}
+use Rattle.ring.specs.Demand.{demand}
 use Rattle.ring.specs.Ring.{ring_of}
 use Rattle.ring.specs.declared.types.Ring.{Ring}
 use Rattle.ring.specs.declared.types.Routed.{Routed}
@@ -16,93 +17,76 @@ use Rattle.ring.proofs.Side.{cond-elim}
 use Rattle.text.specs.FieldByte.{field_byte}
 use Rattle.text.specs.FirstFault.{FirstFault}
 use Rattle.text.specs.ReadLine.{Reading}
+use Rattle.text.specs.WriteLine.{write_line}
 use Rattle.text.specs.Shapes.{ring_shape, sheet_row_shape}
 use Rattle.text.specs.declared.field.Field.{Field}
-use Rattle.table.specs.Lines.{lines}
-use Rattle.table.specs.Judge.{ring_verdict}
-use Rattle.table.specs.Fields.{field_of, node_field}
+use Rattle.table.specs.Lines.{lines, LineIs}
+use Rattle.table.specs.Fields.{field_of, node_field, ring_reason_byte}
 use Rattle.table.specs.Faults.{verdict_found, ring_found, row_found}
-use Rattle.table.specs.Says.{LineIs, RingIs, line_faulty}
+use Rattle.table.specs.RowReasons.{RingIs, line_faulty, at_fault}
 use Rattle.table.specs.declared.reason.Reason.{Reason}
 use Rattle.table.specs.declared.reason.Reason.TheVariants.{Misshapen}
 use Rattle.table.specs.Verdict.{Verdict}
 use Rattle.std.specs.Prelude.{Ok, Err}
-use Rattle.table.proofs.Judged.{RingJudged, size_wrong, wrong_fibres, right_ring, ring-judged}
-use Rattle.table.proofs.Against.{AgainstRing, by_size, by_fibres, ring-least}
+use Rattle.table.proofs.Judged.{ring-judged, row-judged}
+use Rattle.table.proofs.BytesGiven.{ring-byte, row-byte}
+use Rattle.table.proofs.FirstOnLine.{HoldsAs, First, wrong-first, ring-judged-first, row-judged-first}
 use Rattle.table.proofs.LineNumbers.{line-one}
-use Rattle.sheet.specs.Read.{Turn, on, stop, unless, routed_in, cut_in, link_in, ring_turn, cut_turn, row_turn, link_turn, last_turn, turn}
-use Rattle.sheet.specs.Says.{State, start, rows, links, end, RoutedIs, CutIs, LinkIs, LastIs, At, at_start, behind_ring, behind_row, behind_cut, behind_link, behind_last, Says, ring_due, row_or_cut_due, link_due, last_due, none_due, ByteIs}
+use Rattle.sheet.specs.Read.{Step, on, stop, unless, last_of, routed_in, cut_in, link_in, ring_step, cut_step, row_step, link_step, last_step, step}
+use Rattle.sheet.specs.Says.{State, start, rows, links, end, RoutedIs, CutIs, LinkIs, LastIs, At, at_start, behind_ring, behind_row, behind_cut, behind_link, behind_last, RowIs, row_is, Says, LineByte, ring_due, row_or_cut_due, link_due, last_due, none_due, ByteIs}
 use Rattle.sheet.proofs.SheetLines.{way-spelled, RingRead, is_ring, no_ring, ring-read, SentRead, is_sent, no_sent, sent-read, CutRead, is_cut, no_cut, cut-read, LinkRead, is_link, no_link, link-read, LastRead, is_last, no_last, last-read}
-use Rattle.sheet.proofs.Places.{sent-spelled}
-use Rattle.sheet.proofs.FirstReason.{HoldsAs, First, first-as}
-use Rattle.sheet.proofs.SheetSaid.{said-of-ring, none-of-cut, none-of-link, none-of-last, Unfit, unfit-wrong, said, said_here, from-2}
-use Rattle.sheet.proofs.SheetBytes.{ByteOn, ring-byte, neither, sent-row-bytes}
-use Rattle.sheet.proofs.RowFirst.{sent-first}
+use Rattle.sheet.proofs.Places.{sent-spelled, ring-above, rows-above}
+use Rattle.sheet.proofs.SheetSaid.{Unfit, unfit-wrong, wrong-unfit, row-laws, row-above, none-of-cut, none-of-link, none-of-last}
+use Rattle.sheet.proofs.SheetBytes.{neither}
 
 -- ---- a turn that is right
 
-pub data Turned (limits : Limits) (t : List ℕ) (line : ℕ) : Turn → Type 0 where
+pub data Turned (limits : Limits) (t : List ℕ) (line : ℕ) : Step → Type 0 where
   goes_on : {next : State} → ((s : Reason) → Says limits t s line → ⊥) → At limits t (line + 1) next → Turned limits t line (on next)
   stops : {r : Reason} {byte : ℕ} → First (λ s. Says limits t s line) (Err r) → ByteIs limits t r line byte → Turned limits t line (stop r byte)
 
 module _ (limits : Limits) {t : List ℕ} {line : ℕ} where
   unless-turned : (shape : List Field) (vs : List ℕ) (field : Reason → ℕ) {v : Verdict} {next : State} → First (λ s. Says limits t s line) v
-      → ByteOn limits t line (λ reason. field_byte shape vs (field reason)) v → At limits t (line + 1) next → Turned limits t line (unless shape vs (verdict_found v field) next)
+      → HoldsAs (λ s. ByteIs limits t s line (field_byte shape vs (field s))) v → At limits t (line + 1) next → Turned limits t line (unless shape vs (verdict_found v field) next)
   unfolding unless verdict_found
   unless-turned shape vs field {v = Ok tt} f b at = goes_on f.least at
   unless-turned shape vs field {v = Err r} f b at = stops f b
 
   -- a line of the wrong shape
   pub unfit-first : {state : State} → At limits t line state → Unfit limits t line state → First (λ s. Says limits t s line) (Err Misshapen)
-  unfolding Says
-  unfit-first at none = record { holds = unfit-wrong at none; least = λ s h. from-2 limits at s h }
-
--- ---- R n fibres
-
-ring-first : (limits : Limits) (ring : Ring) → First (AgainstRing limits ring) (ring_verdict limits ring)
-ring-first limits ring = record { holds = go (ring-judged limits ring); least = λ s a. ring-least (ring-judged limits ring) a }
-  where
-    go : {v : Verdict} → RingJudged limits ring v → HoldsAs (AgainstRing limits ring) v
-    go (size_wrong w) = by_size w
-    go (wrong_fibres l m w) = by_fibres w
-    go (right_ring l m f) = tt
-
-ring-said : {limits : Limits} {ring : Ring} {t : List ℕ} → RingIs limits t ring → (s : Reason) → AgainstRing limits ring s → Says limits t s 1
-unfolding Says
-ring-said {ring} here s (by_size w) = record { at = refl; ring = ring; said = here; wrong = w }
-ring-said {ring} here s (by_fibres w) = record { at = refl; ring = ring; said = here; wrong = w }
+  unfit-first at none = wrong-first row-laws (unfit-wrong at none)
 
 -- ---- the turn of each line
 
 module _ (limits : Limits) {t l : List ℕ} where
   -- R n fibres
-  ring-turned : {x : Reading} {line : ℕ} → At limits t line start → LineIs (lines t) line l → RingRead limits l x → Turned limits t line (ring_turn limits x)
-  unfolding ring_turn ring_found ByteIs
+  ring-turned : {x : Reading} {line : ℕ} → At limits t line start → LineIs (lines t) line l → RingRead limits l x → Turned limits t line (ring_step limits x)
+  unfolding ring_step ring_found ring_reason_byte
   ring-turned at_start here (is_ring {n} {fibres} e a b) =
       let ring : RingIs limits t (ring_of n fibres) = record { text = subst (LineIs (lines t) 1) e here; spelled = (a, b) } in
       unless-turned limits ring_shape (0 ∷ n ∷ fibres ∷ []) (λ reason. field_of reason 0)
-      (first-as (ring-said ring) (λ s h. said-of-ring ring (said_here at_start (said s h))) (ring-first limits (ring_of n fibres)))
-      (ring-byte ring (ring-judged limits (ring_of n fibres)))
+      (ring-judged-first row-laws ring (λ w. wrong-unfit at_start w (ring_of n fibres) ring) (ring-judged limits (ring_of n fibres)))
+      (ring-byte (RowIs limits t) (LineByte limits t) ring (ring-judged limits (ring_of n fibres)))
       (behind_ring ring)
   ring-turned at_start here (no_ring none fault) =
-      stops (unfit-first limits at_start (λ ring r. none ring.nodes ring.fibres (line-one here r.text refl) r.spelled.0 r.spelled.1)) (ring_due at_start (line_faulty here fault))
+      stops (unfit-first limits at_start (λ ring r. none ring.nodes ring.fibres (line-one here r.text refl) r.spelled.0 r.spelled.1)) (at_fault (ring_due at_start (line_faulty here fault)))
 
   module _ {line : ℕ} (here : LineIs (lines t) line l) where
     -- C g h across, where the line is no D line
     cut-turned : {ring : Ring} {rs : List Routed} {x : Reading} {o : ℕ} → At limits t line (rows ring rs) → ((r : Routed) → RoutedIs limits t line r → ⊥) → FirstFault limits.digits sheet_row_shape l o → CutRead limits l x
-        → Turned limits t line (cut_turn ring rs o x)
-    unfolding cut_turn ByteIs
+        → Turned limits t line (cut_step ring rs o x)
+    unfolding cut_step
     cut-turned at none fault (is_cut {g} {h} {m} e u v w) =
         let is : CutIs limits t line (cut_in (0 ∷ g ∷ h ∷ m ∷ [])) = record { text = subst (LineIs (lines t) line) e here; pair = (u, v); number = w } in
-        goes_on (λ s h. none-of-cut is (said_here at (said s h))) (behind_cut at is)
+        goes_on (λ s h. none-of-cut at is h) (behind_cut at is)
     cut-turned at none fault (no_cut none' fault') =
         stops (unfit-first limits at (none, λ c k. none' c.g c.h c.across (line-one here k.text refl) k.pair.0 k.pair.1 k.number))
-        (row_or_cut_due at (line_faulty here (neither fault fault')))
+        (at_fault (row_or_cut_due at (line_faulty here (neither fault fault'))))
 
     -- D i j amount front back F-or-B, else C
-    row-turned : {ring : Ring} {rs : List Routed} {x y : Reading} → At limits t line (rows ring rs) → SentRead limits l x → CutRead limits l y → Turned limits t line (row_turn limits ring rs x y)
-    unfolding row_turn row_found
-    row-turned {ring} at (is_sent {i} {j} {d} {f} {b = k} {w} e h) c =
+    row-turned : {ring : Ring} {rs : List Routed} {x y : Reading} → At limits t line (rows ring rs) → SentRead limits l x → CutRead limits l y → Turned limits t line (row_step limits ring rs x y)
+    unfolding row_step row_found field_byte write_line
+    row-turned {ring} {rs} at (is_sent {i} {j} {d} {f} {b = k} {w} e h) c =
         let is : RoutedIs limits t line (routed_in (0 ∷ i ∷ j ∷ d ∷ f ∷ k ∷ w ∷ [])) =
         record {
           text = subst (LineIs (lines t) line) (e ∙ sym (way-spelled i j d f k w)) here;
@@ -110,38 +94,42 @@ module _ (limits : Limits) {t l : List ℕ} where
           amount = h.amount;
           halves = (h.front, h.back);
         } in
-        unless-turned limits sheet_row_shape (0 ∷ i ∷ j ∷ d ∷ f ∷ k ∷ w ∷ []) (λ reason. field_of reason (node_field ring.nodes i)) (sent-first limits at is) (sent-row-bytes at is w) (behind_row at is)
+        let judged = row-judged limits ring.nodes (length rs) (last_of rs) (demand i j d) in
+        unless-turned limits sheet_row_shape (0 ∷ i ∷ j ∷ d ∷ f ∷ k ∷ w ∷ []) (λ reason. field_of reason (node_field ring.nodes i))
+        (row-judged-first row-laws (ring-above at) (row_is at is) (λ u. (wrong-unfit at u).0 _ is) (rows-above at) (row-above at) judged)
+        (row-byte (RowIs limits t) (LineByte limits t) (demand i j d) (ring-above at) (row_is at is) (field_byte sheet_row_shape (0 ∷ i ∷ j ∷ d ∷ f ∷ k ∷ w ∷ [])) refl refl refl refl judged)
+        (behind_row at is)
     row-turned at (no_sent none fault) c =
         cut-turned at (λ r s. none _ _ _ _ _ _ (line-one here s.text refl) (sent-spelled s)) fault c
 
     module _ {ring : Ring} {rs : List Routed} {c : Cut} {ks : List Link} (at : At limits t line (links ring rs c ks)) where
       -- L link split-load unsplit-load
-      link-turned : {x : Reading} → length ks < ring.nodes → LinkRead limits l x → Turned limits t line (link_turn ring rs c ks x)
-      unfolding link_turn ByteIs
+      link-turned : {x : Reading} → length ks < ring.nodes → LinkRead limits l x → Turned limits t line (link_step ring rs c ks x)
+      unfolding link_step
       link-turned few (is_link {k} {s} {u} e p q o) =
           let is : LinkIs limits t line (link_in (0 ∷ k ∷ s ∷ u ∷ [])) = record { text = subst (LineIs (lines t) line) e here; link = p; loads = (q, o) } in
-          goes_on (λ s h. none-of-link few is (said_here at (said s h))) (behind_link at few is)
+          goes_on (λ s h. none-of-link at few is h) (behind_link at few is)
       link-turned few (no_link none fault) =
           stops (unfit-first limits at (inl (few, λ k m. none k.link k.split k.unsplit (line-one here m.text refl) m.link m.loads.0 m.loads.1)))
-          (link_due at few (line_faulty here fault))
+          (at_fault (link_due at few (line_faulty here fault)))
 
       -- Z unsplit-peak size
-      last-turned : {x : Reading} → ring.nodes ≤ length ks → LastRead limits l x → Turned limits t line (last_turn ring rs c ks x)
-      unfolding last_turn ByteIs
+      last-turned : {x : Reading} → ring.nodes ≤ length ks → LastRead limits l x → Turned limits t line (last_step ring rs c ks x)
+      unfolding last_step
       last-turned all (is_last {p} {z} e v w) =
           let is : LastIs limits t line p z = record { text = subst (LineIs (lines t) line) e here; spelled = (v, w) } in
-          goes_on (λ s h. none-of-last all is (said_here at (said s h))) (behind_last at all is)
+          goes_on (λ s h. none-of-last at all is h) (behind_last at all is)
       last-turned all (no_last none fault) =
           stops (unfit-first limits at (inr (all, λ p z m. none p z (line-one here m.text refl) m.spelled.0 m.spelled.1)))
-          (last_due at all (line_faulty here fault))
+          (at_fault (last_due at all (line_faulty here fault)))
 
   -- by what is due
-  pub state-turned : {state : State} {line : ℕ} → At limits t line state → LineIs (lines t) line l → Turned limits t line (turn limits state l)
-  unfolding turn ByteIs
+  pub state-turned : {state : State} {line : ℕ} → At limits t line state → LineIs (lines t) line l → Turned limits t line (step limits state l)
+  unfolding step
   state-turned {state = start} at here = ring-turned at here (ring-read limits l)
   state-turned {state = rows ring rs} at here = row-turned here at (sent-read limits l) (cut-read limits l)
   state-turned {state = links ring rs c ks} {line} at here =
       cond-elim (Turned limits t line) _ _ _
       (λ e. link-turned here at (ltb-true (length ks) ring.nodes e) (link-read limits l))
       (λ e. last-turned here at (ltb-false (length ks) ring.nodes e) (last-read limits l))
-  state-turned {state = end x} at here = stops (unfit-first limits at (l, here)) (none_due at refl)
+  state-turned {state = end x} at here = stops (unfit-first limits at (l, here)) (at_fault (none_due at refl))

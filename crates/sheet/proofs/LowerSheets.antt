@@ -9,6 +9,7 @@ use native.Mathlib.Decide.{dec_lt}
 use lib.ListN.{length, length-append}
 use borrow.Author.Tests.{le-ltb}
 use Rattle.std.specs.Prelude.{Bool, true, false, cond, ltb, Option, Ok, Err}
+use Rattle.std.specs.List.{flat_map}
 use Rattle.ring.specs.Limits.{Limits, desk, old}
 use Rattle.ring.specs.LineSize.{IsFibres}
 use Rattle.ring.specs.Lists.{Each, none, more}
@@ -43,9 +44,9 @@ use Rattle.table.proofs.LineRead.{RingSpelled, ring-values}
 use Rattle.table.proofs.LinesOf.{ring-first}
 use Rattle.table.proofs.LowerLimits.{Lower, old-table-accepted, Lost, lost_shape, VerdictAlike, same_verdict, lost_verdict, ring-alike, row-alike, wider, low-spelled, high-spelled}
 use Rattle.table.proofs.TableText.{fibres-spelled}
-use Rattle.sheet.specs.WriteSheet.{routed_line, lines_of, end_text, write_sheet}
+use Rattle.sheet.specs.WriteSheet.{routed_line, end_text, write_sheet}
 use Rattle.sheet.specs.Range.{InRange}
-use Rattle.sheet.specs.Read.{SheetResult, accepted, refused, Turn, on, stop, unless, routed_in, last_of, ring_turn, row_turn, cut_turn, link_turn, last_turn, turn, after, read_from, read_sheet}
+use Rattle.sheet.specs.Read.{SheetResult, accepted, refused, Step, on, stop, unless, routed_in, last_of, ring_step, row_step, cut_step, link_step, last_step, step, after, read_from, read_sheet}
 use Rattle.sheet.specs.Says.{State, start, rows, links, end}
 use Rattle.sheet.proofs.Last.{last_more}
 use Rattle.sheet.proofs.Rest.{sent-first, cut-not-sent}
@@ -55,10 +56,10 @@ use Rattle.sheet.proofs.Short.{Fitting, true-in-range}
 
 -- ---- what it answers of any text
 
--- the same turn, or a refusal by 2, 3 or 16
-data TurnAlike : Turn → Turn → Type 0 where
-  same_turn : {x : Turn} → TurnAlike x x
-  lost_turn : {r : Reason} {byte : ℕ} {x : Turn} → Lost r → TurnAlike (stop r byte) x
+-- the same step, or a refusal by 2, 3 or 16
+data StepAlike : Step → Step → Type 0 where
+  same_step : {x : Step} → StepAlike x x
+  lost_step : {r : Reason} {byte : ℕ} {x : Step} → Lost r → StepAlike (stop r byte) x
 
 -- the same result, or a refusal by these
 pub data Alike : SheetResult → SheetResult → Type 0 where
@@ -71,10 +72,10 @@ data LineAlike : Reading → Reading → Type 0 where
   lost_line : {p : ℕ} {x : Reading} → LineAlike (Err p) x
 
 unless-alike : (shape : List Field) (vs : List ℕ) (field : Reason → ℕ) (next : State) {v u : Verdict} → VerdictAlike v u
-    → TurnAlike (unless shape vs (verdict_found v field) next) (unless shape vs (verdict_found u field) next)
+    → StepAlike (unless shape vs (verdict_found v field) next) (unless shape vs (verdict_found u field) next)
 unfolding unless verdict_found
-unless-alike shape vs field next same_verdict = same_turn
-unless-alike shape vs field next (lost_verdict l) = lost_turn l
+unless-alike shape vs field next same_verdict = same_step
+unless-alike shape vs field next (lost_verdict l) = lost_step l
 
 module _ {low high : Limits} (lower : Lower low high) where
   line-again : (shape : List Field) (l vs : List ℕ) → read_line low.digits shape l ≡ Ok vs → read_line high.digits shape l ≡ Ok vs
@@ -87,53 +88,53 @@ module _ {low high : Limits} (lower : Lower low high) where
       go (Ok vs) e = let f = line-again shape l vs e in rw f same_line
       go (Err p) e = lost_line
 
-  ring-turn-alike : {x y : Reading} → LineAlike x y → TurnAlike (ring_turn low x) (ring_turn high y)
-  unfolding ring_turn ring_found
-  ring-turn-alike (same_line {vs}) = unless-alike ring_shape vs _ (rows (ring_in vs) []) (ring-alike lower (ring_in vs))
-  ring-turn-alike lost_line = lost_turn lost_shape
+  ring-step-alike : {x y : Reading} → LineAlike x y → StepAlike (ring_step low x) (ring_step high y)
+  unfolding ring_step ring_found
+  ring-step-alike (same_line {vs}) = unless-alike ring_shape vs _ (rows (ring_in vs) []) (ring-alike lower (ring_in vs))
+  ring-step-alike lost_line = lost_step lost_shape
 
-  row-turn-alike : (ring : Ring) (rs : List Routed) (l : List ℕ) {x y z : Reading} → LineAlike x y → y ≡ read_line high.digits sheet_row_shape l → CutRead low l z → z ≡ read_line low.digits cut_shape l
-      → TurnAlike (row_turn low ring rs x z) (row_turn high ring rs y (read_line high.digits cut_shape l))
-  unfolding row_turn row_found cut_turn
-  row-turn-alike ring rs l (same_line {vs}) sent cut is = unless-alike sheet_row_shape vs _ (rows ring (rs ++ routed_in vs ∷ [])) (row-alike lower ring.nodes (length rs) (last_of rs) (routed_in vs).sent.demand)
-  row-turn-alike ring rs l lost_line sent (no_cut misread fault) is = lost_turn lost_shape
-  row-turn-alike ring rs l lost_line sent (is_cut {g} {h} {m} e a b c) is =
+  row-step-alike : (ring : Ring) (rs : List Routed) (l : List ℕ) {x y z : Reading} → LineAlike x y → y ≡ read_line high.digits sheet_row_shape l → CutRead low l z → z ≡ read_line low.digits cut_shape l
+      → StepAlike (row_step low ring rs x z) (row_step high ring rs y (read_line high.digits cut_shape l))
+  unfolding row_step row_found cut_step
+  row-step-alike ring rs l (same_line {vs}) sent cut is = unless-alike sheet_row_shape vs _ (rows ring (rs ++ routed_in vs ∷ [])) (row-alike lower ring.nodes (length rs) (last_of rs) (routed_in vs).sent.demand)
+  row-step-alike ring rs l lost_line sent (no_cut misread fault) is = lost_step lost_shape
+  row-step-alike ring rs l lost_line sent (is_cut {g} {h} {m} e a b c) is =
       let again = line-again cut_shape l (0 ∷ g ∷ h ∷ m ∷ []) (sym is) in
       let other = cut-not-sent high g h m (sent-read high (cut_line g h m)) ring rs (Ok (0 ∷ g ∷ h ∷ m ∷ [])) in
-      rw (again, sent, e, other.1) same_turn
+      rw (again, sent, e, other.1) same_step
 
-  link-turn-alike : (ring : Ring) (rs : List Routed) (c : Cut) (ks : List Link) {x y : Reading} → LineAlike x y → TurnAlike (link_turn ring rs c ks x) (link_turn ring rs c ks y)
-  unfolding link_turn
-  link-turn-alike ring rs c ks same_line = same_turn
-  link-turn-alike ring rs c ks lost_line = lost_turn lost_shape
+  link-step-alike : (ring : Ring) (rs : List Routed) (c : Cut) (ks : List Link) {x y : Reading} → LineAlike x y → StepAlike (link_step ring rs c ks x) (link_step ring rs c ks y)
+  unfolding link_step
+  link-step-alike ring rs c ks same_line = same_step
+  link-step-alike ring rs c ks lost_line = lost_step lost_shape
 
-  last-turn-alike : (ring : Ring) (rs : List Routed) (c : Cut) (ks : List Link) {x y : Reading} → LineAlike x y → TurnAlike (last_turn ring rs c ks x) (last_turn ring rs c ks y)
-  unfolding last_turn
-  last-turn-alike ring rs c ks same_line = same_turn
-  last-turn-alike ring rs c ks lost_line = lost_turn lost_shape
+  last-step-alike : (ring : Ring) (rs : List Routed) (c : Cut) (ks : List Link) {x y : Reading} → LineAlike x y → StepAlike (last_step ring rs c ks x) (last_step ring rs c ks y)
+  unfolding last_step
+  last-step-alike ring rs c ks same_line = same_step
+  last-step-alike ring rs c ks lost_line = lost_step lost_shape
 
-  turn-alike : (state : State) (l : List ℕ) → TurnAlike (turn low state l) (turn high state l)
-  unfolding turn
-  turn-alike start l = ring-turn-alike (line-alike ring_shape l)
-  turn-alike (rows ring rs) l = row-turn-alike ring rs l (line-alike sheet_row_shape l) refl (cut-read low l) refl
-  turn-alike (links ring rs c ks) l = go (ltb (length ks) ring.nodes)
+  step-alike : (state : State) (l : List ℕ) → StepAlike (step low state l) (step high state l)
+  unfolding step
+  step-alike start l = ring-step-alike (line-alike ring_shape l)
+  step-alike (rows ring rs) l = row-step-alike ring rs l (line-alike sheet_row_shape l) refl (cut-read low l) refl
+  step-alike (links ring rs c ks) l = go (ltb (length ks) ring.nodes)
     where
-      go : (t : Bool) → TurnAlike (cond t (link_turn ring rs c ks (read_line low.digits link_shape l)) (last_turn ring rs c ks (read_line low.digits last_shape l)))
-          (cond t (link_turn ring rs c ks (read_line high.digits link_shape l)) (last_turn ring rs c ks (read_line high.digits last_shape l)))
-      go true = link-turn-alike ring rs c ks (line-alike link_shape l)
-      go false = last-turn-alike ring rs c ks (line-alike last_shape l)
-  turn-alike (end x) l = same_turn
+      go : (t : Bool) → StepAlike (cond t (link_step ring rs c ks (read_line low.digits link_shape l)) (last_step ring rs c ks (read_line low.digits last_shape l)))
+          (cond t (link_step ring rs c ks (read_line high.digits link_shape l)) (last_step ring rs c ks (read_line high.digits last_shape l)))
+      go true = link-step-alike ring rs c ks (line-alike link_shape l)
+      go false = last-step-alike ring rs c ks (line-alike last_shape l)
+  step-alike (end x) l = same_step
 
   read-alike : (ls : List (List ℕ)) (state : State) (line : ℕ) → Alike (read_from low state line ls) (read_from high state line ls)
   unfolding read_from after
   read-alike [] state line = same_result
-  read-alike (l ∷ ls) state line = go (turn-alike state l) (λ next. read-alike ls next (line + 1))
+  read-alike (l ∷ ls) state line = go (step-alike state l) (λ next. read-alike ls next (line + 1))
     where
-      go : {x y : Turn} → TurnAlike x y → ((next : State) → Alike (read_from low next (line + 1) ls) (read_from high next (line + 1) ls))
+      go : {x y : Step} → StepAlike x y → ((next : State) → Alike (read_from low next (line + 1) ls) (read_from high next (line + 1) ls))
           → Alike (after x line (λ next. read_from low next (line + 1) ls)) (after y line (λ next. read_from high next (line + 1) ls))
-      go (same_turn {x = on next}) rest = rest next
-      go (same_turn {x = stop r byte}) rest = same_result
-      go (lost_turn l) rest = lost_result l
+      go (same_step {x = on next}) rest = rest next
+      go (same_step {x = stop r byte}) rest = same_result
+      go (lost_step l) rest = lost_result l
 
   -- what the lower answer the higher answer too, but for 2, 3 and 16
   pub sheet-alike : (t : List ℕ) → Alike (read_sheet low t) (read_sheet high t)
@@ -155,31 +156,31 @@ pub data LowerSheet (low : Limits) (x : Sheet) : SheetResult → Type 0 where
 -- ---- each line
 
 module _ (low : Limits) where
-  ring-turned : (ring : Ring) → RingSpelled low ring.nodes ring.fibres → low.fewest ≤ ring.nodes → ring.nodes ≤ low.nodes → IsFibres ring.fibres
-      → turn low start (ring_line ring.nodes ring.fibres) ≡ on (rows ring [])
-  unfolding turn ring_turn unless ring_found verdict_found
-  ring-turned ring w few many fibres = rw (ring-values low ring.nodes ring.fibres w, fine-ring-judged low ring few many fibres)
+  ring-stepped : (ring : Ring) → RingSpelled low ring.nodes ring.fibres → low.fewest ≤ ring.nodes → ring.nodes ≤ low.nodes → IsFibres ring.fibres
+      → step low start (ring_line ring.nodes ring.fibres) ≡ on (rows ring [])
+  unfolding step ring_step unless ring_found verdict_found
+  ring-stepped ring w few many fibres = rw (ring-values low ring.nodes ring.fibres w, fine-ring-judged low ring few many fibres)
 
   -- too many nodes: n is at byte 3
-  ring-refused : (ring : Ring) → RingSpelled low ring.nodes ring.fibres → low.nodes < ring.nodes → turn low start (ring_line ring.nodes ring.fibres) ≡ stop RingSize 3
-  unfolding turn ring_turn unless ring_found verdict_found field_byte write_line spell end_of
+  ring-refused : (ring : Ring) → RingSpelled low ring.nodes ring.fibres → low.nodes < ring.nodes → step low start (ring_line ring.nodes ring.fibres) ≡ stop RingSize 3
+  unfolding step ring_step unless ring_found verdict_found field_byte write_line spell end_of
   ring-refused ring w big = rw (ring-values low ring.nodes ring.fibres w, big-ring-judged low ring big)
 
   -- a row is spelled
   abbrev Spells : Routed → Type 0
   Spells r = SentSpelled low r.sent.demand.first r.sent.demand.second r.sent.demand.amount r.sent.front r.sent.back (way_number r.way)
 
-  row-turned : (ring : Ring) (rs : List Routed) (r : Routed) → Spells r → OnRing ring.nodes r.sent.demand → InOrder (last_of rs) r.sent.demand → length rs < low.rows → r.sent.demand.amount ≤ low.amount
-      → turn low (rows ring rs) (routed_line r) ≡ on (rows ring (rs ++ r ∷ []))
-  unfolding turn row_turn unless row_found verdict_found
-  row-turned ring rs r s o up room most =
+  row-stepped : (ring : Ring) (rs : List Routed) (r : Routed) → Spells r → OnRing ring.nodes r.sent.demand → InOrder (last_of rs) r.sent.demand → length rs < low.rows → r.sent.demand.amount ≤ low.amount
+      → step low (rows ring rs) (routed_line r) ≡ on (rows ring (rs ++ r ∷ []))
+  unfolding step row_step unless row_found verdict_found
+  row-stepped ring rs r s o up room most =
       let w = way_back r.way in
       rw (line-back low sheet_row_shape _ (sent-in-range low _ _ _ _ _ _ s), fine-row-judged low ring.nodes (length rs) (last_of rs) r.sent.demand o up room most, w)
 
   -- no room for it: it is refused as a whole
   row-refused : (ring : Ring) (rs : List Routed) (r : Routed) → Spells r → OnRing ring.nodes r.sent.demand → InOrder (last_of rs) r.sent.demand → low.rows ≤ length rs
-      → turn low (rows ring rs) (routed_line r) ≡ stop TooMany 1
-  unfolding turn row_turn unless row_found verdict_found field_byte write_line
+      → step low (rows ring rs) (routed_line r) ≡ stop TooMany 1
+  unfolding step row_step unless row_found verdict_found field_byte write_line
   row-refused ring rs r s o up full =
       rw (line-back low sheet_row_shape _ (sent-in-range low _ _ _ _ _ _ s), full-row-judged low ring.nodes (length rs) (last_of rs) r.sent.demand o up full)
 
@@ -189,14 +190,14 @@ module _ {low high : Limits} (lower : Lower low high) (fits : Fitting low) where
   module _ (ring : Ring) (many : ring.nodes ≤ high.nodes) (rest : List ℕ) where
     many-rows : (rs later : List Routed) {k : ℕ} {above : Option Demand} → length rs ≡ k → last_of rs ≡ above → k ≤ low.rows → low.rows < k + length later
         → FineRows high ring.nodes k above (demands (sents later)) → Each (SmallRow low.amount) later
-        → read_from low (rows ring rs) (length rs + 2) (lines (lines_of routed_line later ++ rest)) ≡ refused TooMany (low.rows + 2) 1
-    unfolding read_from after lines_of lines
+        → read_from low (rows ring rs) (length rs + 2) (lines (flat_map routed_line later ++ rest)) ≡ refused TooMany (low.rows + 2) 1
+    unfolding read_from after lines
     many-rows rs [] e f l m fine none = absurd (omega arith)
     many-rows rs (r ∷ later) {k} {above} e f l m (fine_row o up c d fine) (more h hs) =
         elim (dec_lt k low.rows) [
           | yes room ↦
               let count : length rs + 2 + 1 ≡ length (rs ++ r ∷ []) + 2 = omega (arith, length-append rs (r ∷ [])) in
-              rw (text, row-turned low ring rs r s o (rw f up) (omega arith) (omega (arith, d, lower.amount)), count)
+              rw (text, row-stepped low ring rs r s o (rw f up) (omega arith) (omega (arith, d, lower.amount)), count)
               (many-rows (rs ++ r ∷ []) later (omega (arith, length-append rs (r ∷ []))) (last_more rs r) (omega arith) (omega arith) fine hs)
           | no full ↦
               let q : length rs ≡ low.rows = omega arith in
@@ -214,10 +215,10 @@ module _ {low high : Limits} (lower : Lower low high) (fits : Fitting low) where
               way = way_small r.way;
             }
 
-        text : lines ((routed_line r ++ lines_of routed_line later) ++ rest) ≡ routed_line r ∷ lines (lines_of routed_line later ++ rest)
+        text : lines ((routed_line r ++ flat_map routed_line later) ++ rest) ≡ routed_line r ∷ lines (flat_map routed_line later ++ rest)
         text =
-            ap lines (append_assoc (routed_line r) (lines_of routed_line later) rest)
-            ∙ sent-first low r.sent.demand.first r.sent.demand.second r.sent.demand.amount r.sent.front r.sent.back (way_number r.way) s (lines_of routed_line later ++ rest)
+            ap lines (append_assoc (routed_line r) (flat_map routed_line later) rest)
+            ∙ sent-first low r.sent.demand.first r.sent.demand.second r.sent.demand.amount r.sent.front r.sent.back (way_number r.way) s (flat_map routed_line later ++ rest)
 
   -- ---- the sheet
 
@@ -225,7 +226,15 @@ module _ {low high : Limits} (lower : Lower low high) (fits : Fitting low) where
   narrow : {x : Sheet} → InRange high x → TrueSheet x → x.ring.nodes ≤ low.nodes → length x.rows ≤ low.rows → InRange low x
   narrow {x} range t n r =
       let e = lower.amount in
-      true-in-range low fits x t n range.fibres range.rows r (rw e range.amounts) (omega (arith, range.few, lower.fewest))
+      true-in-range low fits x t
+      (record {
+        few = omega (arith, range.within.few, lower.fewest);
+        many = n;
+        fibres = range.within.fibres;
+        rows = range.within.rows;
+        count = omega (arith, r, demands-length x.rows);
+        amounts = rw e range.within.amounts;
+      })
 
   -- a true sheet that the higher read, the lower refuse by 3 or 16, or read too
   pub lower-sheet : (t : List ℕ) (x : Sheet) → read_sheet high t ≡ accepted x → TrueSheet x → LowerSheet low x (read_sheet low t)
@@ -236,10 +245,10 @@ module _ {low high : Limits} (lower : Lower low high) (fits : Fitting low) where
         | no small ↦ elim (dec_lt low.rows (length x.rows)) [
           | yes over ↦
               let n : x.ring.nodes ≤ low.nodes = omega arith in
-              let fine = ring-turned low x.ring w (omega (arith, range.few, lower.fewest)) n range.fibres in
+              let fine = ring-stepped low x.ring w (omega (arith, range.within.few, lower.fewest)) n range.within.fibres in
               let refusal =
-              many-rows x.ring range.many (end_text (figures_of x) x.links) [] x.rows refl refl (omega arith) (omega arith)
-              (fine-rows range.rows (omega (arith, range.count, demands-length x.rows)) range.amounts) (figures-small low.amount x true_sheet amounts).rows in
+              many-rows x.ring range.within.many (end_text (figures_of x) x.links) [] x.rows refl refl (omega arith) (omega arith)
+              (fine-rows range.within.rows (omega (arith, range.within.count)) range.within.amounts) (figures-small low.amount x true_sheet amounts).rows in
               rw (is, le-ltb low.bytes (length (write_sheet x)) short, first, fine, refusal) (more-rows n over)
           | no few ↦
               let n : x.ring.nodes ≤ low.nodes = omega arith in
@@ -256,17 +265,17 @@ module _ {low high : Limits} (lower : Lower low high) (fits : Fitting low) where
       range = ((sheet-text high (high-spelled lower) t x).0 e).1
 
       amounts : Each (λ (r : Demand). r.amount ≤ low.amount) (demands (sents x.rows))
-      amounts = let q = lower.amount in rw q range.amounts
+      amounts = let q = lower.amount in rw q range.within.amounts
 
       short : length (write_sheet x) ≤ low.bytes
       short = omega (arith, range.short, lower.bytes)
 
       w : RingSpelled low x.ring.nodes x.ring.fibres
-      w = (omega (arith, range.many, lower.spelled.0), fibres-spelled low x.ring.fibres range.fibres)
+      w = (omega (arith, range.within.many, lower.spelled.0), fibres-spelled low x.ring.fibres range.within.fibres)
 
-      first : lines (ring_line x.ring.nodes x.ring.fibres ++ (lines_of routed_line x.rows ++ end_text (figures_of x) x.links))
-          ≡ ring_line x.ring.nodes x.ring.fibres ∷ lines (lines_of routed_line x.rows ++ end_text (figures_of x) x.links)
-      first = ring-first low x.ring.nodes x.ring.fibres w (lines_of routed_line x.rows ++ end_text (figures_of x) x.links)
+      first : lines (ring_line x.ring.nodes x.ring.fibres ++ (flat_map routed_line x.rows ++ end_text (figures_of x) x.links))
+          ≡ ring_line x.ring.nodes x.ring.fibres ∷ lines (flat_map routed_line x.rows ++ end_text (figures_of x) x.links)
+      first = ring-first low x.ring.nodes x.ring.fibres w (flat_map routed_line x.rows ++ end_text (figures_of x) x.links)
 
 -- ---- a table that the old desk accepts is routed to the same bytes: the rules and the writer take no limits, and both desks read the same ring and rows
 

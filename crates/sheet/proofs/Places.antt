@@ -4,9 +4,10 @@ use Prim.Native.Nat.{ℕ, ◌+◌, ◌≤◌, ◌<◌}
 use mathlib.Core.List.{List, [], ◌∷◌, ◌++◌}
 use mathlib.Core.Path.{◌≡◌, refl, ap, ap₂, ◌∙◌, sym, subst, subst₂}
 use native.Mathlib.Omega.{arith}
-use lib.ListN.{length, get_or}
+use lib.ListN.{length, length-append, get_or}
 use Rattle.ring.specs.Limits.{Limits}
 use Rattle.ring.specs.Routing.{way_number, routed}
+use Rattle.ring.specs.Sheet.{Sheet}
 use Rattle.ring.specs.declared.types.Routed.{Routed}
 use Rattle.ring.specs.declared.types.Cut.{Cut}
 use Rattle.ring.specs.declared.types.Ring.{Ring}
@@ -15,8 +16,8 @@ use Rattle.text.specs.Field.{spell}
 use Rattle.text.specs.WriteLine.{write_line}
 use Rattle.text.specs.Shapes.{sheet_row_shape, cut_shape, link_shape, last_shape}
 use Rattle.text.proofs.LineLaws.{one-line}
-use Rattle.table.specs.Lines.{lines}
-use Rattle.table.specs.Says.{LineIs, RingIs}
+use Rattle.table.specs.Lines.{lines, LineIs}
+use Rattle.table.specs.RowReasons.{RingIs}
 use Rattle.table.proofs.LineNumbers.{line-one, ring-one}
 use Rattle.sheet.specs.Read.{routed_in, cut_in, link_in}
 use Rattle.sheet.specs.Says.{State, start, rows, links, end, RoutedIs, CutIs, LinkIs, LastIs, At, at_start, behind_ring, behind_row, behind_cut, behind_link, behind_last}
@@ -123,3 +124,22 @@ module _ {limits : Limits} {t : List ℕ} where
   -- no place lies behind a line that is missing
   pub place-within : {line k : ℕ} {q s : State} → At limits t line q → ((l : List ℕ) → LineIs (lines t) line l → ⊥) → At limits t k s → k ≤ line
   place-within a none b = walked-within (place-low a) none (walked b)
+
+-- ---- behind the R line
+
+module _ {limits : Limits} {t : List ℕ} where
+  pub ring-above : {line : ℕ} {ring : Ring} {rs : List Routed} → At limits t line (rows ring rs) → RingIs limits t ring
+  ring-above (behind_ring is) = is
+  ring-above (behind_row at is) = ring-above at
+
+  -- a row stands on a line of its own, the first on line 2
+  pub rows-above : {line : ℕ} {ring : Ring} {rs : List Routed} → At limits t line (rows ring rs) → line ≡ length rs + 2
+  rows-above (behind_ring is) = refl
+  rows-above (behind_row {rs} {r} at is) = omega (arith, rows-above at, length-append rs (r ∷ []))
+
+  pub links-later : {line : ℕ} {ring : Ring} {rs : List Routed} {c : Cut} {ks : List Link} → At limits t line (links ring rs c ks) → 2 ≤ line
+  links-later (behind_cut at is) = omega (arith, place-low at)
+  links-later (behind_link at few is) = omega (arith, place-low at)
+
+  pub end-later : {line : ℕ} {x : Sheet} → At limits t line (end x) → 2 ≤ line
+  end-later (behind_last at all is) = omega (arith, place-low at)

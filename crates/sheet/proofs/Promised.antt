@@ -2,12 +2,12 @@
 use mathlib.Core.Path.{◌≡◌, refl, ap, ◌∙◌, sym}
 use Rattle.ring.specs.Limits.{Limits}
 use Rattle.ring.specs.Sheet.{Sheet}
-use Rattle.table.specs.Table.{LimitsSpelled}
 use Rattle.sheet.specs.WriteSheet.{write_sheet}
 use Rattle.sheet.specs.Range.{InRange}
 use Rattle.sheet.specs.Read.{accepted, read_sheet}
 use Rattle.sheet.specs.Laws.{SameSheet}
 use Rattle.sheet.proofs.SheetText.{sheet-text}
+use Rattle.table.proofs.Spelled.{LimitsSpelled}
 
 module _ (limits : Limits) (limited : LimitsSpelled limits) where
   -- read again, a sheet that was written has the same values

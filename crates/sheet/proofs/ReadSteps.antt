@@ -23,9 +23,9 @@ use Rattle.table.specs.declared.reason.Reason.TheVariants.{TooLong, Misshapen}
 use Rattle.table.specs.declared.reason.Refusal.{Refusal}
 use Rattle.table.proofs.Faults.{row-none}
 use Rattle.table.proofs.Judged.{RowJudged, row_fine, row-judged}
-use Rattle.sheet.specs.Answer.{with_values}
+use Rattle.sheet.specs.ReadInto.{with_values}
 use Rattle.sheet.specs.Parts.{read_by}
-use Rattle.sheet.specs.Read.{SheetResult, accepted, refused, last_of, link_in, sheet_with, unless, ring_turn, row_turn, cut_turn, link_turn, last_turn, turn, at_end, after, read_from, read_sheet}
+use Rattle.sheet.specs.Read.{SheetResult, accepted, refused, last_of, link_in, sheet_with, unless, ring_step, row_step, cut_step, link_step, last_step, step, at_end, after, read_from, read_sheet}
 use Rattle.sheet.specs.Says.{State, rows, links, end}
 use Rattle.ring.specs.Sheet.{sheet_in, sents, demands}
 use Rattle.ring.proofs.Small.{demands-length}
@@ -45,27 +45,27 @@ has_room n rs r o e f =
 
 -- ---- a line by its values
 
-ring-leads : (l : List ℕ) (y : Result Ring Refusal) → y ≡ ring_on desk l → (next : State → SheetResult) → read_by y (λ ring. next (rows ring [])) ≡ after (ring_turn desk (read_line desk.digits ring_shape l)) 1 next
-unfolding ring_on line_judged and_then values_on passed ring_turn unless after
+ring-leads : (l : List ℕ) (y : Result Ring Refusal) → y ≡ ring_on desk l → (next : State → SheetResult) → read_by y (λ ring. next (rows ring [])) ≡ after (ring_step desk (read_line desk.digits ring_shape l)) 1 next
+unfolding ring_on line_judged and_then values_on passed ring_step unless after
 ring-leads l y e next = rw e (go (read_line desk.digits ring_shape l))
   where
     found : (vs : List ℕ) (o : Result Unit Fault) → read_by (passed 1 ring_shape vs o (ring_in vs)) (λ ring. next (rows ring [])) ≡ after (unless ring_shape vs o (rows (ring_in vs) [])) 1 next
     found vs (Ok tt) = refl
     found vs (Err f) = refl
 
-    go : (x : Reading) → read_by (and_then (values_on 1 x) λ vs. passed 1 ring_shape vs (ring_found desk (ring_in vs)) (ring_in vs)) (λ ring. next (rows ring [])) ≡ after (ring_turn desk x) 1 next
+    go : (x : Reading) → read_by (and_then (values_on 1 x) λ vs. passed 1 ring_shape vs (ring_found desk (ring_in vs)) (ring_in vs)) (λ ring. next (rows ring [])) ≡ after (ring_step desk x) 1 next
     go (Ok vs) = found vs (ring_found desk (ring_in vs))
     go (Err p) = refl
 
 link-by : (ring : Ring) (rs : List Routed) (c : Cut) (ks : List Link) (line : ℕ) (x : Reading) (next : State → SheetResult)
-    → after (link_turn ring rs c ks x) line next ≡ read_by (values_on line x) (λ vs. next (links ring rs c (ks ++ link_in vs ∷ [])))
-unfolding link_turn after values_on
+    → after (link_step ring rs c ks x) line next ≡ read_by (values_on line x) (λ vs. next (links ring rs c (ks ++ link_in vs ∷ [])))
+unfolding link_step after values_on
 link-by ring rs c ks line (Ok vs) next = refl
 link-by ring rs c ks line (Err p) next = refl
 
 last-by : (ring : Ring) (rs : List Routed) (c : Cut) (ks : List Link) (line : ℕ) (x : Reading) (next : State → SheetResult)
-    → after (last_turn ring rs c ks x) line next ≡ read_by (values_on line x) (λ vs. next (end (sheet_with ring rs c ks vs)))
-unfolding last_turn after values_on
+    → after (last_step ring rs c ks x) line next ≡ read_by (values_on line x) (λ vs. next (end (sheet_with ring rs c ks vs)))
+unfolding last_step after values_on
 last-by ring rs c ks line (Ok vs) next = refl
 last-by ring rs c ks line (Err p) next = refl
 
@@ -82,12 +82,12 @@ module _ (ring : Ring) (all : List (List ℕ)) (rs : List Routed) (before : List
   rows-missing none = sym (reading.rest ∙ rw (none, ← many))
 
   module _ (l : List ℕ) (ls : List (List ℕ)) (left : before ≡ l ∷ ls) where
-    rows-led : read_from desk (rows ring []) 2 all ≡ after (row_turn desk ring rs (read_line desk.digits sheet_row_shape l) (read_line desk.digits cut_shape l)) (count + 2) (λ next. read_from desk next (count + 2 + 1) ls)
-    unfolding read_from turn
+    rows-led : read_from desk (rows ring []) 2 all ≡ after (row_step desk ring rs (read_line desk.digits sheet_row_shape l) (read_line desk.digits cut_shape l)) (count + 2) (λ next. read_from desk next (count + 2 + 1) ls)
+    unfolding read_from step
     rows-led = reading.rest ∙ rw (left, ← many)
 
     module _ (vs : List ℕ) (is : Ok vs ≡ read_line desk.digits sheet_row_shape l) (y : Result Routed Refusal)
-        (leads : (other : Reading) (next : State → SheetResult) → read_by y (λ r. next (rows ring (rs ++ r ∷ []))) ≡ after (row_turn desk ring rs (Ok vs) other) (count + 2) next) where
+        (leads : (other : Reading) (next : State → SheetResult) → read_by y (λ r. next (rows ring (rs ++ r ∷ []))) ≡ after (row_step desk ring rs (Ok vs) other) (count + 2) next) where
       row-led : read_from desk (rows ring []) 2 all ≡ read_by y (λ r. read_from desk (rows ring (rs ++ r ∷ [])) (count + 2 + 1) ls)
       row-led = rows-led ∙ rw (← is) (sym (leads (read_line desk.digits cut_shape l) (λ next. read_from desk next (count + 2 + 1) ls)))
 
@@ -101,9 +101,9 @@ module _ (ring : Ring) (all : List (List ℕ)) (rs : List Routed) (before : List
 
     -- the next line is no D line, so it is the C line
     pub cut-read : (p : ℕ) → Err p ≡ read_line desk.digits sheet_row_shape l → (y : Result Cut Refusal)
-        → ((ring : Ring) (rs : List Routed) (next : State → SheetResult) → read_by y (λ c. next (links ring rs c [])) ≡ after (cut_turn ring rs p (read_line desk.digits cut_shape l)) (count + 2) next)
+        → ((ring : Ring) (rs : List Routed) (next : State → SheetResult) → read_by y (λ c. next (links ring rs c [])) ≡ after (cut_step ring rs p (read_line desk.digits cut_shape l)) (count + 2) next)
         → read_by y (λ c. read_from desk (links ring rs c []) (length rs + 3) ls) ≡ read_from desk (rows ring []) 2 all
-    unfolding row_turn
+    unfolding row_step
     cut-read p is y leads =
         let m : length rs + 3 ≡ count + 2 + 1 = omega (arith, many) in
         rw m (sym (rows-led ∙ rw (← is) (sym (leads ring rs (λ next. read_from desk next (count + 2 + 1) ls)))))
@@ -122,7 +122,7 @@ module _ (ring : Ring) (all : List (List ℕ)) (first : ℕ) (before : List (Lis
 
   module _ (below : line < first + ring.nodes) (l : List ℕ) (ls : List (List ℕ)) (left : before ≡ l ∷ ls) (y : Result (List ℕ) Refusal) (ey : y ≡ values_on line (read_line desk.digits link_shape l)) where
     link-led : (rs : List Routed) (c : Cut) → read_from desk (links ring rs c []) first all ≡ read_by y (λ vs. read_from desk (links ring rs c (ks ++ link_in vs ∷ [])) (line + 1) ls)
-    unfolding read_from turn
+    unfolding read_from step
     link-led rs c =
         let few : length ks < ring.nodes = omega (arith, reading.count) in
         reading.rest rs c
@@ -145,7 +145,7 @@ module _ (ring : Ring) (c : Cut) (line : ℕ) (all : List (List ℕ)) where
   module _ (l : List ℕ) (ls : List (List ℕ)) (left : all ≡ l ∷ ls) (y : Result (List ℕ) Refusal) (ey : y ≡ values_on line (read_line desk.digits last_shape l)) where
     last-led : (rs : List Routed) (ks : List Link) → ring.nodes ≤ length ks
         → read_from desk (links ring rs c ks) line all ≡ read_by y (λ vs. read_from desk (end (sheet_with ring rs c ks vs)) (line + 1) ls)
-    unfolding read_from turn
+    unfolding read_from step
     last-led rs ks many =
         rw (left, le-ltb (length ks) ring.nodes many, ey) (last-by ring rs c ks line (read_line desk.digits last_shape l) (λ next. read_from desk next (line + 1) ls))
 
@@ -155,7 +155,7 @@ module _ (ring : Ring) (c : Cut) (line : ℕ) (all : List (List ℕ)) where
     module _ (vs : List ℕ) (e : y ≡ Ok vs) where
       pub left_over : (ls ≡ [] → ⊥) → (rs : List Routed) (ks : List Link) → ring.nodes ≤ length ks
           → refused Misshapen (line + 1) 1 ≡ read_from desk (links ring rs c ks) line all
-      unfolding read_from turn at_end after
+      unfolding read_from step at_end after
       left_over more rs ks many = sym (last-led rs ks many ∙ rw e (go ls more))
         where
           go : (ls : List (List ℕ)) → (ls ≡ [] → ⊥) → read_from desk (end (sheet_with ring rs c ks vs)) (line + 1) ls ≡ refused Misshapen (line + 1) 1
@@ -180,7 +180,7 @@ module _ (text : List ℕ) where
 
     module _ (l : List ℕ) (ls : List (List ℕ)) (left : lines text ≡ l ∷ ls) (y : Result Ring Refusal) (is : y ≡ ring_on desk l) where
       ring-led : read_sheet desk text ≡ read_by y (λ ring. read_from desk (rows ring []) 2 ls)
-      unfolding read_sheet read_from turn
+      unfolding read_sheet read_from step
       ring-led = rw (le-ltb desk.bytes (length text) short, left) (sym (ring-leads l y is (λ next. read_from desk next 2 ls)))
 
       pub ring-refused : (r : Refusal) → y ≡ Err r → refused r.reason r.line r.byte ≡ read_sheet desk text

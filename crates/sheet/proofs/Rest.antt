@@ -32,7 +32,7 @@ use Rattle.table.specs.declared.fault.Fault.{Fault}
 use Rattle.std.specs.Prelude.{Result, Ok, Err}
 use Rattle.table.proofs.Faults.{found-none}
 use Rattle.table.proofs.LinesOf.{FirstLine, NoLf, written-first}
-use Rattle.sheet.specs.Read.{accepted, last_of, Turn, on, stop, unless, routed_in, cut_in, link_in, ring_turn, cut_turn, row_turn, link_turn, last_turn, turn, at_end, after, read_from}
+use Rattle.sheet.specs.Read.{accepted, last_of, Step, on, stop, unless, routed_in, cut_in, link_in, ring_step, cut_step, row_step, link_step, last_step, step, at_end, after, read_from}
 use Rattle.sheet.specs.Says.{State, start, rows, links, end}
 use Rattle.sheet.proofs.Last.{judge_next}
 use Rattle.sheet.proofs.SheetLines.{RingRead, is_ring, no_ring, ring-read, SentSpelled, SentRead, is_sent, no_sent, sent-read, CutRead, is_cut, no_cut, cut-read, LinkRead, is_link, no_link, link-read, LastRead, is_last, no_last, last-read, line-back, ring-in-range, sent-in-range, cut-in-range, link-in-range, last-in-range}
@@ -73,54 +73,54 @@ on-same next state e = cc
 
 module _ (limits : Limits) (x : Sheet) where
   -- the line l, in front of a rest
-  abbrev Leads : State → List ℕ → Turn → Type 0
+  abbrev Leads : State → List ℕ → Step → Type 0
   Leads state l t = (next : State) → t ≡ on next → (text : List ℕ) → Rest limits x next text → Rest limits x state (l ++ text)
 
-  ring-leads : (l : List ℕ) {y : Reading} → RingRead limits l y → Leads start l (ring_turn limits y)
-  unfolding ring_turn ring_found
+  ring-leads : (l : List ℕ) {y : Reading} → RingRead limits l y → Leads start l (ring_step limits y)
+  unfolding ring_step ring_found
   ring-leads l (is_ring {n} {fibres} e a b) next q text rest =
       let u = unless-on ring_shape (0 ∷ n ∷ fibres ∷ []) (ring_found limits (ring_of n fibres)) (rows (ring_of n fibres) []) next q in
       rw e (rest_ring {ring = ring_of n fibres} a b (found-none _ _ u.0) (subst (λ s. Rest limits x s text) (sym u.1) rest))
   ring-leads l (no_ring misread fault) next q text rest = clash (cc)
 
   module _ (ring : Ring) (rs : List Routed) where
-    cut-leads : (l : List ℕ) (o : ℕ) {y : Reading} → CutRead limits l y → Leads (rows ring rs) l (cut_turn ring rs o y)
-    unfolding cut_turn
+    cut-leads : (l : List ℕ) (o : ℕ) {y : Reading} → CutRead limits l y → Leads (rows ring rs) l (cut_step ring rs o y)
+    unfolding cut_step
     cut-leads l o (is_cut {g} {h} {m} e p q r) next t text rest =
         rw e (rest_cut p q r (subst (λ s. Rest limits x s text) (sym (on-same (links ring rs (cut_of g h m) []) next t)) rest))
     cut-leads l o (no_cut misread fault) next t text rest = clash (cc)
 
-    row-leads : (l : List ℕ) {y z : Reading} → SentRead limits l y → CutRead limits l z → Leads (rows ring rs) l (row_turn limits ring rs y z)
-    unfolding row_turn row_found
+    row-leads : (l : List ℕ) {y z : Reading} → SentRead limits l y → CutRead limits l z → Leads (rows ring rs) l (row_step limits ring rs y z)
+    unfolding row_step row_found
     row-leads l (is_sent {i} {j} {d} {f} {b = k} {w} e spelled) other next t text rest =
         let u = unless-on sheet_row_shape (0 ∷ i ∷ j ∷ d ∷ f ∷ k ∷ w ∷ []) (row_found limits ring.nodes (length rs) (last_of rs) (demand i j d)) (rows ring (rs ++ routed_of i j d f k w ∷ [])) next t in
         rw e (rest_row spelled (found-none _ _ u.0) (subst (λ s. Rest limits x s text) (sym u.1) rest))
     row-leads l (no_sent {p} misread fault) other next t text rest = cut-leads l p other next t text rest
 
     module _ (c : Cut) (ks : List Link) where
-      link-leads : (l : List ℕ) {y : Reading} → length ks < ring.nodes → LinkRead limits l y → Leads (links ring rs c ks) l (link_turn ring rs c ks y)
-      unfolding link_turn
+      link-leads : (l : List ℕ) {y : Reading} → length ks < ring.nodes → LinkRead limits l y → Leads (links ring rs c ks) l (link_step ring rs c ks y)
+      unfolding link_step
       link-leads l few (is_link {k} {s} {u} e p q r) next t text rest =
           rw e (rest_link few p q r (subst (λ s. Rest limits x s text) (sym (on-same (links ring rs c (ks ++ link_of k s u ∷ [])) next t)) rest))
       link-leads l few (no_link misread fault) next t text rest = clash (cc)
 
-      last-leads : (l : List ℕ) {y : Reading} → ring.nodes ≤ length ks → LastRead limits l y → Leads (links ring rs c ks) l (last_turn ring rs c ks y)
-      unfolding last_turn
+      last-leads : (l : List ℕ) {y : Reading} → ring.nodes ≤ length ks → LastRead limits l y → Leads (links ring rs c ks) l (last_step ring rs c ks y)
+      unfolding last_step
       last-leads l all (is_last {p} {z} e a b) next t text rest =
           let same = on-same (end (record { ring = ring; rows = rs; cut = c; links = ks; peak = p; size = z })) next t in
           rw e (rest_last all a b (subst (λ s. Rest limits x s text) (sym same) rest))
       last-leads l all (no_last misread fault) next t text rest = clash (cc)
 
-  turn-leads : (state : State) (l : List ℕ) → Leads state l (turn limits state l)
-  unfolding turn
-  turn-leads start l = ring-leads l (ring-read limits l)
-  turn-leads (rows ring rs) l = row-leads ring rs l (sent-read limits l) (cut-read limits l)
-  turn-leads (links ring rs c ks) l =
+  step-leads : (state : State) (l : List ℕ) → Leads state l (step limits state l)
+  unfolding step
+  step-leads start l = ring-leads l (ring-read limits l)
+  step-leads (rows ring rs) l = row-leads ring rs l (sent-read limits l) (cut-read limits l)
+  step-leads (links ring rs c ks) l =
       elim (dec_lt (length ks) ring.nodes) [
         | yes h ↦ rw (lt-ltb (length ks) ring.nodes h) (link-leads ring rs c ks l h (link-read limits l))
         | no h ↦ let k : ring.nodes ≤ length ks = omega arith in rw (le-ltb (length ks) ring.nodes k) (last-leads ring rs c ks l k (last-read limits l))
       ]
-  turn-leads (end y) l = λ next t text rest. clash (cc)
+  step-leads (end y) l = λ next t text rest. clash (cc)
 
   -- ---- accepted, so there is a rest
 
@@ -134,12 +134,12 @@ module _ (limits : Limits) (x : Sheet) where
   pub read-rest : (ls : List (List ℕ)) (state : State) (line : ℕ) → read_from limits state line ls ≡ accepted x → Rest limits x state (flatten ls)
   unfolding read_from after flatten
   read-rest [] state line e = ended state line e
-  read-rest (l ∷ ls) state line e = go (λ next f. read-rest ls next (line + 1) f) (turn limits state l) refl e
+  read-rest (l ∷ ls) state line e = go (λ next f. read-rest ls next (line + 1) f) (step limits state l) refl e
     where
-      go : ((next : State) → read_from limits next (line + 1) ls ≡ accepted x → Rest limits x next (flatten ls)) → (t : Turn)
-          → turn limits state l ≡ t → after t line (λ next. read_from limits next (line + 1) ls) ≡ accepted x
+      go : ((next : State) → read_from limits next (line + 1) ls ≡ accepted x → Rest limits x next (flatten ls)) → (t : Step)
+          → step limits state l ≡ t → after t line (λ next. read_from limits next (line + 1) ls) ≡ accepted x
           → Rest limits x state (l ++ flatten ls)
-      go later (on next) q f = turn-leads state l next q (flatten ls) (later next f)
+      go later (on next) q f = step-leads state l next q (flatten ls) (later next f)
       go later (stop r byte) q f = clash (cc)
 
 -- ---- there is a rest, so accepted
@@ -150,8 +150,8 @@ unfolding write_line spell
 cut-no-row g h m i j d f b w e = let q : letter_c ≡ letter_d = ap (λ l. get_or l 0 0) e in omega arith
 
 pub cut-not-sent : (limits : Limits) (g h m : ℕ) {y : Reading} → SentRead limits (cut_line g h m) y → (ring : Ring) (rs : List Routed) (z : Reading)
-    → (o : ℕ) × (row_turn limits ring rs y z ≡ cut_turn ring rs o z)
-unfolding row_turn
+    → (o : ℕ) × (row_step limits ring rs y z ≡ cut_step ring rs o z)
+unfolding row_step
 cut-not-sent limits g h m (is_sent e s) ring rs z = absurd (cut-no-row g h m _ _ _ _ _ _ e)
 cut-not-sent limits g h m (no_sent {p} misread fault) ring rs z = (p, refl)
 
@@ -179,7 +179,7 @@ last-first limits p z a b = written-first limits.digits limits.countable _ _ _ (
 
 module _ (limits : Limits) (x : Sheet) where
   pub rest_read : {state : State} {text : List ℕ} → Rest limits x state text → (line : ℕ) → read_from limits state line (lines text) ≡ accepted x
-  unfolding read_from turn after at_end lines ring_turn row_turn cut_turn link_turn last_turn unless ring_found row_found verdict_found
+  unfolding read_from step after at_end lines ring_step row_step cut_step link_step last_step unless ring_found row_found verdict_found
   rest_read rest_end line = refl
   rest_read (rest_last {ring} {rs} {c} {ks} {p} {z} {text} all a b rest) line =
       rw (last-first limits p z a b text, le-ltb (length ks) ring.nodes all, line-back limits last_shape _ (last-in-range limits p z a b)) (rest_read rest (line + 1))

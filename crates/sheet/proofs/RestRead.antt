@@ -16,9 +16,10 @@ use Rattle.ring.specs.declared.types.Link.{Link}
 use Rattle.text.specs.Number.{limit}
 use Rattle.text.specs.Shapes.{ring_line, sheet_row_line, cut_line, link_line, last_line}
 use Rattle.std.specs.Prelude.{Ok, Some, None}
+use Rattle.std.specs.List.{flat_map}
 use Rattle.table.proofs.Judged.{RingJudged, right_ring, ring-judged, RowJudged, row_fine, row-judged}
 use Rattle.table.proofs.FineRows.{FineRows, no_row, fine_row}
-use Rattle.sheet.specs.WriteSheet.{routed_line, load_line, lines_of, end_text, write_sheet}
+use Rattle.sheet.specs.WriteSheet.{routed_line, load_line, end_text, write_sheet}
 use Rattle.sheet.specs.Range.{RowSpelled, LinkSpelled, Spelled}
 use Rattle.sheet.specs.Read.{last_of}
 use Rattle.sheet.specs.Says.{start, rows, links, end}
@@ -40,14 +41,13 @@ module _ (x : Sheet) where
   record FromLinks (limits : Limits) (ring : Ring) (rs : List Routed) (c : Cut) (ks : List Link) (text : List ℕ) : Type 0 where
     later : List Link
     same : x ≡ record { ring = ring; rows = rs; cut = c; links = ks ++ later; peak = x.peak; size = x.size }
-    is_text : text ≡ lines_of load_line later ++ last_line x.peak x.size
+    is_text : text ≡ flat_map load_line later ++ last_line x.peak x.size
     many : length ks + length later ≡ ring.nodes
     spelled : Each (LinkSpelled limits) later
     last : (x.peak < limit limits.digits) × (x.size < limit limits.digits)
 
   last-from : {limits : Limits} {ring : Ring} {rs : List Routed} {c : Cut} {ks : List Link} {p z : ℕ} {text : List ℕ} → length ks ≤ ring.nodes → ring.nodes ≤ length ks → p < limit limits.digits → z < limit limits.digits
       → AtEnd (record { ring = ring; rows = rs; cut = c; links = ks; peak = p; size = z }) text → FromLinks limits ring rs c ks (last_line p z ++ text)
-  unfolding lines_of
   last-from {ks = ks} {p = p} {z = z} within all a b e =
       let ep : p ≡ x.peak = ap (λ (y : Sheet). y.peak) e.same in
       let ez : z ≡ x.size = ap (λ (y : Sheet). y.size) e.same in
@@ -63,12 +63,11 @@ module _ (x : Sheet) where
 
   link-from : {limits : Limits} {ring : Ring} {rs : List Routed} {c : Cut} {ks : List Link} {k s u : ℕ} {text : List ℕ} → k < limit limits.digits → s < limit limits.digits → u < limit limits.digits
       → FromLinks limits ring rs c (ks ++ link_of k s u ∷ []) text → FromLinks limits ring rs c ks (link_line k s u ++ text)
-  unfolding lines_of
   link-from {ks = ks} {k = k} {s = s} {u = u} a b d f =
       record {
         later = link_of k s u ∷ f.later;
         same = rw (append_assoc ks (link_of k s u ∷ []) f.later) at f.same;
-        is_text = ap (λ (t : List ℕ). link_line k s u ++ t) f.is_text ∙ sym (append_assoc (link_line k s u) (lines_of load_line f.later) (last_line x.peak x.size));
+        is_text = ap (λ (t : List ℕ). link_line k s u ++ t) f.is_text ∙ sym (append_assoc (link_line k s u) (flat_map load_line f.later) (last_line x.peak x.size));
         many = omega (arith, f.many, length-append ks (link_of k s u ∷ []));
         spelled = more (record { link = a; split = b; unsplit = d }) f.spelled;
         last = f.last;
@@ -86,20 +85,20 @@ module _ (x : Sheet) where
   record FromRows (limits : Limits) (ring : Ring) (rs : List Routed) (text : List ℕ) : Type 0 where
     later : List Routed
     same : x.rows ≡ rs ++ later
-    is_text : text ≡ lines_of routed_line later ++ end_text (figures_of x) x.links
+    is_text : text ≡ flat_map routed_line later ++ end_text (figures_of x) x.links
     fine : FineRows limits ring.nodes (length rs) (last_of rs) (demands (sents later))
     halves : Each (RowSpelled limits) later
     cut : (x.cut.g < limit limits.digits) × ((x.cut.h < limit limits.digits) × (x.cut.across < limit limits.digits))
-    behind : FromLinks limits ring x.rows x.cut [] (lines_of load_line x.links ++ last_line x.peak x.size)
+    behind : FromLinks limits ring x.rows x.cut [] (flat_map load_line x.links ++ last_line x.peak x.size)
 
   cut-from : {limits : Limits} {ring : Ring} {rs : List Routed} {g h m : ℕ} {text : List ℕ} → g < limit limits.digits → h < limit limits.digits → m < limit limits.digits
       → FromLinks limits ring rs (cut_of g h m) [] text → FromRows limits ring rs (cut_line g h m ++ text)
-  unfolding lines_of end_text
+  unfolding end_text
   cut-from {limits = limits} {ring = ring} {rs = rs} {g = g} {h = h} {m = m} {text = text} p q r f =
       let er : x.rows ≡ rs = ap (λ (y : Sheet). y.rows) f.same in
       let ec : x.cut ≡ cut_of g h m = ap (λ (y : Sheet). y.cut) f.same in
       let el : x.links ≡ f.later = ap (λ (y : Sheet). y.links) f.same in
-      let et : text ≡ lines_of load_line x.links ++ last_line x.peak x.size = rw el f.is_text in
+      let et : text ≡ flat_map load_line x.links ++ last_line x.peak x.size = rw el f.is_text in
       record {
         later = [];
         same = er ∙ sym (append-nil rs);
@@ -115,14 +114,13 @@ module _ (x : Sheet) where
   -- what holds of a row that nothing is found against
   row_from : {limits : Limits} {ring : Ring} {rs : List Routed} {i j d f k w : ℕ} {text : List ℕ} → SentSpelled limits i j d f k w → judge_next limits ring.nodes rs (demand i j d) ≡ Ok tt
       → FromRows limits ring (rs ++ routed_of i j d f k w ∷ []) text → FromRows limits ring rs (sheet_row_line i j d f k w ++ text)
-  unfolding lines_of
   row_from {limits} {ring} {rs} {i} {j} {d} {f} {k} {w} {text} spelled v from =
       record {
         later = r ∷ from.later;
         same = from.same ∙ append_assoc rs (r ∷ []) from.later;
         is_text =
-            ap (λ (t : List ℕ). sheet_row_line i j d f k w ++ t) from.is_text ∙ ap (λ (t : List ℕ). t ++ (lines_of routed_line from.later ++ end_text (figures_of x) x.links)) (sym (way-spelled i j d f k w))
-            ∙ sym (append_assoc (routed_line r) (lines_of routed_line from.later) (end_text (figures_of x) x.links));
+            ap (λ (t : List ℕ). sheet_row_line i j d f k w ++ t) from.is_text ∙ ap (λ (t : List ℕ). t ++ (flat_map routed_line from.later ++ end_text (figures_of x) x.links)) (sym (way-spelled i j d f k w))
+            ∙ sym (append_assoc (routed_line r) (flat_map routed_line from.later) (end_text (figures_of x) x.links));
         fine = fine (rw v at (row-judged limits ring.nodes (length rs) (last_of rs) (demand i j d)));
         halves = more (record { front = spelled.front; back = spelled.back }) from.halves;
         cut = from.cut;

@@ -7,8 +7,8 @@ use mathlib.Core.Path.{◌≡◌, refl, ap, ◌∙◌, sym, subst}
 use native.Mathlib.Omega.{arith}
 use lib.ListN.{length, length-append}
 use Rattle.std.specs.Prelude.{Option, None}
+use Rattle.std.specs.List.{flat_map}
 use borrow.Author.Tests.{le-ltb, ltb-false}
-use Rattle.ring.proofs.Small.{demands-length}
 use Rattle.ring.proofs.Side.{cond-elim}
 use Rattle.ring.specs.Routing.{way_number, way_of}
 use Rattle.ring.specs.declared.types.Routed.{Routed}
@@ -25,8 +25,8 @@ use Rattle.table.proofs.Against.{fine-ring-judged, fine-row-judged}
 use Rattle.table.proofs.FineRows.{FineRows, no_row, fine_row, fine-rows, table-rows, amounts-fine, count-fine}
 use Rattle.table.proofs.LinesOf.{join-lines}
 use Rattle.table.proofs.TableText.{ring-spelled}
-use Rattle.table.specs.Table.{LimitsSpelled}
-use Rattle.sheet.specs.WriteSheet.{routed_line, load_line, lines_of, end_text, write_sheet}
+use Rattle.table.proofs.Spelled.{LimitsSpelled}
+use Rattle.sheet.specs.WriteSheet.{routed_line, load_line, end_text, write_sheet}
 use Rattle.sheet.specs.Range.{RowSpelled, LinkSpelled, Spelled, InRange}
 use Rattle.sheet.specs.Read.{SheetResult, accepted, last_of, read_sheet}
 use Rattle.sheet.specs.Says.{start, rows, links}
@@ -39,8 +39,7 @@ use Rattle.sheet.proofs.RestRead.{IsSheet, from_start}
 
 module _ (limits : Limits) (x : Sheet) (spelled : Spelled limits x) (count : length x.links ≡ x.ring.nodes) where
   -- the links ks are written, and those of `later` follow
-  to-links : (later ks : List Link) → x.links ≡ ks ++ later → Each (LinkSpelled limits) later → Rest limits x (links x.ring x.rows x.cut ks) (lines_of load_line later ++ last_line x.peak x.size)
-  unfolding lines_of
+  to-links : (later ks : List Link) → x.links ≡ ks ++ later → Each (LinkSpelled limits) later → Rest limits x (links x.ring x.rows x.cut ks) (flat_map load_line later ++ last_line x.peak x.size)
   to-links [] ks e none =
       let k : x.links ≡ ks = e ∙ append-nil ks in
       let nothing_behind = append-nil (last_line x.peak x.size) in
@@ -49,13 +48,13 @@ module _ (limits : Limits) (x : Sheet) (spelled : Spelled limits x) (count : len
   to-links (l ∷ later) ks e (more s ss) =
       let f : x.links ≡ (ks ++ l ∷ []) ++ later = e ∙ sym (append_assoc ks (l ∷ []) later) in
       let few : length ks < x.ring.nodes = omega (arith, ap length e, length-append ks (l ∷ later)) in
-      subst (λ t. Rest limits x (links x.ring x.rows x.cut ks) t) (sym (append_assoc (load_line l) (lines_of load_line later) (last_line x.peak x.size)))
+      subst (λ t. Rest limits x (links x.ring x.rows x.cut ks) t) (sym (append_assoc (load_line l) (flat_map load_line later) (last_line x.peak x.size)))
       (rest_link few s.link s.split s.unsplit (to-links later (ks ++ l ∷ []) f ss))
 
   module _ (limited : LimitsSpelled limits) (many : x.ring.nodes ≤ limits.nodes) where
     to-rows : (later rs : List Routed) → x.rows ≡ rs ++ later → FineRows limits x.ring.nodes (length rs) (last_of rs) (demands (sents later)) → Each (RowSpelled limits) later
-        → Rest limits x (rows x.ring rs) (lines_of routed_line later ++ end_text (figures_of x) x.links)
-    unfolding lines_of end_text
+        → Rest limits x (rows x.ring rs) (flat_map routed_line later ++ end_text (figures_of x) x.links)
+    unfolding end_text
     to-rows [] rs e no_row none =
         let k : x.rows ≡ rs = e ∙ append-nil rs in
         subst (λ l. Rest limits x (rows x.ring l) (end_text (figures_of x) x.links)) k
@@ -74,7 +73,7 @@ module _ (limits : Limits) (x : Sheet) (spelled : Spelled limits x) (count : len
           back = h.back;
           way = way_small r.way;
         } in
-        subst (λ t. Rest limits x (rows x.ring rs) t) (sym (append_assoc (routed_line r) (lines_of routed_line later) (end_text (figures_of x) x.links)))
+        subst (λ t. Rest limits x (rows x.ring rs) t) (sym (append_assoc (routed_line r) (flat_map routed_line later) (end_text (figures_of x) x.links)))
         (rest_row s (fine-row-judged limits x.ring.nodes (length rs) (last_of rs) r.sent.demand on up room most) (rw same (to-rows later (rs ++ r ∷ []) f behind hs)))
 
     to_start : limits.fewest ≤ x.ring.nodes → IsFibres x.ring.fibres → FineRows limits x.ring.nodes 0 None (demands (sents x.rows)) → Rest limits x start (write_sheet x)
@@ -97,12 +96,15 @@ module _ (limits : Limits) (limited : LimitsSpelled limits) (t : List ℕ) (x : 
       whole short s = (
         s.text,
         record {
-          few = s.few;
-          many = s.many;
-          fibres = s.fibres;
-          rows = table-rows s.fine;
-          count = omega (arith, count-fine s.fine (omega arith), demands-length x.rows);
-          amounts = amounts-fine s.fine;
+          within =
+              record {
+                few = s.few;
+                many = s.many;
+                fibres = s.fibres;
+                rows = table-rows s.fine;
+                count = omega (arith, count-fine s.fine (omega arith));
+                amounts = amounts-fine s.fine;
+              };
           spelled = s.spelled;
           links = s.links;
           short = omega (arith, ap length s.text);
@@ -117,7 +119,7 @@ module _ (limits : Limits) (limited : LimitsSpelled limits) (t : List ℕ) (x : 
       let short : length t ≤ limits.bytes = omega (arith, ap length e, r.short) in
       rw (le-ltb limits.bytes (length t) short)
       (rest_read limits x (subst (Rest limits x start) (sym e)
-      (to_start limits x r.spelled r.links limited r.many r.few r.fibres (fine-rows {limits = limits} r.rows (omega (arith, r.count, demands-length x.rows)) r.amounts))) 1)
+      (to_start limits x r.spelled r.links limited r.within.many r.within.few r.within.fibres (fine-rows {limits = limits} r.within.rows (omega (arith, r.within.count)) r.within.amounts))) 1)
 
   -- a text is read to this sheet exactly when it is the sheet written and the sheet is in range
   pub sheet-text : (read_sheet limits t ≡ accepted x) ↔ ((t ≡ write_sheet x) × InRange limits x)

@@ -10,10 +10,8 @@ use Rattle.sonet.specs.Size.{sonet_sizes}
 use Rattle.sonet.proofs.Sizes.{largest_of}
 use Rattle.ring.specs.Limits.{Limits, desk, old}
 use Rattle.ring.specs.declared.types.Ring.{Ring}
-use Rattle.ring.specs.LineSize.{IsFibres}
 use Rattle.ring.specs.Lists.{Each, none, more}
 use Rattle.ring.specs.Demand.{OnRing}
-use Rattle.ring.specs.TableRows.{TableRows}
 use Rattle.ring.specs.declared.types.Demand.{Demand}
 use Rattle.ring.specs.Routing.{way_number}
 use Rattle.ring.specs.declared.types.Sent.{Sent}
@@ -21,6 +19,7 @@ use Rattle.ring.specs.declared.types.Routed.{Routed}
 use Rattle.ring.specs.Sheet.{Sheet, sents, demands, numbers_from, plan, figures_of}
 use Rattle.ring.specs.declared.types.Link.{Link}
 use Rattle.ring.specs.True.{TrueSheet}
+use Rattle.ring.specs.WithinLimits.{WithinLimits}
 use Rattle.ring.proofs.Lists.{each, each_both, each-of-map}
 use Rattle.ring.proofs.Small.{SmallRow, SmallFigures, figures-small, demands-length}
 use Rattle.ring.proofs.OurPlan.{plan-true, plan-demands}
@@ -32,8 +31,9 @@ use Rattle.text.specs.Shapes.{ring_line, cut_line, last_line}
 use Rattle.text.proofs.Widths.{no-field, wide-field, line-wide, number-wide, number-most, letter-wide, way-wide}
 use Rattle.table.specs.Table as table
 use Rattle.table.proofs.Short.{Narrow, desk-narrow, old-narrow, node-wide, amount-wide, ring-short}
-use Rattle.sheet.specs.WriteSheet.{routed_line, load_line, lines_of, end_text, write_sheet}
+use Rattle.sheet.specs.WriteSheet.{routed_line, load_line, end_text, write_sheet}
 use Rattle.sheet.specs.Range.{LinkSpelled, Spelled, InRange, longest}
+use Rattle.std.specs.List.{flat_map}
 
 -- limits that fit: nodes of 2 digits, amounts of 4 and figures of 8, which have as many digits as a number may have; and the longest sheet is no longer than a text
 pub record Fitting (limits : Limits) : Type 0 where
@@ -51,10 +51,9 @@ old-fits = record { narrow = old-narrow; digits = omega arith; small = omega ari
 
 -- ---- the length of a sheet, by those of its lines
 
-lines-most : {A : Type 0} (line : A → List ℕ) (most : ℕ) {l : List A} → Each (λ a. length (line a) ≤ most) l → length (lines_of line l) ≤ most * length l
-unfolding lines_of
+lines-most : {A : Type 0} (line : A → List ℕ) (most : ℕ) {l : List A} → Each (λ a. length (line a) ≤ most) l → length (flat_map line l) ≤ most * length l
 lines-most line most none = omega arith
-lines-most line most (more {a = a} {l = l} p e) = omega (arith, length-append (line a) (lines_of line l), mul-suc most (length l), lines-most line most e)
+lines-most line most (more {a = a} {l = l} p e) = omega (arith, length-append (line a) (flat_map line l), mul-suc most (length l), lines-most line most e)
 
 -- ---- a true sheet's figures
 
@@ -72,10 +71,12 @@ unfolding numbers_from
 numbers-within top k zero h = none
 numbers-within top k (suc m) h = more {a = k} (omega arith) (numbers-within top (suc k) m (omega arith))
 
-module _ (limits : Limits) (fits : Fitting limits) (x : Sheet) (t : TrueSheet x) (many : x.ring.nodes ≤ limits.nodes) (fibres : IsFibres x.ring.fibres)
-    (rows : TableRows x.ring.nodes (demands (sents x.rows))) (count : length x.rows ≤ limits.rows) (amounts : Each (λ (r : Demand). r.amount ≤ limits.amount) (demands (sents x.rows))) where
+module _ (limits : Limits) (fits : Fitting limits) (x : Sheet) (t : TrueSheet x) (w : WithinLimits limits x.ring (demands (sents x.rows))) where
+  count : length x.rows ≤ limits.rows
+  count = omega (arith, w.count, demands-length x.rows)
+
   small : SmallFigures limits.amount x
-  small = figures-small limits.amount x t amounts
+  small = figures-small limits.amount x t w.amounts
 
   figures : 2 * limits.amount * length x.rows < limit limits.digits
   figures = omega (arith, mul-le-mul_left (2 * limits.amount) count, fits.figures)
@@ -103,7 +104,7 @@ module _ (limits : Limits) (fits : Fitting limits) (x : Sheet) (t : TrueSheet x)
   figure v h = omega (arith, number-most limits.digits limits.countable v h, fits.digits)
 
   node : (v : ℕ) → v ≤ x.ring.nodes → length (spell Number v) ≤ 2
-  node v h = node-wide limits fits.narrow v (omega (arith, many))
+  node v h = node-wide limits fits.narrow v (omega (arith, w.many))
 
   row-short : (r : Routed) → OnRing x.ring.nodes r.sent.demand → SmallRow limits.amount r → length (routed_line r) ≤ 27
   row-short r on h =
@@ -140,10 +141,10 @@ module _ (limits : Limits) (fits : Fitting limits) (x : Sheet) (t : TrueSheet x)
   of-demands : {P : Demand → Type 0} → Each P (demands (sents x.rows)) → Each (λ (r : Routed). P r.sent.demand) x.rows
   of-demands {P} e = each-of-map (λ (r : Routed). r.sent) {P = λ s. P s.demand} x.rows (each-of-map (λ (s : Sent). s.demand) {P = P} (sents x.rows) e)
 
-  rows-short : length (lines_of routed_line x.rows) ≤ 27 * length x.rows
-  rows-short = lines-most routed_line 27 (each_both row-short (of-demands {P = OnRing x.ring.nodes} rows.nodes) small.rows)
+  rows-short : length (flat_map routed_line x.rows) ≤ 27 * length x.rows
+  rows-short = lines-most routed_line 27 (each_both row-short (of-demands {P = OnRing x.ring.nodes} w.rows.nodes) small.rows)
 
-  links-short : length (lines_of load_line x.links) ≤ 23 * length x.links
+  links-short : length (flat_map load_line x.links) ≤ 23 * length x.links
   links-short = lines-most load_line 23 (each_both link-short numbers true-spelled.loads)
 
   pub true-short : length (write_sheet x) ≤ longest limits
@@ -152,13 +153,13 @@ module _ (limits : Limits) (fits : Fitting limits) (x : Sheet) (t : TrueSheet x)
       omega (
         arith,
         count,
-        many,
+        w.many,
         true-links,
-        length-append (ring_line x.ring.nodes x.ring.fibres) (lines_of routed_line x.rows ++ end_text (figures_of x) x.links),
-        length-append (lines_of routed_line x.rows) (end_text (figures_of x) x.links),
-        length-append (cut_line x.cut.g x.cut.h x.cut.across) (lines_of load_line x.links ++ last_line x.peak x.size),
-        length-append (lines_of load_line x.links) (last_line x.peak x.size),
-        ring-short limits fits.narrow x.ring many fibres,
+        length-append (ring_line x.ring.nodes x.ring.fibres) (flat_map routed_line x.rows ++ end_text (figures_of x) x.links),
+        length-append (flat_map routed_line x.rows) (end_text (figures_of x) x.links),
+        length-append (cut_line x.cut.g x.cut.h x.cut.across) (flat_map load_line x.links ++ last_line x.peak x.size),
+        length-append (flat_map load_line x.links) (last_line x.peak x.size),
+        ring-short limits fits.narrow x.ring w.many w.fibres,
         cut-short,
         last-short,
         rows-short,
@@ -166,19 +167,8 @@ module _ (limits : Limits) (fits : Fitting limits) (x : Sheet) (t : TrueSheet x)
       )
 
   -- every true sheet within limits that fit is in range: its figures can be spelled, and a text holds it
-  pub true-in-range : limits.fewest ≤ x.ring.nodes → InRange limits x
-  true-in-range few =
-      record {
-        few = few;
-        many = many;
-        fibres = fibres;
-        rows = rows;
-        count = count;
-        amounts = amounts;
-        spelled = true-spelled;
-        links = true-links;
-        short = omega (arith, true-short, fits.bytes);
-      }
+  pub true-in-range : InRange limits x
+  true-in-range = record { within = w; spelled = true-spelled; links = true-links; short = omega (arith, true-short, fits.bytes) }
 
 -- ---- so is a plan
 
@@ -188,31 +178,19 @@ module _ (limits : Limits) (fits : Fitting limits) (two : 2 ≤ limits.fewest) (
   ring-is = refl
 
   few : 2 ≤ ring.nodes
-  few = omega (arith, two, h.few)
+  few = omega (arith, two, h.within.few)
 
   true-plan : TrueSheet (plan ring rs)
-  true-plan = plan-true ring rs few h.rows
+  true-plan = plan-true ring rs few h.within.rows
 
-  many : (plan ring rs).ring.nodes ≤ limits.nodes
-  many = rw ring-is h.many
-
-  fibres : IsFibres (plan ring rs).ring.fibres
-  fibres = rw ring-is h.fibres
-
-  rows : TableRows (plan ring rs).ring.nodes (demands (sents (plan ring rs).rows))
-  rows = let e = plan-demands ring rs few h.rows in rw (ring-is, e) h.rows
-
-  count : length (plan ring rs).rows ≤ limits.rows
-  count = omega (arith, h.count, demands-length (plan ring rs).rows, ap length (plan-demands ring rs few h.rows))
-
-  amounts : Each (λ (r : Demand). r.amount ≤ limits.amount) (demands (sents (plan ring rs).rows))
-  amounts = let e = plan-demands ring rs few h.rows in rw e h.amounts
+  keeps : WithinLimits limits (plan ring rs).ring (demands (sents (plan ring rs).rows))
+  keeps = let e = plan-demands ring rs few h.within.rows in rw (ring-is, e) h.within
 
   pub plan-fits : length (write_sheet (plan ring rs)) ≤ longest limits
-  plan-fits = true-short limits fits (plan ring rs) true-plan many fibres rows count amounts
+  plan-fits = true-short limits fits (plan ring rs) true-plan keeps
 
   pub plan-within : InRange limits (plan ring rs)
-  plan-within = true-in-range limits fits (plan ring rs) true-plan many fibres rows count amounts (rw ring-is h.few)
+  plan-within = true-in-range limits fits (plan ring rs) true-plan keeps
 
 -- ---- for the desk's limits
 

@@ -14,25 +14,23 @@ use Rattle.text.specs.Shapes.{ring_shape, sheet_row_shape, cut_shape, link_shape
 use Rattle.text.proofs.Lengths.{line-short}
 use Rattle.text.proofs.Going.{Going, going-start, piece-fits, going-on}
 use Rattle.ring.specs.Sheet.{sheet_in}
-use Rattle.sheet.specs.WriteSheet.{routed_line, load_line, lines_of, end_text, write_sheet}
+use Rattle.sheet.specs.WriteSheet.{routed_line, load_line, end_text, write_sheet}
 use Rattle.ring.specs.declared.types.Figures.{Figures}
+use Rattle.std.specs.List.{flat_map}
 
 -- ---- the lines of a list's members, one behind the other
 
 module _ {A : Type 0} (line : A → List ℕ) where
-  pub no-lines : (l : List A) → l ≡ [] → lines_of line l ≡ []
-  unfolding lines_of
+  pub no-lines : (l : List A) → l ≡ [] → flat_map line l ≡ []
   no-lines l e = rw e
 
   -- the line of the first, and those of the others
-  pub next-line : (l rest : List A) (x : A) → l ≡ x ∷ rest → lines_of line l ≡ line x ++ lines_of line rest
-  unfolding lines_of
+  pub next-line : (l rest : List A) (x : A) → l ≡ x ∷ rest → flat_map line l ≡ line x ++ flat_map line rest
   next-line l rest x e = rw e
 
-  lines-short : ((x : A) → length (line x) ≤ 1000) → (l : List A) → length (lines_of line l) ≤ 1000 * length l
-  unfolding lines_of
+  lines-short : ((x : A) → length (line x) ≤ 1000) → (l : List A) → length (flat_map line l) ≤ 1000 * length l
   lines-short short [] = omega arith
-  lines-short short (x ∷ l) = omega (arith, length-append (line x) (lines_of line l), short x, lines-short short l)
+  lines-short short (x ∷ l) = omega (arith, length-append (line x) (flat_map line l), short x, lines-short short l)
 
 -- ---- the five parts of a sheet
 
@@ -47,10 +45,10 @@ module _ (x : Figures) (rs : List Routed) (ls : List Link) where
   last = last_line x.peak x.size
 
   abbrev rows : List ℕ
-  rows = lines_of routed_line rs
+  rows = flat_map routed_line rs
 
   abbrev links : List ℕ
-  links = lines_of load_line ls
+  links = flat_map load_line ls
 
   abbrev whole : List ℕ
   whole = write_sheet (sheet_in x rs ls)
@@ -94,10 +92,10 @@ module _ (x : Figures) (rs : List Routed) (ls : List Link) where
       at-rows : Before a p (rows ++ (cut ++ (links ++ last)))
       at-rows = going-on pass at-ring ring _ refl a p u
 
-      pub rows-placed : p + length (lines_of routed_line rs) ≤ room a
+      pub rows-placed : p + length (flat_map routed_line rs) ≤ room a
       rows-placed = piece-fits pass at-rows rows _ refl
 
-      module _ {b : List ℕ} {q : ℕ} (v : Passed after a p (lines_of routed_line rs) b q) where
+      module _ {b : List ℕ} {q : ℕ} (v : Passed after a p (flat_map routed_line rs) b q) where
         at-cut : Before b q (cut ++ (links ++ last))
         at-cut = going-on pass at-rows rows _ refl b q v
 
@@ -108,9 +106,9 @@ module _ (x : Figures) (rs : List Routed) (ls : List Link) where
           at-links : Before c r (links ++ last)
           at-links = going-on pass at-cut cut _ refl c r w
 
-          pub links-placed : r + length (lines_of load_line ls) ≤ room c
+          pub links-placed : r + length (flat_map load_line ls) ≤ room c
           links-placed = piece-fits pass at-links links _ refl
 
           -- the last line alone is to come
-          pub at-last : {d : List ℕ} {s : ℕ} → Passed after c r (lines_of load_line ls) d s → Going room after old 0 (write_sheet (sheet_in x rs ls)) d s (last_line x.peak x.size)
+          pub at-last : {d : List ℕ} {s : ℕ} → Passed after c r (flat_map load_line ls) d s → Going room after old 0 (write_sheet (sheet_in x rs ls)) d s (last_line x.peak x.size)
           at-last {d} {s} z = going-on pass at-links links _ refl d s z

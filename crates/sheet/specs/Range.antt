@@ -1,10 +1,9 @@
--- To believe: the values that a sheet's lines can hold: the numbers of a table, every other figure of at most as many digits as a number may have, and an L line for each link.
+-- To believe: the values that a sheet's lines can hold: the numbers of a table, every other figure of at most as many digits as a number may have, and an L
+-- line for each link.
 use Rattle.std.specs.Prelude.{ℕ, ◌+◌, ◌*◌, ◌≤◌, ◌<◌, ◌≡◌, length}
 use Rattle.ring.specs.Limits.{Limits}
-use Rattle.ring.specs.LineSize.{IsFibres}
 use Rattle.ring.specs.Lists.{Each}
-use Rattle.ring.specs.TableRows.{TableRows}
-use Rattle.ring.specs.declared.types.Demand.{Demand}
+use Rattle.ring.specs.WithinLimits.{WithinLimits}
 use Rattle.ring.specs.declared.types.Routed.{Routed}
 use Rattle.ring.specs.Sheet.{Sheet, sents, demands}
 use Rattle.ring.specs.declared.types.Link.{Link}
@@ -29,20 +28,16 @@ pub record Spelled (limits : Limits) (x : Sheet) : Type 0 where
   pub loads : Each (LinkSpelled limits) x.links
   pub last : (x.peak < limit limits.digits) × (x.size < limit limits.digits)
 
+-- what a sheet can hold, within limits
 pub record InRange (limits : Limits) (x : Sheet) : Type 0 where
   -- as in a table
-  pub few : limits.fewest ≤ x.ring.nodes
-  pub many : x.ring.nodes ≤ limits.nodes
-  pub fibres : IsFibres x.ring.fibres
-  pub rows : TableRows x.ring.nodes (demands (sents x.rows))
-  pub count : length x.rows ≤ limits.rows
-  pub amounts : Each (λ (r : Demand). r.amount ≤ limits.amount) (demands (sents x.rows))
+  pub within : WithinLimits limits x.ring (demands (sents x.rows))
   pub spelled : Spelled limits x
   -- as many L lines as the ring has links
   pub links : length x.links ≡ x.ring.nodes
   pub short : length (write_sheet x) ≤ limits.bytes
 
--- no true sheet of so many rows and nodes is longer, within limits of at most 2 digits for a node, 4 for an amount and 8 for any number: halves have 5 digits and loads 8, and each field has the
--- byte behind it, so the R line has at most 7 bytes, the C line 17, the Z line 20, a D line 27 and an L line 23
+-- no true sheet of so many rows and nodes is longer, within limits of at most 2 digits for a node, 4 for an amount and 8 for any number: halves have 5 digits
+-- and loads 8, and each field has the byte behind it, so the R line has at most 7 bytes, the C line 17, the Z line 20, a D line 27 and an L line 23
 abbrev pub longest : Limits → ℕ
 longest limits = 44 + 27 * limits.rows + 23 * limits.nodes

@@ -26,12 +26,12 @@ pub data SheetResult : Type 0 where
   refused : Reason → ℕ → ℕ → SheetResult
 
 -- a line leads on to another state, or to a reason and a byte
-pub data Turn : Type 0 where
-  on : State → Turn
-  stop : Reason → ℕ → Turn
+pub data Step : Type 0 where
+  on : State → Step
+  stop : Reason → ℕ → Step
 
 -- where nothing is found against the values of a line; else the byte is where the field starts
-unfoldable pub unless : List Field → List ℕ → Result Unit Fault → State → Turn
+unfoldable pub unless : List Field → List ℕ → Result Unit Fault → State → Step
 unless shape vs (Ok tt) next = on next
 unless shape vs (Err f) next = stop f.reason (field_byte shape vs f.field)
 
@@ -60,39 +60,39 @@ last_of rs = last_demand (demands (sents rs))
 -- ---- one line: its shape, then what is found against its numbers
 
 -- R n fibres
-unfoldable pub ring_turn : Limits → Reading → Turn
+unfoldable pub ring_step : Limits → Reading → Step
 unfolding unless ring_found
-ring_turn limits (Ok vs) = unless ring_shape vs (ring_found limits (ring_in vs)) (rows (ring_in vs) [])
-ring_turn limits (Err p) = stop Misshapen (p + 1)
+ring_step limits (Ok vs) = unless ring_shape vs (ring_found limits (ring_in vs)) (rows (ring_in vs) [])
+ring_step limits (Err p) = stop Misshapen (p + 1)
 
 -- C g h across; the line is no D line, whose first faulty byte is at the place q: the first at which neither goes on is at the later place
-unfoldable pub cut_turn : Ring → List Routed → ℕ → Reading → Turn
-cut_turn ring rs q (Ok vs) = on (links ring rs (cut_in vs) [])
-cut_turn ring rs q (Err p) = stop Misshapen (max q p + 1)
+unfoldable pub cut_step : Ring → List Routed → ℕ → Reading → Step
+cut_step ring rs q (Ok vs) = on (links ring rs (cut_in vs) [])
+cut_step ring rs q (Err p) = stop Misshapen (max q p + 1)
 
 -- D i j amount front back F-or-B, else C
-unfoldable pub row_turn : Limits → Ring → List Routed → Reading → Reading → Turn
-unfolding unless cut_turn row_found
-row_turn limits ring rs (Ok vs) other = unless sheet_row_shape vs (row_found limits ring.nodes (length rs) (last_of rs) (routed_in vs).sent.demand) (rows ring (rs ++ routed_in vs ∷ []))
-row_turn limits ring rs (Err p) other = cut_turn ring rs p other
+unfoldable pub row_step : Limits → Ring → List Routed → Reading → Reading → Step
+unfolding unless cut_step row_found
+row_step limits ring rs (Ok vs) other = unless sheet_row_shape vs (row_found limits ring.nodes (length rs) (last_of rs) (routed_in vs).sent.demand) (rows ring (rs ++ routed_in vs ∷ []))
+row_step limits ring rs (Err p) other = cut_step ring rs p other
 
 -- L link split-load unsplit-load
-unfoldable pub link_turn : Ring → List Routed → Cut → List Link → Reading → Turn
-link_turn ring rs c ks (Ok vs) = on (links ring rs c (ks ++ link_in vs ∷ []))
-link_turn ring rs c ks (Err p) = stop Misshapen (p + 1)
+unfoldable pub link_step : Ring → List Routed → Cut → List Link → Reading → Step
+link_step ring rs c ks (Ok vs) = on (links ring rs c (ks ++ link_in vs ∷ []))
+link_step ring rs c ks (Err p) = stop Misshapen (p + 1)
 
 -- Z unsplit-peak size
-unfoldable pub last_turn : Ring → List Routed → Cut → List Link → Reading → Turn
-last_turn ring rs c ks (Ok vs) = on (end (sheet_with ring rs c ks vs))
-last_turn ring rs c ks (Err p) = stop Misshapen (p + 1)
+unfoldable pub last_step : Ring → List Routed → Cut → List Link → Reading → Step
+last_step ring rs c ks (Ok vs) = on (end (sheet_with ring rs c ks vs))
+last_step ring rs c ks (Err p) = stop Misshapen (p + 1)
 
 -- by what is due; a line behind the last is left over
-unfoldable pub turn : Limits → State → List ℕ → Turn
-unfolding ring_turn row_turn link_turn last_turn
-turn limits start l = ring_turn limits (read_line limits.digits ring_shape l)
-turn limits (rows ring rs) l = row_turn limits ring rs (read_line limits.digits sheet_row_shape l) (read_line limits.digits cut_shape l)
-turn limits (links ring rs c ks) l = cond (ltb (length ks) ring.nodes) (link_turn ring rs c ks (read_line limits.digits link_shape l)) (last_turn ring rs c ks (read_line limits.digits last_shape l))
-turn limits (end x) l = stop Misshapen 1
+unfoldable pub step : Limits → State → List ℕ → Step
+unfolding ring_step row_step link_step last_step
+step limits start l = ring_step limits (read_line limits.digits ring_shape l)
+step limits (rows ring rs) l = row_step limits ring rs (read_line limits.digits sheet_row_shape l) (read_line limits.digits cut_shape l)
+step limits (links ring rs c ks) l = cond (ltb (length ks) ring.nodes) (link_step ring rs c ks (read_line limits.digits link_shape l)) (last_step ring rs c ks (read_line limits.digits last_shape l))
+step limits (end x) l = stop Misshapen 1
 
 -- ---- the lines in order
 
@@ -103,15 +103,15 @@ at_end start line = refused Misshapen line 1
 at_end (rows ring rs) line = refused Misshapen line 1
 at_end (links ring rs c ks) line = refused Misshapen line 1
 
-unfoldable pub after : Turn → ℕ → (State → SheetResult) → SheetResult
+unfoldable pub after : Step → ℕ → (State → SheetResult) → SheetResult
 after (on next) line rest = rest next
 after (stop reason byte) line rest = refused reason line byte
 
 -- from a state, the lines ls, of which the first has the number `line`
 unfoldable pub read_from : Limits → State → ℕ → List (List ℕ) → SheetResult
-unfolding turn at_end after
+unfolding step at_end after
 read_from limits state line [] = at_end state line
-read_from limits state line (l ∷ ls) = after (turn limits state l) line λ next. read_from limits next (line + 1) ls
+read_from limits state line (l ∷ ls) = after (step limits state l) line λ next. read_from limits next (line + 1) ls
 
 unfoldable pub read_sheet : Limits → List ℕ → SheetResult
 unfolding read_from

@@ -3,19 +3,17 @@ use Rattle.std.specs.Prelude.{ℕ, ◌+◌, ◌≤◌, ◌<◌, List, [], ◌∷
 use Rattle.ring.specs.declared.types.Cut.{Cut}
 use Rattle.ring.specs.Limits.{Limits}
 use Rattle.ring.specs.declared.types.Ring.{Ring}
-use Rattle.ring.specs.TableRows.{PairBefore}
-use Rattle.ring.specs.Routing.{way_number}
+use Rattle.ring.specs.declared.types.Demand.{Demand}
 use Rattle.ring.specs.declared.types.Routed.{Routed}
 use Rattle.ring.specs.Sheet.{Sheet}
 use Rattle.ring.specs.declared.types.Link.{Link}
 use Rattle.text.specs.Number.{limit}
-use Rattle.text.specs.FieldByte.{sheet_row_byte}
 use Rattle.text.specs.FirstFault.{Agrees}
 use Rattle.text.specs.Shapes.{ring_shape, sheet_row_shape, cut_shape, link_shape, last_shape, cut_line, last_line}
-use Rattle.table.specs.Lines.{lines}
-use Rattle.table.specs.Says.{LineIs, RingIs, SaysRingSize, SaysFibres, NoNode, DueByte, ShapeByte, RingField, Earlier}
+use Rattle.table.specs.Lines.{lines, LineIs}
+use Rattle.table.specs.Reasons.{FirstReason, NoReason}
+use Rattle.table.specs.RowReasons.{RingIs, RowsSay, RowsByte, DueByte, ShapeByte, Earlier}
 use Rattle.table.specs.declared.reason.Reason.{Reason}
-use Rattle.table.specs.declared.reason.Reason.TheVariants.{TooLong, Misshapen, RingSize, Fibres, NoSuchNode, NotBelow, OutOfOrder, TooMany, TooMuch}
 use Rattle.sheet.specs.WriteSheet.{routed_line, load_line}
 
 -- ---- lines
@@ -65,12 +63,9 @@ pub data At (limits : Limits) (t : List ℕ) : ℕ → State → Type 0 where
   behind_last : {line : ℕ} {ring : Ring} {rs : List Routed} {c : Cut} {ks : List Link} {p z : ℕ} → At limits t line (links ring rs c ks) → ring.nodes ≤ length ks → LastIs limits t line p z
       → At limits t (line + 1) (end (record { ring = ring; rows = rs; cut = c; links = ks; peak = p; size = z }))
 
--- a D line that is due
-pub record RowAt (limits : Limits) (t : List ℕ) (line : ℕ) (r : Routed) : Type 0 where
-  pub ring : Ring
-  pub rs : List Routed
-  pub due : At limits t line (rows ring rs)
-  pub is : RoutedIs limits t line r
+-- the D line that is due here has this demand
+pub data RowIs (limits : Limits) (t : List ℕ) (line : ℕ) : Demand → Type 0 where
+  row_is : {ring : Ring} {rs : List Routed} {r : Routed} → At limits t line (rows ring rs) → RoutedIs limits t line r → RowIs limits t line r.sent.demand
 
 -- ---- the reasons
 
@@ -85,53 +80,9 @@ pub data WrongLine (limits : Limits) (t : List ℕ) (line : ℕ) : Type 0 where
       → WrongLine limits t line
   left_over : {x : Sheet} {l : List ℕ} → At limits t line (end x) → LineIs (lines t) line l → WrongLine limits t line
 
--- 4: a node outside 1..n
-pub record SaysNoSuchNode (limits : Limits) (t : List ℕ) (line : ℕ) : Type 0 where
-  pub r : Routed
-  pub row : RowAt limits t line r
-  pub wrong : NoNode row.ring.nodes r.sent.demand.first ⊎ NoNode row.ring.nodes r.sent.demand.second
-
--- 5: first node not below second
-pub record SaysNotBelow (limits : Limits) (t : List ℕ) (line : ℕ) : Type 0 where
-  pub r : Routed
-  pub row : RowAt limits t line r
-  pub wrong : r.sent.demand.second ≤ r.sent.demand.first
-
--- 6: row's nodes below the row before, by first node, then second
-pub record SaysOutOfOrder (limits : Limits) (t : List ℕ) (line : ℕ) : Type 0 where
-  pub before : ℕ
-  pub next : line ≡ before + 1
-  pub q : Routed
-  pub above : RowAt limits t before q
-  pub r : Routed
-  pub row : RowAt limits t line r
-  pub wrong : PairBefore r.sent.demand.first r.sent.demand.second q.sent.demand.first q.sent.demand.second
-
--- 16: more than 1,024 rows
-pub record SaysTooMany (limits : Limits) (t : List ℕ) (line : ℕ) : Type 0 where
-  pub r : Routed
-  pub row : RowAt limits t line r
-  pub wrong : limits.rows < length row.rs + 1
-
--- 7: amount over 9,999
-pub record SaysTooMuch (limits : Limits) (t : List ℕ) (line : ℕ) : Type 0 where
-  pub r : Routed
-  pub row : RowAt limits t line r
-  pub wrong : limits.amount < r.sent.demand.amount
-
--- what a reason says, with its line
-unfoldable pub Says : Limits → List ℕ → Reason → ℕ → Type 0
-Says limits t TooLong line = (line ≡ 0) × (limits.bytes < length t)
-Says limits t Misshapen line = WrongLine limits t line
-Says limits t RingSize line = SaysRingSize limits t line
-Says limits t Fibres line = SaysFibres limits t line
-Says limits t NoSuchNode line = SaysNoSuchNode limits t line
-Says limits t NotBelow line = SaysNotBelow limits t line
-Says limits t OutOfOrder line = SaysOutOfOrder limits t line
-Says limits t TooMany line = SaysTooMany limits t line
-Says limits t TooMuch line = SaysTooMuch limits t line
--- a sheet that is read is judged by its values; and the others judge no sheet
-Says limits t _ line = ⊥
+-- what a reason says, with its line; a sheet that is read is judged by its values
+abbrev pub Says : Limits → List ℕ → Reason → ℕ → Type 0
+Says limits t r line = RowsSay limits t (RowIs limits t) (WrongLine limits t) line r
 
 -- ---- the byte of the line that is given with a reason, counted from 1
 
@@ -149,46 +100,15 @@ pub data LineByte (limits : Limits) (t : List ℕ) (line byte : ℕ) : Type 0 wh
   last_due : {ring : Ring} {rs : List Routed} {c : Cut} {ks : List Link} → At limits t line (links ring rs c ks) → ring.nodes ≤ length ks → ShapeByte limits t last_shape line byte → LineByte limits t line byte
   none_due : {x : Sheet} → At limits t line (end x) → byte ≡ 1 → LineByte limits t line byte
 
--- where field k of a D line starts: the nodes are fields 1 and 2, the amount is field 3
-abbrev pub routed_byte : Routed → ℕ → ℕ
-routed_byte r k = sheet_row_byte r.sent.demand.first r.sent.demand.second r.sent.demand.amount r.sent.front r.sent.back (way_number r.way) k
-
--- 4: where the first of the two nodes that is outside starts
-pub data NodeByte (limits : Limits) (t : List ℕ) (line byte : ℕ) : Type 0 where
-  first_node : {r : Routed} (row : RowAt limits t line r) → NoNode row.ring.nodes r.sent.demand.first → byte ≡ routed_byte r 1 → NodeByte limits t line byte
-  second_node : {r : Routed} (row : RowAt limits t line r) → (NoNode row.ring.nodes r.sent.demand.first → ⊥) → NoNode row.ring.nodes r.sent.demand.second → byte ≡ routed_byte r 2 → NodeByte limits t line byte
-
--- 7: where the amount starts
-pub record AmountByte (limits : Limits) (t : List ℕ) (line byte : ℕ) : Type 0 where
-  pub r : Routed
-  pub row : RowAt limits t line r
-  pub is : byte ≡ routed_byte r 3
-
 -- the byte of a reason that holds on a line
-unfoldable pub ByteIs : Limits → List ℕ → Reason → ℕ → ℕ → Type 0
--- a reason with line 0
-ByteIs limits t TooLong line byte = byte ≡ 0
-ByteIs limits t Misshapen line byte = LineByte limits t line byte
--- a reason about one field
-ByteIs limits t RingSize line byte = RingField limits t 1 byte
-ByteIs limits t Fibres line byte = RingField limits t 2 byte
-ByteIs limits t NoSuchNode line byte = NodeByte limits t line byte
-ByteIs limits t TooMuch line byte = AmountByte limits t line byte
--- a reason that judges the line as a whole
-ByteIs limits t NotBelow line byte = byte ≡ 1
-ByteIs limits t OutOfOrder line byte = byte ≡ 1
-ByteIs limits t TooMany line byte = byte ≡ 1
--- a sheet that is read is judged by its values; and the others judge no sheet
-ByteIs limits t _ line byte = ⊥
+abbrev pub ByteIs : Limits → List ℕ → Reason → ℕ → ℕ → Type 0
+ByteIs limits t r line byte = RowsByte limits t (RowIs limits t) (LineByte limits t) line byte r
 
 -- ---- which is given
 
--- each reason is given exactly when it holds and nothing before it in the order does, the line before being tried earlier, and with it its byte
-pub record Given (limits : Limits) (t : List ℕ) (r : Reason) (line byte : ℕ) : Type 0 where
-  pub holds : Says limits t r line
-  pub first : (s : Reason) (other : ℕ) → Earlier s other r line → Says limits t s other → ⊥
-  pub byte_is : ByteIs limits t r line byte
+abbrev pub Given : Limits → List ℕ → Reason → ℕ → ℕ → Type 0
+Given limits t = FirstReason (Says limits t) Earlier (ByteIs limits t)
 
 -- a sheet is well-formed when no reason holds that judges its own length or lines; what its figures say is not asked
 abbrev pub WellFormed : Limits → List ℕ → Type 0
-WellFormed limits t = (r : Reason) (line : ℕ) → Says limits t r line → ⊥
+WellFormed limits t = NoReason (Says limits t)

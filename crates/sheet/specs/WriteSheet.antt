@@ -1,5 +1,6 @@
 -- To believe: a sheet as text (Rules, sheets): R n fibres; D lines; the C line; L lines; Z unsplit-peak size.
-use Rattle.std.specs.Prelude.{ℕ, List, [], ◌∷◌, ◌++◌}
+use Rattle.std.specs.Prelude.{ℕ, List, ◌++◌}
+use Rattle.std.specs.List.{flat_map}
 use Rattle.ring.specs.Routing.{way_number}
 use Rattle.ring.specs.declared.types.Routed.{Routed}
 use Rattle.ring.specs.Sheet.{Sheet, figures_of}
@@ -15,16 +16,11 @@ routed_line r = sheet_row_line r.sent.demand.first r.sent.demand.second r.sent.d
 abbrev pub load_line : Link → List ℕ
 load_line l = link_line l.link l.split l.unsplit
 
--- a line for each member, one behind the other
-unfoldable pub lines_of : {A : Type 0} → (A → List ℕ) → List A → List ℕ
-lines_of line [] = []
-lines_of line (x ∷ l) = line x ++ lines_of line l
-
 -- C g h across; L lines; Z unsplit-peak size
 unfoldable pub end_text : Figures → List Link → List ℕ
-unfolding lines_of
-end_text x links = cut_line x.cut.g x.cut.h x.cut.across ++ (lines_of load_line links ++ last_line x.peak x.size)
+end_text x links = cut_line x.cut.g x.cut.h x.cut.across ++ (flat_map load_line links ++ last_line x.peak x.size)
 
+-- R n fibres; D lines; then these
 unfoldable pub write_sheet : Sheet → List ℕ
 unfolding end_text
-write_sheet x = ring_line x.ring.nodes x.ring.fibres ++ (lines_of routed_line x.rows ++ end_text (figures_of x) x.links)
+write_sheet x = ring_line x.ring.nodes x.ring.fibres ++ (flat_map routed_line x.rows ++ end_text (figures_of x) x.links)

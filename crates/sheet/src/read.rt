@@ -9,8 +9,8 @@ ghost use Rattle.ring.specs.declared.types.Link.{Link as LinkOf};
 ghost use Rattle.text.specs.ReadLine.{read_line, Reading};
 ghost use Rattle.text.specs.Shapes.{cut_shape};
 ghost use Rattle.sheet.specs.Says.{State, rows as behind_rows, links as behind_links};
-ghost use Rattle.sheet.specs.Read.{SheetResult, accepted, cut_turn, row_turn, after, read_from, read_sheet};
-ghost use Rattle.sheet.specs.Answer.{with_values};
+ghost use Rattle.sheet.specs.Read.{SheetResult, accepted, cut_step, row_step, after, read_from, read_sheet};
+ghost use Rattle.sheet.specs.ReadInto.{with_values};
 ghost use Rattle.sheet.specs.Parts.{read_by};
 
 use arrayvec::ArrayVec;
@@ -20,11 +20,11 @@ use table::{Line, Lines, Refusal, check_next, ring_on};
 use text::{CUT, LAST, LINK, SHEET_ROW};
 
 // The row of a D line by its values, behind the rows before it. Apart from `read_rows` for its proof: what is found against the row is known here alone.
-#[tactic(auto, using(crate::proofs::ReadSteps::has_room), unfolding(crate::specs::Read::row_turn, crate::specs::Read::unless, crate::specs::Read::after))]
+#[tactic(auto, using(crate::proofs::ReadSteps::has_room), unfolding(crate::specs::Read::row_step, crate::specs::Read::unless, crate::specs::Read::after))]
 fn routed_on(number: u32, values: &[u32; 7], ring: Ring, rows: &Columns) -> Result<Routed, Refusal>
     ensures leads { (other : Reading) (next : State → SheetResult) →
         read_by result (λ row. next (behind_rows ring (rows.now ++ row ∷ [])))
-        ≡ after (row_turn desk ring rows.now (Ok values.now) other) number next }
+        ≡ after (row_step desk ring rows.now (Ok values.now) other) number next }
     ensures room { IfOk result (λ row. length rows.now < desk.rows) }
 {
     let [_, first, second, amount, front, back, way] = *values;
@@ -45,12 +45,12 @@ fn routed_on(number: u32, values: &[u32; 7], ring: Ring, rows: &Columns) -> Resu
 }
 
 // The cut of a C line. It is no D line: at the place `no_row` of it no D line goes on, and its fault is the later of the two.
-#[tactic(auto, unfolding(crate::specs::Read::cut_turn, crate::specs::Read::after))]
+#[tactic(auto, unfolding(crate::specs::Read::cut_step, crate::specs::Read::after))]
 fn cut_on(number: u32, line: &Line, no_row: usize) -> Result<Cut, Refusal>
     requires byte_fits { no_row ≤ desk.bytes }
     ensures { (ring : RingOf) (rs : List RoutedOf) (next : State → SheetResult) →
         read_by result (λ cut. next (behind_links ring rs cut []))
-        ≡ after (cut_turn ring rs no_row (read_line desk.digits cut_shape line.now)) number next }
+        ≡ after (cut_step ring rs no_row (read_line desk.digits cut_shape line.now)) number next }
 {
     let [_, g, h, across] = line
         .read(&CUT)

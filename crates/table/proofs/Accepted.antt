@@ -4,9 +4,10 @@ use mathlib.Core.Path.{◌≡◌, refl, ap, ◌∙◌, sym}
 use Rattle.ring.specs.declared.types.Ring.{Ring}
 use Rattle.ring.specs.declared.types.Demand.{Demand}
 use Rattle.ring.specs.Limits.{Limits}
-use Rattle.table.specs.Table.{write_table, LimitsSpelled, InRange}
+use Rattle.table.specs.Table.{write_table, InRange}
 use Rattle.table.specs.ReadTable.{accepted, table_of}
 use Rattle.table.proofs.TableText.{table-text}
+use Rattle.table.proofs.Spelled.{LimitsSpelled}
 
 module _ (limits : Limits) (spelled : LimitsSpelled limits) where
   -- reading what was written gives the same values

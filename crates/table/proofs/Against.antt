@@ -9,7 +9,7 @@ use Rattle.ring.specs.declared.types.Ring.{Ring}
 use Rattle.ring.specs.declared.types.Demand.{Demand}
 use Rattle.ring.specs.LineSize.{IsFibres}
 use Rattle.table.specs.Reasons.{rank_of}
-use Rattle.table.specs.Says.{NoNode}
+use Rattle.table.specs.RowReasons.{NoNode}
 use Rattle.table.specs.Findings.{Falls}
 use Rattle.table.specs.Judge.{ring_verdict, row_verdict}
 use Rattle.table.specs.declared.reason.Reason.{Reason}

@@ -1,11 +1,19 @@
 -- Findings one after the other: what is given of the first of them is given of all, where nothing holds the next are looked at, and one answer is given.
-use Rattle.std.proofs.Common.{Result, Ok, Err, ◌⊎◌, inl, inr, ◌≡◌, refl, sym, ◌∙◌}
+use Rattle.std.proofs.Common.{Result, Ok, Err, ◌⊎◌, ⊎_elim, inl, inr, ◌≡◌, refl, sym, ◌∙◌}
+use Prim.Native.Nat.{ℕ}
+use native.Mathlib.Decide.{ℕ_discrete}
+use Rattle.ring.specs.LineSize.{IsFibres, two_fibres, four_fibres}
 use Rattle.table.specs.declared.finding.Finding.{Finding}
 use Rattle.table.specs.Findings.{Findings, nothing, finding, then, First}
 
 -- nothing is found
 abbrev pub fine : Result Unit Finding
 fine = Ok tt
+
+-- fibres are 2 or 4 where nothing is found against them
+pub fibres-of : (fibres : ℕ) → ((IsFibres fibres → ⊥) → ⊥) → IsFibres fibres
+fibres-of fibres n =
+    elim (ℕ_discrete fibres two_fibres) [ yes e ↦ inl e | no a ↦ elim (ℕ_discrete fibres four_fibres) [ yes e ↦ inr e | no b ↦ absurd (n (⊎_elim a b)) ] ]
 
 pub then-on : (fs gs : Findings) (r : Result Unit Finding) → First fs fine → First gs r → First (then fs gs) r
 unfolding then

@@ -13,7 +13,7 @@ use Rattle.ring.specs.Limits.{Limits}
 use Rattle.ring.specs.declared.types.Ring.{Ring}
 use Rattle.ring.specs.declared.types.Demand.{Demand}
 use Rattle.ring.specs.LineSize.{two_fibres, four_fibres, IsFibres}
-use Rattle.table.specs.Says.{NoNode}
+use Rattle.table.specs.RowReasons.{NoNode}
 use Rattle.table.specs.Findings.{Falls}
 use Rattle.table.specs.Judge.{wrong_size, check_size, other_fibres, ring_verdict, outside, falls, row_verdict}
 use Rattle.table.specs.declared.reason.Reason.TheVariants.{RingSize, Fibres, NoSuchNode, NotBelow, OutOfOrder, TooMany, TooMuch}

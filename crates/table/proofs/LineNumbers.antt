@@ -2,47 +2,37 @@
 -- a line stands.
 use Prim.Native.Nat.{ℕ, ◌+◌, ◌≤◌, ◌<◌}
 use mathlib.Core.List.{List, [], ◌∷◌}
-use mathlib.Core.Path.{◌≡◌, refl, ap, ap₂, ◌∙◌, sym, subst}
+use mathlib.Core.Path.{◌≡◌, refl, ap, subst}
 use native.Mathlib.Omega.{arith}
 use lib.ListN.{length}
 use Rattle.ring.specs.Limits.{Limits}
-use Rattle.std.specs.Prelude.{Ok}
-use Rattle.text.specs.ReadLine.{Reading, read_line}
-use Rattle.text.specs.Shapes.{ring_shape, row_shape}
-use Rattle.ring.specs.Ring.{ring_of}
 use Rattle.ring.specs.declared.types.Ring.{Ring}
-use Rattle.table.specs.Says.{LineIs, at_first, behind, RingIs, RowIs}
-use Rattle.table.proofs.LineRead.{ring-values, row-values}
+use Rattle.ring.specs.declared.types.Demand.{Demand}
+use Rattle.text.specs.Shapes.{ring_shape, row_shape}
+use Rattle.text.proofs.LineLaws.{one-line}
+use Rattle.table.specs.Lines.{LineIs, at_first, behind}
+use Rattle.table.specs.ReadTable.{ring_in, demand_in}
+use Rattle.table.specs.RowReasons.{RingIs}
+use Rattle.table.specs.Says.{RowIs}
+use Rattle.table.proofs.LineRead.{ring-in-range, row-in-range}
 
 -- ---- one line, one reading
 
-line_low : {ls : List (List ℕ)} {line : ℕ} {l : List ℕ} → LineIs ls line l → 1 ≤ line
-line_low at_first = omega arith
-line_low (behind p) = omega arith
+pub line-low : {ls : List (List ℕ)} {line : ℕ} {l : List ℕ} → LineIs ls line l → 1 ≤ line
+line-low at_first = omega arith
+line-low (behind p) = omega arith
 
 pub line-one : {ls : List (List ℕ)} {line other : ℕ} {l m : List ℕ} → LineIs ls line l → LineIs ls other m → line ≡ other → l ≡ m
 line-one at_first at_first e = refl
-line-one at_first (behind q) e = absurd (omega (arith, line_low q))
-line-one (behind p) at_first e = absurd (omega (arith, line_low p))
+line-one at_first (behind q) e = absurd (omega (arith, line-low q))
+line-one (behind p) at_first e = absurd (omega (arith, line-low p))
 line-one (behind p) (behind q) e = line-one p q (omega arith)
 
 pub ring-one : {limits : Limits} {t : List ℕ} {r s : Ring} → RingIs limits t r → RingIs limits t s → r ≡ s
-ring-one {limits} {t} {r} {s} p q =
-    let e : ◌≡◌ {A = Reading} (Ok (0 ∷ r.nodes ∷ r.fibres ∷ [])) (Ok (0 ∷ s.nodes ∷ s.fibres ∷ [])) =
-    sym (ring-values limits r.nodes r.fibres p.spelled) ∙ ap (read_line limits.digits ring_shape) (line-one p.text q.text refl) ∙ ring-values limits s.nodes s.fibres q.spelled in
-    ap₂ ring_of (cc) (cc)
+ring-one {limits} p q = ap ring_in (one-line limits.digits limits.countable ring_shape _ _ (ring-in-range limits _ _ p.spelled) (ring-in-range limits _ _ q.spelled) (line-one p.text q.text refl))
 
--- the same three numbers
-pub record SameRow (i j d i' j' d' : ℕ) : Type 0 where
-  pub same_i : i ≡ i'
-  pub same_j : j ≡ j'
-  pub same_d : d ≡ d'
-
-pub row_one : {limits : Limits} {t : List ℕ} {line other i j d i' j' d' : ℕ} → RowIs limits t line i j d → RowIs limits t other i' j' d' → line ≡ other → SameRow i j d i' j' d'
-row_one {limits} {i} {j} {d} {i'} {j'} {d'} p q e =
-    let f : ◌≡◌ {A = Reading} (Ok (0 ∷ i ∷ j ∷ d ∷ [])) (Ok (0 ∷ i' ∷ j' ∷ d' ∷ [])) =
-    sym (row-values limits i j d p.spelled) ∙ ap (read_line limits.digits row_shape) (line-one p.text q.text e) ∙ row-values limits i' j' d' q.spelled in
-    record { same_i = cc; same_j = cc; same_d = cc }
+pub row-one : {limits : Limits} {t : List ℕ} {line : ℕ} {r s : Demand} → RowIs limits t line r → RowIs limits t line s → r ≡ s
+row-one {limits} p q = ap demand_in (one-line limits.digits limits.countable row_shape _ _ (row-in-range limits _ _ _ p.spelled) (row-in-range limits _ _ _ q.spelled) (line-one p.text q.text refl))
 
 -- ---- in order
 

@@ -12,13 +12,14 @@ use Rattle.ring.specs.Limits.{Limits, desk, old}
 use Rattle.ring.specs.declared.types.Ring.{Ring}
 use Rattle.ring.specs.declared.types.Demand.{Demand}
 use Rattle.text.specs.Number.{base, limit}
-use Rattle.table.specs.Table.{LimitsSpelled, InRange}
+use Rattle.table.specs.Table.{InRange}
 use Rattle.table.specs.ReadTable.{accepted, table_of}
 use Rattle.table.specs.Judge.{wrong_size, ring_verdict, outside, falls, row_verdict}
 use Rattle.table.specs.Verdict.{Verdict}
 use Rattle.table.specs.declared.reason.Reason.{Reason}
 use Rattle.table.specs.declared.reason.Reason.TheVariants.{Misshapen, RingSize, NoSuchNode, NotBelow, OutOfOrder, TooMany, TooMuch}
 use Rattle.table.proofs.TableText.{table-text}
+use Rattle.table.proofs.Spelled.{LimitsSpelled}
 
 -- limits of which none is above the other's; texts, the least ring and amounts have the same, and a node or an amount of the higher ones is no number too long for the lower
 pub record Lower (low high : Limits) : Type 0 where
@@ -111,12 +112,15 @@ module _ {low high : Limits} (lower : Lower low high) where
   widen : {ring : Ring} {rs : List Demand} → InRange low ring rs → InRange high ring rs
   widen range =
       record {
-        few = omega (arith, range.few, lower.fewest);
-        many = omega (arith, range.many, lower.nodes);
-        fibres = range.fibres;
-        rows = range.rows;
-        count = omega (arith, range.count, lower.rows);
-        amounts = let e = lower.amount in rw (← e) range.amounts;
+        within =
+            record {
+              few = omega (arith, range.within.few, lower.fewest);
+              many = omega (arith, range.within.many, lower.nodes);
+              fibres = range.within.fibres;
+              rows = range.within.rows;
+              count = omega (arith, range.within.count, lower.rows);
+              amounts = let e = lower.amount in rw (← e) range.within.amounts;
+            };
         short = omega (arith, range.short, lower.bytes);
       }
 

@@ -18,7 +18,7 @@ use Rattle.table.specs.Judge.{row_verdict}
 use Rattle.table.specs.Faults.{row_found, last_of}
 use Rattle.table.specs.OnLine.{and_then, values_on, passed, line_judged}
 use Rattle.table.specs.ReadTable.{accepted, refused, demand_in, ring_on, row_on, unless_refused, rows_of, table_of}
-use Rattle.table.specs.Answer.{with_rows}
+use Rattle.table.specs.ReadInto.{with_rows}
 use Rattle.table.specs.declared.reason.Reason.TheVariants.{TooLong, Misshapen}
 use Rattle.table.specs.declared.reason.Refusal.{Refusal}
 use Rattle.table.specs.declared.fault.Fault.{Fault}

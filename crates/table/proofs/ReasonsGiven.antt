@@ -1,11 +1,10 @@
 -- A reason is given exactly when it holds and nothing before it in the order does, and a table is accepted exactly when none holds: shown by
 -- going through the lines as the reader does, with nothing said of the lines passed.
-use Prim.Native.Nat.{ℕ, ◌+◌, ◌≤◌, ◌<◌}
+use Prim.Native.Nat.{ℕ, ◌+◌, ◌≤◌}
 use mathlib.Core.List.{List, [], ◌∷◌, ◌++◌}
-use mathlib.Core.Logic.{inl, inr, ◌↔◌}
-use mathlib.Core.Path.{◌≡◌, refl, sym, subst}
+use mathlib.Core.Logic.{◌↔◌}
+use mathlib.Core.Path.{◌≡◌, refl, subst}
 use native.Mathlib.Omega.{arith}
-use native.Mathlib.Decide.{dec_lt}
 use lib.ListN.{length, length-append}
 use borrow.Author.Tests.{ltb-true, ltb-false}
 use Rattle.ring.specs.Demand.{demand}
@@ -15,34 +14,55 @@ use Rattle.ring.specs.Limits.{Limits}
 use Rattle.ring.specs.Ring.{ring_of}
 use Rattle.ring.specs.declared.types.Ring.{Ring}
 use Rattle.table.specs.Lines.{lines}
-use Rattle.table.specs.Reasons.{rank_of}
-use Rattle.table.specs.Fields.{field_of, node_field, ring_reason_byte, row_reason_byte}
+use Rattle.table.specs.Fields.{field_of, node_field, ring_reason_byte}
 use Rattle.table.specs.Faults.{verdict_found, ring_found, row_found, last_of}
 use Rattle.table.specs.OnLine.{and_then, values_on, passed, line_judged}
 use Rattle.text.specs.FieldByte.{field_byte}
+use Rattle.text.specs.WriteLine.{write_line}
 use Rattle.text.specs.ReadLine.{Reading}
 use Rattle.text.specs.Shapes.{ring_shape, row_shape}
 use Rattle.text.specs.declared.field.Field.{Field}
 use Rattle.table.proofs.Faults.{last-more}
 use Rattle.table.specs.ReadTable.{TableResult, accepted, refused, ring_in, demand_in, ring_on, row_on, unless_refused, rows_of, table_lines, table_of}
-use Rattle.table.specs.Says.{RingIs, RowIs, Says, line_missing, line_faulty, ring_due, row_due, ByteIs, Earlier, Given, Accepted}
+use Rattle.table.specs.RowReasons.{RingIs, line_missing, line_faulty, at_fault}
+use Rattle.table.specs.Says.{RowIs, WrongLine, no_ring, no_row, Says, LineByte, ring_due, row_due, ByteIs, Given, Accepted}
 use Rattle.table.specs.declared.reason.Reason.{Reason}
-use Rattle.table.specs.declared.reason.Reason.TheVariants.{TooLong}
+use Rattle.table.specs.declared.reason.Reason.TheVariants.{Misshapen}
 use Rattle.table.specs.Verdict.{Verdict}
 use Rattle.std.specs.Prelude.{Ok, Err}
 use Rattle.table.proofs.Judged.{ring-judged, row-judged}
 use Rattle.table.proofs.LineRead.{RingLine, ring_line_is, no_ring_line, as-ring, RowLine, row_line_is, no_row_line, as-row}
-use Rattle.table.proofs.LineNumbers.{line-one, LinesFrom, from_first, from_next, line-here, no-line-left}
-use Rattle.table.proofs.ReasonNumbers.{same_rank}
-use Rattle.table.proofs.Said.{said, Stands, on_none, on_first, on_later, stands}
-use Rattle.table.proofs.BytesGiven.{ByteOn, ring-byte, row-byte, one_byte}
-use Rattle.table.proofs.FirstOnLine.{FirstOnLine, no-ring-first, no-row-first, ring-judged-first, RowBefore, no_row_before, row_before, row-judged-first}
+use Rattle.table.proofs.LineNumbers.{line-one, row-one, LinesFrom, from_first, from_next, line-here, no-line-left}
+use Rattle.table.proofs.Said.{RowLaws}
+use Rattle.table.proofs.BytesGiven.{ring-byte, row-byte, one-shape-byte, one_byte}
+use Rattle.table.proofs.FirstOnLine.{HoldsAs, First, wrong-first, ring-judged-first, RowBefore, no_row_before, row_before, row-judged-first}
+use Rattle.table.proofs.Walked.{one-first, same-place, Clean, given-here, clean-next, clean-start, clean-end, too-long-given}
+
+-- ---- lines
+
+wrong-low : {limits : Limits} {t : List ℕ} {line : ℕ} → WrongLine limits t line → 1 ≤ line
+wrong-low (no_ring e none) = omega arith
+wrong-low (no_row later is none) = omega arith
+
+row-laws : (limits : Limits) (t : List ℕ) → RowLaws (RowIs limits t) (WrongLine limits t)
+row-laws limits t = record { later = λ x. x.later; one = λ x y. row-one x y; low = λ w. wrong-low w }
+
+module _ {limits : Limits} {t : List ℕ} where
+  ring-right : {ring : Ring} → RingIs limits t ring → WrongLine limits t 1 → ⊥
+  ring-right {ring} here (no_ring e none) = none ring here
+  ring-right here (no_row later is none) = omega arith
+
+  row-right : {line : ℕ} {r : Demand} → RowIs limits t line r → WrongLine limits t line → ⊥
+  row-right row (no_ring e none) = omega (arith, row.later)
+  row-right {r = r} row (no_row later is none) = none r row
+
+  one-line-byte : {line b c : ℕ} → LineByte limits t line b → LineByte limits t line c → b ≡ c
+  one-line-byte (ring_due e x) (ring_due f y) = one-shape-byte limits x y
+  one-line-byte (ring_due e x) (row_due f y) = absurd (omega arith)
+  one-line-byte (row_due e x) (ring_due f y) = absurd (omega arith)
+  one-line-byte (row_due e x) (row_due f y) = one-shape-byte limits x y
 
 -- ---- line by line
-
--- nothing is said of the lines before this one
-record Clean (limits : Limits) (t : List ℕ) (line : ℕ) : Type 0 where
-  pub none : (s : Reason) (other : ℕ) → other < line → Says limits t s other → ⊥
 
 -- a result that is right by what the reasons say
 data Right (limits : Limits) (t : List ℕ) : TableResult → Type 0 where
@@ -50,50 +70,27 @@ data Right (limits : Limits) (t : List ℕ) : TableResult → Type 0 where
   first_holds : {r : Reason} {line byte : ℕ} → Given limits t r line byte → Right limits t (refused r line byte)
 
 module _ {limits : Limits} {t : List ℕ} where
-  given-here : {line byte : ℕ} {r : Reason} → Clean limits t line → FirstOnLine limits t line (Err r) → ByteIs limits t r line byte → Given limits t r line byte
-  given-here {line} {r} clean f b = record { holds = f.holds; first = go; byte_is = b }
-    where
-      go : (s : Reason) (other : ℕ) → Earlier s other r line → Says limits t s other → ⊥
-      go s other (inl l) h = clean.none s other l h
-      go s other (inr l) h = omega (arith, l.1, f.least s (subst (Says limits t s) l.0 h))
-
-  clean-next : {line : ℕ} → Clean limits t line → FirstOnLine limits t line (Ok tt) → Clean limits t (line + 1)
-  clean-next {line} clean f = record { none = go }
-    where
-      go : (s : Reason) (other : ℕ) → other < line + 1 → Says limits t s other → ⊥
-      go s other l h =
-          elim (dec_lt other line) [
-            | yes m ↦ clean.none s other m h
-            | no m ↦ let e : other ≡ line = omega arith in f.least s (subst (Says limits t s) e h)
-          ]
-
-  judged-right : {A : Type 0} {line : ℕ} (shape : List Field) (vs : List ℕ) (field : Reason → ℕ) (y : A) (next : A → TableResult) (v : Verdict) → Clean limits t line → FirstOnLine limits t line v
-      → ByteOn limits t line (λ r. field_byte shape vs (field r)) v → (Clean limits t (line + 1) → Right limits t (next y)) → Right limits t (unless_refused (passed line shape vs (verdict_found v field) y) next)
+  judged-right : {A : Type 0} {line : ℕ} (shape : List Field) (vs : List ℕ) (field : Reason → ℕ) (y : A) (next : A → TableResult) (v : Verdict) → Clean (Says limits t) line → First (λ s. Says limits t s line) v
+      → HoldsAs (λ s. ByteIs limits t s line (field_byte shape vs (field s))) v → (Clean (Says limits t) (line + 1) → Right limits t (next y)) → Right limits t (unless_refused (passed line shape vs (verdict_found v field) y) next)
   unfolding unless_refused passed verdict_found
-  judged-right shape vs field y next (Ok tt) clean f b rest = rest (clean-next clean f)
+  judged-right shape vs field y next (Ok tt) clean f b rest = rest (clean-next clean f.least)
   judged-right shape vs field y next (Err r) clean f b rest = first_holds (given-here clean f b)
 
-  -- reason 1 is tried first
-  clean-start : length t ≤ limits.bytes → Clean limits t 1
-  clean-start short = record { none = λ s other l h. go l (stands (said s h)) }
-    where
-      go : {other : ℕ} {s : Reason} → other < 1 → Stands limits t other s → ⊥
-      go l (on_none e long one) = omega arith
-      go l (on_first e two) = omega arith
-      go l (on_later later is two) = omega arith
+  -- a line of the wrong shape
+  wrong-given : {line byte : ℕ} → Clean (Says limits t) line → WrongLine limits t line → LineByte limits t line byte → Right limits t (refused Misshapen line byte)
+  wrong-given clean w b = first_holds (given-here clean (wrong-first (row-laws limits t) w) (at_fault b))
 
-  clean_end : {line : ℕ} → 2 ≤ line → LinesFrom (lines t) line [] → Clean limits t line → Accepted limits t
-  clean_end {line} later from clean s other h = go (stands (said s h))
+  rows-end : {line : ℕ} → 2 ≤ line → LinesFrom (lines t) line [] → Clean (Says limits t) line → Accepted limits t
+  rows-end {line} later from clean = clean-end (row-laws limits t) later clean (λ other l w. wrong other l w) (λ other r l x. omega (arith, no-line-left from x.text))
     where
-      go : {s : Reason} → Stands limits t other s → ⊥
-      go (on_none e long one) = clean.none s other (omega arith) h
-      go (on_first e two) = clean.none s other (omega arith) h
-      go (on_later m is two) = clean.none s other (no-line-left from is) h
+      wrong : (other : ℕ) → line ≤ other → WrongLine limits t other → ⊥
+      wrong other l (no_ring e none) = omega arith
+      wrong other l (no_row m is none) = omega (arith, no-line-left from is)
 
-  rows_right : {ring : Ring} → RingIs limits t ring → (ls : List (List ℕ)) (rs : List Demand) → LinesFrom (lines t) (length rs + 2) ls → Clean limits t (length rs + 2)
-      → RowBefore limits t (length rs + 2) (last_of rs) → Right limits t (rows_of limits ring rs ls)
-  unfolding rows_of row_on line_judged and_then values_on unless_refused row_found row_reason_byte ByteIs
-  rows_right here [] rs from clean before = none_holds (clean_end (omega arith) from clean)
+  rows_right : {ring : Ring} → RingIs limits t ring → (ls : List (List ℕ)) (rs : List Demand) → LinesFrom (lines t) (length rs + 2) ls → Clean (Says limits t) (length rs + 2)
+      → RowBefore (RowIs limits t) (length rs + 2) (last_of rs) → Right limits t (rows_of limits ring rs ls)
+  unfolding rows_of row_on line_judged and_then values_on unless_refused row_found field_byte write_line
+  rows_right here [] rs from clean before = none_holds (rows-end (omega arith) from clean)
   rows_right {ring} here (l ∷ ls) rs from clean before = go (as-row limits l) (λ r. rows_right here ls (rs ++ r ∷ []))
     where
       line : ℕ
@@ -106,24 +103,23 @@ module _ {limits : Limits} {t : List ℕ} where
       on-next r = omega (arith, length-append rs (r ∷ []))
 
       go : {x : Reading} → RowLine limits l x
-          → ((r : Demand) → LinesFrom (lines t) (length (rs ++ r ∷ []) + 2) ls → Clean limits t (length (rs ++ r ∷ []) + 2)
-          → RowBefore limits t (length (rs ++ r ∷ []) + 2) (last_of (rs ++ r ∷ [])) → Right limits t (next r))
+          → ((r : Demand) → LinesFrom (lines t) (length (rs ++ r ∷ []) + 2) ls → Clean (Says limits t) (length (rs ++ r ∷ []) + 2)
+          → RowBefore (RowIs limits t) (length (rs ++ r ∷ []) + 2) (last_of (rs ++ r ∷ [])) → Right limits t (next r))
           → Right limits t (unless_refused (and_then (values_on line x) λ vs. passed line row_shape vs (row_found limits ring.nodes (length rs) (last_of rs) (demand_in vs)) (demand_in vs)) next)
       go (row_line_is {i} {j} {d} e w) rest =
           let r = demand i j d in
-          let now : RowIs limits t line i j d = record { later = omega arith; text = rw e at (line-here from); spelled = w } in
+          let now : RowIs limits t line r = record { later = omega arith; text = rw e at (line-here from); spelled = w } in
           let judged = row-judged limits ring.nodes (length rs) (last_of rs) r in
           let at = on-next r in
           let last = last-more rs r in
-          judged-right row_shape (0 ∷ i ∷ j ∷ d ∷ []) (λ reason. field_of reason (node_field ring.nodes i)) r next _ clean (row-judged-first here now refl before judged) (row-byte here now judged)
+          judged-right row_shape (0 ∷ i ∷ j ∷ d ∷ []) (λ reason. field_of reason (node_field ring.nodes i)) r next _ clean (row-judged-first (row-laws limits t) here now (row-right now) refl before judged) (row-byte (RowIs limits t) (LineByte limits t) r here now (field_byte row_shape (0 ∷ i ∷ j ∷ d ∷ [])) refl refl refl refl judged)
           (λ c. rest r (rw at (from_next from)) (rw at c) (rw (at, last) (row_before now)))
       go (no_row_line none fault) rest =
-          first_holds (given-here clean (no-row-first (omega arith) (line-here from) (λ i j d r. none i j d (line-one (line-here from) r.text refl) r.spelled))
-          (row_due (omega arith) (line_faulty (line-here from) fault)))
+          wrong-given clean (no_row (omega arith) (line-here from) (λ r x. none r.first r.second r.amount (line-one (line-here from) x.text refl) x.spelled)) (row_due (omega arith) (line_faulty (line-here from) fault))
 
   lines-right : length t ≤ limits.bytes → (ls : List (List ℕ)) → LinesFrom (lines t) 1 ls → Right limits t (table_lines limits ls)
-  unfolding table_lines ring_on line_judged and_then values_on unless_refused ring_found ring_reason_byte ByteIs
-  lines-right short [] from = first_holds (given-here (clean-start short) (no-ring-first (λ n r. omega (arith, no-line-left from r.text))) (ring_due refl (line_missing (λ l is. omega (arith, no-line-left from is)))))
+  unfolding table_lines ring_on line_judged and_then values_on unless_refused ring_found ring_reason_byte
+  lines-right short [] from = wrong-given (clean-start (row-laws limits t) short) (no_ring refl (λ ring x. omega (arith, no-line-left from x.text))) (ring_due refl (line_missing (λ l is. omega (arith, no-line-left from is))))
   lines-right short (l ∷ ls) from = go (as-ring limits l)
     where
       next : Ring → TableResult
@@ -133,21 +129,10 @@ module _ {limits : Limits} {t : List ℕ} where
       go (ring_line_is {n} {fibres} e w) =
           let here : RingIs limits t (ring_of n fibres) = record { text = rw e at (line-here from); spelled = w } in
           let judged = ring-judged limits (ring_of n fibres) in
-          judged-right ring_shape (0 ∷ n ∷ fibres ∷ []) (λ reason. field_of reason 0) (ring_of n fibres) next _ (clean-start short) (ring-judged-first here judged) (ring-byte here judged)
+          judged-right ring_shape (0 ∷ n ∷ fibres ∷ []) (λ reason. field_of reason 0) (ring_of n fibres) next _ (clean-start (row-laws limits t) short) (ring-judged-first (row-laws limits t) here (ring-right here) judged) (ring-byte (RowIs limits t) (LineByte limits t) here judged)
           (λ c. rows_right here ls [] (from_next from) c no_row_before)
       go (no_ring_line none fault) =
-          first_holds (given-here (clean-start short) (no-ring-first (λ ring r. none ring.nodes ring.fibres (line-one (line-here from) r.text refl) r.spelled))
-          (ring_due refl (line_faulty (line-here from) fault)))
-
-too-long-given : {limits : Limits} {t : List ℕ} → limits.bytes < length t → Given limits t TooLong 0 0
-unfolding Says ByteIs
-too-long-given {limits} {t} long = record { holds = (refl, long); first = λ s other e h. go e (stands (said s h)); byte_is = refl }
-  where
-    go : {s : Reason} {other : ℕ} → Earlier s other TooLong 0 → Stands limits t other s → ⊥
-    go (inl l) w = omega arith
-    go (inr l) (on_none e long one) = omega (arith, l.1)
-    go (inr l) (on_first e two) = omega (arith, l.1)
-    go (inr l) (on_later m is two) = omega (arith, l.1)
+          wrong-given (clean-start (row-laws limits t) short) (no_ring refl (λ ring x. none ring.nodes ring.fibres (line-one (line-here from) x.text refl) x.spelled)) (ring_due refl (line_faulty (line-here from) fault))
 
 right : (limits : Limits) (t : List ℕ) → Right limits t (table_of limits t)
 unfolding table_of
@@ -160,14 +145,7 @@ right limits t =
 
 -- a text has one first reason, with one byte
 pub one-given : {limits : Limits} {t : List ℕ} {r s : Reason} {line other byte on : ℕ} → Given limits t r line byte → Given limits t s other on → (r ≡ s) × (line ≡ other) × (byte ≡ on)
-one-given {limits} {t} {r} {s} {line} {other} {byte} {on} f g =
-    let a : line < other → ⊥ = λ l. g.first r line (inl l) f.holds in
-    let b : other < line → ⊥ = λ l. f.first s other (inl l) g.holds in
-    let e : line ≡ other = omega arith in
-    let c : rank_of r < rank_of s → ⊥ = λ l. g.first r line (inr (e, l)) f.holds in
-    let d : rank_of s < rank_of r → ⊥ = λ l. f.first s other (inr (sym e, l)) g.holds in
-    let k : r ≡ s = same_rank r s (omega arith) in
-    (k, e, one_byte limits t other byte on s (rw (k, e) at f.byte_is) g.byte_is)
+one-given {limits} {t} f g = one-first same-place (λ line b c r x y. one_byte (λ q p. row-one) one-line-byte x y) f g
 
 pub given : (limits : Limits) (t : List ℕ) (r : Reason) (line byte : ℕ) → (table_of limits t ≡ refused r line byte) ↔ Given limits t r line byte
 given limits t r line byte = (λ e. there (subst (Right limits t) e (right limits t)), λ g. back g (right limits t))

@@ -18,7 +18,7 @@ use Rattle.ring.specs.Ring.{ring_of}
 use Rattle.ring.specs.declared.types.Ring.{Ring}
 use Rattle.ring.specs.LineSize.{IsFibres}
 use Rattle.table.specs.Lines.{lines}
-use Rattle.table.specs.Table.{write_rows, write_table, LimitsSpelled, InRange}
+use Rattle.table.specs.Table.{write_rows, write_table, InRange}
 use Rattle.table.specs.Faults.{verdict_found, ring_found, row_found, last_of}
 use Rattle.table.specs.OnLine.{and_then, values_on, passed, line_judged}
 use Rattle.table.specs.ReadTable.{TableResult, accepted, refused, ring_in, demand_in, ring_on, row_on, unless_refused, rows_of, table_lines, table_of}
@@ -33,6 +33,7 @@ use Rattle.table.proofs.Against.{fine-ring-judged, fine-row-judged}
 use Rattle.table.proofs.FineRows.{FineRows, no_row, fine_row, fine-rows, table-rows, amounts-fine, count-fine}
 use Rattle.table.proofs.LineRead.{RingSpelled, ring-values, RingLine, ring_line_is, no_ring_line, as-ring, RowSpelled, row-values, RowLine, row_line_is, no_row_line, as-row}
 use Rattle.table.proofs.LinesOf.{join-lines, ring-first, row_first}
+use Rattle.table.proofs.Spelled.{LimitsSpelled}
 
 pub desk-spelled : LimitsSpelled desk
 desk-spelled = record { nodes = omega arith; amount = omega arith }
@@ -89,12 +90,15 @@ module _ {limits : Limits} {t : List ℕ} (short : length t ≤ limits.bytes) wh
   ring-more {ring} whole e (right_ring few many fibres) (rows_are {all} rs is text fine) =
       let written : t ≡ write_table ring all = whole ∙ rw (e, text, is) in
       table_is {rs = all} written (record {
-        few = few;
-        many = many;
-        fibres = fibres;
-        rows = rw is (table-rows fine);
-        count = omega (arith, count-fine fine (omega arith), ap length is);
-        amounts = rw is (amounts-fine fine);
+        within =
+            record {
+              few = few;
+              many = many;
+              fibres = fibres;
+              rows = rw is (table-rows fine);
+              count = omega (arith, count-fine fine (omega arith), ap length is);
+              amounts = rw is (amounts-fine fine);
+            };
         short = omega (arith, ap length written);
       })
   ring-more whole e w rows_refused = table_refused
@@ -156,12 +160,12 @@ ring-again limits ring w few many fibres = rw (ring-values limits ring.nodes rin
 written_read : (limits : Limits) → LimitsSpelled limits → (ring : Ring) (rs : List Demand) → InRange limits ring rs → table_of limits (write_table ring rs) ≡ accepted ring rs
 unfolding table_of table_lines unless_refused write_table
 written_read limits spelled ring rs range =
-    let w : RingSpelled limits ring.nodes ring.fibres = ring-spelled limits spelled ring range.many range.fibres in
+    let w : RingSpelled limits ring.nodes ring.fibres = ring-spelled limits spelled ring range.within.many range.within.fibres in
     rw (
       le-ltb limits.bytes (length (write_table ring rs)) range.short,
       ring-first limits ring.nodes ring.fibres w (write_rows rs),
-      ring-again limits ring w range.few range.many range.fibres,
-    ) (written-rows-read limits spelled ring range.many [] refl refl (fine-rows range.rows range.count range.amounts))
+      ring-again limits ring w range.within.few range.within.many range.within.fibres,
+    ) (written-rows-read limits spelled ring range.within.many [] refl refl (fine-rows range.within.rows range.within.count range.within.amounts))
 
 -- ---- both
 

@@ -10,7 +10,7 @@ use Rattle.ring.specs.declared.types.Ring.{Ring}
 use Rattle.ring.specs.declared.types.Demand.{Demand}
 use Rattle.table.specs.Table.{InRange}
 use Rattle.table.specs.declared.reason.Refusal.{Refusal}
-use Rattle.table.specs.Answer.{with_rows}
+use Rattle.table.specs.ReadInto.{with_rows}
 use Rattle.table.proofs.TableText.{desk-spelled, table-text}
 
 module _ (s : List ℕ) (rs : List Demand) (answer : Outcome Ring Refusal) (e : with_rows rs answer ≡ table_of desk s) where

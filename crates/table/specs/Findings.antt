@@ -5,7 +5,7 @@ use Rattle.ring.specs.TableRows.{PairBefore}
 use Rattle.ring.specs.LineSize.{IsFibres}
 use Rattle.ring.specs.declared.types.Ring.{Ring}
 use Rattle.ring.specs.declared.types.Demand.{Demand}
-use Rattle.table.specs.Says.{NoNode}
+use Rattle.table.specs.RowReasons.{NoNode}
 use Rattle.table.specs.declared.reason.Reason.{Reason}
 use Rattle.table.specs.declared.reason.Reason.TheVariants.{RingSize, Fibres, NoSuchNode, NotBelow, OutOfOrder, TooMany, TooMuch}
 use Rattle.table.specs.declared.fault.Fault.{Fault}
@@ -21,6 +21,7 @@ unfoldable pub then : Findings → Findings → Findings
 then nothing gs = gs
 then (finding A reason place fs) gs = finding A reason place (then fs gs)
 
+-- a reason, with its place
 abbrev pub found : Reason → ℕ → Finding
 found reason place = record { reason = reason; place = place }
 

@@ -3,13 +3,10 @@ use Rattle.std.specs.Prelude.{ℕ, ◌+◌, List, Result, Ok, Err}
 use Rattle.text.specs.FieldByte.{field_byte}
 use Rattle.text.specs.ReadLine.{Reading, read_line}
 use Rattle.text.specs.declared.field.Field.{Field}
-use Rattle.table.specs.declared.reason.Reason.{Reason}
 use Rattle.table.specs.declared.reason.Reason.TheVariants.{Misshapen}
 use Rattle.table.specs.declared.reason.Refusal.{Refusal}
 use Rattle.table.specs.declared.fault.Fault.{Fault}
-
-abbrev pub refusal : Reason → ℕ → ℕ → Refusal
-refusal reason line byte = record { reason = reason; line = line; byte = byte }
+use Rattle.table.specs.Refusals.{refuse}
 
 -- what is read, then what `next` reads behind it
 unfoldable pub and_then : {A B : Type 0} → Result A Refusal → (A → Result B Refusal) → Result B Refusal
@@ -19,12 +16,12 @@ and_then (Err r) next = Err r
 -- the values of the line; or the place of its first faulty byte
 unfoldable pub values_on : ℕ → Reading → Result (List ℕ) Refusal
 values_on line (Ok vs) = Ok vs
-values_on line (Err p) = Err (refusal Misshapen line (p + 1))
+values_on line (Err p) = refuse Misshapen line (p + 1)
 
 -- what its values say, where nothing is found against them
 unfoldable pub passed : {A : Type 0} → ℕ → List Field → List ℕ → Result Unit Fault → A → Result A Refusal
 passed line shape vs (Ok tt) x = Ok x
-passed line shape vs (Err f) x = Err (refusal f.reason line (field_byte shape vs f.field))
+passed line shape vs (Err f) x = refuse f.reason line (field_byte shape vs f.field)
 
 -- the line l by its shape, its numbers of at most so many digits, by what its values are and what is found against that
 unfoldable pub line_judged : {A : Type 0} → ℕ → ℕ → List Field → (List ℕ → A) → (A → Result Unit Fault) → List ℕ → Result A Refusal

@@ -1,7 +1,8 @@
 //! What is found against the values of a line.
 ghost use Rattle.std.specs.Prelude.{◌≡◌, ◌≤◌, length};
-ghost use Rattle.text.specs.FieldByte.{most_fields, field_byte};
-ghost use Rattle.table.specs.OnLine.{refusal};
+ghost use Rattle.text.specs.FieldByte.{field_byte};
+ghost use Rattle.text.specs.Written.{most_fields};
+ghost use Rattle.table.specs.Refusals.{refusal};
 
 use crate::reason::{Reason, Refusal};
 use text::Field;

@@ -1,7 +1,7 @@
 // The line that the programs print of a refusal.
 ghost use Rattle.std.specs.Prelude.{◌≡◌, Some};
 ghost use Rattle.table.specs.Reasons.{number_of};
-ghost use Rattle.table.specs.RefusalLine.{refusal_line};
+ghost use Rattle.table.specs.Refusals.{refusal_line};
 
 use crate::reason::Refusal;
 use std::fmt;

@@ -3,8 +3,8 @@ ghost use Rattle.std.specs.Prelude.{◌≡◌, ◌+◌, ◌≤◌, length};
 ghost use Rattle.ring.specs.Limits.{desk};
 ghost use Rattle.text.specs.WriteLine.{end_of, write_line};
 ghost use Rattle.text.specs.ReadLine.{read_line};
-ghost use Rattle.text.specs.FieldByte.{most_fields, field_byte};
-ghost use Rattle.text.specs.Written.{Passed};
+ghost use Rattle.text.specs.FieldByte.{field_byte};
+ghost use Rattle.text.specs.Written.{Passed, most_fields};
 
 use crate::field::{Field, read_field, write_field};
 use crate::pass::{Measure, Pass};

@@ -10,7 +10,7 @@ use crate::pass::Pass;
 /// A digit is below this.
 const BASE: u32 = 10;
 
-/// From here on a number has more than one digit; a name apart from BASE, as each can be wrong alone.
+/// From here on a number has more than one digit. Its name is apart from BASE, and that of ALONE from 0, for the must-fail edits: each makes one of them wrong alone.
 const MORE: u32 = BASE;
 
 /// A number has at most 8 digits: it is below this.
@@ -19,7 +19,7 @@ const LIMIT: u32 = 100000000;
 /// From here on a number has all its digits, and no further digit may follow.
 const FULL: u32 = LIMIT / BASE;
 
-/// This number stands alone: no further digit may follow, so that no number has a leading zero. It has a name of its own, as BASE and MORE have: 0 is the one digit that it may be.
+/// This number stands alone: no further digit may follow, so that no number has a leading zero.
 const ALONE: u32 = 0;
 
 /// The value of a digit.

@@ -13,8 +13,9 @@ use Rattle.ring.specs.Lists.{Each, none, more}
 use Rattle.ring.specs.declared.types.Demand.{Demand}
 use Rattle.ring.specs.declared.types.Routed.{Routed}
 use Rattle.ring.specs.Sheet.{sents, demands}
-use Rattle.turns.specs.Turns.{peak_of, avoiding, start, turn_at, PlacedRow, placed_from, falling_rows, lowers, choice, Settled, settle, Answer, from_start, lower, best_from, least_start}
-use Rattle.turns.specs.Promised.{largest_across, NoTurnLowers, StartEnds}
+use Rattle.turns.specs.Turns.{peak_of, avoiding, start, turn_at, PlacedRow, placed_from, falling_rows, lowers, choice, Settled, settle, TurnedRows, from_start, lower, best_from, least_start}
+use Rattle.ring.specs.RuleA.{largest_across}
+use Rattle.turns.specs.Promised.{NoTurnLowers, StartEnds}
 use Rattle.ring.proofs.Side.{cond-elim}
 use Rattle.turns.proofs.InOrder.{first-has, none_has, each-ordered}
 use Rattle.turns.proofs.Starts.{ways-floor}
@@ -92,7 +93,7 @@ start-demands a [] = refl
 start-demands a (r ∷ rs) = ap (λ (l : List Demand). r ∷ l) (start-demands a rs)
 
 -- what a start leads to: its peak is that of its rows, which are the table's, no turn lowers it, and each turn did
-pub record FromStart (n : ℕ) (rs : List Demand) (a : ℕ) (x : Answer) : Type 0 where
+pub record FromStart (n : ℕ) (rs : List Demand) (a : ℕ) (x : TurnedRows) : Type 0 where
   pub peak : x.figures.peak ≡ peak_of n x.rows
   pub demands : demands (sents x.rows) ≡ rs
   pub still : NoTurnLowers n x.rows
@@ -118,7 +119,7 @@ module _ (n : ℕ) (rs : List Demand) where
   start_peak a = (from_start n rs a).figures.peak
 
   -- of the starts before `to` the answer is one, none has a lower peak, and those before it have higher ones
-  pub record Least (to : ℕ) (x : Answer) : Type 0 where
+  pub record Least (to : ℕ) (x : TurnedRows) : Type 0 where
     pub low : 1 ≤ x.figures.link
     pub high : x.figures.link < to
     pub is : x ≡ from_start n rs x.figures.link
@@ -136,7 +137,7 @@ module _ (n : ℕ) (rs : List Demand) where
         first = λ a l m. absurd (omega arith);
       }
 
-  pub next_start : (a : ℕ) (x : Answer) → 1 ≤ a → Least a x → Least (suc a) (lower x (from_start n rs a))
+  pub next_start : (a : ℕ) (x : TurnedRows) → 1 ≤ a → Least a x → Least (suc a) (lower x (from_start n rs a))
   unfolding lower
   next_start a x h o = cond-elim (Least (suc a)) _ (from_start n rs a) x (λ t. later (ltb-true _ _ t)) (λ f. earlier (ltb-false _ _ f))
     where
@@ -161,13 +162,13 @@ module _ (n : ℕ) (rs : List Demand) where
             first = o.first;
           }
 
-  all-starts : (a m : ℕ) (x : Answer) → 1 ≤ a → Least a x → Least (a + m) (best_from n rs a m x)
+  all-starts : (a m : ℕ) (x : TurnedRows) → 1 ≤ a → Least a x → Least (a + m) (best_from n rs a m x)
   unfolding best_from
   all-starts a zero x h o = let e : a + 0 ≡ a = omega arith in rw e o
   all-starts a (suc m) x h o = let e : a + suc m ≡ suc a + m = omega arith in rw e (all-starts (suc a) m _ (omega arith) (next_start a x h o))
 
   -- a later start does not take the place of one whose peak is M/2, rounded up
-  pub no-lower : (a m : ℕ) (x : Answer) → 2 ≤ n → 2 * x.figures.peak ≤ largest_across n rs + 1 → best_from n rs a m x ≡ x
+  pub no-lower : (a m : ℕ) (x : TurnedRows) → 2 ≤ n → 2 * x.figures.peak ≤ largest_across n rs + 1 → best_from n rs a m x ≡ x
   unfolding best_from lower
   no-lower a zero x two l = refl
   no-lower a (suc m) x two l = rw kept (no-lower (suc a) m x two l)

@@ -12,13 +12,13 @@ use Rattle.ring.specs.Routing.{peak, Attains}
 use Rattle.ring.specs.Sheet.{numbers_from}
 use Rattle.ring.proofs.Peaks.{peak-above, peak-attained}
 use Rattle.ring.proofs.Side.{in-front, before-front, after_front}
-use Rattle.weight.specs.Limits.{most_links}
-use Rattle.weight.specs.Arrays.{link_at}
+use Rattle.ring.specs.Limits.{desk}
+use Rattle.weight.specs.LinkSteps.{link_at}
 use Rattle.ring.specs.declared.types.Routed.{Routed}
 use Rattle.ring.specs.declared.types.Way.TheVariants.{Front, Back}
 use Rattle.turns.specs.declared.loads.Loads.TheInside.{Inside}
 use Rattle.turns.specs.Turns.{on_path}
-use Rattle.turns.specs.Figures.{rank_weight_in, rank_weight, sum_to, off_top, path_key, LoadOf, Keys}
+use Rattle.turns.specs.Choosing.{rank_weight_in, rank_weight, sum_to, off_top, path_key, LoadOf, Keys}
 use Rattle.turns.specs.Loads.{loads_in, Figured}
 use Rattle.turns.proofs.LoadsSteps.{links_are, keys_are}
 use Rattle.turns.proofs.Weights.{sum-to, weights-below, some-weight}
@@ -75,10 +75,10 @@ count-under v (x ∷ xs) (suc k) l e = rw (sum_by-cons (λ x. cond (ltb x v) 1 0
     go true l = omega arith
     go false l = omega arith
 
-pub count_fits : (loads : List ℕ) (v r : ℕ) → length loads ≤ most_links → LoadOf loads v → r ≡ count_by (λ x. ltb x v) loads → r < 64
+pub count_fits : (loads : List ℕ) (v r : ℕ) → length loads ≤ desk.nodes → LoadOf loads v → r ≡ count_by (λ x. ltb x v) loads → r < 64
 count_fits loads v r few h e = omega (arith, count-under v loads h.place h.within h.is)
 
-pub weight_is : (loads : List ℕ) (v r : ℕ) → length loads ≤ most_links → LoadOf loads v → r ≡ count_by (λ x. ltb x v) loads → (1 * 2 ^ r) % 2 ^ 64 ≡ rank_weight (length loads) (link_at loads) v
+pub weight_is : (loads : List ℕ) (v r : ℕ) → length loads ≤ desk.nodes → LoadOf loads v → r ≡ count_by (λ x. ltb x v) loads → (1 * 2 ^ r) % 2 ^ 64 ≡ rank_weight (length loads) (link_at loads) v
 weight_is loads v r few h e = shl_exact 1 r 64 (omega arith) (omega (arith, count_fits loads v r few h e)) ∙ (one-times (2 ^ r) ∙ (ap (λ x. 2 ^ x) e ∙ sym (weight-counted loads v)))
   where
     one-times : (x : ℕ) → 1 * x ≡ x
@@ -129,8 +129,8 @@ pub record Summing (loads keys : List ℕ) (sum k : ℕ) : Type 0 where
   pub total : sum ≡ sum_to (weight_at loads) k
   pub so_far : (h : ℕ) → h ≤ k → get_or keys h 0 ≡ sum_to (weight_at loads) h
 
-module _ (loads : List ℕ) (few : length loads ≤ most_links) where
-  pub sum_start : (keys : List ℕ) → length keys ≡ suc most_links → Summing loads (set keys 0 0) 0 0
+module _ (loads : List ℕ) (few : length loads ≤ desk.nodes) where
+  pub sum_start : (keys : List ℕ) → length keys ≡ suc desk.nodes → Summing loads (set keys 0 0) 0 0
   unfolding sum_to
   sum_start keys s = record { total = refl; so_far = λ h l. let e : h ≡ 0 = omega arith in rw e (get_or-set_same keys 0 0 0 (omega arith)) }
 
@@ -148,7 +148,7 @@ module _ (loads : List ℕ) (few : length loads ≤ most_links) where
         let rise = rw a at (sum-rises (weight_at loads) (k + 1) (length loads - (k + 1))) in
         omega (arith, next-sum, rise, all-weights loads, pow_mono few)
 
-    pub sum_turn : length keys ≡ suc most_links → Summing loads (set keys (k + 1) (sum + w)) (sum + w) (k + 1)
+    pub sum_turn : length keys ≡ suc desk.nodes → Summing loads (set keys (k + 1) (sum + w)) (sum + w) (k + 1)
     sum_turn size =
         record {
           total = next-sum;

@@ -17,7 +17,7 @@ use Rattle.ring.specs.Routing.{whole_over, unsplit_load, peak, Attains}
 use Rattle.turns.specs.Turns.{peak_of, turned, turn_at, on_path, PlacedRow, lowers}
 use Rattle.ring.proofs.Side.{in-front, after_front}
 use Rattle.ring.proofs.Peaks.{peak-above, peak-least, peak-attained}
-use Rattle.turns.specs.Figures.{off_top, lowers_by}
+use Rattle.turns.specs.Choosing.{off_top, lowers_by}
 
 -- row r stands at place p, in words that a recursion takes apart
 pub data AtPlace (r : Routed) : ℕ → List Routed → Type 0 where

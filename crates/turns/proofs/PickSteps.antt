@@ -7,19 +7,25 @@ use Rattle.ring.specs.declared.types.Routed.{Routed}
 use Rattle.ring.specs.Demand.{OnRing}
 use Rattle.ring.specs.Routing.{unsplit_load, peak}
 use Rattle.ring.specs.Sheet.{sents, demands, numbers_from}
-use Rattle.weight.specs.Arrays.{link_at}
-use Rattle.router.specs.Arrays.{DemandsFit}
+use Rattle.weight.specs.LinkSteps.{link_at}
+use Rattle.across.specs.Filled.{DemandsFit}
 use Rattle.turns.specs.declared.pick.BestRow.{BestRow}
-use Rattle.turns.specs.Turns.{peak_of, on_path, PlacedRow, placed_row, placed_from, stands, falling_rows, lowers, choice}
-use Rattle.turns.specs.Figures.{off_top, lowers_by, rank_weight_in, rank_weight, path_key}
-use Rattle.turns.specs.Picks.{considered, Picks}
-use Rattle.turns.specs.Arrays.{Carries}
+use Rattle.turns.specs.Turns.{peak_of, on_path, PlacedRow, placed_row, placed_from, stands_before, falling_rows, lowers, choice}
+use Rattle.turns.specs.Choosing.{off_top, lowers_by, rank_weight_in, rank_weight, path_key}
+use Rattle.turns.specs.Picks.{Picks}
+use Rattle.turns.specs.TurnedLoads.{Carries}
 use Rattle.turns.proofs.InOrder.{scan, joined, first-in-order, scan-more}
 use Rattle.turns.proofs.Smaller.{not-both, chain, later-stands}
 use Rattle.turns.proofs.Lowering.{at-place, lowers-by}
 use Rattle.turns.proofs.KeySteps.{same_sum, heavy-path}
 use Rattle.turns.proofs.Weights.{smaller-key}
 use Rattle.turns.proofs.RowsFit.{row-fits}
+
+-- a row at a place takes the place of the one that is kept where its number is larger and its turn lowers the peak
+unfoldable pub considered : ℕ → (ℕ → ℕ) → ℕ → BestRow → ℕ → Routed → BestRow
+considered n load top best place r =
+    let key = path_key n load r in
+    cond (ltb best.key key && lowers_by (off_top n load r) r.sent.demand.amount top) (record { place = Some place; key = key }) best
 
 -- ---- figures look at the ring's links alone
 
@@ -90,7 +96,7 @@ module _ (n : ℕ) (rs : List Routed) where
   key r = path_key n load r
 
   abbrev found_to : ℕ → Option PlacedRow
-  found_to t = scan (stands n load) (lowers n rs) (placed_from 0 (take t rs))
+  found_to t = scan (stands_before n load) (lowers n rs) (placed_from 0 (take t rs))
 
   -- what is kept is what the scan has found, of the first t rows
   pub data Found (t : ℕ) : BestRow → Option PlacedRow → Type 0 where
@@ -106,13 +112,13 @@ module _ (n : ℕ) (rs : List Routed) where
     turn-lowers : lowers n rs (placed_row t r) ≡ lowers_by (off_top n load r) r.sent.demand.amount top
     turn-lowers = rw is-top (lowers-by n rs t r (at-place rs t r at) on (placed_row t r) refl)
 
-    one_more : found_to (t + 1) ≡ cond (lowers n rs (placed_row t r)) (joined (stands n load) (found_to t) (placed_row t r)) (found_to t)
+    one_more : found_to (t + 1) ≡ cond (lowers n rs (placed_row t r)) (joined (stands_before n load) (found_to t) (placed_row t r)) (found_to t)
     one_more =
         let in-rows = slice_get_within rs t r at in
         let more = take_more rs t r in-rows ∙ ap (λ (x : Routed). take t rs ++ x ∷ []) (get_or_from_slice_get rs t r r at) in
-        ap (λ l. scan (stands n load) (lowers n rs) (placed_from 0 l)) more ∙
-        (ap (λ l. scan (stands n load) (lowers n rs) l) (placed-more 0 (take t rs) r t (omega (arith, length-take t rs, in-rows))) ∙
-        scan-more (stands n load) (not-both n load) (chain n load) (lowers n rs) (placed_from 0 (take t rs)) (placed_row t r))
+        ap (λ l. scan (stands_before n load) (lowers n rs) (placed_from 0 l)) more ∙
+        (ap (λ l. scan (stands_before n load) (lowers n rs) l) (placed-more 0 (take t rs) r t (omega (arith, length-take t rs, in-rows))) ∙
+        scan-more (stands_before n load) (not-both n load) (chain n load) (lowers n rs) (placed_from 0 (take t rs)) (placed_row t r))
 
     abbrev new : BestRow
     new = record { place = Some t; key = key r }
@@ -127,14 +133,14 @@ module _ (n : ℕ) (rs : List Routed) where
     heavy e = heavy-path n load r (omega (arith, on.low, on.order, on.high)) (rw is-top at (lowers-under (off_top n load r) r.sent.demand.amount top e))
 
     -- the better of the two, by their numbers, is the one that stands before the other
-    beside : rank_weight n load (peak_of n rs) ≤ key r → {best : BestRow} {found : Option PlacedRow} → Found t best found → Found (t + 1) (cond (ltb best.key (key r)) new best) (joined (stands n load) found (placed_row t r))
+    beside : rank_weight n load (peak_of n rs) ≤ key r → {best : BestRow} {found : Option PlacedRow} → Found t best found → Found (t + 1) (cond (ltb best.key (key r)) new best) (joined (stands_before n load) found (placed_row t r))
     unfolding joined
     beside h (nobody k e) = rw (lt-ltb k (key r) (omega arith)) (somebody t (key r) r (omega arith) at refl)
     beside h (somebody p k q a b c) =
         go (ltb k (key r)) refl (later-stands n load (placed_row p q) (placed_row t r) (omega arith) ∙ (smaller-key n load q r ∙ (rw c)))
       where
-        go : (x : Bool) → ltb k (key r) ≡ x → stands n load (placed_row t r) (placed_row p q) ≡ ltb k (key r) →
-            Found (t + 1) (cond (ltb k (key r)) new (record { place = Some p; key = k })) (cond (stands n load (placed_row t r) (placed_row p q)) (Some (placed_row t r)) (Some (placed_row p q)))
+        go : (x : Bool) → ltb k (key r) ≡ x → stands_before n load (placed_row t r) (placed_row p q) ≡ ltb k (key r) →
+            Found (t + 1) (cond (ltb k (key r)) new (record { place = Some p; key = k })) (cond (stands_before n load (placed_row t r) (placed_row p q)) (Some (placed_row t r)) (Some (placed_row p q)))
         go true e f = rw (f, e) (somebody t (key r) r (omega arith) at refl)
         go false e f = rw (f, e) (somebody p k q (omega arith) b c)
 
@@ -183,7 +189,7 @@ module _ (rs : List Routed) (loads : List ℕ) (count : ℕ) (best : BestRow) (f
 
   pub pick_done : length rs ≤ count → Picks (length loads) rs best.place
   unfolding choice falling_rows
-  pick_done l = go best _ (rw (take_all count rs l) at o) (first-in-order (stands n (load n rs)) (not-both n (load n rs)) (chain n (load n rs)) (lowers n rs) (placed_from 0 rs))
+  pick_done l = go best _ (rw (take_all count rs l) at o) (first-in-order (stands_before n (load n rs)) (not-both n (load n rs)) (chain n (load n rs)) (lowers n rs) (placed_from 0 rs))
     where
       n : ℕ
       n = length loads

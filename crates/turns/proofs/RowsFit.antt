@@ -7,12 +7,12 @@ use Rattle.ring.specs.declared.types.Routed.{Routed}
 use Rattle.ring.specs.Lists.{Each}
 use Rattle.ring.specs.Routing.{unsplit_load}
 use Rattle.ring.specs.Sheet.{sents, demands}
-use Rattle.ring.proofs.Lists.{each, each-of-map}
+use Rattle.ring.proofs.Lists.{each, each-of-map, each-at}
 use Rattle.ring.proofs.Peaks.{peak-least}
 use Rattle.ring.proofs.Totals.{total-most, unsplit-total, whole-small}
-use Rattle.weight.specs.Limits.{most_amount, most_rows, most_across}
-use Rattle.weight.proofs.Weighing.{each-at}
-use Rattle.router.specs.Arrays.{DemandFits, DemandsFit}
+use Rattle.ring.specs.Limits.{desk}
+use Rattle.weight.specs.Limits.{across_bound}
+use Rattle.across.specs.Filled.{DemandFits, DemandsFit}
 use Rattle.turns.specs.Turns.{peak_of}
 
 module _ (n : ℕ) (rs : List Routed) (fit : DemandsFit n (demands (sents rs))) where
@@ -22,12 +22,12 @@ module _ (n : ℕ) (rs : List Routed) (fit : DemandsFit n (demands (sents rs))) 
   pub row-fits : (k : ℕ) (r : Routed) → slice_get rs k ≡ Some r → DemandFits n r.sent.demand
   row-fits k r at = rw (get_or_from_slice_get rs k r r at) at (each-at each-fits k r (slice_get_within rs k r at))
 
-  pub few-rows : length rs ≤ most_rows
+  pub few-rows : length rs ≤ desk.rows
   few-rows = omega (arith, length-map (sents rs) (λ (s : Sent). s.demand), length-map rs (λ (r : Routed). r.sent), fit.few)
 
-  pub load-most : (k : ℕ) → unsplit_load rs k ≤ most_across
-  load-most k = omega (arith, few-rows, total-most (unsplit-total k) most_amount {l = rs} (each (λ r f. omega (arith, whole-small r k, f.small)) each-fits))
+  pub load-most : (k : ℕ) → unsplit_load rs k ≤ across_bound
+  load-most k = omega (arith, few-rows, total-most (unsplit-total k) desk.amount {l = rs} (each (λ r f. omega (arith, whole-small r k, f.small)) each-fits))
 
-  pub peak-most : peak_of n rs ≤ most_across
+  pub peak-most : peak_of n rs ≤ across_bound
   unfolding peak_of
-  peak-most = peak-least (unsplit_load rs) n most_across (λ k a b. load-most k)
+  peak-most = peak-least (unsplit_load rs) n across_bound (λ k a b. load-most k)

@@ -4,12 +4,12 @@ use Rattle.std.proofs.lemmas.Option.{slice_get_within}
 use Rattle.ring.specs.declared.types.Routed.{Routed}
 use Rattle.ring.specs.Routing.{unsplit_load}
 use Rattle.ring.specs.Sheet.{sents, demands}
-use Rattle.weight.specs.Limits.{most_across}
-use Rattle.router.specs.Arrays.{DemandsFit}
+use Rattle.weight.specs.Limits.{across_bound}
+use Rattle.across.specs.Filled.{DemandsFit}
 use Rattle.turns.specs.Turns.{peak_of, turn_at, PlacedRow, placed_row, choice, settle}
 use Rattle.turns.specs.Picks.{Picked, Picks}
 use Rattle.turns.specs.Settles.{TurnsTo, SettlesTo}
-use Rattle.turns.specs.Arrays.{Carries}
+use Rattle.turns.specs.TurnedLoads.{Carries}
 use Rattle.turns.proofs.Ends.{choice-lowers, turn-demands}
 use Rattle.turns.proofs.RowsFit.{peak-most}
 
@@ -34,7 +34,7 @@ pub record Settling (n : ℕ) (old now : List Routed) (loads : List ℕ) (turns 
   pub far : ℕ
   pub enough : peak_of n now ≤ far
   pub left : settle n far turns now ≡ settle n (peak_of n old) 0 old
-  pub small : turns + peak_of n now ≤ most_across
+  pub small : turns + peak_of n now ≤ across_bound
 
 -- a row was chosen
 module _ (n : ℕ) (old now : List Routed) (loads : List ℕ) (turns : ℕ) (o : Settling n old now loads turns) (place : ℕ) (h : Picks (length loads) now (Some place)) where

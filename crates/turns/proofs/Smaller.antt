@@ -7,7 +7,7 @@ use native.Mathlib.Omega.{arith}
 use lib.Dec.{ltb, eqb}
 use borrow.Author.Tests.{le-ltb, lt-ltb, ltb-true, ltb-false, eqb-true, eqb-false, eq-eqb, ne_eqb}
 use Rattle.turns.specs.InOrder.{smaller}
-use Rattle.turns.specs.Turns.{PlacedRow, path_loads, stands}
+use Rattle.turns.specs.Turns.{PlacedRow, path_loads, stands_before}
 
 -- k is not smaller than l
 pub data AtLeast : List ℕ → List ℕ → Type 0 where
@@ -126,19 +126,19 @@ module _ (k l : List ℕ) (p q : ℕ) where
 -- ---- rows in falling order
 
 module _ (n : ℕ) (load : ℕ → ℕ) where
-  pub not-both : (a b : PlacedRow) → stands n load a b ≡ true → stands n load b a ≡ false
-  unfolding stands
+  pub not-both : (a b : PlacedRow) → stands_before n load a b ≡ true → stands_before n load b a ≡ false
+  unfolding stands_before
   not-both a b e =
       not-standing (path_loads n load b.row) (path_loads n load a.row) b.place a.place
       (up-to-true (path_loads n load a.row) (path_loads n load b.row) a.place b.place e)
 
-  pub chain : (a b c : PlacedRow) → stands n load b a ≡ false → stands n load c b ≡ false → stands n load c a ≡ false
-  unfolding stands
+  pub chain : (a b c : PlacedRow) → stands_before n load b a ≡ false → stands_before n load c b ≡ false → stands_before n load c a ≡ false
+  unfolding stands_before
   chain a b c e f =
       not-standing (path_loads n load c.row) (path_loads n load a.row) c.place a.place
       (up-to-chain (up_to (path_loads n load b.row) (path_loads n load a.row) b.place a.place e)
       (up_to (path_loads n load c.row) (path_loads n load b.row) c.place b.place f))
 
-  pub later-stands : (a b : PlacedRow) → a.place ≤ b.place → stands n load b a ≡ smaller (path_loads n load a.row) (path_loads n load b.row)
-  unfolding stands
+  pub later-stands : (a b : PlacedRow) → a.place ≤ b.place → stands_before n load b a ≡ smaller (path_loads n load a.row) (path_loads n load b.row)
+  unfolding stands_before
   later-stands a b h = later-standing (path_loads n load b.row) (path_loads n load a.row) b.place a.place h

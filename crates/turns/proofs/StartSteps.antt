@@ -14,26 +14,25 @@ use Rattle.ring.specs.declared.types.Way.{Way}
 use Rattle.ring.specs.declared.types.Way.TheVariants.{Front, Back}
 use Rattle.ring.specs.Demand.{in_front}
 use Rattle.ring.specs.Cut.{across}
-use Rattle.ring.specs.RuleA.{largest_cut, rule_a}
+use Rattle.ring.specs.RuleA.{largest_cut, rule_a, largest_across}
 use Rattle.ring.specs.Routing.{unsplit_load, peak}
 use Rattle.ring.specs.Sheet.{sents, demands}
-use Rattle.ring.proofs.Lists.{each, each-of-map}
+use Rattle.ring.proofs.Lists.{each, each-of-map, each-at}
 use Rattle.rows.proofs.Demands.{demands-more}
 use Rattle.ring.proofs.Across.{either_order, one_link}
 use Rattle.ring.proofs.Side.{cond-elim}
 use Rattle.across.specs.Triangle.{at}
 use Rattle.across.proofs.CutSteps.{same-cut}
-use Rattle.weight.specs.Limits.{most_amount, most_links}
-use Rattle.weight.specs.Arrays.{link_at}
-use Rattle.weight.proofs.Weighing.{each-at}
-use Rattle.router.specs.Arrays.{Triangle, DemandsFit}
-use Rattle.router.proofs.Zip.{Passed, passed-none, within, next-old, put-passed, put-taken}
+use Rattle.ring.specs.Limits.{desk}
+use Rattle.weight.specs.LinkSteps.{link_at}
+use Rattle.across.specs.Filled.{TriangleOf, DemandsFit}
+use Rattle.rows.proofs.Zip.{Passed, passed-none, within, next-old, put-passed, put-taken}
 use Rattle.turns.specs.declared.Turned.{Turned}
-use Rattle.turns.specs.Turns.{whole, avoiding, start, peak_of, settle, Answer, from_start, lower, best_from, least_start}
-use Rattle.turns.specs.Promised.{largest_across, LeastOfStarts, NoTurnLowers, TurnsLower, StartLoads, StartsEnd, StartsWithinM, WaysFloor}
+use Rattle.turns.specs.Turns.{whole, avoiding, start, peak_of, settle, TurnedRows, from_start, lower, best_from, least_start}
+use Rattle.turns.specs.Promised.{LeastOfStarts, NoTurnLowers, TurnsLower, StartLoads, StartsEnd, StartsWithinM, WaysFloor}
 use Rattle.turns.specs.Settles.{SettlesTo}
 use Rattle.turns.specs.Starts.{lower_of, meets, SmallAmounts, across_between}
-use Rattle.turns.specs.Arrays.{Carries}
+use Rattle.turns.specs.TurnedLoads.{Carries}
 use Rattle.turns.proofs.PickSteps.{top_peak}
 use Rattle.turns.proofs.SameStarts.{same-start}
 use Rattle.turns.proofs.Starts.{start-loads, start-peak, ways-floor}
@@ -65,7 +64,7 @@ module _ (link : ℕ) (old : List Routed) where
     old-here : get_or old t r ≡ r
     old-here = ap (λ l. get_or l 0 r) (sym (drop_more old t r few) ∙ next-old old now t r at o.passed)
 
-    pub avoid_small : SmallAmounts (demands (sents old)) → r.sent.demand.amount ≤ most_amount
+    pub avoid_small : SmallAmounts (demands (sents old)) → r.sent.demand.amount ≤ desk.amount
     avoid_small small =
         rw old-here at (each-at (each-of-map (λ (r : Routed). r.sent) old (each-of-map (λ (s : Sent). s.demand) (sents old) small.each)) t r few)
 
@@ -103,7 +102,7 @@ module _ (triangle : List ℕ) (link n : ℕ) where
       rw (take-append-le n loads rest (omega (arith, o.size)) ∙ take_all n loads (omega (arith, o.size)))
       (record { is = λ x a b. o.is x a (omega (arith, o.size)) })
 
-module _ (n : ℕ) (rs : List Demand) (triangle : List ℕ) (s : Triangle n rs triangle) (link : ℕ) (low : 1 ≤ link) (high : link ≤ n) where
+module _ (n : ℕ) (rs : List Demand) (triangle : List ℕ) (s : TriangleOf n rs triangle) (link : ℕ) (low : 1 ≤ link) (high : link ≤ n) where
   number-is : (h : ℕ) → 1 ≤ h → h ≤ n → across_between triangle link h ≡ across rs link h
   number-is h a b =
       elim (dec_lt link h) [
@@ -120,7 +119,7 @@ module _ (n : ℕ) (rs : List Demand) (triangle : List ℕ) (s : Triangle n rs t
 -- ---- where it leads
 
 -- the loads that are seen are as many as the links
-pub seen_long : (n : ℕ) (loads : List ℕ) → n ≤ most_links → length loads ≡ most_links → length (take n loads) ≡ n
+pub seen_long : (n : ℕ) (loads : List ℕ) → n ≤ desk.nodes → length loads ≡ desk.nodes → length (take n loads) ≡ n
 seen_long n loads few size = omega (arith, length-take n loads)
 
 module _ (n : ℕ) (rs : List Demand) (link : ℕ) where
@@ -147,7 +146,7 @@ module _ (n : ℕ) (rs : List Demand) (link : ℕ) where
 
 -- ---- all starts
 
-lower-figures : (x y : Answer) → (lower x y).figures ≡ lower_of x.figures y.figures
+lower-figures : (x y : TurnedRows) → (lower x y).figures ≡ lower_of x.figures y.figures
 unfolding lower
 lower-figures x y = go (ltb y.figures.peak x.figures.peak)
   where
@@ -155,9 +154,9 @@ lower-figures x y = go (ltb y.figures.peak x.figures.peak)
     go true = refl
     go false = refl
 
-lower-least : (x y : Answer) → (lower x y).figures.peak ≤ y.figures.peak
+lower-least : (x y : TurnedRows) → (lower x y).figures.peak ≤ y.figures.peak
 unfolding lower
-lower-least x y = cond-elim (λ (z : Answer). z.figures.peak ≤ y.figures.peak) (ltb y.figures.peak x.figures.peak) y x (λ t. omega arith) (λ f. omega (arith, ltb-false _ _ f))
+lower-least x y = cond-elim (λ (z : TurnedRows). z.figures.peak ≤ y.figures.peak) (ltb y.figures.peak x.figures.peak) y x (λ t. omega arith) (λ f. omega (arith, ltb-false _ _ f))
 
 module _ (n : ℕ) (rs : List Demand) where
   -- where the loop stands: the starts up to `link` are done, the rows are left as `last`, and the starts that follow give the answer
@@ -165,7 +164,7 @@ module _ (n : ℕ) (rs : List Demand) where
     pub low : 1 ≤ link
     pub high : link ≤ n
     pub rows : now ≡ (from_start n rs last).rows
-    pub answer : Answer
+    pub answer : TurnedRows
     pub is : best ≡ answer.figures
     pub beats : answer.figures.peak ≤ (from_start n rs link).figures.peak
     pub left : best_from n rs (suc link) (n - link) answer ≡ least_start n rs
@@ -214,19 +213,19 @@ module _ (n : ℕ) (rs : List Demand) where
         }
 
     pub starts_done : n ≤ link → best ≡ (least_start n rs).figures
-    starts_done l = o.is ∙ ap (λ (x : Answer). x.figures) (none_left ∙ o.left)
+    starts_done l = o.is ∙ ap (λ (x : TurnedRows). x.figures) (none_left ∙ o.left)
       where
         none_left : o.answer ≡ best_from n rs (suc link) (n - link) o.answer
         none_left = let p : n - link ≡ 0 = omega arith in rw p (unfold best_from in refl)
 
     -- no start that is left ends lower than M/2, rounded up
-    pub starts_end : 2 ≤ n → (triangle : List ℕ) (cut : Cut) (floor : ℕ) → Triangle n rs triangle → cut ≡ largest_cut (at triangle) n → floor ≡ div_ceil cut.across 2 → best.peak ≤ floor → best ≡ (least_start n rs).figures
+    pub starts_end : 2 ≤ n → (triangle : List ℕ) (cut : Cut) (floor : ℕ) → TriangleOf n rs triangle → cut ≡ largest_cut (at triangle) n → floor ≡ div_ceil cut.across 2 → best.peak ≤ floor → best ≡ (least_start n rs).figures
     unfolding rule_a
     starts_end two triangle cut floor s c f l =
         let across-is : cut.across ≡ largest_across n rs = ap (λ (c : Cut). c.across) (c ∙ same-cut n (at triangle) (across rs) s.is two) in
         let up = div_ceil_times cut.across 2 (omega arith) in
         let low : 2 * best.peak ≤ largest_across n rs + 1 = omega (arith, f, l, up.1, across-is) in
-        o.is ∙ ap (λ (x : Answer). x.figures) (sym (no-lower n rs (suc link) (n - link) o.answer two (rw o.is at low)) ∙ o.left)
+        o.is ∙ ap (λ (x : TurnedRows). x.figures) (sym (no-lower n rs (suc link) (n - link) o.answer two (rw o.is at low)) ∙ o.left)
 
 -- ---- the answer
 
@@ -253,18 +252,18 @@ module _ (n : ℕ) (rs : List Demand) (two : 2 ≤ n) where
   pub promised : Promised n rs (least_start n rs).rows (least_start n rs).figures
   promised = go (least_start n rs) least refl
     where
-      go : (x : Answer) → Least n rs (n + 1) x → x ≡ least_start n rs → Promised n rs x.rows x.figures
+      go : (x : TurnedRows) → Least n rs (n + 1) x → x ≡ least_start n rs → Promised n rs x.rows x.figures
       go x o e =
           let f : FromStart n rs x.figures.link x = subst (λ y. FromStart n rs x.figures.link y) (sym o.is) (each-start n rs x.figures.link) in
           record {
-            rows = ap (λ (x : Answer). x.rows) e;
-            figures = ap (λ (x : Answer). x.figures) e;
+            rows = ap (λ (x : TurnedRows). x.rows) e;
+            figures = ap (λ (x : TurnedRows). x.figures) e;
             demands = f.demands;
             peak = f.peak;
-            least = record { low = o.low; high = omega (arith, o.high); is = ap (λ (x : Answer). x.figures) o.is; least = λ a l h. o.least a l (omega arith); first = o.first };
+            least = record { low = o.low; high = omega (arith, o.high); is = ap (λ (x : TurnedRows). x.figures) o.is; least = λ a l h. o.least a l (omega arith); first = o.first };
             still = f.still;
             turns = f.turns;
-            start = ap (λ (x : Answer). x.rows) o.is;
+            start = ap (λ (x : TurnedRows). x.rows) o.is;
             loads = λ a h. start-loads a h rs;
             ends = λ a. starts-end n rs a;
             starts = start-peak n rs two;

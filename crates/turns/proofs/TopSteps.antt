@@ -9,9 +9,9 @@ use Rattle.ring.specs.Demand.{in_front, OnRing}
 use Rattle.ring.specs.Routing.{peak}
 use Rattle.ring.proofs.Side.{before, within, after, side}
 use Rattle.ring.proofs.Peaks.{peak-above, peak-least}
-use Rattle.weight.specs.Arrays.{link_at}
+use Rattle.weight.specs.LinkSteps.{link_at}
 use Rattle.turns.specs.declared.loads.Loads.TheInside.{Inside}
-use Rattle.turns.specs.Figures.{off_top, span_top}
+use Rattle.turns.specs.Choosing.{off_top, span_top}
 use Rattle.turns.specs.Loads.{loads_in, Figured}
 use Rattle.turns.proofs.LoadsSteps.{links_are}
 

@@ -7,11 +7,11 @@ use Rattle.ring.specs.declared.types.Way.TheVariants.{Front, Back}
 use Rattle.ring.specs.Demand.{in_front, OnRing}
 use Rattle.ring.specs.Routing.{by_way, unsplit_load}
 use Rattle.ring.specs.Sheet.{sents, demands}
-use Rattle.weight.specs.Limits.{most_load}
-use Rattle.weight.specs.Arrays.{link_at, OverFits, OverStep}
-use Rattle.router.specs.Arrays.{DemandsFit}
+use Rattle.weight.specs.Limits.{load_bound}
+use Rattle.weight.specs.LinkSteps.{link_at, OverFits, OverStep}
+use Rattle.across.specs.Filled.{DemandsFit}
 use Rattle.turns.specs.Turns.{on_way, on_path, turned, turn_at, whole, other_way}
-use Rattle.turns.specs.Arrays.{Carries, LoadsTurned, RoomFor, Holds}
+use Rattle.turns.specs.TurnedLoads.{Carries, LoadsTurned, RoomFor, PathCarries}
 use Rattle.turns.specs.Settles.{TurnsTo}
 use Rattle.turns.proofs.Lowering.{at-place, Moved, falls, rises, moved}
 use Rattle.turns.proofs.RowsFit.{row-fits, load-most}
@@ -39,15 +39,15 @@ module _ (r : Routed) (line : List ℕ) where
   load-here x d l = let i : (x + 1) - 1 ≡ x = omega arith in rw i (get_or_default line x d 0 l)
 
   -- no sum grows too large, no load falls below 0
-  module _ (on : OnRing (length line) r.sent.demand) (room : RoomFor amount line) (holds : Holds r line) where
+  module _ (on : OnRing (length line) r.sent.demand) (room : RoomFor amount line) (path : PathCarries r line) where
     can-fall : (x d : ℕ) → x < length line → on_path r (x + 1) ≡ true → amount ≤ get_or line x d
-    can-fall x d l e = omega (arith, load-here x d l, holds.most (x + 1) (omega arith) (omega arith) e)
+    can-fall x d l e = omega (arith, load-here x d l, path.most (x + 1) (omega arith) (omega arith) e)
 
-    can-rise : (x d : ℕ) → x < length line → get_or line x d + amount ≤ most_load
+    can-rise : (x d : ℕ) → x < length line → get_or line x d + amount ≤ load_bound
     can-rise x d l = omega (arith, load-here x d l, room.sums (x + 1) (omega arith) (omega arith))
 
     pub turn_fits : {ahead behind : ℕ → Type 0} (front back : ℕ) → front ≡ by_way r.way amount 0 → back ≡ by_way r.way 0 amount →
-        ((x : ℕ) → front ≤ x + back → x + back ≤ most_load → ahead x) → ((x : ℕ) → back ≤ x + front → x + front ≤ most_load → behind x) → OverFits ahead behind r.sent.demand line
+        ((x : ℕ) → front ≤ x + back → x + back ≤ load_bound → ahead x) → ((x : ℕ) → back ≤ x + front → x + front ≤ load_bound → behind x) → OverFits ahead behind r.sent.demand line
     turn_fits {ahead = ahead} {behind = behind} front back f b p q = go r.way refl
       where
         go : (w : Way) → r.way ≡ w → OverFits ahead behind r.sent.demand line
@@ -104,8 +104,8 @@ module _ (n : ℕ) (rs : List Routed) (fit : DemandsFit n (demands (sents rs))) 
   pub turn_room : RoomFor r.sent.demand.amount loads
   turn_room = record { sums = λ k a b. omega (arith, c.is k a b, load-most n rs fit k, (row-fits n rs fit p r at).small) }
 
-  pub turn_holds : Holds r loads
-  turn_holds = record { most = λ k a b t. elim (shift k) [ falls q f ↦ omega (arith, c.is k a b, f) | rises q f ↦ cc ] }
+  pub turn_path : PathCarries r loads
+  turn_path = record { most = λ k a b t. elim (shift k) [ falls q f ↦ omega (arith, c.is k a b, f) | rises q f ↦ cc ] }
 
   pub turn_done : (new : List ℕ) (w : Way) (q : Routed) (rs' : List Routed) → LoadsTurned r loads new → w ≡ other_way r.way → q ≡ whole r.sent.demand w → rs' ≡ set rs p q → TurnsTo p rs rs' loads new
   turn_done new w q rs' s a b e =
@@ -118,4 +118,4 @@ module _ (n : ℕ) (rs : List Routed) (fit : DemandsFit n (demands (sents rs))) 
 
 -- ---- the laws of `turn_row`
 
-pub ruleset row_laws = (turn_on, turn_room, turn_holds, turn_done)
+pub ruleset row_laws = (turn_on, turn_room, turn_path, turn_done)

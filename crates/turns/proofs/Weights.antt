@@ -8,16 +8,16 @@ use mathlib.Core.Path.{◌≡◌, refl, sym, ◌∙◌}
 use native.Mathlib.Omega.{arith}
 use native.Mathlib.Decide.{dec_lt, ℕ_discrete}
 use lib.Dec.{ltb, eqb}
-use borrow.Author.Tests.{lt-ltb, le-ltb, ltb-true, ltb-false, eq-eqb, ne_eqb}
+use borrow.Author.Tests.{lt-ltb, le-ltb, ltb-false, eq-eqb, ne_eqb}
 use Rattle.ring.specs.Lists.{Each, none, more, Pairs, and_pairs}
 use Rattle.ring.specs.declared.types.Routed.{Routed}
 use Rattle.ring.specs.Sheet.{numbers_from}
 use Rattle.turns.specs.InOrder.{falling, smaller}
 use Rattle.turns.specs.Turns.{on_path, path_loads}
 use Rattle.ring.proofs.Side.{cond-elim}
-use Rattle.turns.proofs.InOrder.{sum_of, sum-in-order, ordered}
+use Rattle.turns.proofs.InOrder.{sum_of, sum-in-order, numbers-fall}
 use Rattle.turns.proofs.Smaller.{AtLeast, ended, above, level, Less, runs-out, below, then, less, not-less, compared}
-use Rattle.turns.specs.Figures.{rank_weight_in, rank_weight, sum_to, path_key}
+use Rattle.turns.specs.Choosing.{rank_weight_in, rank_weight, sum_to, path_key}
 
 -- ---- sums
 
@@ -193,7 +193,7 @@ module _ (load : ℕ → ℕ) where
     unfolding falling
     light-falling has =
         record {
-          fall = ordered (λ x y. ltb y x) (λ a b e. le-ltb a b (omega (arith, ltb-true b a e))) (λ a b c e f. le-ltb a c (omega (arith, ltb-false a b e, ltb-false b c f))) (map load (filter has ks));
+          fall = numbers-fall (map load (filter has ks));
           light = λ y.
               omega (
                 arith,

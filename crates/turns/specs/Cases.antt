@@ -9,6 +9,7 @@ use Rattle.ring.specs.Demand.{demand}
 use Rattle.ring.specs.RuleB.{rule_b}
 use Rattle.ring.specs.RuleC.{rule_c}
 use Rattle.ring.specs.RuleD.{rule_d}
+use Rattle.ring.specs.Sheet.{unsplit_routing}
 use Rattle.turns.specs.declared.Turned.{Turned}
 use Rattle.turns.specs.Turns.{peak_of, least_start}
 
@@ -52,7 +53,7 @@ unfoldable pub computed : Case → Case
 unfolding least_start rule_b rule_c rule_d peak_of
 computed c =
     let x = least_start c.nodes c.rows in
-    case c.nodes c.rows (map (λ (r : Routed). r.way) x.rows) x.figures (peak_of c.nodes (rule_d (rule_c (rule_b c.nodes c.rows))))
+    case c.nodes c.rows (map (λ (r : Routed). r.way) x.rows) x.figures (peak_of c.nodes (unsplit_routing c.nodes c.rows))
 
 -- all cases hold
 abbrev pub CasesHold : Type 0

@@ -1,8 +1,8 @@
 pub mod InOrder
 pub mod Turns
 pub mod Promised
-pub mod Figures
-pub mod Arrays
+pub mod Choosing
+pub mod TurnedLoads
 pub mod Loads
 pub mod Picks
 pub mod Settles

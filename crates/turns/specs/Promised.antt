@@ -3,14 +3,10 @@ use Rattle.std.specs.Prelude.{ℕ, ◌+◌, ◌*◌, ◌≤◌, ◌<◌, List, �
 use Rattle.ring.specs.Cut.{across}
 use Rattle.ring.specs.Routing.{unsplit_load}
 use Rattle.ring.specs.declared.types.Demand.{Demand}
-use Rattle.ring.specs.RuleA.{rule_a}
+use Rattle.ring.specs.RuleA.{largest_across}
 use Rattle.ring.specs.declared.types.Routed.{Routed}
-use Rattle.ring.specs.Sheet.{sents, demands}
+use Rattle.ring.specs.Sheet.{demands_of}
 use Rattle.turns.specs.Turns.{peak_of, start, turn_at, Turned, from_start}
-
--- M, the largest across number
-abbrev pub largest_across : ℕ → List Demand → ℕ
-largest_across n rs = (rule_a n rs).across
 
 -- of all starts none ends with a lower peak, and those that avoid a smaller link end with higher ones
 pub record LeastOfStarts (n : ℕ) (rs : List Demand) (x : Turned) : Type 0 where
@@ -37,6 +33,7 @@ pub record StartEnds (n : ℕ) (rs : List Demand) (a : ℕ) : Type 0 where
   pub still : NoTurnLowers n (from_start n rs a).rows
   pub turns : TurnsLower n rs (from_start n rs a).figures
 
+-- so of every start
 abbrev pub StartsEnd : ℕ → List Demand → Type 0
 StartsEnd n rs = (a : ℕ) → StartEnds n rs a
 
@@ -46,4 +43,4 @@ StartsWithinM n rs = (a : ℕ) → 1 ≤ a → a ≤ n → peak_of n (start a rs
 
 -- whichever way each demand goes, twice the peak is at least M
 abbrev pub WaysFloor : ℕ → List Demand → Type 0
-WaysFloor n rs = (ways : List Routed) → demands (sents ways) ≡ rs → largest_across n rs ≤ 2 * peak_of n ways
+WaysFloor n rs = (ways : List Routed) → demands_of ways ≡ rs → largest_across n rs ≤ 2 * peak_of n ways

@@ -3,7 +3,7 @@ use Rattle.std.specs.Prelude.{ℕ, List, ◌≡◌, length}
 use Rattle.ring.specs.declared.types.Routed.{Routed}
 use Rattle.ring.specs.Routing.{unsplit_load}
 use Rattle.turns.specs.Turns.{peak_of, turn_at, settle}
-use Rattle.turns.specs.Arrays.{Carries}
+use Rattle.turns.specs.TurnedLoads.{Carries}
 
 -- the row at a place turned, and the loads with it
 pub record TurnsTo (place : ℕ) (old new : List Routed) (before after : List ℕ) : Type 0 where

@@ -1,10 +1,11 @@
--- Internal: what a start is made of, what tells it apart from the one before it (whether a demand ends at node a, which lies between links a-1 and a), and which of two answers is kept.
+-- Internal: what a start is made of, what tells it apart from the one before it (whether a demand ends at node a, which lies between links a-1 and a), and
+-- which of two answers is kept.
 use Rattle.std.specs.Prelude.{ℕ, Bool, false, ◌||◌, List, [], ◌∷◌, eqb, cond, ltb, ◌≤◌}
 use Rattle.ring.specs.declared.types.Demand.{Demand}
 use Rattle.turns.specs.declared.Turned.{Turned}
 use Rattle.ring.specs.Lists.{Each}
 use Rattle.across.specs.Triangle.{at}
-use Rattle.weight.specs.Limits.{most_amount}
+use Rattle.ring.specs.Limits.{desk}
 
 -- a demand ends at a node
 abbrev pub ends : Demand → ℕ → Bool
@@ -21,7 +22,7 @@ lower_of earlier later = cond (ltb later.peak earlier.peak) later earlier
 
 -- twice each amount fits
 pub record SmallAmounts (rs : List Demand) : Type 0 where
-  pub each : Each (λ (r : Demand). r.amount ≤ most_amount) rs
+  pub each : Each (λ (r : Demand). r.amount ≤ desk.amount) rs
 
 -- the number of two links, in either order; that of a link with itself is 0
 abbrev pub across_between : List ℕ → ℕ → ℕ → ℕ

@@ -1,4 +1,5 @@
--- To believe: one turn at a time (Rules, one turn at a time): the starts, the row that is turned, and the answer over all starts.
+-- To believe: one turn at a time (Rules, one turn at a time): the starts, the row that is turned, and the answer over all starts. `settle` and `best_from` go as a
+-- program would; what comes of them is said without that by `StartEnds` and `LeastOfStarts` (turns/Promised).
 use Rattle.std.specs.Prelude.{ℕ, zero, suc, ◌*◌, ◌-◌, Bool, cond, not, ◌&&◌, ◌||◌, List, [], ◌∷◌, map, ltb, Option, Some, None, find, filter}
 use Rattle.ring.specs.declared.types.Demand.{Demand}
 use Rattle.ring.specs.Demand.{in_front}
@@ -36,6 +37,7 @@ abbrev pub other_way : Way → Way
 other_way Front = Back
 other_way Back = Front
 
+-- all of it
 abbrev pub turned : Routed → Routed
 turned r = whole r.sent.demand (other_way r.way)
 
@@ -52,6 +54,7 @@ abbrev pub on_way : Way → Bool → Bool
 on_way Front front = front
 on_way Back front = not front
 
+-- a link is on a row's present path
 abbrev pub on_path : Routed → ℕ → Bool
 on_path r k = on_way r.way (in_front r.sent.demand k)
 
@@ -65,25 +68,27 @@ pub record PlacedRow : Type 0 where
   pub place : ℕ
   pub row : Routed
 
+-- the row r at place k
 abbrev pub placed_row : ℕ → Routed → PlacedRow
 placed_row k r = record { place = k; row = r }
 
+-- rows at the places from k on
 unfoldable pub placed_from : ℕ → List Routed → List PlacedRow
 placed_from k [] = []
 placed_from k (r ∷ rs) = placed_row k r ∷ placed_from (suc k) rs
 
 -- row a stands before row b: its list is the larger, or neither is the smaller and it is the earlier row
-unfoldable pub stands : ℕ → (ℕ → ℕ) → PlacedRow → PlacedRow → Bool
+unfoldable pub stands_before : ℕ → (ℕ → ℕ) → PlacedRow → PlacedRow → Bool
 unfolding path_loads smaller
-stands n load a b =
+stands_before n load a b =
     let one = path_loads n load a.row in
     let other = path_loads n load b.row in
     smaller other one || (not (smaller one other) && ltb a.place b.place)
 
 -- the rows in falling order
 unfoldable pub falling_rows : ℕ → List Routed → List PlacedRow
-unfolding in_order stands placed_from unsplit_load
-falling_rows n rs = in_order (stands n (unsplit_load rs)) (placed_from 0 rs)
+unfolding in_order stands_before placed_from unsplit_load
+falling_rows n rs = in_order (stands_before n (unsplit_load rs)) (placed_from 0 rs)
 
 -- ---- turns
 
@@ -111,12 +116,12 @@ settle n (suc most) turns rs = elim (choice n rs) [ None ↦ record { rows = rs;
 -- ---- the answer
 
 -- rows as they go, and their figures
-pub record Answer : Type 0 where
+pub record TurnedRows : Type 0 where
   pub rows : List Routed
   pub figures : Turned
 
 -- what the start that avoids link a leads to
-unfoldable pub from_start : ℕ → List Demand → ℕ → Answer
+unfoldable pub from_start : ℕ → List Demand → ℕ → TurnedRows
 unfolding start settle peak_of
 from_start n rs a =
     let first = start a rs in
@@ -124,16 +129,16 @@ from_start n rs a =
     record { rows = s.rows; figures = record { peak = peak_of n s.rows; link = a; turns = s.turns } }
 
 -- a later start takes the place of an earlier one only where its peak is less
-unfoldable pub lower : Answer → Answer → Answer
+unfoldable pub lower : TurnedRows → TurnedRows → TurnedRows
 lower earlier later = cond (ltb later.figures.peak earlier.figures.peak) later earlier
 
 -- the best so far, after the m starts from a on
-unfoldable pub best_from : ℕ → List Demand → ℕ → ℕ → Answer → Answer
+unfoldable pub best_from : ℕ → List Demand → ℕ → ℕ → TurnedRows → TurnedRows
 unfolding lower from_start
 best_from n rs a zero best = best
 best_from n rs a (suc m) best = best_from n rs (suc a) m (lower best (from_start n rs a))
 
 -- the directions of least peak over all starts, the smallest link winning ties
-unfoldable pub least_start : ℕ → List Demand → Answer
+unfoldable pub least_start : ℕ → List Demand → TurnedRows
 unfolding best_from from_start
 least_start n rs = best_from n rs 2 (n - 1) (from_start n rs 1)

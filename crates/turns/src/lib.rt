@@ -1,5 +1,6 @@
 #![tactic(auto)]
-//! One turn at a time: from each start, at which every row avoids one link, the row of the largest loads whose turn lowers the peak is turned, until no turn lowers it.
+//! One turn at a time: from each start, at which every row avoids one link, the row of the largest loads whose turn lowers the peak is turned, until no turn
+//! lowers it.
 mod keys; // sums of weights, by which lists of loads are compared
 mod loads; // loads, and what a row is chosen by
 mod pick; // the row to turn
@@ -9,11 +10,11 @@ mod whole; // rows that go whole
 
 ghost use Rattle.std.specs.Prelude.{◌≡◌, ◌≤◌, ◌<◌};
 ghost use Rattle.ring.specs.Limits.{desk};
-ghost use Rattle.ring.specs.Sheet.{sents, demands};
-ghost use Rattle.router.specs.Arrays.{DemandsFit, Triangle};
+ghost use Rattle.ring.specs.RuleA.{largest_across};
+ghost use Rattle.ring.specs.Sheet.{demands_of};
+ghost use Rattle.across.specs.Filled.{DemandsFit, TriangleOf};
 ghost use Rattle.turns.specs.Turns.{peak_of, from_start, least_start};
 ghost use Rattle.turns.specs.Promised.{
-  largest_across,
   LeastOfStarts,
   NoTurnLowers,
   TurnsLower,
@@ -24,11 +25,10 @@ ghost use Rattle.turns.specs.Promised.{
 };
 ghost use Rattle.turns.specs.Starts.{lower_of};
 
-use across::{PAIRS, largest_cut};
+use across::{PAIRS, fill, largest_cut};
 use keys::fill_keys;
 use loads::{Loads, MARKS};
 use ring::{LINKS, wide};
-use router::fill;
 use rows::RowsMut;
 use settle::settle;
 use start::{loads_avoiding, meets, route_avoiding};
@@ -43,13 +43,13 @@ pub struct Turned {
 
 // What the start that avoids a link leads to.
 fn from_start<R: RowsMut>(triangle: &[u32; PAIRS], n: usize, link: u32, rows: &mut R) -> Turned
-    requires fit { DemandsFit n (demands (sents (R.rows rows.old))) }
-    requires triangle { Triangle n (demands (sents (R.rows rows.old))) triangle.now }
+    requires fit { DemandsFit n (demands_of (R.rows rows.old)) }
+    requires triangle { TriangleOf n (demands_of (R.rows rows.old)) triangle.now }
     requires low { 1 ≤ link }
     requires high { link ≤ n }
-    ensures demands { demands (sents (R.rows rows.new)) ≡ demands (sents (R.rows rows.old)) }
-    ensures rows { R.rows rows.new ≡ (from_start n (demands (sents (R.rows rows.old))) link).rows }
-    ensures figures { result ≡ (from_start n (demands (sents (R.rows rows.old))) link).figures }
+    ensures demands { demands_of (R.rows rows.new) ≡ demands_of (R.rows rows.old) }
+    ensures rows { R.rows rows.new ≡ (from_start n (demands_of (R.rows rows.old)) link).rows }
+    ensures figures { result ≡ (from_start n (demands_of (R.rows rows.old)) link).figures }
 {
     route_avoiding(rows, link);
     let avoiding = loads_avoiding(triangle, n, wide(link));
@@ -86,15 +86,15 @@ struct Tried {
     last: u32,
 }
 
-// Start after start; the rows keep the ways of the last one made. No peak is below M/2: where one reaches that, rounded up, no later start takes its place. Where no row ends at
-// the node between two links, the start that avoids the later one is that of the earlier, and is not made.
+// Start after start; the rows keep the ways of the last one made. No peak is below M/2: where one reaches that, rounded up, no later start takes its place.
+// Where no row ends at the node between two links, the start that avoids the later one is that of the earlier, and is not made.
 fn try_starts<R: RowsMut>(triangle: &[u32; PAIRS], n: usize, rows: &mut R) -> Tried
     requires two { desk.fewest ≤ n }
-    requires fit { DemandsFit n (demands (sents (R.rows rows.old))) }
-    requires triangle { Triangle n (demands (sents (R.rows rows.old))) triangle.now }
-    ensures best { result.best ≡ (least_start n (demands (sents (R.rows rows.old)))).figures }
+    requires fit { DemandsFit n (demands_of (R.rows rows.old)) }
+    requires triangle { TriangleOf n (demands_of (R.rows rows.old)) triangle.now }
+    ensures best { result.best ≡ (least_start n (demands_of (R.rows rows.old))).figures }
     ensures last { R.rows rows.new
-        ≡ (from_start n (demands (sents (R.rows rows.old))) result.last).rows }
+        ≡ (from_start n (demands_of (R.rows rows.old)) result.last).rows }
 {
     let floor = largest_cut(triangle, n).across.div_ceil(2);
     let mut best = from_start(triangle, n, 1, rows);
@@ -116,10 +116,10 @@ fn try_starts<R: RowsMut>(triangle: &[u32; PAIRS], n: usize, rows: &mut R) -> Tr
 // The best of all starts. It is made once more if others were made after it, so that no ways are kept aside.
 fn best_start<R: RowsMut>(triangle: &[u32; PAIRS], n: usize, rows: &mut R) -> Turned
     requires two { desk.fewest ≤ n }
-    requires fit { DemandsFit n (demands (sents (R.rows rows.old))) }
-    requires triangle { Triangle n (demands (sents (R.rows rows.old))) triangle.now }
-    ensures rows { R.rows rows.new ≡ (least_start n (demands (sents (R.rows rows.old)))).rows }
-    ensures figures { result ≡ (least_start n (demands (sents (R.rows rows.old)))).figures }
+    requires fit { DemandsFit n (demands_of (R.rows rows.old)) }
+    requires triangle { TriangleOf n (demands_of (R.rows rows.old)) triangle.now }
+    ensures rows { R.rows rows.new ≡ (least_start n (demands_of (R.rows rows.old))).rows }
+    ensures figures { result ≡ (least_start n (demands_of (R.rows rows.old))).figures }
 {
     let tried = try_starts(triangle, n, rows);
     if tried.best.link == tried.last {
@@ -129,25 +129,25 @@ fn best_start<R: RowsMut>(triangle: &[u32; PAIRS], n: usize, rows: &mut R) -> Tu
     }
 }
 
-/// One turn at a time on a ring of 2 to 64 nodes: the rows go whole as the best of all starts ends, and its figures are answered. There are at most 1,024 rows, each on
-/// the ring, with an amount of at most 9,999; how they were sent before does not matter.
+/// One turn at a time on a ring of 2 to 64 nodes: the rows go whole as the best of all starts ends, and its figures are answered. There are at most 1,024 rows,
+/// each on the ring, with an amount of at most 9,999; how they were sent before does not matter.
 pub fn turn_rows<R: RowsMut>(nodes: u32, rows: &mut R) -> Turned
     requires two { desk.fewest ≤ nodes }
-    requires fit { DemandsFit nodes (demands (sents (R.rows rows.old))) }
-    ensures rows { R.rows rows.new ≡ (least_start nodes (demands (sents (R.rows rows.old)))).rows }
-    ensures figures { result ≡ (least_start nodes (demands (sents (R.rows rows.old)))).figures }
-    ensures demands { demands (sents (R.rows rows.new)) ≡ demands (sents (R.rows rows.old)) }
+    requires fit { DemandsFit nodes (demands_of (R.rows rows.old)) }
+    ensures rows { R.rows rows.new ≡ (least_start nodes (demands_of (R.rows rows.old))).rows }
+    ensures figures { result ≡ (least_start nodes (demands_of (R.rows rows.old))).figures }
+    ensures demands { demands_of (R.rows rows.new) ≡ demands_of (R.rows rows.old) }
     ensures peak { result.peak ≡ peak_of nodes (R.rows rows.new) }
-    ensures least { LeastOfStarts nodes (demands (sents (R.rows rows.old))) result }
+    ensures least { LeastOfStarts nodes (demands_of (R.rows rows.old)) result }
     ensures still { NoTurnLowers nodes (R.rows rows.new) }
-    ensures turns { TurnsLower nodes (demands (sents (R.rows rows.old))) result }
+    ensures turns { TurnsLower nodes (demands_of (R.rows rows.old)) result }
     ensures start { R.rows rows.new
-        ≡ (from_start nodes (demands (sents (R.rows rows.old))) result.link).rows }
-    ensures loads { StartLoads (demands (sents (R.rows rows.old))) }
-    ensures ends { StartsEnd nodes (demands (sents (R.rows rows.old))) }
-    ensures starts { StartsWithinM nodes (demands (sents (R.rows rows.old))) }
-    ensures most { result.peak ≤ largest_across nodes (demands (sents (R.rows rows.old))) }
-    ensures floor { WaysFloor nodes (demands (sents (R.rows rows.old))) }
+        ≡ (from_start nodes (demands_of (R.rows rows.old)) result.link).rows }
+    ensures loads { StartLoads (demands_of (R.rows rows.old)) }
+    ensures ends { StartsEnd nodes (demands_of (R.rows rows.old)) }
+    ensures starts { StartsWithinM nodes (demands_of (R.rows rows.old)) }
+    ensures most { result.peak ≤ largest_across nodes (demands_of (R.rows rows.old)) }
+    ensures floor { WaysFloor nodes (demands_of (R.rows rows.old)) }
 {
     let n = wide(nodes);
     let mut triangle: [u32; PAIRS] = [0; PAIRS];

@@ -2,10 +2,10 @@
 ghost use Rattle.std.specs.Prelude.{suc, ◌+◌, ◌≡◌, ◌≤◌, length, take};
 ghost use Rattle.ring.specs.Demand.{OnRing};
 ghost use Rattle.ring.specs.Routing.{peak};
-ghost use Rattle.weight.specs.Limits.{most_links};
-ghost use Rattle.weight.specs.Arrays.{link_at};
-ghost use Rattle.turns.specs.Figures.{off_top, span_top, path_key, rank_weight};
-ghost use Rattle.turns.specs.Arrays.{RoomFor, Holds, LoadsTurned};
+ghost use Rattle.ring.specs.Limits.{desk};
+ghost use Rattle.weight.specs.LinkSteps.{link_at};
+ghost use Rattle.turns.specs.Choosing.{off_top, span_top, path_key, rank_weight};
+ghost use Rattle.turns.specs.TurnedLoads.{RoomFor, PathCarries, LoadsTurned};
 
 use crate::keys::{fill_keys, rank_weight};
 use ring::{LINKS, Routed, Way, wide};
@@ -15,7 +15,8 @@ use weight::step_over;
 /// One mark more than there are links, since one stands before link 1 and one behind each link.
 pub(crate) const MARKS: usize = LINKS + 1;
 
-/// The loads of a ring's links, and the weights of the links up to each mark together. It is made where it stays, and lent, since a struct that a function answers is copied.
+/// The loads of a ring's links, and the weights of the links up to each mark together. It is made where it stays, and lent, since a struct that a function
+/// answers is copied.
 #[derive(Drop)]
 pub(crate) struct Loads {
     pub links: usize,
@@ -53,12 +54,12 @@ fn top(loads: &[u32], p: usize, q: usize) -> u32
 
 // What a row sends leaves its path, and goes over the other links.
 fn turn_loads(loads: &mut [u32; LINKS], links: usize, row: Routed)
-    requires few { links ≤ most_links }
+    requires few { links ≤ desk.nodes }
     requires row { OnRing links row.sent.demand }
     requires room { RoomFor row.sent.demand.amount (take links loads.old) }
-    requires holds { Holds row (take links loads.old) }
+    requires path { PathCarries row (take links loads.old) }
     ensures turned { LoadsTurned row (take links loads.old) (take links loads.new) }
-    ensures size { length loads.new ≡ most_links }
+    ensures size { length loads.new ≡ desk.nodes }
 {
     let demand = row.sent.demand;
     let (front, back) = row.way.whole(demand.amount);
@@ -74,7 +75,7 @@ impl Loads {
     // The loads of the ring's links.
     fn seen(&self) -> &[u32]
         ensures is { result.now ≡ self.now }
-        ensures few { length self.now ≤ most_links }
+        ensures few { length self.now ≤ desk.nodes }
     {
         &self.loads[..self.links]
     }
@@ -83,7 +84,7 @@ impl Loads {
     pub fn turn(&mut self, row: Routed)
         requires row { OnRing (length self.old) row.sent.demand }
         requires room { RoomFor row.sent.demand.amount self.old }
-        requires holds { Holds row self.old }
+        requires path { PathCarries row self.old }
         ensures { LoadsTurned row self.old self.new }
     {
         turn_loads(&mut self.loads, self.links, row);

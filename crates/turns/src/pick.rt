@@ -2,18 +2,19 @@
 ghost use Rattle.std.specs.Prelude.{◌≡◌, ◌≤◌, length};
 ghost use Rattle.ring.specs.Demand.{OnRing};
 ghost use Rattle.ring.specs.Routing.{unsplit_load};
-ghost use Rattle.ring.specs.Sheet.{sents, demands};
-ghost use Rattle.router.specs.Arrays.{DemandsFit};
-ghost use Rattle.weight.specs.Arrays.{link_at};
-ghost use Rattle.turns.specs.Figures.{off_top, lowers_by};
+ghost use Rattle.ring.specs.Sheet.{demands_of};
+ghost use Rattle.across.specs.Filled.{DemandsFit};
+ghost use Rattle.weight.specs.LinkSteps.{link_at};
+ghost use Rattle.turns.specs.Choosing.{off_top, lowers_by};
 ghost use Rattle.turns.specs.Picks.{Picks};
-ghost use Rattle.turns.specs.Arrays.{Carries};
+ghost use Rattle.turns.specs.TurnedLoads.{Carries};
 
 use crate::loads::Loads;
 use ring::Routed;
 use rows::Rows;
 
-/// The place of the row that is kept, if one is, and the key that a later row has to be above: that row's, or one that is below all keys of rows whose turn lowers the peak.
+/// The place of the row that is kept, if one is, and the key that a later row has to be above: that row's, or one that is below all keys of rows whose turn
+/// lowers the peak.
 #[derive(Clone, Copy)]
 pub(crate) struct BestRow {
     pub place: Option<usize>,
@@ -37,11 +38,11 @@ fn turn_lowers(loads: &Loads, peak: u32, row: Routed) -> bool
     lowers(loads.off_path(row), row.sent.demand.amount, peak)
 }
 
-/// The place of the row to turn, if there is one. Of equal lists the earlier row stays. Most rows do not beat the one that is kept, so that is asked first, and a row is read again where
-/// it does: what its key does not take would be read in vain.
+/// The place of the row to turn, if there is one. Of equal lists the earlier row stays. Most rows do not beat the one that is kept, so that is asked first, and
+/// a row is read again where it does: what its key does not take would be read in vain.
 pub(crate) fn pick<R: Rows>(rows: &R, loads: &Loads) -> Option<usize>
     requires some { 1 ≤ length loads.now }
-    requires fit { DemandsFit (length loads.now) (demands (sents (R.rows rows.now))) }
+    requires fit { DemandsFit (length loads.now) (demands_of (R.rows rows.now)) }
     requires carries { Carries (unsplit_load (R.rows rows.now)) loads.now }
     ensures { Picks (length loads.now) (R.rows rows.now) result }
 {

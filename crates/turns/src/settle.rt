@@ -1,10 +1,10 @@
 //! All turns of a start.
 ghost use Rattle.std.specs.Prelude.{◌≤◌, ◌<◌, length};
 ghost use Rattle.ring.specs.Routing.{unsplit_load};
-ghost use Rattle.ring.specs.Sheet.{sents, demands};
-ghost use Rattle.router.specs.Arrays.{DemandsFit};
+ghost use Rattle.ring.specs.Sheet.{demands_of};
+ghost use Rattle.across.specs.Filled.{DemandsFit};
 ghost use Rattle.turns.specs.Settles.{TurnsTo, SettlesTo};
-ghost use Rattle.turns.specs.Arrays.{Carries};
+ghost use Rattle.turns.specs.TurnedLoads.{Carries};
 
 use crate::loads::Loads;
 use crate::pick::pick;
@@ -15,7 +15,7 @@ use rows::RowsMut;
 #[inline(never)]
 #[tactic(auto, using(crate::proofs::TurnSteps::row_laws))]
 fn turn_row<R: RowsMut>(rows: &mut R, place: usize, loads: &mut Loads)
-    requires fit { DemandsFit (length loads.old) (demands (sents (R.rows rows.old))) }
+    requires fit { DemandsFit (length loads.old) (demands_of (R.rows rows.old)) }
     requires place { place < length (R.rows rows.old) }
     requires carries { Carries (unsplit_load (R.rows rows.old)) loads.old }
     ensures { TurnsTo place (R.rows rows.old) (R.rows rows.new) loads.old loads.new }
@@ -28,7 +28,7 @@ fn turn_row<R: RowsMut>(rows: &mut R, place: usize, loads: &mut Loads)
 /// Turn after turn, until none lowers the peak; the number of turns.
 pub(crate) fn settle<R: RowsMut>(rows: &mut R, loads: &mut Loads) -> u32
     requires some { 1 ≤ length loads.old }
-    requires fit { DemandsFit (length loads.old) (demands (sents (R.rows rows.old))) }
+    requires fit { DemandsFit (length loads.old) (demands_of (R.rows rows.old)) }
     requires carries { Carries (unsplit_load (R.rows rows.old)) loads.old }
     ensures { SettlesTo (length loads.old) (R.rows rows.old) (R.rows rows.new) loads.new result }
 {

@@ -2,11 +2,11 @@
 ghost use Rattle.std.specs.Prelude.{◌≡◌, ◌≤◌, cond, take};
 ghost use Rattle.ring.specs.Demand.{in_front};
 ghost use Rattle.ring.specs.declared.types.Way.TheVariants.{Front, Back};
-ghost use Rattle.ring.specs.Sheet.{sents, demands};
-ghost use Rattle.weight.specs.Limits.{most_links, most_amount};
+ghost use Rattle.ring.specs.Sheet.{demands_of};
+ghost use Rattle.ring.specs.Limits.{desk};
 ghost use Rattle.turns.specs.Turns.{start};
 ghost use Rattle.turns.specs.Starts.{ends, meets, SmallAmounts, across_between};
-ghost use Rattle.turns.specs.Arrays.{Carries};
+ghost use Rattle.turns.specs.TurnedLoads.{Carries};
 
 use crate::whole::whole;
 use across::{PAIRS, get};
@@ -27,8 +27,8 @@ fn way_avoiding(demand: Demand, link: u32) -> Way
 /// Every row is routed to avoid the link.
 #[tactic(auto, using(crate::proofs::StartSteps::avoid_laws))]
 pub(crate) fn route_avoiding<R: RowsMut>(rows: &mut R, link: u32)
-    requires { SmallAmounts (demands (sents (R.rows rows.old))) }
-    ensures { R.rows rows.new ≡ start link (demands (sents (R.rows rows.old))) }
+    requires { SmallAmounts (demands_of (R.rows rows.old)) }
+    ensures { R.rows rows.new ≡ start link (demands_of (R.rows rows.old)) }
 {
     for k in 0..rows.count() {
         let demand = rows.row(k).sent.demand;
@@ -45,14 +45,14 @@ fn ends(demand: Demand, node: u32) -> bool
 
 /// Whether a row ends at a node.
 pub(crate) fn meets<R: Rows>(rows: &R, node: u32) -> bool
-    ensures { result ≡ meets node (demands (sents (R.rows rows.now))) }
+    ensures { result ≡ meets node (demands_of (R.rows rows.now)) }
 {
     each(rows).any(|row| ends(row.sent.demand, node))
 }
 
 // The across number of two links, in either order.
 fn across_between(triangle: &[u32; PAIRS], g: usize, h: usize) -> u32
-    requires { (1 ≤ g) × (g ≤ most_links) × (1 ≤ h) × (h ≤ most_links) }
+    requires { (1 ≤ g) × (g ≤ desk.nodes) × (1 ≤ h) × (h ≤ desk.nodes) }
     ensures { result ≡ across_between triangle.now g h }
 {
     if g < h {
@@ -67,7 +67,7 @@ fn across_between(triangle: &[u32; PAIRS], g: usize, h: usize) -> u32
 /// Where every row avoids a link, each link carries what lies across the two.
 #[tactic(auto, using(crate::proofs::StartSteps::load_laws))]
 pub(crate) fn loads_avoiding(triangle: &[u32; PAIRS], n: usize, link: usize) -> [u32; LINKS]
-    requires few { n ≤ most_links }
+    requires few { n ≤ desk.nodes }
     requires low { 1 ≤ link }
     requires high { link ≤ n }
     ensures { Carries (λ h. across_between triangle.now link h) (take n result) }

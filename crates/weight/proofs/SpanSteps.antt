@@ -8,7 +8,7 @@ use native.Mathlib.Decide.{dec_lt}
 use Rattle.ring.specs.Demand.{OnRing}
 use Rattle.ring.specs.declared.types.Demand.{Demand}
 use Rattle.ring.proofs.Side.{front_ends, Outside, outside, ahead, behind}
-use Rattle.weight.specs.Arrays.{EachStep, OverStep}
+use Rattle.weight.specs.LinkSteps.{EachStep, OverStep}
 
 -- ---- one run
 

@@ -11,33 +11,23 @@ use Rattle.std.proofs.lemmas.List.{get_or-take, get_or-drop, get_or-append_right
 use lib.Seq.{take-append_seam}
 use lib.ListN.{get_or, get_or-append, length, length-take, length-drop, length-append, take, replicate, length-replicate, get_or-replicate}
 use Rattle.std.proofs.Common.{drop, set, ◌≢◌, subst, true≢false}
-use Rattle.ring.specs.Lists.{Each, none, more}
+use Rattle.ring.specs.Lists.{Each}
 use Rattle.ring.specs.Demand.{in_front}
 use Rattle.ring.specs.Routing.{by_way, is_split, sent_over, split_load, whole_over, unsplit_load, peak}
 use Rattle.ring.specs.declared.types.Routed.{Routed}
 use Rattle.ring.specs.declared.types.Link.{Link}
 use Rattle.ring.specs.RuleD.{largest_split}
 use Rattle.ring.specs.Sheet.{sents, numbers_from, true_link}
-use Rattle.ring.proofs.Lists.{each}
+use Rattle.ring.proofs.Lists.{each, each-at, rest-of}
 use Rattle.ring.proofs.Totals.{Total, total-most, unsplit-total, sent-small, whole-small}
 use Rattle.ring.proofs.Sending.{over-front, over-back}
 use Rattle.ring.proofs.Peaks.{peak-least}
-use Rattle.weight.specs.Arrays.{loaded, OverStep, OverFits}
-use Rattle.weight.specs.Limits.{most_links, most_load, most_amount, most_halves}
+use Rattle.weight.specs.LinkSteps.{loaded, OverStep, OverFits}
+use Rattle.ring.specs.Limits.{desk}
+use Rattle.weight.specs.Limits.{load_bound, halves_bound}
 use Rattle.weight.specs.Rows.{RowFits, Fit}
 use Rattle.weight.specs.Weighed.{no_link, links_in, weight_in, weighed_link}
 use Rattle.weight.specs.declared.Weight.{Weight}
-
--- ---- members by their places, and those behind the first
-
-module _ {A : Type 0} where
-  pub each-at : {P : A → Type 0} {l : List A} → Each P l → (t : ℕ) (d : A) → t < length l → P (get_or l t d)
-  each-at none t d l = absurd (omega arith)
-  each-at (more p e) zero d l = p
-  each-at (more p e) (suc t) d l = each-at e t d (omega arith)
-
-  pub rest-of : {P : A → Type 0} {a : A} {l : List A} → Each P (a ∷ l) → Each P l
-  rest-of (more p e) = e
 
 -- ---- one of two that are chosen by a test
 
@@ -51,23 +41,23 @@ other true x y e = absurd (true≢false e)
 
 -- ---- D: the largest so far, with that of the rows left, is that of all
 
-pub top_split : (left rest : List Routed) (r : Routed) (most all : ℕ) → left ≡ r ∷ rest → is_split r.sent ≡ true → max most (largest_split (sents left)) ≡ all →
-    max (max most r.sent.demand.amount) (largest_split (sents rest)) ≡ all
+pub top_split : (left rest : List Routed) (r : Routed) (largest all : ℕ) → left ≡ r ∷ rest → is_split r.sent ≡ true → max largest (largest_split (sents left)) ≡ all →
+    max (max largest r.sent.demand.amount) (largest_split (sents rest)) ≡ all
 unfolding largest_split
-top_split left rest r most all l e m =
+top_split left rest r largest all l e m =
     let D = largest_split (sents rest) in
     omega (arith, chosen (is_split r.sent) (max r.sent.demand.amount D) D e, (rw l at m))
 
-pub top_whole : (left rest : List Routed) (r : Routed) (most all : ℕ) → left ≡ r ∷ rest → is_split r.sent ≡ false → max most (largest_split (sents left)) ≡ all →
-    max most (largest_split (sents rest)) ≡ all
+pub top_whole : (left rest : List Routed) (r : Routed) (largest all : ℕ) → left ≡ r ∷ rest → is_split r.sent ≡ false → max largest (largest_split (sents left)) ≡ all →
+    max largest (largest_split (sents rest)) ≡ all
 unfolding largest_split
-top_whole left rest r most all l e m =
+top_whole left rest r largest all l e m =
     let D = largest_split (sents rest) in
     omega (arith, other (is_split r.sent) (max r.sent.demand.amount D) D e, (rw l at m))
 
-pub top_last : (left : List Routed) (most all : ℕ) → left ≡ [] → max most (largest_split (sents left)) ≡ all → most ≡ all
+pub top_last : (left : List Routed) (largest all : ℕ) → left ≡ [] → max largest (largest_split (sents left)) ≡ all → largest ≡ all
 unfolding largest_split
-top_last left most all l m = omega (arith, (rw l at m))
+top_last left largest all l m = omega (arith, (rw l at m))
 
 -- ---- links 1 to n by their numbers
 
@@ -80,9 +70,9 @@ pub record Numbering (n : ℕ) (links : List Link) (k : ℕ) : Type 0 where
 -- where the loop over rows stands: with the rows that are left the links carry all
 pub record Weighing (n : ℕ) (rs left : List Routed) (links : List Link) : Type 0 where
   pub each : Each (RowFits n) left
-  pub size : length links ≡ most_links
+  pub size : length links ≡ desk.nodes
   pub loads : (x : ℕ) (d : Link) → x < n → loaded (get_or links x d) (split_load (sents left) (x + 1)) (unsplit_load left (x + 1)) ≡ true_link rs (x + 1)
-  pub behind : (x : ℕ) (d : Link) → n ≤ x → x < most_links → get_or links x d ≡ no_link
+  pub behind : (x : ℕ) (d : Link) → n ≤ x → x < desk.nodes → get_or links x d ≡ no_link
 
 whole-front : (r : Routed) (k : ℕ) → in_front r.sent.demand k ≡ true → whole_over r k ≡ by_way r.way r.sent.demand.amount 0
 unfolding whole_over
@@ -106,18 +96,18 @@ numbers-at f k (suc m) zero d l = let e : 0 + k ≡ k = omega arith in rw e
 numbers-at f k (suc m) (suc x) d l = let e : suc x + k ≡ x + suc k = omega arith in rw e (numbers-at f (suc k) m x d (omega arith))
 
 -- the links of rows, place by place
-in-length : (n : ℕ) (rs : List Routed) → n ≤ most_links → length (links_in n rs) ≡ most_links
+in-length : (n : ℕ) (rs : List Routed) → n ≤ desk.nodes → length (links_in n rs) ≡ desk.nodes
 in-length n rs few =
-    let behind = replicate {A = Link} (most_links - n) no_link in
-    omega (arith, few, length-append (map (true_link rs) (numbers_from 1 n)) behind, numbers-length (true_link rs) 1 n, length-replicate {A = Link} (most_links - n) no_link)
+    let behind = replicate {A = Link} (desk.nodes - n) no_link in
+    omega (arith, few, length-append (map (true_link rs) (numbers_from 1 n)) behind, numbers-length (true_link rs) 1 n, length-replicate {A = Link} (desk.nodes - n) no_link)
 
 in-at : (n : ℕ) (rs : List Routed) (x : ℕ) (d : Link) → x < n → get_or (links_in n rs) x d ≡ true_link rs (x + 1)
 in-at n rs x d l = get_or-append (map (true_link rs) (numbers_from 1 n)) _ d x (omega (arith, numbers-length (true_link rs) 1 n)) ∙ numbers-at (true_link rs) 1 n x d l
 
-in-behind : (n : ℕ) (rs : List Routed) (x : ℕ) (d : Link) → n ≤ x → x < most_links → get_or (links_in n rs) x d ≡ no_link
+in-behind : (n : ℕ) (rs : List Routed) (x : ℕ) (d : Link) → n ≤ x → x < desk.nodes → get_or (links_in n rs) x d ≡ no_link
 in-behind n rs x d l m =
-    let behind = replicate {A = Link} (most_links - n) no_link in
-    get_or-append_right (map (true_link rs) (numbers_from 1 n)) behind n x d (numbers-length (true_link rs) 1 n) l ∙ get_or-replicate {A = Link} (most_links - n) (x - n) no_link d (omega arith)
+    let behind = replicate {A = Link} (desk.nodes - n) no_link in
+    get_or-append_right (map (true_link rs) (numbers_from 1 n)) behind n x d (numbers-length (true_link rs) 1 n) l ∙ get_or-replicate {A = Link} (desk.nodes - n) (x - n) no_link d (omega arith)
 
 pub link_is : (n : ℕ) (rs : List Routed) (k : ℕ) → 1 ≤ k → k ≤ n → weighed_link (weight_in n rs) k ≡ true_link rs k
 unfolding weight_in
@@ -126,28 +116,28 @@ link_is n rs k low high = let e : (k - 1) + 1 ≡ k = omega arith in rw e at (in
 pub links_true : (n : ℕ) (rs : List Routed) → take n (links_in n rs) ≡ map (true_link rs) (numbers_from 1 n)
 links_true n rs =
     let links = map (true_link rs) (numbers_from 1 n) in
-    let behind = replicate {A = Link} (most_links - n) no_link in
+    let behind = replicate {A = Link} (desk.nodes - n) no_link in
     subst (λ k. take k (links ++ behind) ≡ links) (numbers-length (true_link rs) 1 n) (take-append_seam links behind)
 
 -- ---- no load is more than all rows' amounts or halves
 
-load-small : (n : ℕ) (rs : List Routed) → Fit n rs → (k : ℕ) → unsplit_load rs k ≤ most_amount * length rs
-load-small n rs fit k = total-most {sum = λ rs. unsplit_load rs k} (unsplit-total k) most_amount (each (λ r f. omega (arith, whole-small r k, f.amount)) fit.each)
+load-small : (n : ℕ) (rs : List Routed) → Fit n rs → (k : ℕ) → unsplit_load rs k ≤ desk.amount * length rs
+load-small n rs fit k = total-most {sum = λ rs. unsplit_load rs k} (unsplit-total k) desk.amount (each (λ r f. omega (arith, whole-small r k, f.amount)) fit.each)
 
 split-sum : (k : ℕ) → Total (λ (r : Routed). sent_over r.sent k) (λ (rs : List Routed). split_load (sents rs) k)
 unfolding split_load
 split-sum k = record { none = refl; more = λ r rs. refl }
 
-split-small : (n : ℕ) (rs : List Routed) → Fit n rs → (k : ℕ) → split_load (sents rs) k ≤ most_halves * length rs
-split-small n rs fit k = total-most {sum = λ rs. split_load (sents rs) k} (split-sum k) most_halves (each (λ r f. omega (arith, sent-small r.sent k, f.halves)) fit.each)
+split-small : (n : ℕ) (rs : List Routed) → Fit n rs → (k : ℕ) → split_load (sents rs) k ≤ halves_bound * length rs
+split-small n rs fit k = total-most {sum = λ rs. split_load (sents rs) k} (split-sum k) halves_bound (each (λ r f. omega (arith, sent-small r.sent k, f.halves)) fit.each)
 
 module _ (n : ℕ) (rs : List Routed) (fit : Fit n rs) (nodes : ℕ) (is : nodes ≡ n) where
-  module _ (old : List Link) (none : old ≡ replicate {A = Link} most_links no_link) where
-    old-at : (x : ℕ) (d : Link) → x < most_links → get_or old x d ≡ no_link
-    old-at x d l = rw none (get_or-replicate {A = Link} most_links x no_link d l)
+  module _ (old : List Link) (none : old ≡ replicate {A = Link} desk.nodes no_link) where
+    old-at : (x : ℕ) (d : Link) → x < desk.nodes → get_or old x d ≡ no_link
+    old-at x d l = rw none (get_or-replicate {A = Link} desk.nodes x no_link d l)
 
-    old-size : length old ≡ most_links
-    old-size = rw none (length-replicate {A = Link} most_links no_link)
+    old-size : length old ≡ desk.nodes
+    old-size = rw none (length-replicate {A = Link} desk.nodes no_link)
 
     pub number_start : Numbering nodes (take nodes old) 0
     number_start =
@@ -215,14 +205,14 @@ module _ (n : ℕ) (rs : List Routed) (fit : Fit n rs) (nodes : ℕ) (is : nodes
           let q : (k.unsplit + b) + unsplit_load rest (x + 1) ≡ k.unsplit + (whole_over r (x + 1) + unsplit_load rest (x + 1)) = omega arith in
           (λ i. record { link = k.link; split = p i; unsplit = q i }) ∙ w.loads x d l
 
-      split-fits : (get_or links x d).split + a ≤ most_load
+      split-fits : (get_or links x d).split + a ≤ load_bound
       split-fits = omega (arith, ap (λ (k : Link). k.split) with_row, split-small n rs fit (x + 1), fit.few)
 
-      unsplit-fits : (get_or links x d).unsplit + b ≤ most_load
+      unsplit-fits : (get_or links x d).unsplit + b ≤ load_bound
       unsplit-fits = omega (arith, ap (λ (k : Link). k.unsplit) with_row, load-small n rs fit (x + 1), fit.few)
 
-    pub weigh_fits : {ahead_can behind_can : Link → Type 0} → ((x : Link) → x.split + r.sent.front ≤ most_load → x.unsplit + front ≤ most_load → ahead_can x) →
-        ((x : Link) → x.split + r.sent.back ≤ most_load → x.unsplit + back ≤ most_load → behind_can x) → OverFits ahead_can behind_can r.sent.demand (take nodes links)
+    pub weigh_fits : {ahead_can behind_can : Link → Type 0} → ((x : Link) → x.split + r.sent.front ≤ load_bound → x.unsplit + front ≤ load_bound → ahead_can x) →
+        ((x : Link) → x.split + r.sent.back ≤ load_bound → x.unsplit + back ≤ load_bound → behind_can x) → OverFits ahead_can behind_can r.sent.demand (take nodes links)
     weigh_fits p q =
         record {
           on = rw long here.on;
@@ -230,7 +220,7 @@ module _ (n : ℕ) (rs : List Routed) (fit : Fit n rs) (nodes : ℕ) (is : nodes
           behind = λ x d l f. can q x d l (over-back r.sent (x + 1) f) (whole-back r (x + 1) f ∙ sym behind);
         }
       where
-        can : {P : Link → Type 0} {a b : ℕ} → ((x : Link) → x.split + a ≤ most_load → x.unsplit + b ≤ most_load → P x) → (x : ℕ) (d : Link) → x < length (take nodes links) →
+        can : {P : Link → Type 0} {a b : ℕ} → ((x : Link) → x.split + a ≤ load_bound → x.unsplit + b ≤ load_bound → P x) → (x : ℕ) (d : Link) → x < length (take nodes links) →
             sent_over r.sent (x + 1) ≡ a → whole_over r (x + 1) ≡ b → P (get_or (take nodes links) x d)
         can {P} {a} {b} h x d l ea eb =
             let m : x < nodes = omega (arith, long) in
@@ -309,4 +299,4 @@ module _ (n : ℕ) (rs : List Routed) (fit : Fit n rs) (nodes : ℕ) (is : nodes
 pub peak-fits : (n : ℕ) (rs : List Routed) → Fit n rs → (weight : Weight) → weight ≡ weight_in n rs → 2 * weight.unsplit_peak < 4294967296
 unfolding weight_in
 peak-fits n rs fit weight e =
-    omega (arith, ap (λ (w : Weight). w.unsplit_peak) e, peak-least (unsplit_load rs) n (most_amount * length rs) (λ k a b. load-small n rs fit k), fit.few)
+    omega (arith, ap (λ (w : Weight). w.unsplit_peak) e, peak-least (unsplit_load rs) n (desk.amount * length rs) (λ k a b. load-small n rs fit k), fit.few)

@@ -2,25 +2,16 @@
 use Rattle.std.specs.Prelude.{ℕ, ◌*◌}
 use Rattle.ring.specs.Limits.{desk}
 
--- rows of a table, and links of a ring
-abbrev pub most_rows : ℕ
-most_rows = desk.rows
+-- a row's front and back together, in halves
+abbrev pub halves_bound : ℕ
+halves_bound = 2 * desk.amount
 
-abbrev pub most_links : ℕ
-most_links = desk.nodes
+-- what all rows together have across a cut
+abbrev pub across_bound : ℕ
+across_bound = desk.rows * desk.amount
 
--- a row's amount, and its front and back together, in halves
-abbrev pub most_amount : ℕ
-most_amount = desk.amount
-
-abbrev pub most_halves : ℕ
-most_halves = 2 * most_amount
-
--- what all rows together have across a cut, and on a link in halves: 1,024 x 19,998 at most, which a u32 holds with much to spare. That no sum passes it is shown where each grows: loads
--- in weight/Weighing and, where a row is turned, turns/TurnSteps; across numbers in router/TriangleSteps, work/Right and judge/Across; the sum of rule D in router/WaySteps; twice a peak
--- in `peak-fits` (weight/Weighing)
-abbrev pub most_across : ℕ
-most_across = most_rows * most_amount
-
-abbrev pub most_load : ℕ
-most_load = most_rows * most_halves
+-- and on a link in halves: 1,024 x 19,998, which a u32 holds with much to spare. That no sum passes these is shown where each grows: loads in weight/Weighing
+-- and, where a row is turned, turns/TurnSteps; across numbers in across/FillSteps, work/Right and judge/Across; the sum of rule D in router/WaySteps; twice a
+-- peak in `peak-fits` (weight/Weighing)
+abbrev pub load_bound : ℕ
+load_bound = desk.rows * halves_bound

@@ -5,7 +5,7 @@ use Rattle.ring.specs.declared.types.Routed.{Routed}
 use Rattle.ring.specs.declared.types.Link.{Link}
 use Rattle.ring.specs.Sheet.{sents, numbers_from, true_link}
 use Rattle.weight.specs.declared.Weight.{Weight}
-use Rattle.weight.specs.Limits.{most_links}
+use Rattle.ring.specs.Limits.{desk}
 
 -- a place behind the last link
 abbrev pub no_link : Link
@@ -13,8 +13,9 @@ no_link = record { link = 0; split = 0; unsplit = 0 }
 
 -- links 1 to n with their loads, and zeros behind the last
 abbrev pub links_in : ℕ → List Routed → List Link
-links_in n rs = map (true_link rs) (numbers_from 1 n) ++ replicate {A = Link} (most_links - n) no_link
+links_in n rs = map (true_link rs) (numbers_from 1 n) ++ replicate {A = Link} (desk.nodes - n) no_link
 
+-- what rows on a ring of n nodes weigh
 unfoldable pub weight_in : ℕ → List Routed → Weight
 weight_in n rs =
     record {
@@ -23,5 +24,6 @@ weight_in n rs =
       unsplit_peak = peak (unsplit_load rs) n;
     }
 
+-- link k of a weight
 abbrev pub weighed_link : Weight → ℕ → Link
 weighed_link w k = get_or w.links (k - 1) no_link

@@ -5,8 +5,9 @@ mod spans;
 ghost use Rattle.std.specs.Prelude.{◌≡◌, ◌+◌, ◌≤◌, replicate};
 ghost use Rattle.ring.specs.RuleD.{largest_split};
 ghost use Rattle.ring.specs.Sheet.{sents};
-ghost use Rattle.weight.specs.Limits.{most_links, most_load};
-ghost use Rattle.weight.specs.Arrays.{loaded};
+ghost use Rattle.ring.specs.Limits.{desk};
+ghost use Rattle.weight.specs.Limits.{load_bound};
+ghost use Rattle.weight.specs.LinkSteps.{loaded};
 ghost use Rattle.weight.specs.Rows.{Fit};
 ghost use Rattle.weight.specs.Weighed.{no_link, links_in, weight_in};
 
@@ -14,8 +15,8 @@ use ring::{LINKS, Link, is_split, wide};
 use rows::{Rows, each};
 pub use spans::step_over;
 
-/// The links of a ring with their loads by rows as they are routed, link k at place k-1, with zeros behind the last; and their peaks. The split loads and `split_peak` are in
-/// halves, the unsplit loads and `unsplit_peak` in units.
+/// The links of a ring with their loads by rows as they are routed, link k at place k-1, with zeros behind the last; and their peaks. The split loads and
+/// `split_peak` are in halves, the unsplit loads and `unsplit_peak` in units.
 #[derive(Drop)]
 pub struct Weight {
     pub links: [Link; LINKS],
@@ -28,19 +29,19 @@ pub struct Weight {
 pub fn largest_split<R: Rows>(rows: &R) -> u32
     ensures { result ≡ largest_split (sents (R.rows rows.now)) }
 {
-    let mut most: u32 = 0;
+    let mut largest: u32 = 0;
     for row in each(rows) {
         if is_split(row.sent) {
-            most = most.max(row.sent.demand.amount);
+            largest = largest.max(row.sent.demand.amount);
         }
     }
-    most
+    largest
 }
 
 // A link that carries so much more of each load.
 fn loaded(link: Link, split: u32, unsplit: u32) -> Link
-    requires split { link.split + split ≤ most_load }
-    requires unsplit { link.unsplit + unsplit ≤ most_load }
+    requires split { link.split + split ≤ load_bound }
+    requires unsplit { link.unsplit + unsplit ≤ load_bound }
     ensures { result ≡ loaded link split unsplit }
 {
     Link {
@@ -50,10 +51,11 @@ fn loaded(link: Link, split: u32, unsplit: u32) -> Link
     }
 }
 
-// Links that carry none are numbered, and the loads of all rows put on them. Apart from `weigh`, so that links are made where they are answered: links that are moved are copied.
+// Links that carry none are numbered, and the loads of all rows put on them. Apart from `weigh`, so that links are made where they are answered: links that are
+// moved are copied.
 fn carry<R: Rows>(nodes: u32, rows: &R, links: &mut [Link; LINKS])
     requires fit { Fit nodes (R.rows rows.now) }
-    requires none { links.old ≡ replicate most_links no_link }
+    requires none { links.old ≡ replicate desk.nodes no_link }
     ensures { links.new ≡ links_in nodes (R.rows rows.now) }
 {
     let n = wide(nodes);

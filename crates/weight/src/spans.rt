@@ -1,5 +1,5 @@
 //! Links that a demand tells apart: those of its front change alike, and all others do.
-ghost use Rattle.weight.specs.Arrays.{EachStep, EachFits, OverStep, OverFits};
+ghost use Rattle.weight.specs.LinkSteps.{EachStep, EachFits, OverStep, OverFits};
 
 use ring::{Demand, wide};
 
@@ -13,7 +13,8 @@ fn step_span<T: Copy, F: Fn(T) -> T>(span: &mut [T], step: F)
     }
 }
 
-/// The figures of a ring's links, link k's at place k-1, are changed: of those of a demand's front, from its first node to the link before its second, by `front`; of all others by `back`.
+/// The figures of a ring's links, link k's at place k-1, are changed: of those of a demand's front, from its first node to the link before its second, by
+/// `front`; of all others by `back`.
 pub fn step_over<T: Copy, F: Fn(T) -> T, B: Fn(T) -> T>(
     line: &mut [T],
     demand: Demand,

@@ -13,7 +13,7 @@ use Rattle.table.specs.Judge.{ring_verdict}
 use Rattle.table.specs.Verdict.{Verdict}
 use Rattle.table.proofs.Judged.{RingJudged, size_wrong, wrong_fibres, right_ring, ring-judged, RowJudged, no_such_node, not_below, out_of_order, too_many, too_much, row_fine, row-judged}
 use Rattle.work.specs.Calls.{Call, start, add, change, remove, WorkAnswer}
-use Rattle.work.specs.True.{reasons_of, Answered, refused, accepted}
+use Rattle.work.specs.Answered.{reasons_of, Answered, refused, accepted}
 use Rattle.work.specs.Changes.{ring_size, placed_of, work_after, recut_in, free_in, holds_in, index_in, from_row, unless_fault, fresh_in, started_in, verdict_in, put_free, added_in, changed_in, removed_in, called_in}
 use Rattle.work.specs.declared.Work.{Work}
 use Rattle.work.specs.declared.answer.Changed.{Changed}

@@ -5,7 +5,7 @@ use mathlib.Core.List.{List}
 use mathlib.Core.Logic.{◌⊎◌, inl, inr}
 use mathlib.Core.Path.{◌≡◌, refl, ◌∙◌, ap}
 use native.Mathlib.Omega.{arith}
-use lib.ListN.{get_or, set}
+use lib.ListN.{get_or, set, length}
 use lib.Seq.{set-set, get_or-set_same}
 use Rattle.std.specs.Prelude.{Option, None, Result, Ok, Err}
 use Rattle.text.proofs.Apart.{clash}
@@ -18,16 +18,17 @@ use Rattle.table.specs.Judge.{ring_verdict, row_verdict}
 use Rattle.table.specs.Verdict.{Verdict}
 use Rattle.table.specs.declared.reason.Reason.{Reason}
 use Rattle.table.specs.declared.reason.Reason.TheVariants.{RingSize, Fibres, NoRow, Full}
+use Rattle.table.specs.Table.{InRange, write_table, table_room}
 use Rattle.table.proofs.Findings.{fine, then-on, then-stop}
 use Rattle.table.proofs.Judged.{RingJudged, size_wrong, wrong_fibres, right_ring, ring-judged}
-use Rattle.work.specs.Places.{empty, holds, Plain, AllTaken, plain_of}
+use Rattle.work.specs.Places.{empty, holds, PlaceTable, AllTaken, table_held}
 use Rattle.work.specs.Calls.{Call, start, add, change, remove, WorkAnswer, findings, with_place, Makes, starts, adds, changes, removes, Does, refused, accepted}
 use Rattle.work.specs.Made.{Made, begun, called}
 use Rattle.work.specs.True.{held, TrueTable}
 use Rattle.work.specs.Changes.{recut_in, free_in, index_in, from_row, put_in, cleared_in, unless_fault, fresh_in, started_in, verdict_in, put_free, added_in, changed_in, removed_in, called_in}
 use Rattle.work.specs.Keys.{sorted_rows}
-use Rattle.work.specs.Sorted.{WritesOut}
 use Rattle.work.specs.declared.Work.{Work}
+use Rattle.work.specs.Sorted.{Sorted}
 use Rattle.work.proofs.Right.{Good, Right, Sized, HasBytes, sized, right-bytes, size_is, count, put-places, put_right, clear-places, clear-right, fresh-places, fresh-right, cut-is}
 use Rattle.work.proofs.Fits.{Fits, begun-fits, made-fits}
 use Rattle.work.proofs.SortedRows.{rows-sorted, rows-range, rows_cut, rows-room}
@@ -40,8 +41,8 @@ pub record Sound (w : Work) : Type 0 where
 
 -- what a call is, in the struct and in the list: refused by both for one reason, or a table by both
 pub data Step (w : Work) (c : Call) : Type 0 where
-  both_refuse : (reason : Reason) → called_in w c ≡ Err reason → Given (findings (plain_of w) c) reason 0 → Step w c
-  both_make : (p : ℕ) (x : Work) → Right x → called_in w c ≡ Ok (recut_in x p) → NoneHolds (findings (plain_of w) c) → Makes (plain_of w) c p (plain_of x) → Step w c
+  both_refuse : (reason : Reason) → called_in w c ≡ Err reason → Given (findings (table_held w) c) reason 0 → Step w c
+  both_make : (p : ℕ) (x : Work) → Right x → called_in w c ≡ Ok (recut_in x p) → NoneHolds (findings (table_held w) c) → Makes (table_held w) c p (table_held x) → Step w c
 
 pub recut-sound : (p : ℕ) (x : Work) → Right x → Sound (recut_in x p).work
 unfolding recut_in
@@ -58,7 +59,7 @@ module _ (w : Work) (ring : Ring) where
   not-outside l h (inl m) = absurd (omega arith)
   not-outside l h (inr m) = absurd (omega arith)
 
-  start-made : Makes (plain_of w) (start ring) 0 (plain_of (fresh_in ring))
+  start-made : Makes (table_held w) (start ring) 0 (table_held (fresh_in ring))
   unfolding fresh_in
   start-made = rw (fresh-places ring) starts
 
@@ -74,8 +75,8 @@ module _ (w : Work) (ring : Ring) where
 -- ---- a row added, changed, removed
 
 module _ (w : Work) (s : Right w) where
-  abbrev t : Plain
-  t = plain_of w
+  abbrev t : PlaceTable
+  t = table_held w
 
   abbrev of_row : Demand → Findings
   of_row r = demand_findings desk w.ring.nodes 0 None r
@@ -87,7 +88,7 @@ module _ (w : Work) (s : Right w) where
   verdict r = rw (size_is w s)
 
   module _ (k : ℕ) (l : k < desk.rows) (r : Demand) where
-    put-plain : get_or w.first k 0 ≡ 0 → Good w.ring.nodes r → plain_of (put_in w k r) ≡ with_place t k (holds r)
+    put-plain : get_or w.first k 0 ≡ 0 → Good w.ring.nodes r → table_held (put_in w k r) ≡ with_place t k (holds r)
     unfolding put_in
     put-plain free g = ap (λ ps. record { ring = w.ring; places = ps }) (put-places w s k l r free g)
 
@@ -107,7 +108,7 @@ module _ (w : Work) (s : Right w) where
 
   -- the table between, of a change
   module _ (k : ℕ) (l : k < desk.rows) (taken : 1 ≤ get_or w.first k 0) where
-    cleared-plain : plain_of (cleared_in w k) ≡ with_place t k empty
+    cleared-plain : table_held (cleared_in w k) ≡ with_place t k empty
     unfolding cleared_in
     cleared-plain = ap (λ ps. record { ring = w.ring; places = ps }) (clear-places w s k l taken)
 
@@ -126,7 +127,7 @@ module _ (w : Work) (s : Right w) where
       changed-right : Right (put_in (cleared_in w k) k r)
       changed-right = put_right (cleared_in w k) off k l r cleared-free still
 
-      changed-plain : plain_of (put_in (cleared_in w k) k r) ≡ with_place t k (holds r)
+      changed-plain : table_held (put_in (cleared_in w k) k r) ≡ with_place t k (holds r)
       unfolding put_in cleared_in
       changed-plain =
           ap (λ ps. record { ring = w.ring; places = ps })
@@ -179,15 +180,15 @@ pub made-keeps : {cs : List Call} {w : Work} → Made cs w → TrueTable w
 made-keeps (begun p k) = k
 made-keeps (called m p k) = k
 
-begun-is-fit : {t u : Plain} {ring : Ring} {a : WorkAnswer} {p : _} → Does t (start ring) a u → a ≡ Ok p → Fits u
+begun-is-fit : {t u : PlaceTable} {ring : Ring} {a : WorkAnswer} {p : _} → Does t (start ring) a u → a ≡ Ok p → Fits u
 begun-is-fit (refused reason g e eu) a = clash (cc)
 begun-is-fit (accepted n m e) a = begun-fits n m
 
-called-is-fit : {t u : Plain} {c : Call} {a : WorkAnswer} → Fits t → Does t c a u → Fits u
+called-is-fit : {t u : PlaceTable} {c : Call} {a : WorkAnswer} → Fits t → Does t c a u → Fits u
 called-is-fit f (refused reason g e eu) = rw eu f
 called-is-fit f (accepted n m e) = made-fits f n m
 
-made-is-fit : {cs : List Call} {w : Work} → Made cs w → Fits (plain_of w)
+made-is-fit : {cs : List Call} {w : Work} → Made cs w → Fits (table_held w)
 made-is-fit (begun p k) = begun-is-fit p.cases refl
 made-is-fit (called m p k) = called-is-fit (made-is-fit m) p.cases
 
@@ -199,6 +200,13 @@ made-sound m =
       right = record { two = f.two; few = f.few; fibres = f.fibres; firsts = k.firsts; seconds = k.seconds; amounts = k.amounts; rows = f.rows; kept = k.numbers };
       largest = k.largest;
     }
+
+-- what is written of a table: the rows held, sorted; a table in range; with the cut of the rows held
+pub record WritesOut (w : Work) (rs : List Demand) : Type 0 where
+  pub sorted : Sorted (table_held w).places rs
+  pub range : InRange desk w.ring rs
+  pub cut : rule_a w.ring.nodes rs ≡ rule_a w.ring.nodes (held w)
+  pub short : length (write_table w.ring rs) ≤ table_room desk
 
 -- what is written out: the rows held, by nodes, then by place, an accepted table with the cut of the rows held
 pub made-writes-out : {cs : List Call} {w : Work} → Made cs w → WritesOut w (sorted_rows w)

@@ -1,9 +1,8 @@
 -- A table that calls make fits its ring: by the reasons that do not hold where a call is accepted.
 use Prim.Native.Nat.{ℕ, ◌-◌, ◌≤◌, ◌<◌}
 use mathlib.Core.Logic.{inl, inr}
-use mathlib.Core.Path.{◌≡◌}
 use native.Mathlib.Omega.{arith}
-use native.Mathlib.Decide.{dec_lt, ℕ_discrete}
+use native.Mathlib.Decide.{dec_lt}
 use Rattle.std.specs.Prelude.{None}
 use Rattle.ring.specs.LineSize.{IsFibres}
 use Rattle.ring.specs.Limits.{desk}
@@ -12,13 +11,13 @@ use Rattle.ring.specs.declared.types.Ring.{Ring}
 use Rattle.ring.specs.declared.types.Demand.{Demand}
 use Rattle.table.specs.Findings.{nothing, finding, NoneHolds, demand_findings}
 use Rattle.table.specs.declared.reason.Reason.TheVariants.{Full}
-use Rattle.table.proofs.Findings.{none-of, both-of}
-use Rattle.work.specs.Places.{empty, holds, Plain, rows_held, AllTaken}
-use Rattle.work.specs.Calls.{Call, start, findings, fresh_plain, with_place, Makes, starts, adds, changes, removes}
+use Rattle.table.proofs.Findings.{none-of, both-of, fibres-of}
+use Rattle.work.specs.Places.{empty, holds, PlaceTable, rows_held, AllTaken}
+use Rattle.work.specs.Calls.{Call, start, findings, fresh_table, with_place, Makes, starts, adds, changes, removes}
 use Rattle.work.proofs.RowsHeld.{each_set, held-fresh}
 use Rattle.work.proofs.Right.{Good}
 
-pub record Fits (t : Plain) : Type 0 where
+pub record Fits (t : PlaceTable) : Type 0 where
   pub two : desk.fewest ≤ t.ring.nodes
   pub few : t.ring.nodes ≤ desk.nodes
   pub fibres : IsFibres t.ring.fibres
@@ -30,25 +29,14 @@ not_less {a} {b} f = elim (dec_lt a b) [ yes l ↦ absurd (f l) | no l ↦ omega
 not_most : {a b : ℕ} → (a ≤ b → ⊥) → b < a
 not_most {a} {b} f = elim (dec_lt b a) [ yes l ↦ l | no l ↦ absurd (f (omega arith)) ]
 
-two_or_four : (fibres : ℕ) → ((IsFibres fibres → ⊥) → ⊥) → IsFibres fibres
-two_or_four fibres h =
-    elim (ℕ_discrete fibres 2) [
-      | yes e ↦ inl e
-      | no f ↦ elim (ℕ_discrete fibres 4) [ yes e ↦ inr e | no g ↦ absurd (h (neither f g)) ]
-    ]
-  where
-    neither : (fibres ≡ 2 → ⊥) → (fibres ≡ 4 → ⊥) → IsFibres fibres → ⊥
-    neither f g (inl e) = f e
-    neither f g (inr e) = g e
-
-start-fits : (t : Plain) (ring : Ring) → NoneHolds (findings t (start ring)) → Fits (fresh_plain ring)
+start-fits : (t : PlaceTable) (ring : Ring) → NoneHolds (findings t (start ring)) → Fits (fresh_table ring)
 unfolding findings
 start-fits t ring h =
     let size = none-of h in
     record {
       two = not_less (λ l. size.0 (inl l));
       few = not_less (λ l. size.0 (inr l));
-      fibres = two_or_four ring.fibres (none-of size.1).0;
+      fibres = fibres-of ring.fibres (none-of size.1).0;
       rows = rw (held-fresh desk.rows) none;
     }
 
@@ -62,15 +50,15 @@ row_good n r h =
       small = not_less (none-of count.1).0;
     }
 
-module _ {t : Plain} where
+module _ {t : PlaceTable} where
   put_fits : (k : ℕ) (r : Demand) → Fits t → Good t.ring.nodes r → Fits (with_place t k (holds r))
   put_fits k r f g = record { two = f.two; few = f.few; fibres = f.fibres; rows = each_set t.places k (holds r) f.rows g }
 
   -- a start makes a table that fits, and each other call of one that fits
-  pub begun-fits : {ring : Ring} {p : ℕ} {u : Plain} → NoneHolds (findings t (start ring)) → Makes t (start ring) p u → Fits u
+  pub begun-fits : {ring : Ring} {p : ℕ} {u : PlaceTable} → NoneHolds (findings t (start ring)) → Makes t (start ring) p u → Fits u
   begun-fits h (starts {ring = ring}) = start-fits t ring h
 
-  pub made-fits : {c : Call} {p : ℕ} {u : Plain} → Fits t → NoneHolds (findings t c) → Makes t c p u → Fits u
+  pub made-fits : {c : Call} {p : ℕ} {u : PlaceTable} → Fits t → NoneHolds (findings t c) → Makes t c p u → Fits u
   unfolding findings
   made-fits f h (starts {ring = ring}) = start-fits t ring h
   made-fits f h (adds {r = r} {p = p} low) = put_fits (p - 1) r f (row_good t.ring.nodes r (both-of (demand_findings desk t.ring.nodes 0 None r) (finding (AllTaken t.places) Full 0 nothing) h).0)

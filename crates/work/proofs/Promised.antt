@@ -12,7 +12,7 @@ use Rattle.ring.specs.declared.types.Demand.{Demand}
 use Rattle.ring.specs.Columns.{row_at}
 use Rattle.table.specs.Findings.{Given, NoneHolds}
 use Rattle.table.specs.declared.reason.Reason.{Reason}
-use Rattle.work.specs.Places.{Plain, rows_held, RowAt, plain_of}
+use Rattle.work.specs.Places.{PlaceTable, rows_held, PlaceHolds, table_held}
 use Rattle.work.specs.Calls.{Call, start, WorkAnswer, findings, Makes, starts, acceptance, Does, refused, accepted}
 use Rattle.work.specs.Changes.{placed_of, work_after, recut_in, index_in, from_row, row_in, started_in, called_in}
 use Rattle.work.specs.True.{held, TrueTable}
@@ -40,29 +40,29 @@ record Left (w : Work) (c : Call) (a : WorkAnswer) (x : Work) : Type 0 where
 module _ (w : Work) (c : Call) (a : WorkAnswer) (x : Work) where
   -- a refusal changes no byte; of an accepted call the place and the table are what it makes
   data Case : Type 0 where
-    is_refused : (reason : Reason) → Given (findings (plain_of w) c) reason 0 → a ≡ Err reason → x ≡ w → Case
-    is_accepted : {p : ℕ} → NoneHolds (findings (plain_of w) c) → Makes (plain_of w) c p (plain_of x) → a ≡ acceptance p (plain_of x) → Case
+    is_refused : (reason : Reason) → Given (findings (table_held w) c) reason 0 → a ≡ Err reason → x ≡ w → Case
+    is_accepted : {p : ℕ} → NoneHolds (findings (table_held w) c) → Makes (table_held w) c p (table_held x) → a ≡ acceptance p (table_held x) → Case
 
   case-of : Step w c → Left w c a x → Case
   unfolding placed_of work_after recut_in
   case-of (both_refuse reason e g) l = is_refused reason g (rw e at l.answer) (rw e at l.table)
   case-of (both_make p y s e n m) l =
-      let answer : a ≡ acceptance p (plain_of y) = (rw e at l.answer) ∙ (rw (cut-is y s)) in
+      let answer : a ≡ acceptance p (table_held y) = (rw e at l.answer) ∙ (rw (cut-is y s)) in
       let table : x ≡ (recut_in y p).work = rw e at l.table in
       rw table (is_accepted n m answer)
 
   promise : Case → WorkPromise w c a x
   promise (is_refused k g ea ex) =
       record {
-        cases = refused k g ea (ap plain_of ex);
-        refuses = λ reason. ((λ e. let q : k ≡ reason = cc in rw (← q) g), (λ h. let q = one-given (findings (plain_of w) c) h g in rw q ea));
+        cases = refused k g ea (ap table_held ex);
+        refuses = λ reason. ((λ e. let q : k ≡ reason = cc in rw (← q) g), (λ h. let q = one-given (findings (table_held w) c) h g in rw q ea));
         unchanged = λ reason e. ex;
-        accepts = λ p u. ((λ h. clash (cc (ea, h.0))), (λ h. absurd (none-given (findings (plain_of w) c) k g h.0)));
+        accepts = λ p u. ((λ h. clash (cc (ea, h.0))), (λ h. absurd (none-given (findings (table_held w) c) k g h.0)));
       }
   promise (is_accepted {p = q} n m ea) =
       record {
         cases = accepted n m ea;
-        refuses = λ reason. ((λ e. clash (cc)), (λ h. absurd (none-given (findings (plain_of w) c) reason h n)));
+        refuses = λ reason. ((λ e. clash (cc)), (λ h. absurd (none-given (findings (table_held w) c) reason h n)));
         unchanged = λ reason e. clash (cc);
         accepts = λ p u. (
           (λ h. let e : q ≡ p = ap (λ (x : Placed). x.place) (same-placed (sym ea ∙ h.0)) in rw (← e, ← h.1) (n, m)),
@@ -85,7 +85,7 @@ module _ {w : Work} {c : Call} {a : WorkAnswer} {x : Work} where
 -- ---- of the promise alone: no other answer and table keep it
 
 module _ {w : Work} {c : Call} {a b : WorkAnswer} {x y : Work} (p : WorkPromise w c a x) (q : WorkPromise w c b y) where
-  same-table : plain_of y ≡ plain_of x
+  same-table : table_held y ≡ table_held x
   same-table = (does-one p.cases q.cases).1
 
   same-answer : b ≡ a
@@ -98,8 +98,8 @@ module _ {w : Work} {c : Call} {a b : WorkAnswer} {x y : Work} (p : WorkPromise 
       go (Err reason) e = rw (p.unchanged reason e, q.unchanged reason (same-answer ∙ e)) (record { cut = refl; numbers = λ g h a b c. refl })
       go (Ok placed) e =
           let kx = k placed e in
-          let size : y.ring.nodes ≡ x.ring.nodes = ap (λ (t : Plain). t.ring.nodes) same-table in
-          let rows : held y ≡ held x = ap (λ (t : Plain). rows_held t.places) same-table in
+          let size : y.ring.nodes ≡ x.ring.nodes = ap (λ (t : PlaceTable). t.ring.nodes) same-table in
+          let rows : held y ≡ held x = ap (λ (t : PlaceTable). rows_held t.places) same-table in
           record {
             cut = l.largest ∙ (rw (size, rows)) ∙ sym kx.largest;
             numbers = λ g h a b c. l.numbers g h a b (rw size c) ∙ ap (λ rs. across rs g h) rows ∙ sym (kx.numbers g h a b c);
@@ -123,7 +123,7 @@ row-promise w z p {a} is = go (index_in w.first p) (indexed w z p) is
           says = λ r. ((λ f. clash (cc)), (λ at. absurd (n (record { r = r; there = at }))));
         }
     go i (is_row l _ m) e =
-        let there : RowAt (plain_of w).places p (row_at w.first w.second w.amount (p - 1)) = record { from_1 = l; is = held-at w z (p - 1) m } in
+        let there : PlaceHolds (table_held w).places p (row_at w.first w.second w.amount (p - 1)) = record { from_1 = l; is = held-at w z (p - 1) m } in
         record {
           cases = row_there _ there e;
           refuses = ((λ f. clash (cc)), (λ n. absurd (n (record { r = _; there = there }))));
@@ -136,7 +136,7 @@ row-promise w z p {a} is = go (index_in w.first p) (indexed w z p) is
 -- ---- a whole list of calls
 
 -- they lead to one table and one cut
-one-played : {cs : List Call} {t u : Plain} {d e : Cut} → Played cs t d → Played cs u e → (u ≡ t) × (e ≡ d)
+one-played : {cs : List Call} {t u : PlaceTable} {d e : Cut} → Played cs t d → Played cs u e → (u ≡ t) × (e ≡ d)
 one-played at_first at_first = (refl, refl)
 one-played (then {t = t} {d = d} {a = a} p k) (then {t = s} {d = e} {a = b} q l) =
     let before = one-played p q in
@@ -147,24 +147,24 @@ one-played (then {t = t} {d = d} {a = a} p k) (then {t = s} {d = e} {a = b} q l)
 cut-named : {w : Work} {c : Call} {a : WorkAnswer} {x : Work} → WorkPromise w c a x → TrueTable x → x.cut ≡ named_by a w.cut
 cut-named {w} {c} {a} {x} q k = go q.cases
   where
-    go : Does (plain_of w) c a (plain_of x) → x.cut ≡ named_by a w.cut
+    go : Does (table_held w) c a (table_held x) → x.cut ≡ named_by a w.cut
     go (refused reason g e eu) = rw e (ap (λ (y : Work). y.cut) (q.unchanged reason e))
     go (accepted n m e) = rw e k.largest
 
 -- a start that is accepted does the same on every table
-start-does : {t s u : Plain} {ring : Ring} {p : Placed} → Does t (start ring) (Ok p) u → Does s (start ring) (Ok p) u
+start-does : {t s u : PlaceTable} {ring : Ring} {p : Placed} → Does t (start ring) (Ok p) u → Does s (start ring) (Ok p) u
 unfolding findings
 start-does (refused reason g e eu) = clash (cc)
 start-does (accepted n starts e) = accepted n starts e
 
-behind : {cs : List Call} {w : Work} → Made cs w → Played cs (plain_of w) w.cut
+behind : {cs : List Call} {w : Work} → Made cs w → Played cs (table_held w) w.cut
 behind (begun q k) = rw (cut-named q k) (then at_first (start-does q.cases))
 behind (called m q k) = rw (cut-named q k) (then (behind m) q.cases)
 
 pub made-as-played : {cs : List Call} {w : Work} → Made cs w → AsPlayed cs w
 made-as-played m = let b = behind m in record { leads = b; table = λ t d p. (one-played b p).0; cut = λ t d p. (one-played b p).1 }
 
-answer-after : {cs : List Call} {t u : Plain} {d : Cut} {c : Call} {a : WorkAnswer} → Played cs t d → Does t c a u → AnswerAfter cs c a
+answer-after : {cs : List Call} {t u : PlaceTable} {d : Cut} {c : Call} {a : WorkAnswer} → Played cs t d → Does t c a u → AnswerAfter cs c a
 answer-after {t} {u} {d} p k =
     record {
       t = t;
@@ -176,7 +176,7 @@ answer-after {t} {u} {d} p k =
     }
 
 -- and a start answers the same on every table
-start-after : {t u : Plain} {ring : Ring} {a : WorkAnswer} → Does t (start ring) a u → AnswerAfter [] (start ring) a
+start-after : {t u : PlaceTable} {ring : Ring} {a : WorkAnswer} → Does t (start ring) a u → AnswerAfter [] (start ring) a
 unfolding findings
 start-after (refused reason g e eu) = answer-after at_first (refused reason g e refl)
 start-after (accepted n starts e) = answer-after at_first (accepted n starts e)

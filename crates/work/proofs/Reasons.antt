@@ -10,7 +10,7 @@ use Rattle.table.specs.Findings.{Findings, found, Given, NoneHolds}
 use Rattle.table.specs.declared.finding.Finding.{Finding}
 use Rattle.table.specs.declared.reason.Reason.{Reason}
 use Rattle.table.proofs.Findings.{fine, one-answer}
-use Rattle.work.specs.Places.{Place, Plain, LowestFree}
+use Rattle.work.specs.Places.{Place, PlaceTable, LowestFree}
 use Rattle.work.specs.Calls.{Call, WorkAnswer, acceptance, Makes, starts, adds, changes, removes, Does, refused, accepted, findings}
 
 pub one-given : (fs : Findings) {a b : Reason} → Given fs a 0 → Given fs b 0 → a ≡ b
@@ -28,13 +28,13 @@ one-lowest ps p q a b =
       | no l ↦ elim (dec_lt q p) [ yes m ↦ absurd (b.free (a.below q b.from_1 m)) | no m ↦ omega arith ]
     ]
 
-pub one-made : {t : Plain} {c : Call} {p q : ℕ} {u v : Plain} → Makes t c p u → Makes t c q v → (p ≡ q) × (u ≡ v)
+pub one-made : {t : PlaceTable} {c : Call} {p q : ℕ} {u v : PlaceTable} → Makes t c p u → Makes t c q v → (p ≡ q) × (u ≡ v)
 one-made starts starts = (refl, refl)
 one-made {t} (adds {p = p} a) (adds {p = q} b) = let e = one-lowest t.places p q a b in rw e (refl, refl)
 one-made changes changes = (refl, refl)
 one-made removes removes = (refl, refl)
 
-pub does-one : {t : Plain} {c : Call} {a b : WorkAnswer} {u v : Plain} → Does t c a u → Does t c b v → (b ≡ a) × (v ≡ u)
+pub does-one : {t : PlaceTable} {c : Call} {a b : WorkAnswer} {u v : PlaceTable} → Does t c a u → Does t c b v → (b ≡ a) × (v ≡ u)
 does-one {t} {c} (refused j g ea eu) (refused k h eb ev) = let e = one-given (findings t c) h g in (eb ∙ ap Err e ∙ sym ea, ev ∙ sym eu)
 does-one {t} {c} (refused k g ea eu) (accepted n m eb) = absurd (none-given (findings t c) k g n)
 does-one {t} {c} (accepted n m ea) (refused k h eb ev) = absurd (none-given (findings t c) k h n)

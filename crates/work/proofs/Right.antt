@@ -17,12 +17,12 @@ use Rattle.ring.specs.Columns.{row_at}
 use Rattle.ring.proofs.Lists.{each}
 use Rattle.ring.proofs.Totals.{across-total, total-most, part_small}
 use Rattle.ring.proofs.Laid.{zeros-at}
-use Rattle.across.specs.Triangle.{most_pairs, place_of, at}
-use Rattle.across.specs.Lines.{Pairwise}
+use Rattle.across.specs.Triangle.{place_of, at}
+use Rattle.across.specs.Lines.{most_pairs, Pairwise}
 use Rattle.across.specs.Step.{raised, lowered}
 use Rattle.across.proofs.Kept.{row-at}
 use Rattle.across.proofs.CutSteps.{same-cut}
-use Rattle.work.specs.Places.{empty, holds, HoldsAt, place_in, plain_of}
+use Rattle.work.specs.Places.{empty, holds, HoldsAt, place_in, table_held}
 use Rattle.work.specs.True.{held}
 use Rattle.work.specs.Changes.{ring_size, cut_of, put_in, cleared_in, fresh_in}
 use Rattle.work.specs.declared.Work.{Work}
@@ -51,7 +51,7 @@ pub record Sized (w : Work) : Type 0 where
 
 -- a second node is a byte
 abbrev pub HasBytes : Work → Type 0
-HasBytes w = (k : ℕ) (r : Demand) → HoldsAt (plain_of w).places k r → r.second < 256
+HasBytes w = (k : ℕ) (r : Demand) → HoldsAt (table_held w).places k r → r.second < 256
 
 pub sized : {w : Work} → Right w → Sized w
 sized s = record { firsts = s.firsts; seconds = s.seconds; amounts = s.amounts }
@@ -63,10 +63,10 @@ module _ (w : Work) (s : Sized w) where
   same-seconds : length w.second ≡ length w.amount
   same-seconds = omega (arith, s.seconds, s.amounts)
 
-  pub count : length (plain_of w).places ≡ desk.rows
+  pub count : length (table_held w).places ≡ desk.rows
   count = places-length w.first w.second w.amount same-firsts same-seconds ∙ s.firsts
 
-  pub place_is : (k : ℕ) → get_or (plain_of w).places k empty ≡ place_in (get_or w.first k 0) (get_or w.second k 0) (get_or w.amount k 0)
+  pub place_is : (k : ℕ) → get_or (table_held w).places k empty ≡ place_in (get_or w.first k 0) (get_or w.second k 0) (get_or w.amount k 0)
   place_is k = places-at w.first w.second w.amount k same-firsts same-seconds
 
   second_of : (i j d : ℕ) (r : Demand) → place_in i j d ≡ holds r → r.second ≡ j
@@ -81,13 +81,13 @@ module _ (w : Work) (s : Right w) where
   size_is = omega (arith, s.two, s.few)
 
   pub right-bytes : HasBytes w
-  right-bytes k r h = omega (arith, (each_at {P = Good w.ring.nodes} (plain_of w).places k r s.rows h).on.high, s.few)
+  right-bytes k r h = omega (arith, (each_at {P = Good w.ring.nodes} (table_held w).places k r s.rows h).on.high, s.few)
 
   -- no kept number comes near the type's end
   pub number_small : (g h : ℕ) → across (held w) g h ≤ desk.amount * desk.rows
   number_small g h =
       omega
-      (arith, total-most {sum = λ rs. across rs g h} (across-total g h) desk.amount (each (λ r q. omega (arith, part_small r g h, q.small)) s.rows), held-few (plain_of w).places, count w (sized s))
+      (arith, total-most {sum = λ rs. across rs g h} (across-total g h) desk.amount (each (λ r q. omega (arith, part_small r g h, q.small)) s.rows), held-few (table_held w).places, count w (sized s))
 
 -- ---- a row is put at a free place
 
@@ -97,14 +97,14 @@ place-holds (suc i) j d l = refl
 
 module _ (w : Work) (s : Right w) (k : ℕ) (in_table : k < desk.rows) where
   module _ (r : Demand) (free : get_or w.first k 0 ≡ 0) (good : Good w.ring.nodes r) where
-    pub put-places : (plain_of (put_in w k r)).places ≡ set (plain_of w).places k (holds r)
+    pub put-places : (table_held (put_in w k r)).places ≡ set (table_held w).places k (holds r)
     unfolding put_in
-    put-places = places-set w.first w.second w.amount k r.first r.second r.amount ∙ ap (λ x. set (plain_of w).places k x) (place-holds r.first r.second r.amount good.on.low)
+    put-places = places-set w.first w.second w.amount k r.first r.second r.amount ∙ ap (λ x. set (table_held w).places k x) (place-holds r.first r.second r.amount good.on.low)
 
     put-across : (g h : ℕ) → across (held (put_in w k r)) g h ≡ part r g h + across (held w) g h
     put-across g h =
-        let was : get_or (plain_of w).places k empty ≡ empty = place_is w (sized s) k ∙ (rw free) in
-        let sum = rw was at (across-set (plain_of w).places k (holds r) g h (omega (arith, count w (sized s)))) in
+        let was : get_or (table_held w).places k empty ≡ empty = place_is w (sized s) k ∙ (rw free) in
+        let sum = rw was at (across-set (table_held w).places k (holds r) g h (omega (arith, count w (sized s)))) in
         rw put-places (omega arith)
 
     pub put_right : Right (put_in w k r)
@@ -117,7 +117,7 @@ module _ (w : Work) (s : Right w) (k : ℕ) (in_table : k < desk.rows) where
           firsts = length-set w.first k r.first ∙ s.firsts;
           seconds = length-set w.second k r.second ∙ s.seconds;
           amounts = length-set w.amount k r.amount ∙ s.amounts;
-          rows = rw put-places (each_set (plain_of w).places k (holds r) s.rows good);
+          rows = rw put-places (each_set (table_held w).places k (holds r) s.rows good);
           kept = λ g h a b c.
               rw (size_is w s)
               (omega
@@ -130,14 +130,14 @@ module _ (w : Work) (s : Right w) (k : ℕ) (in_table : k < desk.rows) where
     abbrev gone : Demand
     gone = row_at w.first w.second w.amount k
 
-    pub clear-places : (plain_of (cleared_in w k)).places ≡ set (plain_of w).places k empty
+    pub clear-places : (table_held (cleared_in w k)).places ≡ set (table_held w).places k empty
     unfolding cleared_in
     clear-places = places-set w.first w.second w.amount k 0 0 0
 
     clear-across : (g h : ℕ) → across (held (cleared_in w k)) g h + part gone g h ≡ across (held w) g h
     clear-across g h =
-        let was : get_or (plain_of w).places k empty ≡ holds gone = place_is w (sized s) k ∙ place-holds _ _ _ taken in
-        let sum = rw was at (across-set (plain_of w).places k empty g h (omega (arith, count w (sized s)))) in
+        let was : get_or (table_held w).places k empty ≡ holds gone = place_is w (sized s) k ∙ place-holds _ _ _ taken in
+        let sum = rw was at (across-set (table_held w).places k empty g h (omega (arith, count w (sized s)))) in
         rw clear-places (omega arith)
 
     pub clear-right : Right (cleared_in w k)
@@ -150,14 +150,14 @@ module _ (w : Work) (s : Right w) (k : ℕ) (in_table : k < desk.rows) where
           firsts = length-set w.first k 0 ∙ s.firsts;
           seconds = length-set w.second k 0 ∙ s.seconds;
           amounts = length-set w.amount k 0 ∙ s.amounts;
-          rows = rw clear-places (each_set (plain_of w).places k empty s.rows tt);
+          rows = rw clear-places (each_set (table_held w).places k empty s.rows tt);
           kept = λ g h a b c.
               rw (size_is w s) (omega (arith, row-at lowered w.ring.nodes gone w.triangle s.few g h a b c, s.kept g h a b c, clear-across g h, number_small w s g h));
         }
 
 -- ---- an empty table
 
-pub fresh-places : (ring : Ring) → (plain_of (fresh_in ring)).places ≡ replicate desk.rows empty
+pub fresh-places : (ring : Ring) → (table_held (fresh_in ring)).places ≡ replicate desk.rows empty
 unfolding fresh_in
 fresh-places ring = places-fresh desk.rows
 

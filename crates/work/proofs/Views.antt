@@ -18,12 +18,12 @@ use Rattle.ring.specs.Demand.{demand}
 use Rattle.ring.specs.declared.types.Demand.{Demand}
 use Rattle.table.specs.Findings.{Given, NoneHolds, demand_findings}
 use Rattle.table.specs.Judge.{row_verdict}
-use Rattle.table.specs.Says.{NoNode}
+use Rattle.table.specs.RowReasons.{NoNode}
 use Rattle.table.specs.declared.reason.Reason.{Reason}
 use Rattle.table.specs.declared.reason.Reason.TheVariants.{NoRow}
 use Rattle.table.specs.Verdict.{Verdict}
 use Rattle.table.proofs.Judged.{RowJudged, no_such_node, not_below, out_of_order, too_many, too_much, row_fine, row-judged}
-use Rattle.work.specs.Places.{Place, empty, HoldsAt, Taken, HoldsNone, AllTaken, LowestFree, plain_of}
+use Rattle.work.specs.Places.{Place, empty, HoldsAt, Taken, HoldsNone, AllTaken, LowestFree, table_held}
 use Rattle.work.specs.Changes.{free_in, holds_in, index_in}
 use Rattle.work.specs.declared.Work.{Work}
 use Rattle.work.proofs.Right.{Good, Sized, count, place_is, place-holds}
@@ -58,7 +58,7 @@ judged_demand n r = go (row-judged desk n 0 None r)
 
 module _ (w : Work) (s : Sized w) where
   abbrev ps : List Place
-  ps = (plain_of w).places
+  ps = (table_held w).places
 
   -- a place of the columns with a first node holds the row that stands there, and one without holds none
   pub held-at : (k : ℕ) → 1 ≤ get_or w.first k 0 → HoldsAt ps k (demand (get_or w.first k 0) (get_or w.second k 0) (get_or w.amount k 0))

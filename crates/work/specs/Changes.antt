@@ -1,4 +1,5 @@
--- Internal: what each call answers and leaves, for every value of the struct; what a call promises is said over the list of places (Places, Calls, Promises), and names none of this.
+-- Internal: what each call answers and leaves, for every value of the struct; what a call promises is said over the list of places (Places, Calls, Promises),
+-- and names none of this.
 use Rattle.std.specs.Prelude.{ℕ, ◌+◌, ◌-◌, ◌≤◌, ◌<◌, min, max, Bool, cond, ◌&&◌, Option, Some, None, Result, Ok, Err, List, ltb, eqb, get_or, set, replicate}
 use Rattle.std.specs.List.{position}
 use Rattle.ring.specs.Limits.{desk}
@@ -7,7 +8,8 @@ use Rattle.ring.specs.declared.types.Demand.{Demand}
 use Rattle.ring.specs.declared.types.Cut.{Cut}
 use Rattle.ring.specs.RuleA.{largest_cut}
 use Rattle.ring.specs.Columns.{row_at}
-use Rattle.across.specs.Triangle.{most_pairs, at}
+use Rattle.across.specs.Triangle.{at}
+use Rattle.across.specs.Lines.{most_pairs}
 use Rattle.across.specs.Step.{raised, lowered, step_row}
 use Rattle.table.specs.Judge.{ring_verdict, row_verdict}
 use Rattle.table.specs.declared.reason.Reason.{Reason}

@@ -2,6 +2,7 @@ pub mod Places
 pub mod Calls
 pub mod Changes
 pub mod True
+pub mod Answered
 pub mod Keys
 pub mod Sorted
 pub mod Promises

@@ -5,12 +5,13 @@ use Rattle.ring.specs.Demand.{demand}
 use Rattle.ring.specs.declared.types.Demand.{Demand}
 use Rattle.work.specs.declared.Work.{Work}
 
+-- a place is empty, or holds a row
 pub data Place : Type 0 where
   empty : Place
   holds : Demand → Place
 
 -- a table as a planner sees it
-pub record Plain : Type 0 where
+pub record PlaceTable : Type 0 where
   pub ring : Ring
   pub places : List Place
 
@@ -27,19 +28,20 @@ HoldsAt ps k r = get_or ps k empty ≡ holds r
 -- ---- places, counted from 1
 
 -- the place p holds the row r; 0 holds none, nor does a place that the list has not got
-pub record RowAt (ps : List Place) (p : ℕ) (r : Demand) : Type 0 where
+pub record PlaceHolds (ps : List Place) (p : ℕ) (r : Demand) : Type 0 where
   pub from_1 : 1 ≤ p
   pub is : HoldsAt ps (p - 1) r
 
 -- it holds some row
 pub record Taken (ps : List Place) (p : ℕ) : Type 0 where
   pub r : Demand
-  pub there : RowAt ps p r
+  pub there : PlaceHolds ps p r
 
 -- it holds none
 abbrev pub HoldsNone : List Place → ℕ → Type 0
 HoldsNone ps p = Taken ps p → ⊥
 
+-- each place of the list is taken
 abbrev pub AllTaken : List Place → Type 0
 AllTaken ps = (p : ℕ) → 1 ≤ p → p ≤ length ps → Taken ps p
 
@@ -57,6 +59,7 @@ abbrev pub place_in : ℕ → ℕ → ℕ → Place
 place_in zero j d = empty
 place_in (suc i) j d = holds (demand (suc i) j d)
 
+-- all places, by the columns
 unfoldable pub places_in : List ℕ → List ℕ → List ℕ → List Place
 places_in [] js ds = []
 places_in (i ∷ is) [] ds = []
@@ -64,5 +67,5 @@ places_in (i ∷ is) (j ∷ js) [] = []
 places_in (i ∷ is) (j ∷ js) (d ∷ ds) = place_in i j d ∷ places_in is js ds
 
 -- its ring and its places
-abbrev pub plain_of : Work → Plain
-plain_of w = record { ring = w.ring; places = places_in w.first w.second w.amount }
+abbrev pub table_held : Work → PlaceTable
+table_held w = record { ring = w.ring; places = places_in w.first w.second w.amount }

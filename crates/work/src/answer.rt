@@ -1,4 +1,4 @@
-//! What a change answers: the struct, and the step that every change ends in.
+//! What a change answers, how many nodes it reckons with, and the step that every change ends in.
 ghost use Rattle.std.specs.Prelude.{◌≡◌};
 ghost use Rattle.work.specs.Changes.{ring_size, recut_in};
 

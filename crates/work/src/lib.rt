@@ -16,7 +16,8 @@ use ring::{Cut, ROWS, Ring};
 pub use sort::sorted;
 pub use start::started;
 
-/// Place p has its row at p-1 of the three columns; a first node of 0 says that it is empty. Its cut is the largest, the across number in units.
+/// Place p has its row at p-1 of the three columns; a first node of 0 says that it is empty. The triangle has the across number of every two links, and the cut is
+/// the largest of them. Amounts and across numbers are in units.
 #[repr(C)]
 #[derive(Clone, Copy)]
 pub struct Work {

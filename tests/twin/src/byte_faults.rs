@@ -337,7 +337,10 @@ fn second_bad_node(p: &Pointed) -> Byte {
 }
 
 fn last_over(p: &Pointed) -> Byte {
-    let last = p.entries().iter().rposition(|entry| *entry > 9_999);
+    let last = p
+        .entries()
+        .iter()
+        .rposition(|entry| table::too_much(*entry));
     last.map_or(p.byte(), |last| p.of_matrix(7, p.start(last)))
 }
 

@@ -2,13 +2,13 @@
 //! and of 64 offices, each field of first, middle and last lines spelled in many
 //! ways, lines missing and left over, and several faults in one line.
 
+use crate::bars::tabbed;
 use crate::compare::{Case, Lend, NONE};
 use crate::foreign;
 use crate::gen::{self, Amounts};
 use crate::matrices::square;
 use crate::matrix::matrix_text;
 use crate::rng::Rng;
-use crate::said::tabbed;
 use crate::sheet::{sheet_text, table_text};
 use crate::twin::Call;
 use std::sync::LazyLock;

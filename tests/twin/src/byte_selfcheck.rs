@@ -1,8 +1,8 @@
 //! The twin's own checks of the byte to which a refusal points, by hand. And the
 //! rule for a badly shaped line once more, by trying how a line might go on.
 
+use crate::bars::{barred, tabbed};
 use crate::rng::Rng;
-use crate::said::{barred, tabbed};
 use crate::selfcheck::{same, Outcome};
 use crate::shape::{self, first_fault};
 use crate::table::{self, Line, Refusal};

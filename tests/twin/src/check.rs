@@ -50,7 +50,7 @@ pub const QUESTIONS: Questions = Questions {
 /// 8: front + back is not 2 x amount.
 fn sum(sheet: &Sheet, at: usize) -> bool {
     let (row, sent) = row_at(sheet, at);
-    sent.front + sent.back == 2 * row.d
+    sent.front + sent.back == 2 * row.amount
 }
 
 /// 9: direction of an unsplit row differs from rule D. A split row may go
@@ -156,7 +156,9 @@ pub fn judge_rows(sheet: &Sheet, questions: &Questions) -> Result<(), Finding> {
         ..sheet.table
     };
     for (at, row) in sheet.table.rows.iter().enumerate() {
-        if let Some(reason) = table::reason_of_row(&[row.i, row.j, row.d], &above, questions.rows) {
+        if let Some(reason) =
+            table::reason_of_row(&[row.first, row.second, row.amount], &above, questions.rows)
+        {
             return found(reason, at + 1);
         }
         ask_at(sheet, questions.sum, at, 8)?;

@@ -3,6 +3,7 @@
 //! reader that reads another text.
 
 use crate::check::{self, Finding, Questions, Sheet, QUESTIONS};
+use crate::limits::TEXT;
 use crate::row_faults::{first_rows, too_many_lines, MANY_NEVER};
 use crate::rules::{self, Cut};
 use crate::table::{refuse, Refusal, Row};
@@ -80,7 +81,7 @@ pub fn after_z(text: &[u8]) -> Result<Sheet, Refusal> {
     let mut kept = Vec::new();
     for line in text.split_inclusive(|byte| *byte == b'\n') {
         kept.extend_from_slice(line);
-        if line.starts_with(b"Z\t") && text.len() <= 32_768 {
+        if line.starts_with(b"Z\t") && text.len() <= TEXT {
             return check::read(&kept);
         }
     }
@@ -208,16 +209,16 @@ pub fn refused_with_pair(text: &[u8], said: Said) -> Said {
 
 pub fn sum_most(sheet: &Sheet, at: usize) -> bool {
     let (row, sent) = check::row_at(sheet, at);
-    sent.front + sent.back <= 2 * row.d
+    sent.front + sent.back <= 2 * row.amount
 }
 
 pub fn sum_short(sheet: &Sheet, at: usize) -> bool {
     let (row, sent) = check::row_at(sheet, at);
-    (sent.front as u16).wrapping_add(sent.back as u16) == 2 * row.d as u16
+    (sent.front as u16).wrapping_add(sent.back as u16) == 2 * row.amount as u16
 }
 
 pub fn way_of_zero(sheet: &Sheet, at: usize) -> bool {
-    check::row_at(sheet, at).0.d == 0 || (QUESTIONS.way)(sheet, at)
+    check::row_at(sheet, at).0.amount == 0 || (QUESTIONS.way)(sheet, at)
 }
 
 /// Rule D asked of the rows so far, with the D that they have.
@@ -362,7 +363,7 @@ pub fn bound_loose(sheet: &Sheet, _: usize) -> bool {
 }
 
 pub fn bound_all(sheet: &Sheet, _: usize) -> bool {
-    let amounts = sheet.table.rows.iter().map(|row| row.d);
+    let amounts = sheet.table.rows.iter().map(|row| row.amount);
     bound_with(sheet, 3, amounts.max().unwrap_or(0), 0)
 }
 
@@ -394,7 +395,7 @@ fn both_split(sheet: &Sheet, first: usize, second: usize) -> bool {
 }
 
 pub fn same_nodes(one: &Row, two: &Row) -> bool {
-    (one.i, one.j) == (two.i, two.j)
+    (one.first, one.second) == (two.first, two.second)
 }
 
 fn are_parallel(sheet: &Sheet, first: usize, second: usize) -> bool {
@@ -450,7 +451,7 @@ pub fn pair_never(_: &Sheet) -> Option<(usize, usize)> {
 
 pub fn pair_shared(sheet: &Sheet) -> Option<(usize, usize)> {
     pair_where(sheet, |one, two| {
-        one.i != two.i && one.j != two.j && one.j != two.i
+        one.first != two.first && one.second != two.second && one.second != two.first
     })
 }
 

@@ -1,12 +1,13 @@
 //! The comparison: reply and every byte of the buffer, for one call or a case.
 
 use crate::kit::Kit;
+use crate::limits::TEXT;
 use crate::twin::{self, Answer, Call, Said};
 
 /// Bytes on both sides of the lent buffer that no call may change.
 pub const GUARD: usize = 32;
-/// More than any table, sheet or matrix needs.
-pub const ROOM: usize = 32_768;
+/// As long as a text may be: more than any table, sheet or matrix needs.
+pub const ROOM: usize = TEXT;
 
 /// The length of the lent buffer.
 #[derive(Clone, Copy, Debug)]

@@ -44,8 +44,8 @@ fn sending(rng: &mut Rng, table: &Table, largest: Cut) -> Vec<Sent> {
 /// Each row sends half of its amount either way.
 fn halved(table: &Table) -> Vec<Sent> {
     let half = |row: &Row| Sent {
-        front: row.d,
-        back: row.d,
+        front: row.amount,
+        back: row.amount,
     };
     table.rows.iter().map(half).collect()
 }
@@ -133,7 +133,7 @@ type Filled = (Row, Sent, Way);
 
 /// The sheet of these rows on a ring with the cut g, h and true figures.
 fn of_rows(ring: &Table, g: i64, h: i64, mut filled: Vec<Filled>) -> (Table, Plan) {
-    filled.sort_by_key(|(row, _, _)| (row.i, row.j));
+    filled.sort_by_key(|(row, _, _)| (row.first, row.second));
     let rows: Vec<Row> = filled.iter().map(|(row, _, _)| *row).collect();
     let sent = filled.iter().map(|(_, sent, _)| *sent).collect();
     let ways = filled.iter().map(|(_, _, way)| *way).collect();
@@ -155,7 +155,7 @@ pub fn crossing(rng: &mut Rng, n: i64) -> (Table, Plan) {
         Amounts::Mixed,
     ]);
     let mut table = gen::full(rng, n, amounts);
-    table.rows.retain(|row| row.j - row.i == half);
+    table.rows.retain(|row| row.second - row.first == half);
     let kept = rng.between(2, 8) as usize;
     table.rows.retain(|_| rng.chance(kept, 8));
     if !table.rows.is_empty() && rng.chance(1, 4) {
@@ -178,14 +178,7 @@ fn whole_rows(rng: &mut Rng, n: i64, filled: &mut Vec<Filled>) {
     let (i, j) = (rng.between(1, half), rng.between(half + 1, n));
     let (out_i, out_j) = (rng.between(1, i), rng.between(j, n));
     let d = rng.pick(&[1, 2, 40, 9_999]);
-    let (inner, outer) = (
-        Row { i, j, d },
-        Row {
-            i: out_i,
-            j: out_j,
-            d,
-        },
-    );
+    let (inner, outer) = (Row::of(i, j, d), Row::of(out_i, out_j, d));
     let (front, back) = (2 * d, 0);
     filled.push((inner, Sent { front, back }, Way::F));
     let (front, back) = (0, 2 * d);
@@ -205,11 +198,11 @@ pub fn all_across(rng: &mut Rng, n: i64, count: usize) -> (Table, Plan) {
     table.rows.retain(|_| rng.chance(kept, 8));
     if table.rows.is_empty() {
         let (i, j, d) = (g, g + 1, 1);
-        table.rows.push(Row { i, j, d });
+        table.rows.push(Row::of(i, j, d));
     }
     gen::more_circuits(rng, &mut table, count);
     let at = rng.below(table.rows.len());
-    table.rows[at].d = rng.between(30, 9_999);
+    table.rows[at].amount = rng.between(30, 9_999);
     let filled = turned(rng, &table);
     of_rows(&table, g, h, filled)
 }
@@ -219,7 +212,7 @@ fn turned(rng: &mut Rng, table: &Table) -> Vec<Filled> {
     let front = rng.pick(&[3, 4, 4, 5, 6, 7, 8, 8]);
     let mut filled = Vec::new();
     for (row, sent) in table.rows.iter().zip(halved(table)) {
-        let back = row.d > 0 && !rng.chance(front, 8);
+        let back = row.amount > 0 && !rng.chance(front, 8);
         filled.push((*row, sent, if back { Way::B } else { Way::F }));
     }
     filled
@@ -257,7 +250,7 @@ pub fn row_off(rng: &mut Rng, from: usize, table: &mut Table, plan: &mut Plan) {
         1 => by_one(rng, &mut row.back),
         2 if row.front > 0 => (row.front, row.back) = (row.front - 1, row.back + 1),
         3 if row.back > 0 => (row.front, row.back) = (row.front + 1, row.back - 1),
-        4 => by_one(rng, &mut table.rows[at].d),
+        4 => by_one(rng, &mut table.rows[at].amount),
         _ => plan.ways[at] = other(plan.ways[at]),
     }
     let Cut { g, h, .. } = plan.cut;

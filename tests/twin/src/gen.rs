@@ -64,7 +64,7 @@ fn keep(rng: &mut Rng, n: i64, amounts: Amounts, kept: impl Fn(i64, i64) -> bool
     for (i, j) in pairs(n) {
         if kept(i, j) {
             let d = amount(rng, amounts);
-            rows.push(Row { i, j, d });
+            rows.push(Row::of(i, j, d));
         }
     }
     let fibres = any_fibres(rng);
@@ -122,11 +122,15 @@ pub fn any(rng: &mut Rng, n: i64) -> Table {
 pub fn more_circuits(rng: &mut Rng, table: &mut Table, count: usize) {
     let amounts = any_amounts(rng);
     while table.rows.len() < count {
-        let Row { i, j, .. } = rng.pick(&table.rows);
+        let Row {
+            first: i,
+            second: j,
+            ..
+        } = rng.pick(&table.rows);
         let d = amount(rng, amounts);
-        table.rows.push(Row { i, j, d });
+        table.rows.push(Row::of(i, j, d));
     }
-    table.rows.sort_by_key(|row| (row.i, row.j));
+    table.rows.sort_by_key(|row| (row.first, row.second));
 }
 
 /// So many rows, most of the time between few pairs of offices.
@@ -136,7 +140,7 @@ pub fn circuits(rng: &mut Rng, n: i64, count: usize) -> Table {
     for _ in 0..rng.pick(&[1, 2, 3, 6, 12, 60]).min(count) {
         let (i, j) = rng.pick(&all);
         let d = amount(rng, Amounts::Mixed);
-        rows.push(Row { i, j, d });
+        rows.push(Row::of(i, j, d));
     }
     let fibres = any_fibres(rng);
     let mut table = Table { n, fibres, rows };
@@ -158,10 +162,10 @@ pub fn full_with_circuits(rng: &mut Rng) -> Table {
 /// if that joins others, or a row of too large an amount, or both.
 pub fn spoil_row(rng: &mut Rng, row: &mut Row) {
     if rng.chance(1, 2) {
-        (row.i, row.j) = (1, 2);
+        (row.first, row.second) = (1, 2);
     }
     if rng.chance(1, 2) {
-        row.d = 10_000;
+        row.amount = 10_000;
     }
 }
 
@@ -365,38 +369,41 @@ fn drawn_nodes(rng: &mut Rng) -> (i64, i64) {
     (i, j)
 }
 
-/// One row's numbers all replaced, so that several reasons hold of one line.
-pub fn damage_row(rng: &mut Rng, text: &mut Vec<u8>) {
+/// One line replaced by another.
+fn replace_line(rng: &mut Rng, text: &mut Vec<u8>, drawn: impl FnOnce(&mut Rng) -> String) {
     let mut lines = lines_of(text);
     if lines.is_empty() {
         return;
     }
     let at = any_line(rng, &lines);
-    let (i, j) = drawn_nodes(rng);
-    let d = rng.pick(&[0, 1, 9_999, 10_000, 10_000, 99_999_999]);
-    lines[at] = format!("D\t{i}\t{j}\t{d}\n").into_bytes();
+    lines[at] = drawn(rng).into_bytes();
     *text = lines.concat();
+}
+
+/// One row's numbers all replaced, so that several reasons hold of one line.
+pub fn damage_row(rng: &mut Rng, text: &mut Vec<u8>) {
+    replace_line(rng, text, |rng| {
+        let (i, j) = drawn_nodes(rng);
+        let d = rng.pick(&[0, 1, 9_999, 10_000, 10_000, 99_999_999]);
+        format!("D\t{i}\t{j}\t{d}\n")
+    });
 }
 
 /// One line of a sheet replaced by a row whose numbers are all drawn: most of
 /// the time its front and back fit its amount, so that a later reason is met.
 pub fn damage_sheet_row(rng: &mut Rng, text: &mut Vec<u8>) {
-    let mut lines = lines_of(text);
-    if lines.is_empty() {
-        return;
-    }
-    let at = any_line(rng, &lines);
-    let (i, j) = drawn_nodes(rng);
-    let d = rng.pick(&[0, 1, 2, 9_999, 9_999, 10_000, 99_999_999]);
-    let mut front = rng.pick(&[0, 1, d, 2 * d, 19_998]);
-    let mut back = (2 * d - front).max(0);
-    if rng.chance(1, 4) {
-        front = rng.pick(&[0, 1, 19_998, 99_999_999]);
-        back = rng.pick(&[0, 1, 19_998, 99_999_999]);
-    }
-    let way = rng.pick(b"FB") as char;
-    lines[at] = format!("D\t{i}\t{j}\t{d}\t{front}\t{back}\t{way}\n").into_bytes();
-    *text = lines.concat();
+    replace_line(rng, text, |rng| {
+        let (i, j) = drawn_nodes(rng);
+        let d = rng.pick(&[0, 1, 2, 9_999, 9_999, 10_000, 99_999_999]);
+        let mut front = rng.pick(&[0, 1, d, 2 * d, 19_998]);
+        let mut back = (2 * d - front).max(0);
+        if rng.chance(1, 4) {
+            front = rng.pick(&[0, 1, 19_998, 99_999_999]);
+            back = rng.pick(&[0, 1, 19_998, 99_999_999]);
+        }
+        let way = rng.pick(b"FB") as char;
+        format!("D\t{i}\t{j}\t{d}\t{front}\t{back}\t{way}\n")
+    });
 }
 
 /// The text made `length` bytes long, by bytes put in or taken away.

@@ -1,13 +1,14 @@
 //! The groups of cases: of tables whole lists first, then random tables and
 //! texts; the groups of sheets after them, those of matrices, and those of bytes last.
 
+use crate::bars::tabbed;
 use crate::byte_groups;
 use crate::compare::{Case, Lend};
 use crate::gen::{self, Amounts};
 use crate::limits::ROWS;
 use crate::matrices;
+use crate::part::{group, Group};
 use crate::rng::Rng;
-use crate::said::{group, tabbed, Group};
 use crate::sheet::table_text;
 use crate::sheets;
 use crate::table::{Row, Table};
@@ -306,7 +307,7 @@ pub fn all_small(_: &mut Rng, case: u64) -> Option<Case> {
         for (i, j) in pairs {
             let list = lists[(code % choices) as usize];
             code /= choices;
-            rows.extend(list.iter().map(|d| Row { i, j, d: *d }));
+            rows.extend(list.iter().map(|d| Row::of(i, j, *d)));
         }
         let mut trials = vec![(Call::Route, Lend::Need(0))];
         if case % 8 == 0 {

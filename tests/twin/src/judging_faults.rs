@@ -32,12 +32,12 @@ fn sum_in(values: &Values, sum: Question) -> Finding {
 
 fn sum_32(sheet: &Sheet, at: usize) -> bool {
     let (row, sent) = check::row_at(sheet, at);
-    (sent.front + sent.back) as u32 == 2 * row.d as u32
+    (sent.front + sent.back) as u32 == 2 * row.amount as u32
 }
 
 fn sum_31(sheet: &Sheet, at: usize) -> bool {
     let (row, sent) = check::row_at(sheet, at);
-    (sent.front + sent.back) << 33 == (2 * row.d) << 33
+    (sent.front + sent.back) << 33 == (2 * row.amount) << 33
 }
 
 fn without_count() -> Questions {

@@ -6,10 +6,10 @@ use crate::check;
 use crate::compare::Case;
 use crate::groups::Make;
 use crate::limits::ROWS;
+use crate::part::{group, Group};
 use crate::rng::Rng;
-use crate::said::{group, Group};
 use crate::sheets;
-use crate::values::{HeldRow, Values};
+use crate::values::{HeldLink, HeldRow, Values};
 
 /// The values of the texts that `make` gives, changed by `change`.
 pub struct Changed {
@@ -175,43 +175,40 @@ fn moved(rng: &mut Rng, values: &mut Values) {
     match rng.below(12) {
         0 => values.links.clear(),
         1 => values.rows.clear(),
+        what @ 2..=7 => move_links(rng, &mut values.links, what),
+        what if values.rows.is_empty() => values.links.truncate(what / 4),
+        what => move_rows(rng, &mut values.rows, what),
+    }
+}
+
+fn move_links(rng: &mut Rng, links: &mut Vec<HeldLink>, what: usize) {
+    match what {
         2 => {
-            values.links.pop();
+            links.pop();
         }
-        3 => {
-            let link = values.links[0];
-            values.links.push(link);
-        }
-        4 => values.links.reverse(),
+        3 => links.push(links[0]),
+        4 => links.reverse(),
         5 => {
-            let (one, two) = (rng.below(values.links.len()), rng.below(values.links.len()));
-            values.links.swap(one, two);
+            let (one, two) = (rng.below(links.len()), rng.below(links.len()));
+            links.swap(one, two);
         }
         6 => {
-            let at = rng.below(values.links.len());
-            values.links.remove(at);
+            let at = rng.below(links.len());
+            links.remove(at);
         }
-        7 => {
-            let links = values.links.clone();
-            values.links.extend(links);
-        }
-        what if values.rows.is_empty() => values.links.truncate(what / 4),
+        _ => links.extend_from_within(..),
+    }
+}
+
+fn move_rows(rng: &mut Rng, rows: &mut Vec<HeldRow>, what: usize) {
+    let at = rng.below(rows.len());
+    match what {
         8 => {
-            let at = rng.below(values.rows.len());
-            values.rows.remove(at);
+            rows.remove(at);
         }
-        9 => {
-            let at = rng.below(values.rows.len());
-            values.rows.insert(at, values.rows[at]);
-        }
-        10 => {
-            let at = rng.below(values.rows.len());
-            values.rows[at..].reverse();
-        }
-        _ => {
-            let at = rng.below(values.rows.len());
-            values.rows.swap(0, at);
-        }
+        9 => rows.insert(at, rows[at]),
+        10 => rows[at..].reverse(),
+        _ => rows.swap(0, at),
     }
 }
 

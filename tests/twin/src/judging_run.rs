@@ -3,11 +3,12 @@
 
 use crate::check::Finding;
 use crate::compare::fewer;
+use crate::count::{demands, Count};
 use crate::judging_groups::{Changed, JUDGING_GROUPS};
 use crate::kit::Kit;
 use crate::limits::ROWS;
+use crate::part::{Compared, Group, Part, Run};
 use crate::rng::Rng;
-use crate::said::{demands, Count, Group, Part, Run};
 use crate::values::{self, HeldRow, Values};
 
 /// Reasons, each with whether it names a place.
@@ -98,13 +99,7 @@ impl Part for JudgingTally {
     const ONE_IN: u64 = 3;
     const FIRST_GROUP: u64 = 4_000;
 
-    fn case(
-        &mut self,
-        run: Run,
-        group: &Group<Changed>,
-        rng: &mut Rng,
-        case: u64,
-    ) -> Option<Result<u64, String>> {
+    fn case(&mut self, run: Run, group: &Group<Changed>, rng: &mut Rng, case: u64) -> Compared {
         let Some(values) = group.make.values(rng, case)? else {
             return Some(Ok(0));
         };

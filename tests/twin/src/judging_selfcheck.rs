@@ -2,10 +2,10 @@
 //! worked out by hand, and that checking a text is reading it and then judging what
 //! was read.
 
+use crate::bars::tabbed;
 use crate::check::{self, Finding};
 use crate::checking_faults::judged_early;
 use crate::rng::Rng;
-use crate::said::tabbed;
 use crate::selfcheck::{holds, same, Outcome};
 use crate::sheets;
 use crate::table::{Refusal, ROW_REASONS};
@@ -22,37 +22,40 @@ fn finds(what: &str, values: &Values, reason: u32, place: u32) -> Outcome {
     same(what, values::judge(values), Finding { reason, place })
 }
 
+type Change = fn(&mut Values);
+
+/// Changes of the square, each with the reason and the place that are then found.
+const CHANGES: [(Change, u32, u32); 21] = [
+    (|x| x.n = 65, 3, 0),
+    (|x| (x.n, x.fibres) = (u32::MAX, 3), 3, 0),
+    (|x| (x.fibres, x.rows[0].first) = (3, 0), 20, 0),
+    (|x| x.rows[0].second = 5, 4, 1),
+    (|x| x.rows[1].first = 4, 5, 2),
+    (|x| x.rows.swap(0, 1), 6, 2),
+    (|x| x.rows[1].amount = 10_000, 7, 2),
+    (|x| x.rows[0].front = 2, 8, 1),
+    (|x| x.rows[0].front = u32::MAX, 8, 1),
+    (|x| (x.rows[0].front, x.rows[0].back) = (u32::MAX, 3), 8, 1),
+    (|x| (x.rows[1].front, x.rows[1].back) = (2, 0), 9, 2),
+    (|x| x.rows[1].way = 7, 0, 0),
+    (|x| (x.g, x.links) = (3, Vec::new()), 10, 0),
+    (|x| x.across = u32::MAX, 10, 0),
+    (|x| x.links.truncate(3), 11, 0),
+    (|x| x.links.clear(), 11, 0),
+    (|x| x.links.push(x.links[0]), 11, 0),
+    (|x| x.links[3].link = 3, 11, 4),
+    (|x| (x.links[1].split, x.peak) = (1, 0), 11, 2),
+    (|x| x.peak = 3, 12, 0),
+    (|x| x.rows = vec![x.rows[1]; 1_025], 16, 1_025),
+];
+
 /// The square: 1-3 and 2-4 of 1, each halved, the one F and the other B.
 pub fn by_hand() -> Outcome {
     let square = stated(0)?;
     finds("the square", &square, 0, 0)?;
     finds("13", &stated(8)?, 13, 0)?;
     finds("14", &stated(9)?, 14, 0)?;
-    type Change = fn(&mut Values);
-    let changes: [(Change, u32, u32); 21] = [
-        (|x| x.n = 65, 3, 0),
-        (|x| (x.n, x.fibres) = (u32::MAX, 3), 3, 0),
-        (|x| (x.fibres, x.rows[0].first) = (3, 0), 20, 0),
-        (|x| x.rows[0].second = 5, 4, 1),
-        (|x| x.rows[1].first = 4, 5, 2),
-        (|x| x.rows.swap(0, 1), 6, 2),
-        (|x| x.rows[1].amount = 10_000, 7, 2),
-        (|x| x.rows[0].front = 2, 8, 1),
-        (|x| x.rows[0].front = u32::MAX, 8, 1),
-        (|x| (x.rows[0].front, x.rows[0].back) = (u32::MAX, 3), 8, 1),
-        (|x| (x.rows[1].front, x.rows[1].back) = (2, 0), 9, 2),
-        (|x| x.rows[1].way = 7, 0, 0),
-        (|x| (x.g, x.links) = (3, Vec::new()), 10, 0),
-        (|x| x.across = u32::MAX, 10, 0),
-        (|x| x.links.truncate(3), 11, 0),
-        (|x| x.links.clear(), 11, 0),
-        (|x| x.links.push(x.links[0]), 11, 0),
-        (|x| x.links[3].link = 3, 11, 4),
-        (|x| (x.links[1].split, x.peak) = (1, 0), 11, 2),
-        (|x| x.peak = 3, 12, 0),
-        (|x| x.rows = vec![x.rows[1]; 1_025], 16, 1_025),
-    ];
-    for (at, (change, reason, place)) in changes.into_iter().enumerate() {
+    for (at, (change, reason, place)) in CHANGES.into_iter().enumerate() {
         let mut values = square.clone();
         change(&mut values);
         finds(

@@ -167,8 +167,12 @@ fn library_work(ask: &Ask, words: &mut [u32], area: &mut [u8], lent: Range<usize
     unsafe {
         match *ask {
             Ask::Start { n, fibres } => Told::Work(ringkit_work_start(work, n, fibres)),
-            Ask::Add([i, j, d]) => Told::Work(ringkit_work_add(work, i, j, d)),
-            Ask::Change(place, [i, j, d]) => Told::Work(ringkit_work_change(work, place, i, j, d)),
+            Ask::Add([first, second, amount]) => {
+                Told::Work(ringkit_work_add(work, first, second, amount))
+            }
+            Ask::Change(place, [first, second, amount]) => {
+                Told::Work(ringkit_work_change(work, place, first, second, amount))
+            }
             Ask::Remove(place) => Told::Work(ringkit_work_remove(work, place)),
             Ask::Row(place) => Told::Row(ringkit_work_row(work, place)),
             Ask::Write(_) => {

@@ -6,3 +6,7 @@ pub const OFFICES: i64 = 64;
 pub const ROWS: usize = 1_024;
 /// A number has so many digits at most.
 pub const DIGITS: usize = 8;
+/// A row, an entry of a matrix and the sum of a pair have such an amount at most.
+pub const AMOUNT: i64 = 9_999;
+/// A text has so many bytes at most.
+pub const TEXT: usize = 32_768;

@@ -24,6 +24,7 @@
 //! their answers; `twin --judged` judges the stored values given there, and `twin
 //! --turned` sends the circuits of the stored tables.
 
+mod bars;
 mod byte_faults;
 mod byte_groups;
 mod byte_selfcheck;
@@ -31,6 +32,7 @@ mod byte_tally;
 mod check;
 mod checking_faults;
 mod compare;
+mod count;
 mod foreign;
 mod gen;
 mod groups;
@@ -45,13 +47,13 @@ mod matrix;
 mod matrix_faults;
 mod matrix_selfcheck;
 mod mutant;
+mod part;
 #[cfg(remote)]
 mod remote;
 mod rng;
 mod round_trips;
 mod row_faults;
 mod rules;
-mod said;
 mod selfcheck;
 mod shape;
 mod sheet;
@@ -76,10 +78,11 @@ mod working_run;
 mod working_selfcheck;
 mod working_stand_in;
 
+use count::{outcomes, Count};
 use judging_run::JudgingTally;
 use kit::Kit;
 use mutant::{faults, same, Mutant};
-use said::{outcomes, part, Count, Run};
+use part::{part, Run};
 use std::process::ExitCode;
 use text_run::TextTally;
 use turning_run::TurningTally;
@@ -148,13 +151,13 @@ fn places(mutant: &'static Mutant, seed: u64, count: u64) -> (usize, usize) {
         describing: false,
     };
     if mutant.of_working() {
-        said::places::<WorkTally>(run)
+        part::places::<WorkTally>(run)
     } else if mutant.of_judging() {
-        said::places::<JudgingTally>(run)
+        part::places::<JudgingTally>(run)
     } else if mutant.of_turning() {
-        said::places::<TurningTally>(run)
+        part::places::<TurningTally>(run)
     } else {
-        said::places::<TextTally>(run)
+        part::places::<TextTally>(run)
     }
 }
 

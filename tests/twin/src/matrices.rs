@@ -1,13 +1,13 @@
 //! The groups of matrices to be read and of tables to be written as matrices:
 //! whole lists first, then random ones and damaged texts.
 
+use crate::bars::tabbed;
 use crate::compare::{Case, Lend, NONE};
 use crate::gen::{self, Amounts};
 use crate::groups::{of_table, of_text, padded_length, ENOUGH, LENDS, SHORT};
 use crate::limits::ROWS;
 use crate::matrix::{self, matrix_text, Matrix};
 use crate::rng::Rng;
-use crate::said::tabbed;
 use crate::table::{Row, Table};
 use crate::twin::Call;
 
@@ -176,7 +176,7 @@ pub fn every_length(rng: &mut Rng, case: u64) -> Option<Case> {
 pub fn square(table: &Table) -> Matrix {
     let mut matrix = matrix::zeros(table.n);
     for row in &table.rows {
-        matrix::set(&mut matrix, row.i, row.j, row.d);
+        matrix::set(&mut matrix, row.first, row.second, row.amount);
     }
     matrix
 }
@@ -376,7 +376,7 @@ fn circuits(rng: &mut Rng) -> Table {
     let mut table = gen::circuits(rng, n, count);
     let top = rng.pick(&[0, 3, 20, 20, 400, 4_999]);
     for row in &mut table.rows {
-        row.d = row.d.min(top);
+        row.amount = row.amount.min(top);
     }
     table
 }
@@ -404,7 +404,11 @@ pub fn about_the_limit(rng: &mut Rng, _: u64) -> Option<Case> {
         else {
             break;
         };
-        let Row { i, j, .. } = table.rows[at];
+        let Row {
+            first: i,
+            second: j,
+            ..
+        } = table.rows[at];
         // The last two come out small where 16 bits are all that is kept.
         let total = rng.pick(&[9_998, 9_999, 9_999, 10_000, 10_001, 65_536, 70_000]);
         fill(rng, &mut table, i, j, total);
@@ -416,7 +420,10 @@ pub fn about_the_limit(rng: &mut Rng, _: u64) -> Option<Case> {
 /// as a row can have.
 fn fill(rng: &mut Rng, table: &mut Table, i: i64, j: i64, total: i64) {
     let mut left = total;
-    let row = table.rows.iter_mut().filter(|row| (row.i, row.j) == (i, j));
+    let row = table
+        .rows
+        .iter_mut()
+        .filter(|row| (row.first, row.second) == (i, j));
     let mut rows: Vec<&mut Row> = row.collect();
     let last = rng.below(rows.len());
     for (at, row) in rows.iter_mut().enumerate() {
@@ -425,7 +432,7 @@ fn fill(rng: &mut Rng, table: &mut Table, i: i64, j: i64, total: i64) {
         } else {
             left.min(9_999)
         };
-        row.d = part;
+        row.amount = part;
         left -= part;
     }
 }

@@ -1,6 +1,6 @@
 //! A matrix, read into a table and written from one (Rules, matrices).
 
-use crate::limits::ROWS;
+use crate::limits::{AMOUNT, ROWS};
 use crate::shape;
 use crate::table::{self, misshapen, refuse, start_of, Line, Refusal, Row, Table};
 
@@ -14,16 +14,16 @@ pub struct Matrix {
 /// The questions behind the reasons 3, 7 and 16, where a yes is the refusal, and
 /// the search for the first faulty entry.
 #[derive(Clone, Copy)]
-pub struct Questions {
+pub struct MatrixQuestions {
     pub off_size: fn(usize) -> bool,
     pub too_much: fn(i64) -> bool,
     pub faulty: fn(&Matrix) -> Option<Refusal>,
     pub too_many: fn(&Matrix) -> bool,
 }
 
-pub const QUESTIONS: Questions = Questions {
+pub const MATRIX_QUESTIONS: MatrixQuestions = MatrixQuestions {
     off_size: |n| !table::known_size(n as i64),
-    too_much: |entry| entry > 9_999,
+    too_much: table::too_much,
     faulty,
     too_many: |matrix| rows(matrix).len() > ROWS,
 };
@@ -64,12 +64,12 @@ pub fn read_told(text: &[u8], fibres: u32) -> Result<Matrix, Refusal> {
 
 /// The matrix, or the refusal.
 pub fn read(text: &[u8]) -> Result<Matrix, Refusal> {
-    read_asking(text, &QUESTIONS)
+    read_asking(text, &MATRIX_QUESTIONS)
 }
 
 /// 1, 2, 3 and 7 by lines as before, then the first faulty entry, then 16, line 0,
 /// where more rows are made than a table may have.
-pub fn read_asking(text: &[u8], questions: &Questions) -> Result<Matrix, Refusal> {
+pub fn read_asking(text: &[u8], questions: &MatrixQuestions) -> Result<Matrix, Refusal> {
     table::read_length(text)?;
     let mut matrix = Matrix { lines: Vec::new() };
     for line in table::lines(text) {
@@ -90,7 +90,11 @@ pub fn read_asking(text: &[u8], questions: &Questions) -> Result<Matrix, Refusal
 
 /// The next line, behind those that stand above it: in the line 2, then 3 of the
 /// first line, which is judged as a whole, then 7 at its first entry over the limit.
-fn read_line(line: &Line, above: &Matrix, questions: &Questions) -> Result<Vec<i64>, Refusal> {
+fn read_line(
+    line: &Line,
+    above: &Matrix,
+    questions: &MatrixQuestions,
+) -> Result<Vec<i64>, Refusal> {
     let at = above.lines.len() as u32 + 1;
     let first = above.lines.first().map(|first| first.len());
     if first.is_some_and(|n| at as usize > n) {
@@ -127,7 +131,7 @@ pub fn rows(matrix: &Matrix) -> Vec<Row> {
             let d = matrix.lines[i][j];
             if d > 0 {
                 let (i, j) = (i as i64 + 1, j as i64 + 1);
-                rows.push(Row { i, j, d });
+                rows.push(Row::of(i, j, d));
             }
         }
     }
@@ -157,18 +161,21 @@ pub fn set(matrix: &mut Matrix, i: i64, j: i64, d: i64) {
 /// Writing adds up rows of one pair. 19 is on the row where a pair's sum passes
 /// 9,999.
 pub fn add_up(table: &Table) -> Result<Matrix, Refusal> {
-    take_in(table, |sum, d| sum + d, 9_999)
+    take_in(table, |sum, d| sum + d, AMOUNT)
 }
 
 /// Each row taken into what its pair has so far, up to a limit.
 pub fn take_in(table: &Table, take: fn(i64, i64) -> i64, limit: i64) -> Result<Matrix, Refusal> {
     let mut matrix = zeros(table.n);
     for (at, row) in table.rows.iter().enumerate() {
-        let sum = take(matrix.lines[row.i as usize - 1][row.j as usize - 1], row.d);
+        let sum = take(
+            matrix.lines[row.first as usize - 1][row.second as usize - 1],
+            row.amount,
+        );
         if sum > limit {
             return refuse(19, at as u32 + 2, 1);
         }
-        set(&mut matrix, row.i, row.j, sum);
+        set(&mut matrix, row.first, row.second, sum);
     }
     Ok(matrix)
 }

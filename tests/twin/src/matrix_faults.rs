@@ -1,8 +1,8 @@
 //! Faults of reading a matrix and of writing one: what mutant.rs lists behind
 //! its own.
 
-use crate::limits::{OFFICES, ROWS};
-use crate::matrix::{self, Matrix, Questions, QUESTIONS};
+use crate::limits::{AMOUNT, OFFICES, ROWS, TEXT};
+use crate::matrix::{self, Matrix, MatrixQuestions, MATRIX_QUESTIONS};
 use crate::mutant::{pairs, read_matrix, says_fibres, square, sums, told, Mutant};
 use crate::table::{self, refuse, Line, Refusal, Row, Table};
 use crate::text_faults::*;
@@ -34,13 +34,13 @@ pub static MATRIX_FAULTS: [Mutant; 71] = [
     read_matrix("matrix: 64 offices refused", |text| sized(text, 2, 63)),
     read_matrix("matrix: 65 offices taken", |text| sized(text, 2, 65)),
     read_matrix("matrix: 9,999 refused", |text| {
-        limited(text, |entry| entry >= 9_999)
+        limited(text, |entry| entry >= AMOUNT)
     }),
     read_matrix("matrix: 10,000 taken", |text| {
-        limited(text, |entry| entry > 10_000)
+        limited(text, |entry| entry > AMOUNT + 1)
     }),
     read_matrix("matrix: 3 before 2", three_before_2),
-    read_matrix("matrix: 3 never", |text| sized(text, 0, 32_768)),
+    read_matrix("matrix: 3 never", |text| sized(text, 0, usize::MAX)),
     read_matrix("matrix: 7 before 3", seven_before_3),
     read_matrix("matrix: 7 before 2 in a line", seven_before_2),
     read_matrix("matrix: 2 in any line first", |text| late(text, &[2])),
@@ -109,22 +109,22 @@ pub static MATRIX_FAULTS: [Mutant; 71] = [
     pairs("matrix: both halves added", doubled),
     pairs("matrix: the last office left out", without_last),
     sums("sums: the first row alone", |text| {
-        summed(text, first_alone, 9_999)
+        summed(text, first_alone, AMOUNT)
     }),
     sums("sums: the last row alone", |text| {
-        summed(text, |_, d| d, 9_999)
+        summed(text, |_, d| d, AMOUNT)
     }),
     sums("sums: the largest row", |text| {
-        summed(text, i64::max, 9_999)
+        summed(text, i64::max, AMOUNT)
     }),
     sums("sums: 9,999 for more", |text| {
-        summed(text, |sum, d| (sum + d).min(9_999), 9_999)
+        summed(text, |sum, d| (sum + d).min(AMOUNT), AMOUNT)
     }),
     sums("sums: 9,999 refused", |text| {
-        summed(text, |sum, d| sum + d, 9_998)
+        summed(text, |sum, d| sum + d, AMOUNT - 1)
     }),
     sums("sums: 10,000 taken", |text| {
-        summed(text, |sum, d| sum + d, 10_000)
+        summed(text, |sum, d| sum + d, AMOUNT + 1)
     }),
     sums("sums: in 16 bits, at the end", in_16_bits),
     sums("19: on the pair's first row", |text| {
@@ -170,7 +170,7 @@ fn first_fields(text: &[u8]) -> usize {
 }
 
 fn three_before_2(text: &[u8]) -> Read {
-    let off = (QUESTIONS.off_size)(first_fields(text));
+    let off = (MATRIX_QUESTIONS.off_size)(first_fields(text));
     matrix::read(text).map_err(|refusal| match refusal {
         Refusal {
             reason: 2, line: 1, ..
@@ -195,9 +195,9 @@ fn sized(text: &[u8], low: usize, high: usize) -> Read {
     };
     matrix::read_asking(
         text,
-        &Questions {
+        &MatrixQuestions {
             off_size,
-            ..QUESTIONS
+            ..MATRIX_QUESTIONS
         },
     )
 }
@@ -205,21 +205,23 @@ fn sized(text: &[u8], low: usize, high: usize) -> Read {
 fn limited(text: &[u8], too_much: fn(i64) -> bool) -> Read {
     matrix::read_asking(
         text,
-        &Questions {
+        &MatrixQuestions {
             too_much,
-            ..QUESTIONS
+            ..MATRIX_QUESTIONS
         },
     )
 }
 
 fn seven_before_3(text: &[u8]) -> Read {
     match matrix::read(text) {
-        Err(Refusal { reason: 3, .. }) => sized(text, 0, 32_768).or_else(|refusal| match refusal {
-            Refusal {
-                reason: 7, line: 1, ..
-            } => Err(refusal),
-            _ => refuse(3, 1, 1),
-        }),
+        Err(Refusal { reason: 3, .. }) => {
+            sized(text, 0, usize::MAX).or_else(|refusal| match refusal {
+                Refusal {
+                    reason: 7, line: 1, ..
+                } => Err(refusal),
+                _ => refuse(3, 1, 1),
+            })
+        }
         read => read,
     }
 }
@@ -231,7 +233,7 @@ fn seven_before_2(text: &[u8]) -> Read {
         let line = table::lines(text).get(at).copied();
         let over = |line: &Line| {
             let mut fields = line.bytes.split(|byte| *byte == b'\t');
-            fields.position(|field| table::number(field).is_some_and(|entry| entry > 9_999))
+            fields.position(|field| table::number(field).is_some_and(table::too_much))
         };
         match (
             refusal.reason,
@@ -254,12 +256,12 @@ fn late(text: &[u8], reasons: &[u32]) -> Read {
     let off_size: fn(usize) -> bool = if reasons == [2] {
         |_| false
     } else {
-        QUESTIONS.off_size
+        MATRIX_QUESTIONS.off_size
     };
-    let lenient = Questions {
+    let lenient = MatrixQuestions {
         too_much,
         off_size,
-        ..QUESTIONS
+        ..MATRIX_QUESTIONS
     };
     match matrix::read_asking(text, &lenient) {
         Err(refusal) if reasons.contains(&refusal.reason) => Err(refusal),
@@ -285,7 +287,7 @@ fn diagonal_by_line(text: &[u8]) -> Read {
 
 fn lines_first(text: &[u8]) -> Read {
     let (lines, n) = (table::lines(text).len(), first_fields(text));
-    if text.len() <= 32_768 && lines != n {
+    if text.len() <= TEXT && lines != n {
         return refuse(2, lines.min(n) as u32 + 1, 1);
     }
     matrix::read(text)
@@ -293,7 +295,7 @@ fn lines_first(text: &[u8]) -> Read {
 
 fn n_of_lines(text: &[u8]) -> Read {
     let lines = table::lines(text).len();
-    if text.len() <= 32_768 && lines != first_fields(text) {
+    if text.len() <= TEXT && lines != first_fields(text) {
         return refuse(2, 1, 1);
     }
     matrix::read(text)
@@ -324,7 +326,7 @@ fn without_lines(text: &[u8]) -> Read {
         text,
         |at, line| if at < n { line.to_vec() } else { Vec::new() },
     );
-    if text.len() > 32_768 {
+    if text.len() > TEXT {
         return refuse(1, 0, 0);
     }
     matrix::read(&kept)
@@ -343,7 +345,7 @@ fn fitted(text: &[u8], shorter: bool) -> Read {
         }
         _ => line.to_vec(),
     };
-    if n > OFFICES as usize || text.len() > 32_768 {
+    if n > OFFICES as usize || text.len() > TEXT {
         return matrix::read(text);
     }
     matrix::read(&map_lines(text, fit))
@@ -354,9 +356,9 @@ fn fitted(text: &[u8], shorter: bool) -> Read {
 fn searched(text: &[u8], faulty: fn(&Matrix) -> Option<Refusal>) -> Read {
     matrix::read_asking(
         text,
-        &Questions {
+        &MatrixQuestions {
             faulty,
-            ..QUESTIONS
+            ..MATRIX_QUESTIONS
         },
     )
 }
@@ -364,19 +366,19 @@ fn searched(text: &[u8], faulty: fn(&Matrix) -> Option<Refusal>) -> Read {
 fn counted(text: &[u8], too_many: fn(&Matrix) -> bool) -> Read {
     matrix::read_asking(
         text,
-        &Questions {
+        &MatrixQuestions {
             too_many,
-            ..QUESTIONS
+            ..MATRIX_QUESTIONS
         },
     )
 }
 
 /// Too many rows by the upper half, whatever stands below it.
 fn many_or_faulty(matrix: &Matrix) -> Option<Refusal> {
-    if (QUESTIONS.too_many)(matrix) {
+    if (MATRIX_QUESTIONS.too_many)(matrix) {
         return refuse::<Matrix>(16, 0, 0).err();
     }
-    (QUESTIONS.faulty)(matrix)
+    (MATRIX_QUESTIONS.faulty)(matrix)
 }
 
 fn many_at(text: &[u8], line: u32, byte: u32) -> Read {
@@ -507,7 +509,7 @@ fn rows_by(matrix: &Matrix, amount: impl Fn(usize, usize) -> i64) -> Table {
     for (i, j) in rows_first(n).into_iter().filter(|(i, j)| i < j) {
         let d = amount(i, j);
         let (i, j) = (i as i64 + 1, j as i64 + 1);
-        rows.push(Row { i, j, d });
+        rows.push(Row::of(i, j, d));
     }
     let (n, fibres) = (n as i64, 4);
     Table { n, fibres, rows }
@@ -520,26 +522,26 @@ fn zeros_kept(matrix: &Matrix) -> Table {
 /// Comes to the same.
 pub fn lower_half(matrix: &Matrix) -> Table {
     let mut table = rows_by(matrix, |i, j| matrix.lines[j][i]);
-    table.rows.retain(|row| row.d > 0);
+    table.rows.retain(|row| row.amount > 0);
     table
 }
 
 fn doubled(matrix: &Matrix) -> Table {
     let mut table = rows_by(matrix, |i, j| matrix.lines[i][j] + matrix.lines[j][i]);
-    table.rows.retain(|row| row.d > 0);
+    table.rows.retain(|row| row.amount > 0);
     table
 }
 
 fn by_second(matrix: &Matrix) -> Table {
     let mut table = matrix::table_of(matrix, 4);
-    table.rows.sort_by_key(|row| (row.j, row.i));
+    table.rows.sort_by_key(|row| (row.second, row.first));
     table
 }
 
 fn without_last(matrix: &Matrix) -> Table {
     let mut table = matrix::table_of(matrix, 4);
     let n = table.n;
-    table.rows.retain(|row| row.j < n || row.i < n - 1);
+    table.rows.retain(|row| row.second < n || row.first < n - 1);
     table
 }
 
@@ -561,8 +563,8 @@ fn first_alone(sum: i64, d: i64) -> i64 {
 /// The limit is asked of whole sums that have lost their upper bits.
 fn in_16_bits(text: &[u8]) -> Read {
     let wrapped = summed(text, |sum, d| (sum + d) % 65_536, i64::MAX)?;
-    if wrapped.lines.iter().flatten().any(|sum| *sum > 9_999) {
-        return summed(text, |sum, d| sum + d, 9_999);
+    if wrapped.lines.iter().flatten().any(|sum| *sum > AMOUNT) {
+        return summed(text, |sum, d| sum + d, AMOUNT);
     }
     Ok(wrapped)
 }
@@ -572,7 +574,8 @@ fn moved(text: &[u8], choose: fn(&[usize], usize) -> usize) -> Read {
     let table = table::read(text)?;
     matrix::add_up(&table).map_err(|refusal| {
         let at = refusal.line as usize - 2;
-        let nodes = |row: &Row| (row.i, row.j) == (table.rows[at].i, table.rows[at].j);
+        let nodes =
+            |row: &Row| (row.first, row.second) == (table.rows[at].first, table.rows[at].second);
         let places = (0..table.rows.len()).filter(|place| nodes(&table.rows[*place]));
         let line = choose(&places.collect::<Vec<_>>(), at) as u32 + 2;
         Refusal { line, ..refusal }
@@ -584,9 +587,17 @@ fn last_sum(text: &[u8]) -> Read {
     let mut read = matrix::add_up(&table);
     while let Err(Refusal { line, .. }) = read {
         // What has passed counts for nothing from here on.
-        let Row { i, j, .. } = table.rows[line as usize - 2];
-        for row in table.rows.iter_mut().filter(|row| (row.i, row.j) == (i, j)) {
-            row.d = 0;
+        let Row {
+            first: i,
+            second: j,
+            ..
+        } = table.rows[line as usize - 2];
+        for row in table
+            .rows
+            .iter_mut()
+            .filter(|row| (row.first, row.second) == (i, j))
+        {
+            row.amount = 0;
         }
         let next = matrix::add_up(&table);
         if next.is_ok() {

@@ -6,7 +6,7 @@ use crate::check::{self, Finding, Question, Questions, Sheet, QUESTIONS};
 use crate::checking_faults::*;
 use crate::foreign::cuts;
 use crate::judging_faults::JUDGING_FAULTS;
-use crate::limits::ROWS;
+use crate::limits::{ROWS, TEXT};
 use crate::matrix::{self, Matrix};
 use crate::matrix_faults::{self, MATRIX_FAULTS};
 use crate::row_faults::*;
@@ -731,8 +731,8 @@ impl Sending {
         let row = rows[at];
         let unsent = if self.all { rows } else { &rows[at + 1..] };
         let mut values = Vec::new();
-        for g in row.i..row.j {
-            for h in (g..row.j).filter(|h| (self.pairs)(g, *h)) {
+        for g in row.first..row.second {
+            for h in (g..row.second).filter(|h| (self.pairs)(g, *h)) {
                 let there = rules::across(unsent, g, h);
                 values.push(room[g as usize] + room[h as usize] - self.times * there);
             }
@@ -746,9 +746,9 @@ impl Sending {
         let mut sent = Vec::new();
         for (at, row) in table.rows.iter().enumerate() {
             let half = self.least(&table.rows, at, &room).map(|s| s / 2);
-            let front = half.map_or(2 * row.d, |half| half.min(2 * row.d));
+            let front = half.map_or(2 * row.amount, |half| half.min(2 * row.amount));
             let front = (self.front)(front);
-            let back = 2 * row.d - front;
+            let back = 2 * row.amount - front;
             for link in 1..=table.n {
                 let over_back = if self.back_costs { back } else { 0 };
                 let in_front = rules::front_holds(row, link);
@@ -803,7 +803,13 @@ fn b_back(table: &Table) -> Plan {
 
 fn b_by_amount(table: &Table) -> Plan {
     let mut order: Vec<usize> = (0..table.rows.len()).collect();
-    order.sort_by_key(|at| (table.rows[*at].i, table.rows[*at].j, table.rows[*at].d));
+    order.sort_by_key(|at| {
+        (
+            table.rows[*at].first,
+            table.rows[*at].second,
+            table.rows[*at].amount,
+        )
+    });
     let rows = order.iter().map(|at| table.rows[*at]).collect();
     let plan = rules::plan(&Table { rows, ..*table });
     let (mut sent, mut ways) = (plan.sent.clone(), plan.ways.clone());
@@ -930,7 +936,7 @@ fn c_at_start(table: &Table) -> Plan {
 fn c_shared(table: &Table) -> Plan {
     with_c(table, |rows, sent| {
         c_kept(rows, sent, |one, two| {
-            one.i != two.i && one.j != two.j && one.j != two.i
+            one.first != two.first && one.second != two.second && one.second != two.first
         })
     })
 }
@@ -943,7 +949,7 @@ fn c_other_nodes(table: &Table) -> Plan {
 
 fn c_touching(table: &Table) -> Plan {
     with_c(table, |rows, sent| {
-        c_kept(rows, sent, |one, two| one.j != two.i)
+        c_kept(rows, sent, |one, two| one.second != two.first)
     })
 }
 
@@ -972,7 +978,7 @@ fn d_with(sent: &[Sent], largest: i64, after: fn(i64, i64) -> i64) -> Vec<Way> {
 
 fn d_all(table: &Table) -> Plan {
     with_d(table, |rows, sent| {
-        let largest = rows.iter().map(|row| row.d).max().unwrap_or(0);
+        let largest = rows.iter().map(|row| row.amount).max().unwrap_or(0);
         d_with(sent, largest, |_, s| s)
     })
 }
@@ -1011,7 +1017,7 @@ fn d_zero(table: &Table) -> Plan {
     with_d(table, |rows, sent| {
         let mut ways = rules::rule_d(rows, sent);
         for (at, row) in rows.iter().enumerate() {
-            if row.d == 0 {
+            if row.amount == 0 {
                 ways[at] = Way::B;
             }
         }
@@ -1142,7 +1148,7 @@ fn shape_first(text: &[u8]) -> Result<Table, Refusal> {
     for (at, line) in lines.enumerate().skip(1) {
         let alone = table::read(&[b"R\t64\t4\n", line].concat());
         match alone {
-            Err(refusal) if text.len() <= 32_768 && refusal.reason == 2 => {
+            Err(refusal) if text.len() <= TEXT && refusal.reason == 2 => {
                 return refuse(2, at as u32 + 1, refusal.byte);
             }
             _ => (),
@@ -1152,11 +1158,13 @@ fn shape_first(text: &[u8]) -> Result<Table, Refusal> {
 }
 
 fn without_zeros(mut table: Table) -> Table {
-    table.rows.retain(|row| row.d > 0);
+    table.rows.retain(|row| row.amount > 0);
     table
 }
 
 fn by_amount(mut table: Table) -> Table {
-    table.rows.sort_by_key(|row| (row.i, row.j, row.d));
+    table
+        .rows
+        .sort_by_key(|row| (row.first, row.second, row.amount));
     table
 }

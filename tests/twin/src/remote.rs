@@ -4,6 +4,7 @@
 
 use crate::check::Finding;
 use crate::compare::words_of;
+use crate::table::Refusal;
 use crate::turns::TurnReply;
 use crate::twin::{Call, Pair, Reply, Said};
 use crate::values::Values;
@@ -98,21 +99,11 @@ impl Server {
         let (name, told) = (call.name(), [call.told(), 0, 0, 0]);
         let said = self.made(&name, told, (text, 0), area, lent)?;
         let [reason, line, byte, ..] = said.map(|number| number as u32);
+        let refusal = Refusal { reason, line, byte };
         let (first, second) = (said[3] as usize, said[4] as usize);
         Ok(match call {
-            Call::Parallel => Said::Pair(Pair {
-                reason,
-                line,
-                byte,
-                first,
-                second,
-            }),
-            _ => Said::Reply(Reply {
-                reason,
-                line,
-                byte,
-                length: first,
-            }),
+            Call::Parallel => Said::Pair(Pair::of(refusal, (first, second))),
+            _ => Said::Reply(Reply::of(refusal, first)),
         })
     }
 
@@ -136,12 +127,10 @@ impl Server {
                 second: two,
                 amount: three,
             }),
-            Ask::Write(_) => Told::Text(Reply {
-                reason,
-                line,
-                byte,
-                length: said[3] as usize,
-            }),
+            Ask::Write(_) => {
+                let refusal = Refusal { reason, line, byte };
+                Told::Text(Reply::of(refusal, said[3] as usize))
+            }
             _ => Told::Work(WorkReply {
                 reason,
                 line,

@@ -36,7 +36,7 @@ fn table(rng: &mut Rng, case: u64) -> Table {
         4 => gen::full(rng, 64, Amounts::Ends),
         _ => gen::any(rng, n),
     };
-    table.rows.retain(|row| row.d > 0);
+    table.rows.retain(|row| row.amount > 0);
     table
 }
 

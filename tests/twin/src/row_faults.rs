@@ -1,7 +1,7 @@
 //! Faults of judging a row, of a table or of a sheet: reasons asked in another
 //! order or with another limit. What mutant.rs lists for both.
 
-use crate::limits::ROWS;
+use crate::limits::{AMOUNT, ROWS};
 use crate::table::{Refusal, RowReason};
 use crate::table::{FALLEN, NOT_BELOW, OFF_RING, TOO_MANY, TOO_MUCH};
 
@@ -27,7 +27,7 @@ pub const NOT_ABOVE: [RowReason; 5] = {
         above
             .rows
             .last()
-            .is_some_and(|before| (row[0], row[1]) <= (before.i, before.j))
+            .is_some_and(|before| (row[0], row[1]) <= (before.first, before.second))
     });
     [OFF_RING, NOT_BELOW, not_above, TOO_MANY, TOO_MUCH]
 };
@@ -37,25 +37,28 @@ pub const NOT_OTHER: [RowReason; 6] = {
         above
             .rows
             .last()
-            .is_some_and(|before| row[..3] == [before.i, before.j, before.d])
+            .is_some_and(|before| row[..3] == [before.first, before.second, before.amount])
     });
     [OFF_RING, NOT_BELOW, FALLEN, not_other, TOO_MANY, TOO_MUCH]
 };
 
 pub const BY_FIRST: [RowReason; 5] = {
     let by_first: RowReason = (6, |row, above| {
-        above.rows.last().is_some_and(|before| row[0] < before.i)
+        above
+            .rows
+            .last()
+            .is_some_and(|before| row[0] < before.first)
     });
     [OFF_RING, NOT_BELOW, by_first, TOO_MANY, TOO_MUCH]
 };
 
 pub const MUCH_LOW: [RowReason; 5] = {
-    let low: RowReason = (7, |row, _| row[2] >= 9_999);
+    let low: RowReason = (7, |row, _| row[2] >= AMOUNT);
     [OFF_RING, NOT_BELOW, FALLEN, TOO_MANY, low]
 };
 
 pub const MUCH_HIGH: [RowReason; 5] = {
-    let high: RowReason = (7, |row, _| row[2] > 10_000);
+    let high: RowReason = (7, |row, _| row[2] > AMOUNT + 1);
     [OFF_RING, NOT_BELOW, FALLEN, TOO_MANY, high]
 };
 

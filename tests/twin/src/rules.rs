@@ -40,7 +40,7 @@ pub struct Plan {
 
 /// Its front is links i to j-1, its back all other links.
 pub fn front_holds(row: &Row, link: i64) -> bool {
-    row.i <= link && link < row.j
+    row.first <= link && link < row.second
 }
 
 /// The sum of d over the demands whose front holds exactly one of g and h.
@@ -48,7 +48,7 @@ pub fn across(rows: &[Row], g: i64, h: i64) -> i64 {
     let mut sum = 0;
     for row in rows {
         let exactly_one = front_holds(row, g) != front_holds(row, h);
-        sum += if exactly_one { row.d } else { 0 };
+        sum += if exactly_one { row.amount } else { 0 };
     }
     sum
 }
@@ -75,8 +75,8 @@ pub fn rule_b(table: &Table, m: i64) -> Vec<Sent> {
     let mut sent = Vec::new();
     for (at, row) in table.rows.iter().enumerate() {
         let s = least(row, &table.rows[at + 1..], &room);
-        let front = (2 * row.d).min(s / 2);
-        let back = 2 * row.d - front;
+        let front = (2 * row.amount).min(s / 2);
+        let back = 2 * row.amount - front;
         for link in 1..=table.n {
             let over = if front_holds(row, link) { front } else { back };
             room[link as usize] -= over;
@@ -92,8 +92,8 @@ pub fn rule_b(table: &Table, m: i64) -> Vec<Sent> {
 /// it adds nothing and `unsent` may leave it out.
 pub fn least(row: &Row, unsent: &[Row], room: &[i64]) -> i64 {
     let mut least: Option<i64> = None;
-    for g in row.i..row.j {
-        for h in g..row.j {
+    for g in row.first..row.second {
+        for h in g..row.second {
             let there = if g == h { 0 } else { across(unsent, g, h) };
             let value = room[g as usize] + room[h as usize] - 2 * there;
             if least.is_none_or(|s| value < s) {
@@ -112,20 +112,23 @@ pub fn is_split(sent: &Sent) -> bool {
 /// Two demands cross when their four nodes are distinct and exactly one node
 /// of one lies strictly between the nodes of the other.
 pub fn cross(one: &Row, two: &Row) -> bool {
-    let distinct = one.i != two.i && one.i != two.j && one.j != two.i && one.j != two.j;
-    let first_between = one.i < two.i && two.i < one.j;
-    let second_between = one.i < two.j && two.j < one.j;
+    let distinct = one.first != two.first
+        && one.first != two.second
+        && one.second != two.first
+        && one.second != two.second;
+    let first_between = one.first < two.first && two.first < one.second;
+    let second_between = one.first < two.second && two.second < one.second;
     distinct && first_between != second_between
 }
 
 /// Fronts disjoint: no link is in both.
 pub fn fronts_disjoint(one: &Row, two: &Row) -> bool {
-    one.j <= two.i || two.j <= one.i
+    one.second <= two.first || two.second <= one.first
 }
 
 /// The front of `inner` lies inside the front of `outer`.
 pub fn front_inside(inner: &Row, outer: &Row) -> bool {
-    outer.i <= inner.i && inner.j <= outer.j
+    outer.first <= inner.first && inner.second <= outer.second
 }
 
 /// Rule C: go once through all pairs of rows, the first before the second, by
@@ -177,8 +180,8 @@ pub fn exchange(sent: &mut [Sent], outer: usize, inner: usize) {
 pub fn largest_split(rows: &[Row], sent: &[Sent]) -> i64 {
     let mut largest = 0;
     for (row, sent) in rows.iter().zip(sent) {
-        if is_split(sent) && row.d > largest {
-            largest = row.d;
+        if is_split(sent) && row.amount > largest {
+            largest = row.amount;
         }
     }
     largest
@@ -229,7 +232,7 @@ pub fn unsplit_load(rows: &[Row], ways: &[Way], link: i64) -> i64 {
     let mut sum = 0;
     for (row, way) in rows.iter().zip(ways) {
         if front_holds(row, link) == (*way == Way::F) {
-            sum += row.d;
+            sum += row.amount;
         }
     }
     sum

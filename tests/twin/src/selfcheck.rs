@@ -3,12 +3,12 @@
 //! the theorems are those that the rules state. A failure here means that the
 //! twin misreads the rules.
 
+use crate::bars::{barred, tabbed};
 use crate::check;
 use crate::foreign;
 use crate::gen;
 use crate::rng::Rng;
 use crate::rules::{self, Plan, Sent, Way};
-use crate::said::{barred, tabbed};
 use crate::sheet;
 use crate::sheets;
 use crate::table::{self, Refusal, Table};
@@ -177,13 +177,7 @@ pub fn sheets() -> Outcome {
     for (at, reason, line, byte, first, second) in [yes.as_slice(), &no, &pairs].concat() {
         let text = tabbed(sheets::SHEETS[at]);
         let got = twin::pair(&twin::answer(Call::Parallel, &text));
-        let wanted = Pair {
-            reason,
-            line,
-            byte,
-            first,
-            second,
-        };
+        let wanted = Pair::of(Refusal { reason, line, byte }, (first, second));
         same(sheets::SHEETS[at], got, wanted)?;
     }
     Ok(())
@@ -199,8 +193,15 @@ fn text_of(rows: &str, end: &str) -> Vec<u8> {
     tabbed(&format!("R|3|4\nD|{rows}{end}\n"))
 }
 
-/// Rows with the same nodes, the order of 6, 16 and 7, and as many as there may be.
+/// Rows with the same nodes: how they are refused, sent and untangled.
 pub fn circuits() -> Outcome {
+    circuits_refused()?;
+    circuits_sent()?;
+    circuits_untangled()
+}
+
+/// The order of 6, 16 and 7, and as many rows as there may be.
+fn circuits_refused() -> Outcome {
     let wanted = [
         ("1|2|1 1|2|1 1|2|0", 0, None),
         ("1|3|1 1|3|1 1|2|1", 0, Some((6, 4))),
@@ -225,7 +226,11 @@ pub fn circuits() -> Outcome {
         let of_sheet = of_sheet.map(place).filter(|_| refusal.is_some());
         same(&format!("sheet: {what}"), of_sheet, refusal)?;
     }
-    // Text order decides which circuit is split.
+    Ok(())
+}
+
+/// Text order decides which circuit is split.
+fn circuits_sent() -> Outcome {
     let routed = [
         ("D|1|2|1\nD|1|2|1\n", vec![(2, 0), (0, 2)], "FB"),
         ("D|1|2|3\nD|1|2|5\n", vec![(6, 0), (2, 8)], "FB"),
@@ -241,7 +246,11 @@ pub fn circuits() -> Outcome {
         )?;
         theorems(&table)?;
     }
-    // No table has rule B split both, so rule C is given them here.
+    Ok(())
+}
+
+/// No table has rule B split both, so rule C is given them here.
+fn circuits_untangled() -> Outcome {
     let rows = table("R|3|4\nD|1|3|3\nD|1|3|2\n")?.rows;
     let mut sent = [(2, 4), (3, 1)].map(|(front, back)| Sent { front, back });
     rules::rule_c(&rows, &mut sent);
@@ -284,7 +293,7 @@ fn theorem_b(table: &Table, sent: &[Sent], m: i64) -> Outcome {
     }
     let rows = table.rows.iter().zip(sent);
     let split = rows.filter(|(_, sent)| rules::is_split(sent));
-    let nodes: Vec<_> = split.map(|(row, _)| (row.i, row.j)).collect();
+    let nodes: Vec<_> = split.map(|(row, _)| (row.first, row.second)).collect();
     let rising = nodes.windows(2).all(|two| two[0] < two[1]);
     holds("one split row of two nodes", rising)?;
     holds("loads after rule B", within(table, sent, m))
@@ -303,7 +312,7 @@ fn theorem_c(table: &Table, sent: &[Sent]) -> Outcome {
     for (at, (one, _)) in split.iter().enumerate() {
         for (two, _) in &split[at + 1..] {
             holds("split rows cross", rules::cross(one, two))?;
-            holds("rising first node", one.i < two.i)?;
+            holds("rising first node", one.first < two.first)?;
         }
     }
     Ok(())
@@ -318,7 +327,7 @@ pub fn theorems(table: &Table) -> Outcome {
     theorem_c(table, &plan.sent)?;
     for (row, sent) in table.rows.iter().zip(&plan.sent) {
         holds("front and back", sent.front >= 0 && sent.back >= 0)?;
-        holds("sum is 2d", sent.front + sent.back == 2 * row.d)?;
+        holds("sum is 2d", sent.front + sent.back == 2 * row.amount)?;
     }
     holds("split loads within M", within(table, &plan.sent, m))?;
     holds("split peak is M", rules::peak(&plan.split) == m)?;

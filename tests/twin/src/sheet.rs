@@ -22,7 +22,7 @@ pub fn table_text(table: &Table) -> Vec<u8> {
     let mut text = String::new();
     line(&mut text, "R", &[table.n, table.fibres], "");
     for row in &table.rows {
-        line(&mut text, "D", &[row.i, row.j, row.d], "");
+        line(&mut text, "D", &[row.first, row.second, row.amount], "");
     }
     text.into_bytes()
 }
@@ -39,7 +39,7 @@ pub fn sheet_text(table: &Table, plan: &Plan) -> Vec<u8> {
             Way::F => "F",
             Way::B => "B",
         };
-        let numbers = [row.i, row.j, row.d, sent.front, sent.back];
+        let numbers = [row.first, row.second, row.amount, sent.front, sent.back];
         line(&mut text, "D", &numbers, way);
     }
     let cut = plan.cut;

@@ -1,6 +1,7 @@
 //! The groups of sheets: whole lists first, then sheets of ours, sheets of
 //! other tools, and damaged texts.
 
+use crate::bars::tabbed;
 use crate::compare::{Case, Lend, NONE};
 use crate::foreign;
 use crate::gen::{self, Amounts};
@@ -8,7 +9,6 @@ use crate::groups::{of_text, ENOUGH, LENDS, SHORT};
 use crate::limits::ROWS;
 use crate::rng::Rng;
 use crate::rules::{self, Plan, Sent, Way};
-use crate::said::tabbed;
 use crate::sheet::{sheet_text, table_text};
 use crate::table::{Row, Table};
 use crate::twin::Call;
@@ -122,7 +122,7 @@ fn small_of_3(code: usize) -> Option<Case> {
         code /= 7;
         if choice < 6 {
             let (front, back) = (choice % 3, 2 - choice % 3);
-            rows.push(Row { i, j, d: 1 });
+            rows.push(Row::of(i, j, 1));
             sent.push(Sent { front, back });
             ways.push(if choice < 3 { Way::F } else { Way::B });
         }
@@ -141,7 +141,7 @@ fn small_of_4(mut code: usize) -> Option<Case> {
         code /= 4;
         if choice < 3 {
             let (front, back) = (choice, 2 - choice);
-            rows.push(Row { i, j, d: 1 });
+            rows.push(Row::of(i, j, 1));
             sent.push(Sent { front, back });
         }
     }
@@ -171,8 +171,8 @@ pub fn about_most(_: &mut Rng, case: u64) -> Option<Case> {
         "D|2|3|1|0|2\n",
     ];
     let end = gen::sequence(&ends, 2, case)?.concat();
-    let mut rows = vec![Row { i: 1, j: 2, d: 1 }; 200];
-    rows.resize(ROWS, Row { i: 2, j: 3, d: 1 });
+    let mut rows = vec![Row::of(1, 2, 1); 200];
+    rows.resize(ROWS, Row::of(2, 3, 1));
     let (n, fibres) = (3, 4);
     let table = Table { n, fibres, rows };
     let text = sheet_text(&table, &rules::plan(&table));

@@ -7,13 +7,13 @@
 
 use crate::check::Finding;
 use crate::turns::{turn, TurnReply, WAYS};
-use crate::twin::{self, Call, Pair, Reply, Said};
+use crate::twin::{self, Call, Said};
 use crate::values::{self, HeldLink, HeldRow, Values};
 use std::io::{Read, Write};
 
-/// The buffer before a call, of which the case lends the beginning.
+/// The buffer before a call, of which the case lends the beginning: as in crates/cases.
 const ROOM: usize = 40_000;
-const PATTERN: u8 = 85;
+const PATTERN: u8 = 0x55;
 
 /// Answers the cases of standard input on standard output. False where one is
 /// not spelled as a case.
@@ -56,27 +56,16 @@ fn next_case(cases: &[u8]) -> Option<(Call, &[u8], usize, &[u8])> {
 fn line(call: Call, text: &[u8], room: usize) -> String {
     let mut buffer = vec![PATTERN; ROOM];
     let said = twin::say(call, &twin::answer(call, text), &mut buffer[..room]);
+    let (line, byte) = said.place();
+    let refusal = format!("{} {line} {byte}", said.reason());
     match said {
-        Said::Pair(Pair {
-            reason,
-            line,
-            byte,
-            first,
-            second,
-        }) => format!("{reason} {line} {byte} {first} {second}\n"),
-        Said::Reply(Reply {
-            reason, line, byte, ..
-        }) if call == Call::Check => format!("{reason} {line} {byte}\n"),
-        Said::Reply(Reply {
-            reason,
-            line,
-            byte,
-            length,
-        }) => {
+        Said::Pair(pair) => format!("{refusal} {} {}\n", pair.first, pair.second),
+        Said::Reply(_) if call == Call::Check => format!("{refusal}\n"),
+        Said::Reply(reply) => {
             let sum = buffer
                 .iter()
                 .fold(0, |sum, byte| (sum * 31 + u64::from(*byte)) % 1_000_003);
-            format!("{reason} {line} {byte} {length} {sum}\n")
+            format!("{refusal} {} {sum}\n", reply.length)
         }
     }
 }
@@ -129,35 +118,9 @@ fn change(values: &mut Values, line: &str) -> Option<()> {
     let (word, rest) = line.split_once(' ')?;
     match word {
         "#" => (),
-        "ring" => {
-            let [n, fibres] = numbers_of(rest)?;
-            *values = Values {
-                n,
-                fibres,
-                ..Values::default()
-            };
-        }
-        "row" => {
-            let [from, times, first, second, amount, front, back, way] = numbers_of(rest)?;
-            let row = HeldRow {
-                first,
-                second,
-                amount,
-                front,
-                back,
-                way,
-            };
-            put(&mut values.rows, from, times, row);
-        }
-        "link" => {
-            let [from, times, link, split, unsplit] = numbers_of(rest)?;
-            let link = HeldLink {
-                link,
-                split,
-                unsplit,
-            };
-            put(&mut values.links, from, times, link);
-        }
+        "ring" => *values = fresh(rest)?,
+        "row" => put_row(values, rest)?,
+        "link" => put_link(values, rest)?,
         "counts" => {
             let [rows, links] = numbers_of(rest)?;
             values.rows.resize(rows as usize, HeldRow::default());
@@ -167,6 +130,41 @@ fn change(values: &mut Values, line: &str) -> Option<()> {
         "last" => [values.peak, values.size] = numbers_of(rest)?,
         _ => return None,
     }
+    Some(())
+}
+
+/// Those of a ring, all others 0.
+fn fresh(numbers: &str) -> Option<Values> {
+    let [n, fibres] = numbers_of(numbers)?;
+    Some(Values {
+        n,
+        fibres,
+        ..Values::default()
+    })
+}
+
+fn put_row(values: &mut Values, numbers: &str) -> Option<()> {
+    let [from, times, first, second, amount, front, back, way] = numbers_of(numbers)?;
+    let row = HeldRow {
+        first,
+        second,
+        amount,
+        front,
+        back,
+        way,
+    };
+    put(&mut values.rows, from, times, row);
+    Some(())
+}
+
+fn put_link(values: &mut Values, numbers: &str) -> Option<()> {
+    let [from, times, link, split, unsplit] = numbers_of(numbers)?;
+    let link = HeldLink {
+        link,
+        split,
+        unsplit,
+    };
+    put(&mut values.links, from, times, link);
     Some(())
 }
 

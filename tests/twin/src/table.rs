@@ -1,15 +1,25 @@
 //! A table and its reading: reasons 1 to 7, 16 and 20, with their bytes, in their
 //! order (Rules, the order of reasons).
 
-use crate::limits::{DIGITS, OFFICES, ROWS};
+use crate::limits::{AMOUNT, DIGITS, OFFICES, ROWS, TEXT};
 use crate::shape::{self, first_fault, Shape};
 
-/// A demand has nodes i < j and an amount d.
+/// A demand has two nodes, the first below the second, and an amount.
 #[derive(Clone, Copy, PartialEq, Eq, Debug)]
 pub struct Row {
-    pub i: i64,
-    pub j: i64,
-    pub d: i64,
+    pub first: i64,
+    pub second: i64,
+    pub amount: i64,
+}
+
+impl Row {
+    pub fn of(first: i64, second: i64, amount: i64) -> Row {
+        Row {
+            first,
+            second,
+            amount,
+        }
+    }
 }
 
 /// Nodes 1..n, the fibres and the rows in table order.
@@ -27,6 +37,15 @@ pub struct Refusal {
     pub reason: u32,
     pub line: u32,
     pub byte: u32,
+}
+
+impl Refusal {
+    /// What stands in a reply that is none.
+    pub const NONE: Refusal = Refusal {
+        reason: 0,
+        line: 0,
+        byte: 0,
+    };
 }
 
 pub fn refuse<T>(reason: u32, line: u32, byte: u32) -> Result<T, Refusal> {
@@ -48,7 +67,7 @@ pub fn start_of(line: &Line, field: usize) -> u32 {
 
 /// Reason 1 is tried first.
 pub fn read_length(text: &[u8]) -> Result<(), Refusal> {
-    if text.len() > 32_768 {
+    if text.len() > TEXT {
         return refuse(1, 0, 0);
     }
     Ok(())
@@ -58,21 +77,39 @@ pub fn read_length(text: &[u8]) -> Result<(), Refusal> {
 /// numbers behind the rows above.
 pub type RowReason = (u32, fn(&[i64], &Table) -> bool);
 
-/// A node outside 1..n.
-pub const OFF_RING: RowReason = (4, |row, above| {
-    row[..2].iter().any(|node| *node < 1 || *node > above.n)
-});
-/// First node not below second.
-pub const NOT_BELOW: RowReason = (5, |row, _| row[0] >= row[1]);
+/// Whether a node is none of 1..n.
+fn outside(node: i64, n: i64) -> bool {
+    node < 1 || node > n
+}
+
+/// 4, of two nodes: one of them is outside 1..n.
+pub fn off_ring(nodes: &[i64], n: i64) -> bool {
+    nodes.iter().any(|node| outside(*node, n))
+}
+
+/// 5, of two nodes: the first is not below the second.
+pub fn not_below(nodes: &[i64]) -> bool {
+    nodes[0] >= nodes[1]
+}
+
+/// 7: the amount is over the limit.
+pub fn too_much(amount: i64) -> bool {
+    amount > AMOUNT
+}
+
+pub const OFF_RING: RowReason = (4, |row, above| off_ring(&row[..2], above.n));
+pub const NOT_BELOW: RowReason = (5, |row, _| not_below(&row[..2]));
 /// Row's nodes below the row before, by first node, then second.
 pub const FALLEN: RowReason = (6, |row, above| {
-    let before = above.rows.last().map(|before| (before.i, before.j));
+    let before = above
+        .rows
+        .last()
+        .map(|before| (before.first, before.second));
     before.is_some_and(|before| (row[0], row[1]) < before)
 });
 /// More rows than there may be.
 pub const TOO_MANY: RowReason = (16, |_, above| above.rows.len() + 1 > ROWS);
-/// Amount over 9,999.
-pub const TOO_MUCH: RowReason = (7, |row, _| row[2] > 9_999);
+pub const TOO_MUCH: RowReason = (7, |row, _| too_much(row[2]));
 
 /// In the order within a line: 16 stands between 6 and 7.
 pub const ROW_REASONS: [RowReason; 5] = [OFF_RING, NOT_BELOW, FALLEN, TOO_MANY, TOO_MUCH];
@@ -185,9 +222,8 @@ fn read_row(line: &Line, at: u32, above: &Table, reasons: &[RowReason]) -> Resul
 /// Where a reason of a row points: 4 to the first of the two nodes that is outside, 7
 /// to the amount; the others judge the line as a whole.
 fn byte_of_row(reason: u32, line: &Line, numbers: &[i64], n: i64) -> u32 {
-    let outside = |node: i64| node < 1 || node > n;
     match reason {
-        4 if outside(numbers[0]) => start_of(line, 1),
+        4 if outside(numbers[0], n) => start_of(line, 1),
         4 => start_of(line, 2),
         7 => start_of(line, 3),
         _ => 1,
@@ -213,6 +249,5 @@ pub fn judge_row(
     if let Some(reason) = reason_of_row(numbers, above, reasons) {
         return refuse(reason, at, byte_of_row(reason, line, numbers, above.n));
     }
-    let (i, j, d) = (numbers[0], numbers[1], numbers[2]);
-    Ok(Row { i, j, d })
+    Ok(Row::of(numbers[0], numbers[1], numbers[2]))
 }

@@ -1,6 +1,8 @@
 //! Texts made into others that a careless reader would take them for: what the
 //! faults of reading a table, a sheet and a matrix have in common.
 
+use crate::limits::TEXT;
+
 /// Each field changed. A text that is no text at all stays as it is.
 fn with_fields(text: &[u8], change: fn(&str) -> String) -> Vec<u8> {
     let Ok(text) = std::str::from_utf8(text) else {
@@ -49,13 +51,13 @@ pub fn without_cr(text: &[u8]) -> Vec<u8> {
 
 /// A text as long as is allowed made longer.
 pub fn past_limit(text: &[u8]) -> Vec<u8> {
-    let longer = vec![b'\n'; usize::from(text.len() == 32_768)];
+    let longer = vec![b'\n'; usize::from(text.len() == TEXT)];
     [text, &longer].concat()
 }
 
 /// A text one byte too long cut short.
 pub fn within_limit(text: &[u8]) -> Vec<u8> {
-    let end = text.len() - usize::from(text.len() == 32_769);
+    let end = text.len() - usize::from(text.len() == TEXT + 1);
     text[..end].to_vec()
 }
 
@@ -64,7 +66,7 @@ pub fn within_limit(text: &[u8]) -> Vec<u8> {
 pub fn with_fibres(text: &[u8]) -> Vec<u8> {
     let first = text.split(|byte| *byte == b'\n').next().unwrap_or(b"");
     let one = first.iter().filter(|byte| **byte == b'\t').count() == 1;
-    if text.len() > 32_768 || !one || first.len() == text.len() {
+    if text.len() > TEXT || !one || first.len() == text.len() {
         return text.to_vec();
     }
     [first, b"\t4", &text[first.len()..]].concat()

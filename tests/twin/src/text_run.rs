@@ -4,11 +4,12 @@
 use crate::byte_tally::ByteTally;
 use crate::check;
 use crate::compare::{compare, describe, shrink, Case};
+use crate::count::{demands, Count};
 use crate::groups::{Make, GROUPS};
 use crate::limits::{OFFICES, ROWS};
 use crate::matrix;
+use crate::part::{Compared, Group, Part, Run};
 use crate::rng::Rng;
-use crate::said::{demands, Count, Group, Part, Run};
 use crate::table::{self, Table};
 use crate::twin::{self, Answer, Call, Said, CALLS};
 
@@ -47,7 +48,11 @@ impl Accepted {
         for (at, (low, high)) in CLASSES.iter().enumerate() {
             self.classes[at] += u64::from(*low <= table.n && table.n <= *high);
         }
-        let mut pairs: Vec<_> = table.rows.iter().map(|row| (row.i, row.j)).collect();
+        let mut pairs: Vec<_> = table
+            .rows
+            .iter()
+            .map(|row| (row.first, row.second))
+            .collect();
         pairs.dedup();
         let circuits = pairs.len() < table.rows.len();
         self.full[0] += u64::from(table.n == 20 && pairs.len() == 190);
@@ -174,13 +179,7 @@ impl Part for TextTally {
     const FIRST_GROUP: u64 = 0;
 
     /// All calls of a case up to the first mismatch.
-    fn case(
-        &mut self,
-        run: Run,
-        group: &Group<Make>,
-        rng: &mut Rng,
-        number: u64,
-    ) -> Option<Result<u64, String>> {
+    fn case(&mut self, run: Run, group: &Group<Make>, rng: &mut Rng, number: u64) -> Compared {
         let case = (group.make)(rng, number)?;
         self.count_text(&case);
         let mut answers: Vec<(Call, Answer)> = Vec::new();

@@ -54,7 +54,7 @@ fn first_circuits(table: &Table) -> Vec<Row> {
     let mut rows = table.rows.clone();
     for at in 1..rows.len() {
         let (before, row) = (rows[at - 1], rows[at]);
-        rows[at].d *= i64::from((before.i, before.j) != (row.i, row.j));
+        rows[at].amount *= i64::from((before.first, before.second) != (row.first, row.second));
     }
     rows
 }
@@ -116,12 +116,12 @@ pub static TURNING_FAULTS: [Mutant; 45] = [
     reading! { "turning: a start over its link", avoid: |row, a| other(avoid(row, a)) },
     reading! {
         "turning: a start avoids the link behind the front too",
-        avoid: |row, a| if row.i <= a && a <= row.j { Way::B } else { Way::F }
+        avoid: |row, a| if row.first <= a && a <= row.second { Way::B } else { Way::F }
     },
     reading! { "turning: a start avoids the link before", avoid: |row, a| avoid(row, a - 1) },
     reading! {
         "turning: rows of amount 0 start F",
-        avoid: |row, a| if row.d == 0 { Way::F } else { avoid(row, a) }
+        avoid: |row, a| if row.amount == 0 { Way::F } else { avoid(row, a) }
     },
     reading! { "turning: the first start alone", starts: |_| vec![1] },
     reading! { "turning: the start of link n left out", starts: |table| (1..table.n).collect() },
@@ -148,7 +148,7 @@ pub static TURNING_FAULTS: [Mutant; 45] = [
         lowers: |row, before, after| {
             // from a front that is short to a longer back alone, so that it ends
             let more = after.iter().sum::<i64>() > before.iter().sum();
-            lowers(row, before, after) || row.d > 0 && more && peak(after) == peak(before)
+            lowers(row, before, after) || row.amount > 0 && more && peak(after) == peak(before)
         }
     },
     reading! {
@@ -213,7 +213,7 @@ pub static TURNING_FAULTS: [Mutant; 45] = [
 fn holds_all_largest(row: &Row, before: &[i64], after: &[i64]) -> bool {
     let most = peak(before);
     let links = before.iter().zip(after);
-    row.d > 0
+    row.amount > 0
         && links
             .filter(|(load, _)| **load == most)
             .all(|(load, then)| then < load)

@@ -7,8 +7,8 @@ use crate::gen::{self, Amounts};
 use crate::groups::{self, of_table, of_text, Make};
 use crate::limits::ROWS;
 use crate::matrices;
+use crate::part::{group, Group};
 use crate::rng::Rng;
-use crate::said::{group, Group};
 use crate::sheets;
 use crate::table::{Row, Table};
 use crate::turning_selfcheck::BY_HAND;
@@ -81,7 +81,7 @@ fn full(rng: &mut Rng, case: u64) -> Option<Case> {
 fn mostly_nothing(rng: &mut Rng, n: i64) -> Table {
     let mut table = gen::full(rng, n, Amounts::UpTo(9_999));
     for row in &mut table.rows {
-        row.d *= i64::from(rng.chance(1, 20));
+        row.amount *= i64::from(rng.chance(1, 20));
     }
     table
 }
@@ -99,17 +99,10 @@ fn most_circuits(rng: &mut Rng, case: u64) -> Option<Case> {
     };
     let rows = pairs.iter().flat_map(|(i, j)| {
         let count = ROWS / pairs.len();
-        vec![
-            Row {
-                i: *i,
-                j: *j,
-                d: 9_999
-            };
-            count
-        ]
+        vec![Row::of(*i, *j, 9_999); count]
     });
-    let mut rows: Vec<Row> = rows.filter(|row| row.i < row.j).collect();
-    rows.sort_by_key(|row| (row.i, row.j));
+    let mut rows: Vec<Row> = rows.filter(|row| row.first < row.second).collect();
+    rows.sort_by_key(|row| (row.first, row.second));
     alone(&Table { n, fibres: 4, rows })
 }
 
@@ -123,7 +116,7 @@ fn equal_lists(rng: &mut Rng, _: u64) -> Option<Case> {
     };
     let most = rng.pick(&[1, 1, 2, 3]);
     for row in &mut table.rows {
-        row.d = rng.between(1, most);
+        row.amount = rng.between(1, most);
     }
     alone(&table)
 }
@@ -133,7 +126,7 @@ fn nothing_sent(rng: &mut Rng, _: u64) -> Option<Case> {
     let (n, count) = (rng.between(2, 16), rng.between(1, 30));
     let mut table = gen::circuits(rng, n, count as usize);
     for row in &mut table.rows {
-        row.d *= i64::from(rng.chance(1, 2));
+        row.amount *= i64::from(rng.chance(1, 2));
     }
     alone(&table)
 }

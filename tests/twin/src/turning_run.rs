@@ -2,12 +2,13 @@
 //! groups, and what must have been seen in them.
 
 use crate::compare::{fewer, pattern, shown, GUARD};
+use crate::count::{demands, Count};
 use crate::gen::lines_of;
 use crate::groups::Make;
 use crate::kit::Kit;
+use crate::part::{Compared, Group, Part, Run};
 use crate::rng::Rng;
 use crate::rules;
-use crate::said::{demands, Count, Group, Part, Run};
 use crate::table::{self, Table};
 use crate::turning_groups::TURNING_GROUPS;
 use crate::turns::{turn, TurnReply, WAYS};
@@ -72,7 +73,8 @@ impl TurningTally {
 
     fn count_table(&mut self, table: &Table, reply: TurnReply) {
         let (n, rows) = (table.n, &table.rows);
-        let same = |two: &[table::Row]| (two[0].i, two[0].j) == (two[1].i, two[1].j);
+        let same =
+            |two: &[table::Row]| (two[0].first, two[0].second) == (two[1].first, two[1].second);
         let proved = i64::from(reply.peak) == (rules::rule_a(table).across + 1) / 2;
         let circuits = rows.windows(2).any(same);
         for (size, seen) in FULL.iter().zip(&mut self.full) {
@@ -81,7 +83,7 @@ impl TurningTally {
         }
         self.large += u64::from(n >= 16);
         self.circuits += u64::from(circuits);
-        self.nothing += u64::from(rows.iter().any(|row| row.d == 0));
+        self.nothing += u64::from(rows.iter().any(|row| row.amount == 0));
         self.most += u64::from(rows.len() == WAYS);
         self.turned += u64::from(reply.turns > 0);
         self.later += u64::from(reply.link > 1);
@@ -130,13 +132,7 @@ impl Part for TurningTally {
     const FIRST_GROUP: u64 = 6_000;
 
     /// Of the case the text alone is taken.
-    fn case(
-        &mut self,
-        run: Run,
-        group: &Group<Make>,
-        rng: &mut Rng,
-        case: u64,
-    ) -> Option<Result<u64, String>> {
+    fn case(&mut self, run: Run, group: &Group<Make>, rng: &mut Rng, case: u64) -> Compared {
         let text = (group.make)(rng, case)?.text;
         Some(match compare(run.kit, &text, case) {
             Ok(reply) => {

@@ -2,13 +2,13 @@
 //! the stated cases (Rules, one turn at a time) and others worked out by hand, and
 //! what the rules state of every answer.
 
+use crate::bars::barred;
 use crate::gen;
 use crate::rng::Rng;
 use crate::rules::{self, Way};
-use crate::said::barred;
 use crate::selfcheck::{holds, letters, same, table, Outcome};
 use crate::sheet::table_text;
-use crate::table::{Row, Table};
+use crate::table::Table;
 use crate::turns::{self, avoid, from_start, going, loads_turned, Turned, SENTENCES};
 
 type Figures<'a> = (i64, i64, u32, &'a str);
@@ -134,8 +134,8 @@ fn least_of_all(table: &Table) -> i64 {
 fn few_rows(rng: &mut Rng, n: i64) -> Table {
     let mut table = gen::sparse(rng, n, 8);
     let most = rng.pick(&[2, 9, 60]);
-    for Row { d, .. } in &mut table.rows {
-        *d = rng.between(0, most);
+    for row in &mut table.rows {
+        row.amount = rng.between(0, most);
     }
     table.rows.truncate(8);
     table

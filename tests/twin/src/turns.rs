@@ -123,7 +123,7 @@ pub fn loads_turned(row: &Row, way: Way, loads: &[i64]) -> Vec<i64> {
     let links = (1..).zip(loads);
     let turned = links.map(|(link, load)| {
         let sign = if on_path(row, way, link) { -1 } else { 1 };
-        load + sign * row.d
+        load + sign * row.amount
     });
     turned.collect()
 }

@@ -76,6 +76,18 @@ pub struct Reply {
     pub length: usize,
 }
 
+impl Reply {
+    pub fn of(refusal: Refusal, length: usize) -> Reply {
+        let Refusal { reason, line, byte } = refusal;
+        Reply {
+            reason,
+            line,
+            byte,
+            length,
+        }
+    }
+}
+
 /// The reply to the parallel question: two places from 1, or 0 and 0.
 #[repr(C)]
 #[derive(Clone, Copy, PartialEq, Eq, Debug)]
@@ -85,6 +97,19 @@ pub struct Pair {
     pub byte: u32,
     pub first: usize,
     pub second: usize,
+}
+
+impl Pair {
+    pub fn of(refusal: Refusal, (first, second): (usize, usize)) -> Pair {
+        let Refusal { reason, line, byte } = refusal;
+        Pair {
+            reason,
+            line,
+            byte,
+            first,
+            second,
+        }
+    }
 }
 
 /// What a call says.
@@ -166,12 +191,7 @@ pub fn reply(answer: &Answer, buffer: &mut [u8]) -> Reply {
         Ok(granted) => {
             let length = granted.text.len();
             buffer[..length].copy_from_slice(&granted.text);
-            Reply {
-                reason: 0,
-                line: 0,
-                byte: 0,
-                length,
-            }
+            Reply::of(Refusal::NONE, length)
         }
     }
 }
@@ -183,29 +203,14 @@ pub const NO_ROOM: Refusal = Refusal {
 };
 
 pub fn refused(refusal: &Refusal) -> Reply {
-    let Refusal { reason, line, byte } = *refusal;
-    Reply {
-        reason,
-        line,
-        byte,
-        length: 0,
-    }
+    Reply::of(*refusal, 0)
 }
 
 /// The answer that there is none is told from a pair by its places, which are 0.
 pub fn pair(answer: &Answer) -> Pair {
-    let (reason, line, byte) = match answer {
-        Err(refusal) => (refusal.reason, refusal.line, refusal.byte),
-        Ok(_) => (0, 0, 0),
-    };
-    let pair = answer.as_ref().ok().and_then(|granted| granted.pair);
-    let (first, second) = pair.unwrap_or((0, 0));
-    Pair {
-        reason,
-        line,
-        byte,
-        first,
-        second,
+    match answer {
+        Err(refusal) => Pair::of(*refusal, (0, 0)),
+        Ok(granted) => Pair::of(Refusal::NONE, granted.pair.unwrap_or((0, 0))),
     }
 }
 

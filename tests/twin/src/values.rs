@@ -84,9 +84,9 @@ impl Values {
     /// The same as a sheet, whose numbers have room for every sum.
     pub fn sheet(&self) -> Sheet {
         let row = |row: &HeldRow| Row {
-            i: row.first.into(),
-            j: row.second.into(),
-            d: row.amount.into(),
+            first: row.first.into(),
+            second: row.second.into(),
+            amount: row.amount.into(),
         };
         let sent = |row: &HeldRow| Sent {
             front: row.front.into(),
@@ -122,9 +122,9 @@ impl Values {
 
 fn held_row(row: &Row, sent: &Sent, way: Way) -> HeldRow {
     HeldRow {
-        first: row.i as u32,
-        second: row.j as u32,
-        amount: row.d as u32,
+        first: row.first as u32,
+        second: row.second as u32,
+        amount: row.amount as u32,
         front: sent.front as u32,
         back: sent.back as u32,
         way: u32::from(way == Way::B),

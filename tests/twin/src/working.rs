@@ -121,35 +121,30 @@ impl Told {
 
 /// A reason of a call: its number, and whether it holds of the table, the place
 /// that is named and the numbers of the row.
-pub type Question = (u32, fn(&Working, u32, &[u32]) -> bool);
+pub type CallReason = (u32, fn(&Working, u32, &[i64]) -> bool);
 
 /// The place named holds no row.
-pub const NO_ROW: Question = (22, |table, place, _| table.at(place).is_none());
-/// A node outside 1..n.
-pub const OFF_RING: Question = (4, |table, _, row| {
-    let on_ring = |node: &u32| 1 <= *node && i64::from(*node) <= table.n;
-    !row[..2].iter().all(on_ring)
-});
-/// First node not below second.
-pub const NOT_BELOW: Question = (5, |_, _, row| row[0] >= row[1]);
-/// Amount over 9,999.
-pub const TOO_MUCH: Question = (7, |_, _, row| row[2] > 9_999);
+pub const NO_ROW: CallReason = (22, |table, place, _| table.at(place).is_none());
+/// A row's own reasons, as those of a table's row.
+pub const OFF_RING: CallReason = (4, |of, _, row| table::off_ring(&row[..2], of.n));
+pub const NOT_BELOW: CallReason = (5, |_, _, row| table::not_below(&row[..2]));
+pub const TOO_MUCH: CallReason = (7, |_, _, row| table::too_much(row[2]));
 /// No room, exactly when all places are taken.
-pub const NO_PLACE: Question = (21, |table, _, _| table.places.iter().all(Option::is_some));
+pub const NO_PLACE: CallReason = (21, |table, _, _| table.places.iter().all(Option::is_some));
 /// For a fresh table 3 and 20.
-pub const RING_SIZE: Question = (3, |_, _, ring| !table::known_size(i64::from(ring[0])));
-pub const FIBRES: Question = (20, |_, _, ring| !table::known_fibres(i64::from(ring[1])));
+pub const RING_SIZE: CallReason = (3, |_, _, ring| !table::known_size(ring[0]));
+pub const FIBRES: CallReason = (20, |_, _, ring| !table::known_fibres(ring[1]));
 
 /// The reasons of each altering call, in their order.
 #[derive(Clone, Copy)]
-pub struct Questions {
-    pub start: &'static [Question],
-    pub add: &'static [Question],
-    pub change: &'static [Question],
-    pub remove: &'static [Question],
+pub struct CallReasons {
+    pub start: &'static [CallReason],
+    pub add: &'static [CallReason],
+    pub change: &'static [CallReason],
+    pub remove: &'static [CallReason],
 }
 
-pub const QUESTIONS: Questions = Questions {
+pub const CALL_REASONS: CallReasons = CallReasons {
     start: &[RING_SIZE, FIBRES],
     add: &[OFF_RING, NOT_BELOW, TOO_MUCH, NO_PLACE],
     change: &[NO_ROW, OFF_RING, NOT_BELOW, TOO_MUCH],
@@ -164,8 +159,8 @@ pub struct Working {
 }
 
 pub fn row(wanted: Wanted) -> Row {
-    let [i, j, d] = wanted.map(i64::from);
-    Row { i, j, d }
+    let [first, second, amount] = wanted.map(i64::from);
+    Row::of(first, second, amount)
 }
 
 impl Working {
@@ -211,7 +206,7 @@ impl Working {
         for place in self.taken() {
             placed.extend(self.at(place).map(|row| (place, row)));
         }
-        placed.sort_by_key(|(place, row)| (row.i, row.j, *place));
+        placed.sort_by_key(|(place, row)| (row.first, row.second, *place));
         Table {
             rows: placed.into_iter().map(|(_, row)| row).collect(),
             ..self.held()
@@ -219,14 +214,15 @@ impl Working {
     }
 
     /// The first reason that holds, 0 where none does.
-    pub fn reason(&self, ask: &Ask, questions: &Questions) -> u32 {
+    pub fn reason(&self, ask: &Ask, reasons: &CallReasons) -> u32 {
         let (list, place, numbers) = match *ask {
-            Ask::Start { n, fibres } => (questions.start, 0, [n, fibres, 0]),
-            Ask::Add(wanted) => (questions.add, 0, wanted),
-            Ask::Change(place, wanted) => (questions.change, place, wanted),
-            Ask::Remove(place) => (questions.remove, place, [0; 3]),
+            Ask::Start { n, fibres } => (reasons.start, 0, [n, fibres, 0]),
+            Ask::Add(wanted) => (reasons.add, 0, wanted),
+            Ask::Change(place, wanted) => (reasons.change, place, wanted),
+            Ask::Remove(place) => (reasons.remove, place, [0; 3]),
             Ask::Row(_) | Ask::Write(_) => return 0,
         };
+        let numbers = numbers.map(i64::from);
         let first = list.iter().find(|(_, holds)| holds(self, place, &numbers));
         first.map_or(0, |(reason, _)| *reason)
     }
@@ -262,9 +258,9 @@ impl Working {
                 ..RowReply::default()
             },
             Some(row) => RowReply {
-                first: row.i as u32,
-                second: row.j as u32,
-                amount: row.d as u32,
+                first: row.first as u32,
+                second: row.second as u32,
+                amount: row.amount as u32,
                 ..RowReply::default()
             },
         }
@@ -280,7 +276,7 @@ impl Working {
         match *ask {
             Ask::Row(place) => Told::Row(self.row_reply(place)),
             Ask::Write(_) => Told::Text(twin::reply(&self.text(), buffer)),
-            _ => match self.reason(ask, &QUESTIONS) {
+            _ => match self.reason(ask, &CALL_REASONS) {
                 0 => Told::kept(self.alter(ask), rules::rule_a(&self.held())),
                 reason => Told::refused(reason),
             },

@@ -1,13 +1,13 @@
 //! Faults of the working table: the stand-in with another way in one place. What
 //! mutant.rs lists last.
 
-use crate::limits::OFFICES;
+use crate::limits::{AMOUNT, OFFICES};
 use crate::mutant::{working, Mutant};
 use crate::rules::Cut;
 use crate::table::{Row, Table};
 use crate::twin::{self, Answer, Reply};
-use crate::working::{row, Ask, Question, Questions, WorkReply, Working, PLACES};
-use crate::working::{FIBRES, NOT_BELOW, NO_PLACE, NO_ROW, OFF_RING, QUESTIONS};
+use crate::working::{row, Ask, CallReason, CallReasons, WorkReply, Working, PLACES};
+use crate::working::{CALL_REASONS, FIBRES, NOT_BELOW, NO_PLACE, NO_ROW, OFF_RING};
 use crate::working::{RING_SIZE, TOO_MUCH};
 use crate::working_stand_in::{add_new, cuts, first_largest, keep, largest};
 use crate::working_stand_in::{Habits, Kept, SOUND};
@@ -64,7 +64,10 @@ fn amount_alone(kept: &mut Kept, ask: &Ask) -> u32 {
     match *ask {
         Ask::Change(place, [.., d]) => {
             let old = kept.table.at(place).expect("22 has been asked before");
-            keep(kept, &Ask::Change(place, [old.i as u32, old.j as u32, d]))
+            keep(
+                kept,
+                &Ask::Change(place, [old.first as u32, old.second as u32, d]),
+            )
         }
         _ => keep(kept, ask),
     }
@@ -116,7 +119,7 @@ fn ordered(table: &Working, key: fn(usize, &Row) -> (i64, i64, i64)) -> Table {
 
 fn without_zeros(table: &Working) -> Table {
     let mut table = table.by_nodes();
-    table.rows.retain(|row| row.d > 0);
+    table.rows.retain(|row| row.amount > 0);
     table
 }
 
@@ -139,23 +142,29 @@ fn one_more(answer: &Answer, buffer: &mut [u8]) -> Reply {
     twin::reply(answer, buffer)
 }
 
-const fn asking(questions: Questions) -> Habits {
-    Habits { questions, ..SOUND }
+const fn asking(reasons: CallReasons) -> Habits {
+    Habits { reasons, ..SOUND }
 }
 
-const fn added(add: &'static [Question]) -> Habits {
-    asking(Questions { add, ..QUESTIONS })
-}
-
-const fn changed(change: &'static [Question]) -> Habits {
-    asking(Questions {
-        change,
-        ..QUESTIONS
+const fn added(add: &'static [CallReason]) -> Habits {
+    asking(CallReasons {
+        add,
+        ..CALL_REASONS
     })
 }
 
-const fn started(start: &'static [Question]) -> Habits {
-    asking(Questions { start, ..QUESTIONS })
+const fn changed(change: &'static [CallReason]) -> Habits {
+    asking(CallReasons {
+        change,
+        ..CALL_REASONS
+    })
+}
+
+const fn started(start: &'static [CallReason]) -> Habits {
+    asking(CallReasons {
+        start,
+        ..CALL_REASONS
+    })
 }
 
 const fn altering(alter: fn(&mut Kept, &Ask) -> u32) -> Habits {
@@ -182,12 +191,12 @@ const fn writing(write: fn(&Answer, &mut [u8]) -> Reply) -> Habits {
     Habits { write, ..SOUND }
 }
 
-const FULL_EARLY: Question = (21, |table, _, _| table.taken().len() >= PLACES - 1);
-const TOO_MUCH_LATE: Question = (7, |_, _, row| row[2] > 10_000);
-const TWO_OFFICES: Question = (3, |_, _, ring| ring[0] < 3 || ring[0] > 64);
-const MORE_OFFICES: Question = (3, |_, _, ring| ring[0] < 2 || ring[0] > 65);
-const NO_ROW_OF_0: Question = (22, |table, place, _| {
-    table.at(place).is_none_or(|row| row.d == 0)
+const FULL_EARLY: CallReason = (21, |table, _, _| table.taken().len() >= PLACES - 1);
+const TOO_MUCH_LATE: CallReason = (7, |_, _, row| row[2] > AMOUNT + 1);
+const TWO_OFFICES: CallReason = (3, |_, _, ring| ring[0] < 3 || ring[0] > 64);
+const MORE_OFFICES: CallReason = (3, |_, _, ring| ring[0] < 2 || ring[0] > 65);
+const NO_ROW_OF_0: CallReason = (22, |table, place, _| {
+    table.at(place).is_none_or(|row| row.amount == 0)
 });
 
 /// Comes to the same.
@@ -343,11 +352,11 @@ pub static WORKING_FAULTS: [Mutant; 39] = [
     ),
     working(
         "working: rows written by nodes, then the later place",
-        ordering(|table| ordered(table, |at, row| (row.i, row.j, -(at as i64)))),
+        ordering(|table| ordered(table, |at, row| (row.first, row.second, -(at as i64)))),
     ),
     working(
         "working: rows written by nodes, then by amount",
-        ordering(|table| ordered(table, |_, row| (row.i, row.j, row.d))),
+        ordering(|table| ordered(table, |_, row| (row.first, row.second, row.amount))),
     ),
     working(
         "working: rows of amount 0 left out",

@@ -2,8 +2,8 @@
 //! random sequences.
 
 use crate::compare::Lend;
+use crate::part::{group, Group};
 use crate::rng::Rng;
-use crate::said::{group, Group};
 use crate::working::{Ask, Wanted, Working, PLACES};
 use crate::working_bytes;
 use crate::working_compare::{Compared, Desk};

@@ -1,8 +1,9 @@
 //! All groups of the working table against what answers the calls, and what must
 //! have been seen in them.
 
+use crate::count::{demands, Count};
+use crate::part::{Compared, Group, Part, Run};
 use crate::rng::Rng;
-use crate::said::{demands, Count, Group, Part, Run};
 use crate::working::ASK_NAMES;
 use crate::working_compare::{shrunk, Desk, WorkTally};
 use crate::working_groups::{Sequences, WORKING_GROUPS};
@@ -24,13 +25,7 @@ impl Part for WorkTally {
     const ONE_IN: u64 = 3;
     const FIRST_GROUP: u64 = 3_000;
 
-    fn case(
-        &mut self,
-        run: Run,
-        group: &Group<Sequences>,
-        rng: &mut Rng,
-        case: u64,
-    ) -> Option<Result<u64, String>> {
+    fn case(&mut self, run: Run, group: &Group<Sequences>, rng: &mut Rng, case: u64) -> Compared {
         if case == group.make.cases {
             return None;
         }

@@ -1,7 +1,7 @@
 //! The twin's own checks of the working table, by hand.
 
+use crate::bars::barred;
 use crate::compare::Lend;
-use crate::said::barred;
 use crate::selfcheck::{same, Outcome};
 use crate::working::{Ask, Told, Working};
 

@@ -7,7 +7,7 @@ use crate::rules::{front_holds, Cut};
 use crate::sheet::table_text;
 use crate::table::{Row, Table};
 use crate::twin::{self, Answer, Reply};
-use crate::working::{Ask, Questions, Told, WorkReply, Working, QUESTIONS};
+use crate::working::{Ask, CallReasons, Told, WorkReply, Working, CALL_REASONS};
 use crate::working_compare::{CUTS, GUARD_WORDS};
 
 /// A table with the numbers kept beside it.
@@ -22,7 +22,7 @@ pub struct Kept {
 #[derive(Clone, Copy)]
 pub struct Habits {
     pub hear: fn(Ask) -> Ask,
-    pub questions: Questions,
+    pub reasons: CallReasons,
     pub alter: fn(&mut Kept, &Ask) -> u32,
     pub cut: fn(&Kept) -> Cut,
     pub refused: fn(&mut Kept),
@@ -33,7 +33,7 @@ pub struct Habits {
 
 pub const SOUND: Habits = Habits {
     hear: |ask| ask,
-    questions: QUESTIONS,
+    reasons: CALL_REASONS,
     alter: keep,
     cut: first_largest,
     refused: |_| (),
@@ -55,7 +55,7 @@ impl Kept {
             let [i, j, low, high] = word.to_le_bytes();
             let d = i64::from(u16::from_le_bytes([low, high]));
             let (i, j) = (i64::from(i), i64::from(j));
-            *place = (i > 0).then_some(Row { i, j, d });
+            *place = (i > 0).then_some(Row::of(i, j, d));
         }
         Kept {
             table,
@@ -79,8 +79,8 @@ impl Kept {
         }
         for (word, place) in words[CUTS + 5..].iter_mut().zip(&table.places) {
             *word = place.map_or(0, |row| {
-                let [low, high] = (row.d as u16).to_le_bytes();
-                u32::from_le_bytes([row.i as u8, row.j as u8, low, high])
+                let [low, high] = (row.amount as u16).to_le_bytes();
+                u32::from_le_bytes([row.first as u8, row.second as u8, low, high])
             });
         }
     }
@@ -90,7 +90,7 @@ impl Kept {
         let Some(row) = row else { return };
         for (number, (g, h)) in self.across.iter_mut().zip(cuts()) {
             if front_holds(&row, g) != front_holds(&row, h) {
-                *number = (*number + times * row.d).rem_euclid(1 << 32);
+                *number = (*number + times * row.amount).rem_euclid(1 << 32);
             }
         }
     }
@@ -115,7 +115,7 @@ pub fn stand_in(habits: &Habits, ask: &Ask, words: &mut [u32], buffer: &mut [u8]
         }
         _ => (),
     }
-    let told = match kept.table.reason(&heard, &habits.questions) {
+    let told = match kept.table.reason(&heard, &habits.reasons) {
         0 => {
             let place = (habits.alter)(&mut kept, &heard);
             kept.cut = (habits.cut)(&kept);

@@ -1,16 +1,12 @@
 -- `route` answers the plan of rules A to D.
-use Rattle.router.proofs.FourRules.{turned-fit, rows-are, carried, plan-is}
+use Rattle.router.proofs.FourRules.{turned-fit, rows-are, plan-is}
 use Rattle.router.proofs.route.Goals as goal
 
-pub weigh-peak-requires : goal.weigh-peak-requires
-weigh-peak-requires g c = turned-fit c.args.ring _ _ _ _ _ c.wide-n.ensures c.rules_a_to_c-cut.ensures c.send_whole.ensures
-
-pub must_carry-requires : goal.must_carry-requires
-must_carry-requires g c = carried c.args.ring _ _ _ _ _ c.wide-n.ensures c.rules_a_to_c-cut.ensures c.send_whole.ensures _ c.weigh-peak.ensures
+pub figured-requires : goal.figured-requires
+figured-requires g c = turned-fit c.args.ring _ _ _ _ _ c.wide-n.ensures c.rules_a_to_c-cut.ensures c.send_whole.ensures
 
 pub returns-clause-rows : goal.returns-clause-rows
 returns-clause-rows g c = rows-are c.args.ring _ _ _ _ _ c.wide-n.ensures c.rules_a_to_c-cut.ensures c.send_whole.ensures
 
 pub returns-clause-plan : goal.returns-clause-plan
-returns-clause-plan g c =
-    plan-is c.args.ring _ _ _ _ _ c.wide-n.ensures c.rules_a_to_c-cut.ensures c.send_whole.ensures _ c.weigh-peak.ensures _ _ c.must_carry.ensures c.size-size.ensures
+returns-clause-plan g c = plan-is c.args.ring _ _ _ _ _ c.wide-n.ensures c.rules_a_to_c-cut.ensures c.send_whole.ensures _ c.figured.ensures

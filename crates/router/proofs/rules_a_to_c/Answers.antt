@@ -1,5 +1,6 @@
 -- `rules_a_to_c` gives the cut and the halves of rules A to C: what each function ensures in turn.
-use Rattle.router.proofs.FourRules.{no-triangle, rooms-start, sent-fit, divided}
+use Rattle.across.proofs.FillSteps.{no-triangle}
+use Rattle.router.proofs.FourRules.{rooms-start, sent-fit, divided}
 use Rattle.router.proofs.rules_a_to_c.Goals as goal
 
 pub fill-requires-clause-triangle : goal.fill-requires-clause-triangle

@@ -1,5 +1,5 @@
 -- The best start is the answer, and has all that is promised of it.
-use Rattle.router.proofs.FourRules.{no-triangle}
+use Rattle.across.proofs.FillSteps.{no-triangle}
 use Rattle.ring.specs.Sheet.{sents, demands}
 use Rattle.turns.proofs.StartSteps.{Promised, all_promised}
 use Rattle.turns.proofs.turn_rows.Given as given

@@ -6,4 +6,4 @@ use Rattle.weight.proofs.largest_split.Given as goal
 
 abbrev pub invariant-loop-row : goal.invariant-loop-row
 invariant-loop-row g l =
-    max l.most (largest_split (sents (drop l.row-iterator.seen (g.R.Rows.rows l.row-iterator.rows.now)))) ≡ largest_split (sents (g.R.Rows.rows l.rows))
+    max l.largest (largest_split (sents (drop l.row-iterator.seen (g.R.Rows.rows l.row-iterator.rows.now)))) ≡ largest_split (sents (g.R.Rows.rows l.rows))

@@ -1,16 +1,13 @@
 -- The first rows are read as a list, and each adds its part.
-use Rattle.std.proofs.Common.{◌∙◌, drop, take, rules, arith}
+use Rattle.std.proofs.Common.{◌∙◌, drop, take, rules}
 use borrow.Author.Tests.{tests}
 use Rattle.std.specs.Iterator.{YieldsFirst}
 use Rattle.std.specs.Iterator.Adapters.{take_steps}
 use Rattle.std.proofs.lemmas.Iterator.{YieldsList, YieldsList-from_take, YieldsList-from_map}
-use Rattle.std.proofs.lemmas.Iterator.Adapters.{at_most_from_yields_List, fits_from_length}
 use Rattle.std.proofs.lemmas.Iterator.Consumers.{YieldsList-at, YieldsList-from_first, sum_by_from_yields_List, fits_by_from_yields_list}
 use Rattle.ring.specs.Sheet.{sents, demands}
 use Rattle.matrix.proofs.SumLaws.{part_of}
 use Rattle.matrix.proofs.WriteSteps.{first-fits}
-use Rattle.std.proofs.lemmas.List.{length-take}
-use Rattle.ring.specs.Limits.{desk}
 use Rattle.matrix.proofs.SumSteps.{sums-parts}
 use Rattle.matrix.proofs.sums.sum_of.Given as given
 use Rattle.matrix.proofs.sums.sum_of.Goals.{After-map}

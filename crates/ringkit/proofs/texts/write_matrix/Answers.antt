@@ -13,7 +13,7 @@ returns-in_err-ring c =
 pub judge_sums-requires : goal.judge_sums-requires
 judge_sums-requires c =
     let range = read-range c.args.table.now _ _ c.read_table.ensures.value _ c.in_ok-ring.was in
-    record { room = range.count; small = range.amounts }
+    record { room = range.within.count; small = range.within.amounts }
 
 pub returns-in_err-judge_sums : goal.returns-in_err-judge_sums
 returns-in_err-judge_sums c =

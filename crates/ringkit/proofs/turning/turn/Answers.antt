@@ -11,14 +11,14 @@ returns-in_err-ring c =
     rw (p.1, p.2) (turn_refused c.args.table.now _ _ c.read_table.ensures.value _ _ c.in_err-ring.was)
 
 pub turn_rows-turned-requires-clause-two : goal.turn_rows-turned-requires-clause-two
-turn_rows-turned-requires-clause-two c = (read-range c.args.table.now _ _ c.read_table.ensures.value _ c.in_ok-ring.was).few
+turn_rows-turned-requires-clause-two c = (read-range c.args.table.now _ _ c.read_table.ensures.value _ c.in_ok-ring.was).within.few
 
 pub turn_rows-turned-requires-clause-fit : goal.turn_rows-turned-requires-clause-fit
 turn_rows-turned-requires-clause-fit c = router-takes _ _ (read-range c.args.table.now _ _ c.read_table.ensures.value _ c.in_ok-ring.was)
 
 pub put_ways-requires : goal.put_ways-requires
 put_ways-requires c =
-    turned_few _ _ c.turn_rows-turned.ensures.demands (read-range c.args.table.now _ _ c.read_table.ensures.value _ c.in_ok-ring.was).count
+    turned_few _ _ c.turn_rows-turned.ensures.demands (read-range c.args.table.now _ _ c.read_table.ensures.value _ c.in_ok-ring.was).within.count
 
 pub returns : goal.returns
 returns c =

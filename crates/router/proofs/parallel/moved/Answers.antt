@@ -8,11 +8,11 @@ returns-then-not-both_split c = search whole-case
 pub returns-then-disjoint : goal.returns-then-disjoint
 returns-then-disjoint c = search apart-case
 
-pub returns-then-holds : goal.returns-then-holds
-returns-then-holds c = search outer-case
+pub returns-then-encloses : goal.returns-then-encloses
+returns-then-encloses c = search outer-case
 
-pub returns-then-holds-2 : goal.returns-then-holds-2
-returns-then-holds-2 c = search inner-case
+pub returns-then-encloses-2 : goal.returns-then-encloses-2
+returns-then-encloses-2 c = search inner-case
 
-pub returns-else-holds-2 : goal.returns-else-holds-2
-returns-else-holds-2 c = search crossing-case
+pub returns-else-encloses-2 : goal.returns-else-encloses-2
+returns-else-encloses-2 c = search crossing-case

@@ -1,7 +1,7 @@
 -- `least_slack` is the least slack of a front: the loop keeps the least so far.
 use Rattle.ring.specs.RuleB.{slack, least}
-use Rattle.router.specs.Arrays.{pair_at}
-use Rattle.weight.specs.Arrays.{link_at}
+use Rattle.router.specs.Sending.{pair_at}
+use Rattle.weight.specs.LinkSteps.{link_at}
 use Rattle.router.proofs.SendSteps.{Lowest}
 use Rattle.std.proofs.Common.{◌-◌}
 use Rattle.router.proofs.sending.least_slack.Given as goal

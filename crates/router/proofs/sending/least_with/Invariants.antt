@@ -1,7 +1,7 @@
 -- `least_with` is the least slack of a link with itself and those before it: the loop keeps the least so far.
 use Rattle.ring.specs.RuleB.{slack}
-use Rattle.router.specs.Arrays.{pair_at}
-use Rattle.weight.specs.Arrays.{link_at}
+use Rattle.router.specs.Sending.{pair_at}
+use Rattle.weight.specs.LinkSteps.{link_at}
 use Rattle.router.proofs.SendSteps.{Lowest}
 use Rattle.router.proofs.sending.least_with.Given as goal
 

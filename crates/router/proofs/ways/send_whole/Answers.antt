@@ -5,8 +5,8 @@ use Rattle.router.proofs.ways.send_whole.Goals as goal
 
 pub next_way-way-requires : goal.next_way-way-requires
 next_way-way-requires g c =
-    let f = turn-fits _ _ c.requires _ c.largest_split-most.ensures _ _ _ _ c.row.ensures c.loop-k.invariant in
-    record { most_small = f.0; added_small = f.1; taken_small = f.2; halves_small = f.3 }
+    let f = turn-fits _ _ c.requires _ c.largest_split-largest.ensures _ _ _ _ c.row.ensures c.loop-k.invariant in
+    record { largest_small = f.0; added_small = f.1; taken_small = f.2; halves_small = f.3 }
 
 pub loop-k-preserved : goal.loop-k-preserved
 loop-k-preserved g c = rw c.put.ensures (search ways-turn)

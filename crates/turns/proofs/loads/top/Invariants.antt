@@ -1,7 +1,7 @@
 -- `top` keeps the largest load of the links passed.
 use Rattle.std.proofs.Common.{◌≡◌, ◌+◌, suc}
-use Rattle.weight.specs.Arrays.{link_at}
-use Rattle.turns.specs.Figures.{span_top}
+use Rattle.weight.specs.LinkSteps.{link_at}
+use Rattle.turns.specs.Choosing.{span_top}
 use Rattle.turns.proofs.loads.top.Given as goal
 
 abbrev pub invariant-loop-load : goal.invariant-loop-load

@@ -1,0 +1,10 @@
+pub mod Keeping
+pub mod Choices
+pub mod BestWays
+pub mod FewSplits
+pub mod BestTrue
+pub mod TrySteps
+pub mod TriedAll
+pub mod ChoiceLoads
+pub mod SendSteps
+pub mod AllTried

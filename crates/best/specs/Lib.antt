@@ -1,0 +1,4 @@
+pub mod Best
+pub mod Choices
+pub mod Tries
+pub mod Sends

@@ -1,6 +1,0 @@
--- `fill` makes the triangle of all rows: with those that are left it is that of all.
-use Rattle.router.proofs.TriangleSteps.{fill_more}
-use Rattle.router.proofs.triangle.fill.Goals as goal
-
-pub loop-row-preserved : goal.loop-row-preserved
-loop-row-preserved g c = fill_more _ _ _ _ _ _ c.in-Some.ensures.steps c.loop-row.invariant _ c.put_row.ensures

@@ -1,0 +1,239 @@
+#include "objects.h"
+
+#include <errno.h>
+#include <string.h>
+
+#include "json.h"
+#include "plan.h"
+#include "refusal.h"
+#include "turn.h"
+
+/* Puts all that an object has behind its file's name. */
+typedef enum status answering(struct json *json, const struct text *text);
+
+static enum status put_trouble(struct json *json, const char *message)
+{
+    put_text(json, "status", "trouble");
+    put_text(json, "message", message);
+    return TROUBLE;
+}
+
+static enum status put_refused(struct json *json, struct refusal refusal)
+{
+    put_text(json, "status", "refused");
+    put_number(json, "reason", refusal.reason);
+    put_text(json, "sentence", sentence_of(refusal.reason));
+    put_number_or_none(json, "line", refusal.line);
+    put_number_or_none(json, "byte", refusal.byte);
+    return REFUSED;
+}
+
+/* A name that is no UTF-8 stands as bytes besides, so that a script can still open the file. */
+static void put_file(struct json *json, const char *file)
+{
+    put_text(json, "file", file);
+    if (!is_utf8(file)) {
+        put_bytes(json, "file_hex", file);
+    }
+}
+
+static enum status put_object(const char *command, const char *file, answering *answer)
+{
+    struct json json = {.out = stdout};
+    struct text text;
+    open_object(&json, NULL);
+    put_text(&json, "command", command);
+    put_file(&json, file);
+    enum status status = take_text(&text, file) ? answer(&json, &text) : put_trouble(&json, strerror(errno));
+    close_object(&json);
+    putchar('\n');
+    return status;
+}
+
+/* ---- a plan */
+
+static void put_ring(struct json *json, const struct plan *plan)
+{
+    put_text(json, "status", "fine");
+    put_number(json, "offices", plan->offices);
+    put_number(json, "fibres", plan->fibres);
+    put_text(json, "unit", RINGKIT_UNIT);
+}
+
+static void put_demand(struct json *json, const struct circuit *circuit)
+{
+    put_number(json, "first", circuit->first);
+    put_number(json, "second", circuit->second);
+    put_number(json, "amount", circuit->amount);
+}
+
+/* By the letter that a sheet has. */
+static void put_way(struct json *json, bool goes_back)
+{
+    put_text(json, "way", goes_back ? "B" : "F");
+}
+
+static void put_circuits(struct json *json, const struct plan *plan)
+{
+    open_list(json, "circuits");
+    for (unsigned k = 0; k < plan->circuits; k++) {
+        open_object(json, NULL);
+        put_demand(json, &plan->circuit[k]);
+        put_number(json, "front_halves", plan->circuit[k].front);
+        put_number(json, "back_halves", plan->circuit[k].back);
+        put_way(json, plan->circuit[k].goes_back);
+        close_object(json);
+    }
+    close_list(json);
+}
+
+static void put_cut(struct json *json, const struct plan *plan)
+{
+    open_object(json, "cut");
+    put_number(json, "g", plan->g);
+    put_number(json, "h", plan->h);
+    put_number(json, "across", plan->across);
+    close_object(json);
+}
+
+static void put_links(struct json *json, const struct plan *plan)
+{
+    open_list(json, "links");
+    for (unsigned k = 0; k < plan->offices; k++) {
+        open_object(json, NULL);
+        put_number(json, "link", k + 1);
+        put_number(json, "split_halves", plan->load[k].split);
+        put_number(json, "unsplit", plan->load[k].unsplit);
+        close_object(json);
+    }
+    close_list(json);
+}
+
+/* The split peak, in halves, is the cut's across number. */
+static void put_peaks(struct json *json, const struct plan *plan)
+{
+    open_object(json, "peaks");
+    put_number(json, "split_halves", plan->across);
+    put_number(json, "unsplit", plan->peak);
+    close_object(json);
+}
+
+static void put_floor(struct json *json, const struct plan *plan, unsigned peak)
+{
+    put_number(json, "floor", floor_of(plan));
+    put_truth(json, "proved_best", peak == floor_of(plan));
+}
+
+/* Finds the plan, or puts why there is none. */
+static enum status plan_or_put(struct json *json, struct plan *plan, const struct text *table)
+{
+    struct refusal refusal;
+    enum status status = find_plan(plan, &refusal, table);
+    return status == REFUSED ? put_refused(json, refusal) : status == TROUBLE ? put_trouble(json, STRANGE_SHEET) : FINE;
+}
+
+static enum status put_plan(struct json *json, const struct text *table)
+{
+    struct plan plan;
+    enum status status = plan_or_put(json, &plan, table);
+    if (status != FINE) {
+        return status;
+    }
+    put_ring(json, &plan);
+    put_circuits(json, &plan);
+    put_cut(json, &plan);
+    put_links(json, &plan);
+    put_peaks(json, &plan);
+    put_floor(json, &plan, plan.peak);
+    put_number_or_none(json, "size", plan.size);
+    return FINE;
+}
+
+enum status plan_object(const char *file)
+{
+    return put_object("plan", file, put_plan);
+}
+
+/* ---- circuits that are turned */
+
+static void put_turned_circuits(struct json *json, const struct plan *plan, const uint8_t *ways)
+{
+    open_list(json, "circuits");
+    for (unsigned k = 0; k < plan->circuits; k++) {
+        open_object(json, NULL);
+        put_demand(json, &plan->circuit[k]);
+        put_way(json, ways[k] != RINGKIT_F);
+        close_object(json);
+    }
+    close_list(json);
+}
+
+static void put_turned_links(struct json *json, const struct plan *plan, const uint8_t *ways)
+{
+    open_list(json, "links");
+    for (unsigned link = 1; link <= plan->offices; link++) {
+        open_object(json, NULL);
+        put_number(json, "link", link);
+        put_number(json, "load", load_of(plan, ways, link));
+        close_object(json);
+    }
+    close_list(json);
+}
+
+/* The plan's own peak and size, to be held beside these. */
+static void put_plan_beside(struct json *json, const struct plan *plan)
+{
+    open_object(json, "plan");
+    put_number(json, "peak", plan->peak);
+    put_number_or_none(json, "size", plan->size);
+    close_object(json);
+}
+
+static enum status put_turned(struct json *json, const struct text *table)
+{
+    uint8_t ways[RINGKIT_MAX_ROWS];
+    struct plan plan;
+    ringkit_turn_reply reply = ringkit_turn(table->bytes, table->length, ways);
+    if (reply.reason != RINGKIT_OK) {
+        return put_refused(json, REFUSAL_OF(reply));
+    }
+    enum status status = plan_or_put(json, &plan, table);
+    if (status != FINE) {
+        return status;
+    }
+    put_ring(json, &plan);
+    put_turned_circuits(json, &plan, ways);
+    put_turned_links(json, &plan, ways);
+    put_number(json, "avoided_link", reply.link);
+    put_number(json, "turns", reply.turns);
+    put_number(json, "peak", reply.peak);
+    put_floor(json, &plan, reply.peak);
+    put_number_or_none(json, "size", line_size(reply.peak, plan.fibres));
+    put_plan_beside(json, &plan);
+    return FINE;
+}
+
+enum status turn_object(const char *file)
+{
+    return put_object("turn", file, put_turned);
+}
+
+/* ---- a sheet that is checked */
+
+static enum status put_check(struct json *json, const struct text *sheet)
+{
+    ringkit_reply reply = ringkit_check(sheet->bytes, sheet->length);
+    bool accepted = reply.reason == RINGKIT_OK;
+    if (accepted) {
+        put_text(json, "status", "fine");
+    } else {
+        put_refused(json, REFUSAL_OF(reply));
+    }
+    put_truth(json, "accepted", accepted);
+    return accepted ? FINE : REFUSED;
+}
+
+enum status check_object(const char *file)
+{
+    return put_object("check", file, put_check);
+}

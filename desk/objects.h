@@ -1,0 +1,18 @@
+/* What becomes of a file as an object of JSON on a line of its own, for scripts. docs/desk.schema.json says which keys it has. */
+#ifndef DESK_OBJECTS_H
+#define DESK_OBJECTS_H
+
+#include "status.h"
+
+/* Each reads a file, standard input where it is "-", and writes one line. A refusal, and why a file cannot be read, stand in the object, and nothing is said on standard error. */
+
+/* The plan of the table. */
+enum status plan_object(const char *file);
+
+/* The table's circuits sent one turn at a time, beside the plan's own peak. */
+enum status turn_object(const char *file);
+
+/* Whether the sheet is accepted. */
+enum status check_object(const char *file);
+
+#endif

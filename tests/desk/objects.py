@@ -1,0 +1,404 @@
+#!/usr/bin/env python3
+"""Holds what the desk writes with --json, and what it says of several files, to what it says without: `objects.py DESK`, from the tree's root.
+
+Each object is one line of ASCII that a parser of JSON reads, and has the shape that docs/desk.schema.json says. Figures of a plan, written as a sheet, are the bytes of
+`desk plan --sheet`; those of turning are worked out again from the ways, and held to the stored cases (tests/cases/turning.calls); a refusal is the sentence that is said on standard error. The module
+jsonschema reads the schema where it is there; shape.py does in any case, and the first line says which of them did. The last line is 'N passed, M failed'."""
+import json
+import os
+import pathlib
+import random
+import re
+import subprocess
+import sys
+import tempfile
+
+import shape
+
+root = pathlib.Path(__file__).resolve().parents[2]
+desk = pathlib.Path(sys.argv[1]).resolve()
+SIZES = (3, 12, 48, 192, 768)
+UNIT = re.search(r'^#define RINGKIT_UNIT "(.*)"$', (root / "include/ringkit.h").read_text(encoding="utf-8"), re.MULTILINE).group(1)
+SCHEMA = json.loads((root / "docs/desk.schema.json").read_text(encoding="utf-8"))
+# the module takes its time over circuits and links, which are all of one shape: it reads objects of at most so many
+MOST_FOR_MODULE = 12
+passed = 0
+faults = []
+
+
+def check(good, what):
+    global passed
+    if good:
+        passed += 1
+    else:
+        faults.append(what)
+
+
+def finish():
+    for fault in faults:
+        print(f"error: {fault}")
+    print(f"{passed} passed, {len(faults)} failed")
+    sys.exit(1 if faults else 0)
+
+
+def said(*words, typed=b"", together=False):
+    """What the desk writes, what it complains of, and its exit status."""
+    done = subprocess.run([desk, *words], input=typed, stdout=subprocess.PIPE, stderr=subprocess.STDOUT if together else subprocess.PIPE, check=False)
+    return done.stdout, done.stderr, done.returncode
+
+
+# ---- one object
+
+
+def pairs_once(pairs):
+    names = [name for name, _ in pairs]
+    if len(names) != len(set(names)):
+        raise ValueError("a key stands twice")
+    return dict(pairs)
+
+
+def no_such_number(word):
+    raise ValueError(f"{word} is no whole number")
+
+
+def read(line):
+    return json.loads(line, object_pairs_hook=pairs_once, parse_float=no_such_number, parse_constant=no_such_number)
+
+
+def objects(written, what, count):
+    """The objects of so many lines. With others, and with those of a wrong shape, nothing else can be compared, and the test ends."""
+    try:
+        lines = written.decode("ascii").splitlines(keepends=True)
+        found = [read(line) for line in lines]
+    except ValueError as fault:
+        check(False, f"{what}: {fault}")
+        finish()
+    check(len(lines) == count and all(line.endswith("}\n") for line in lines), f"{what}: {len(lines)} lines, and not {count} that each end in LF")
+    for one in found:
+        fault = wrong_shape(one)
+        check(fault is None, f"{what}: {fault}")
+    return finish() if faults else found
+
+
+def wrong_shape(found):
+    """What the schema has against an object; None where it is nothing."""
+    own = shape.fault(SCHEMA, found)
+    if validator is None or len(found.get("circuits", ())) + len(found.get("links", ())) > MOST_FOR_MODULE:
+        return own
+    by_module = next(validator.iter_errors(found), None)
+    return own if (own is None) == (by_module is None) else f"shape.py says {own}, and the module {by_module}"
+
+
+def hold_name(one, name):
+    """A name that is no UTF-8 has U+FFFD for each byte that is none, and its bytes besides."""
+    text = name.decode("utf-8", "surrogateescape")
+    shown = re.sub("[\udc80-\udcff]", "\ufffd", text)
+    due = {"file": shown} if shown == text else {"file": shown, "file_hex": name.hex()}
+    check({key: value for key, value in one.items() if key.startswith("file")} == due, f"{str(one)[:80]} is not of the file {name}")
+
+
+def ask(command, names, typed=b""):
+    """Asks for objects of files, holds them to the schema and to the names, and gives them with the exit status."""
+    written, complained, status = said(command, "--json", *names, typed=typed)
+    what = f"{command} --json {b' '.join(names)[:60]}"
+    check(complained == b"", f"{what}: it complains: {complained[:200]}")
+    found = objects(written, what, max(len(names), 1))
+    for name, one in zip(names or [b"-"], found):
+        check(one["command"] == command, f"{what}: {str(one)[:80]} is of another command")
+        hold_name(one, name)
+    worst = max(("fine", "refused", "trouble").index(one["status"]) for one in found)
+    check(status == worst, f"{what}: the exit status is {status}, and {worst} is the worst")
+    return found, status
+
+
+# ---- plans and turning, by the sheet
+
+
+def lines_of(rows):
+    return "".join("\t".join(map(str, row)) + "\n" for row in rows)
+
+
+def sheet_of(one):
+    """The sheet that says what the object of a plan does."""
+    rows = [("R", one["offices"], one["fibres"])]
+    rows += [("D", c["first"], c["second"], c["amount"], c["front_halves"], c["back_halves"], c["way"]) for c in one["circuits"]]
+    rows += [("C", one["cut"]["g"], one["cut"]["h"], one["cut"]["across"])]
+    rows += [("L", k["link"], k["split_halves"], k["unsplit"]) for k in one["links"]]
+    return lines_of(rows + [("Z", one["peaks"]["unsplit"], one["size"] or 0)])
+
+
+def ends_true(one, peak, across):
+    """What both objects say of unit, floor and proof."""
+    floor = (across + 1) // 2
+    return one["unit"] == UNIT and one["floor"] == floor and one["proved_best"] is (peak == floor)
+
+
+def hold_plan(one, sheet, what):
+    check(sheet_of(one) == sheet, f"plan of {what}: the object is not the sheet")
+    check(one["peaks"]["split_halves"] == max(k["split_halves"] for k in one["links"]), f"plan of {what}: the split peak is not the largest split load")
+    check(one["peaks"]["unsplit"] == max(k["unsplit"] for k in one["links"]), f"plan of {what}: the unsplit peak is not the largest unsplit load")
+    check(ends_true(one, one["peaks"]["unsplit"], one["cut"]["across"]), f"plan of {what}: unit, floor or proof is false")
+
+
+def goes_over(circuit, link):
+    return (circuit["first"] <= link < circuit["second"]) == (circuit["way"] == "F")
+
+
+def hold_turned(one, sheet, what):
+    """What turning says of the table that the sheet is of."""
+    rows = [line.split("\t") for line in sheet.splitlines()]
+    ring, cut, last = rows[0], next(row for row in rows if row[0] == "C"), rows[-1]
+    demands = [tuple(map(int, row[1:4])) for row in rows if row[0] == "D"]
+    loads = [sum(c["amount"] for c in one["circuits"] if goes_over(c, link)) for link in range(1, int(ring[1]) + 1)]
+    wanted = one["peak"] * (2 if one["fibres"] == 2 else 1)
+    check([one["offices"], one["fibres"]] == list(map(int, ring[1:])), f"turning {what}: another ring")
+    check([(c["first"], c["second"], c["amount"]) for c in one["circuits"]] == demands, f"turning {what}: other circuits")
+    check([(k["link"], k["load"]) for k in one["links"]] == list(enumerate(loads, 1)), f"turning {what}: the loads are not those of the ways")
+    check(one["peak"] == max(loads), f"turning {what}: the peak is not the largest load")
+    check(one["size"] == next((size for size in SIZES if size >= wanted), None), f"turning {what}: size {one['size']} for {wanted}")
+    check((one["plan"]["peak"], one["plan"]["size"] or 0) == (int(last[1]), int(last[2])), f"turning {what}: the plan beside it is another")
+    check(ends_true(one, one["peak"], int(cut[3])), f"turning {what}: unit, floor or proof is false")
+
+
+def hold(names):
+    """Holds both objects of each table to its sheet, and gives them."""
+    (planned, status), (turned, other) = ask("plan", names), ask("turn", names)
+    check(status == other == 0, "a table is not planned and turned")
+    for name, plan, turn in zip(names, planned, turned):
+        sheet = said("plan", "--sheet", name)[0].decode("ascii")
+        what = os.path.basename(name).decode("ascii")
+        hold_plan(plan, sheet, what)
+        hold_turned(turn, sheet, what)
+    return planned, turned
+
+
+COUNTS = (0, 1, 2, 3, 5, 8, 13, 40, 100, 257)
+MOST = (1, 3, 9, 100, 9999)
+
+
+def made(folder):
+    """Tables of 2 to 64 offices and 0 to 1,024 circuits, on both kinds of ring; each ring size has at least two."""
+    draw = random.Random(8)
+    names = []
+    for k in range(126):
+        offices, count, most = 2 + k % 63, 1024 if k % 31 == 0 else draw.choice(COUNTS), MOST[k % len(MOST)]
+        rows = sorted((sorted(draw.sample(range(1, offices + 1), 2)) for _ in range(count)))
+        names.append(os.path.join(folder, b"made-%d.table" % k))
+        pathlib.Path(os.fsdecode(names[-1])).write_text(lines_of([("R", offices, draw.choice((2, 4)))] + [("D", *row, draw.randint(0, most)) for row in rows]), encoding="ascii")
+    return names
+
+
+def covered(planned, turned):
+    """All that an object may say of a plan is said of one of these."""
+    for one in (planned, turned):
+        check({o["size"] for o in one} == {*SIZES, None}, "not each size is met")
+        check({o["proved_best"] for o in one} == {True, False}, "not both answers of proof are met")
+        check({c["way"] for o in one for c in o["circuits"]} == {"F", "B"}, "not both ways are met")
+        check({o["offices"] for o in one} == set(range(2, 65)) and {o["fibres"] for o in one} == {2, 4}, "not each ring is met")
+        check({0, 1024} <= {len(o["circuits"]) for o in one}, "no table, or no full one")
+    check(any(c["front_halves"] % 2 for o in planned for c in o["circuits"]), "no half is met")
+
+
+# ---- stored cases of turning
+
+
+def stored_cases():
+    """What is due, by the words of the line, and the text."""
+    rest = (root / "tests/cases/turning.calls").read_bytes()
+    while rest:
+        head, rest = rest.split(b"\n", 1)
+        length, *due = head.decode("ascii").split(" ")[1:]
+        yield due, rest[: int(length)]
+        rest = rest[int(length) :]
+
+
+def answer_of(one):
+    """The words that the object of turning makes."""
+    if one["status"] == "refused":
+        return [str(one["reason"]), str(one["line"] or 0), str(one["byte"] or 0), "0", "0", "0", "0", "-"]
+    ways = "".join(c["way"] for c in one["circuits"])
+    return ["0", "0", "0", *(str(one[key]) for key in ("peak", "avoided_link", "turns")), str(len(ways)), ways or "-"]
+
+
+def hold_stored(folder):
+    cases = list(stored_cases())
+    names = [os.path.join(folder, b"stored-%d" % k) for k in range(len(cases))]
+    for name, (_, text) in zip(names, cases):
+        pathlib.Path(os.fsdecode(name)).write_bytes(text)
+    for name, (due, _), one in zip(names, cases, ask("turn", names)[0]):
+        check(answer_of(one) == due, f"turning {name}: {answer_of(one)}, and stored is {due}")
+
+
+# ---- refusals
+
+
+def t(*lines):
+    return "".join(line.replace("|", "\t") + "\n" for line in lines).encode("ascii")
+
+
+SQUARE = (root / "examples/square.sheet").read_bytes()
+BOUND = t("R|8|4", *(f"D|{k}|{k + 4}|1|1|1|F" for k in range(1, 5)), "C|4|8|4", *(f"L|{k}|4|{min(k, 8 - k)}" for k in range(1, 9)), "Z|4|12")
+OF_BOTH = [
+    (b"y\n" * 20000, 1, None, None),
+    (b"", 2, 1, 1),
+    (t("R|4|4", "D|1|3 |1"), 2, 2, 6),
+    (b"\x00\xff\n", 2, 1, 1),
+    (t("R|65|4"), 3, 1, 3),
+    (t("R|4|3"), 20, 1, 5),
+]
+OF_TABLES = OF_BOTH + [
+    (t("R|4|4", "D|1|5|1"), 4, 2, 5),
+    (t("R|4|4", "D|2|2|1"), 5, 2, 1),
+    (t("R|4|4", "D|1|3|1", "D|1|2|1"), 6, 3, 1),
+    (t("R|4|4", "D|1|2|10000"), 7, 2, 7),
+    (t("R|4|4", *["D|1|2|1"] * 1025), 16, 1026, 1),
+]
+OF_SHEETS = OF_BOTH + [
+    (SQUARE.replace(t("D|1|3|1|1|1|F"), t("D|1|5|1|1|1|F")), 4, 2, 5),
+    (SQUARE.replace(t("D|1|3|1|1|1|F"), t("D|3|1|1|1|1|F")), 5, 2, 1),
+    (SQUARE.replace(t("D|2|4|1|1|1|B"), t("D|1|2|1|1|1|B")), 6, 3, 1),
+    (SQUARE.replace(t("D|1|3|1|1|1|F"), t("D|1|3|10000|1|1|F")), 7, 2, 7),
+    (t("R|4|4", *["D|1|2|1|2|0|F"] * 1025), 16, 1026, 1),
+    (SQUARE.replace(t("D|1|3|1|1|1|F"), t("D|1|3|1|1|2|F")), 8, 2, 1),
+    (SQUARE.replace(t("D|1|3|1|1|1|F"), t("D|1|3|1|2|0|B")), 9, 2, 1),
+    (SQUARE.replace(t("C|1|3|2"), t("C|1|3|3")), 10, 4, 1),
+    (SQUARE.replace(t("L|3|2|0"), t("L|3|2|1")), 11, 7, 1),
+    (SQUARE.replace(t("Z|2|3"), t("Z|2|12")), 12, 9, 1),
+    ((root / "examples/not-best.sheet").read_bytes(), 13, None, None),
+    (BOUND, 14, None, None),
+]
+
+
+def hold_refused(folder):
+    """Each reason that a command can give, in the object and in words."""
+    for command, texts in (("plan", OF_TABLES), ("turn", OF_TABLES), ("check", OF_SHEETS)):
+        names = [os.path.join(folder, b"refused-%s-%d" % (command.encode("ascii"), k)) for k in range(len(texts))]
+        for name, (text, *due) in zip(names, texts):
+            pathlib.Path(os.fsdecode(name)).write_bytes(text)
+            for one in ask(command, [name])[0]:
+                found = [one.get(key) for key in ("reason", "line", "byte")]
+                place = f"line {due[1]}, byte {due[2]}: " if due[1] else ""
+                words = said(command, name)[1].decode("ascii").split("\n")[0]
+                check(one["status"] == "refused" and found == due, f"{command} {name}: {found}, and {due} is due")
+                check(words == f"{os.fsdecode(name)}: {place}{one.get('sentence')} (reason {due[0]})", f"{command} {name}: the words are {words}")
+        check({due[0] for _, *due in texts} == {*range(1, 8), 16, 20, *(range(8, 15) if command == "check" else [])}, f"{command}: not each reason is met")
+        found, status = ask(command, names)
+        check(status == 1 and [one.get("reason") for one in found] == [due[0] for _, *due in texts], f"{command}: refused one after the other they are others")
+
+
+# ---- names
+
+
+ODD = [
+    b'"', b"\\", b"\\xff", b"\\u0041", b"a\nb", b"a\rb", b"\t \x01\x1b[2J\x7f", b"'", b"</script>", b"standard input", b"==> x <==",
+    "caf\u00e9".encode(), "\u0080\u009b\u2028\u2029\ufeff".encode(), "\ud7ff\ue000\ufffd\uffff".encode(), "\U00010000\U0001f600\U0010ffff".encode(),
+    b"\xff", b"\x80", b"a\xc3", b"\xc3(", b"\xe2\x82", b"\xe2(\xa1", b"\xf0\x9f\x98", b"\xc0\xaf", b"\xc1\xbf", b"\xe0\x9f\xbf", b"\xf0\x8f\xbf\xbf", b"\xed\xa0\x80", b"\xed\xbf\xbf", b"\xf4\x90\x80\x80",
+    b"\xf5\x80\x80\x80", b"\xf8\x88\x80\x80\x80", b"caf\xc3\xa9\xe9", b"\xef\xbf\xbd\xff",
+]
+
+
+def hold_names(folder):
+    table, sheet = (root / "examples/square.table").read_bytes(), SQUARE
+    home = os.path.join(folder, b"names")
+    os.mkdir(home)
+    # a name has no slash and no NUL in it
+    names = [os.path.join(home, name.replace(b"/", b"|")) for name in ODD] + [os.path.join(home, bytes([byte])) for byte in range(1, 256) if byte not in b"/."]
+    for command, text in (("plan", table), ("turn", table), ("check", sheet)):
+        for name in names:
+            pathlib.Path(os.fsdecode(name)).write_bytes(text)
+        found, status = ask(command, names)
+        check(status == 0 and len(found) == len(names), f"{command}: not each odd name is read")
+    missing = [name + b".missing" for name in names]
+    found, status = ask("check", missing)
+    check(status == 2 and {one.get("message") for one in found} == {"No such file or directory"}, f"trouble of missing files: {found[:1]}")
+
+
+# ---- several files
+
+
+def together(command, names, typed=b""):
+    """What the desk should say of several files, complaints in their place: of each what it says of that file alone, below its heading."""
+    parts, worst = [], 0
+    for name in names:
+        written, _, status = said(command, name, typed=typed, together=True)
+        parts.append(b"==> %s <==\n%s" % (b"standard input" if name == b"-" else name, written))
+        worst = max(worst, status)
+    return b"\n".join(parts), worst
+
+
+def hold_several(folder):
+    table, sheet = b"examples/square.table", b"examples/square.sheet"
+    refused, missing, other = os.path.join(folder, b"refused-plan-2"), os.path.join(folder, b"missing"), b"examples/five-offices.table"
+    for command, good, also, piped in (("plan", table, other, table), ("turn", table, other, table), ("check", sheet, b"examples/circuits.sheet", sheet)):
+        typed = (root / os.fsdecode(piped)).read_bytes()
+        for names in ([good, also], [good, refused, also], [missing, good], [refused, missing, good], [good, b"-", also], [b"-", refused], [b"examples", good, good]):
+            written, _, status = said(command, *names, typed=typed, together=True)
+            check((written, status) == together(command, names, typed), f"{command} {names}: together they are not what each is alone")
+            check(status == ask(command, names, typed)[1], f"{command} {names}: another exit status with --json")
+        check(said(command, good) == said(command, typed=typed) or command == "check", f"{command}: a file and standard input differ")
+        check(b"==>" not in said(command, good)[0] + said(command, typed=typed)[0], f"{command}: a heading of one file")
+        one = ask(command, [], typed)
+        check(one == ask(command, [b"-"], typed) and one[1] == 0, f"{command}: no name and - differ")
+        for words in (["-", "-"], ["--json", "-", table, "-"], ["--json", "--sheet"], ["--json=1"]):
+            written, complained, status = said(command, *words)
+            check(written == b"" and complained.startswith(b"usage: ") and status == 2, f"{command} {words}: these words make no order")
+    check(said("plan", "--json", table, b"--json")[2] == 0, "an option said twice is one")
+
+
+# ---- the schema itself
+
+
+def damaged(found):
+    """The values that differ from one at one place: of each object a key less, a key more, and of each other value one that cannot stand there."""
+    if isinstance(found, dict):
+        yield {**found, "strange": 1}
+        for key, value in found.items():
+            if key != "file_hex":
+                yield {name: other for name, other in found.items() if name != key}
+            for changed in damaged(value):
+                yield {**found, key: changed}
+    elif isinstance(found, list):
+        yield "x"
+        for changed in damaged(found[0]) if found else []:
+            yield [changed, *found[1:]]
+    else:
+        yield from (["x"], -1, 0.5)
+        if not isinstance(found, bool):
+            yield True
+        if not isinstance(found, str):
+            yield "x"
+
+
+def hold_schema(folder):
+    """The schema takes no object that is damaged."""
+    texts = ("plan", "refused-plan-2", "missing"), ("turn", "refused-turn-2", "missing\udcff"), ("check", "refused-check-5", "missing")
+    for command, *rest in texts:
+        names = [b"examples/square.sheet" if command == "check" else b"examples/square.table", *(os.path.join(folder, os.fsencode(name)) for name in rest)]
+        for one in ask(command, names)[0]:
+            for changed in damaged(one):
+                fault = wrong_shape(changed)
+                check(fault is not None and not fault.startswith("shape.py says"), f"the schema takes {str(changed)[:200]}: {fault}")
+
+
+try:
+    import jsonschema
+except ImportError:
+    validator = None
+    print("shape by shape.py alone: there is no module jsonschema")
+else:
+    jsonschema.Draft202012Validator.check_schema(SCHEMA)
+    validator = jsonschema.Draft202012Validator(SCHEMA)
+    print("shape by shape.py and by the module jsonschema")
+os.chdir(root)
+with tempfile.TemporaryDirectory() as scratch:
+    here = os.fsencode(scratch)
+    examples = [os.fsencode(path) for path in sorted(pathlib.Path("examples").glob("*.table"))]
+    covered(*(a + b for a, b in zip(hold(examples), hold(made(here)))))
+    hold_stored(here)
+    hold_refused(here)
+    hold_names(here)
+    hold_several(here)
+    hold_schema(here)
+    sheets = [os.fsencode(path) for path in sorted(pathlib.Path("examples").glob("*.sheet"))]
+    check([one.get("accepted") for one in ask("check", sheets)[0]] == [b"not-best" not in name for name in sheets], "not the sheets of examples are accepted that should be")
+finish()

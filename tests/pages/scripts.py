@@ -1,0 +1,229 @@
+"""What ./plan, ./check, ./build and .ci/run say, and what they end with. Proving is tried in a small tree of three crates, with a stand-in for rt that says of a crate
+what rt would, and of one that it proved before nothing."""
+import pathlib
+import shutil
+
+from told import root, run, told
+
+tree = root / "target/pages/tree"
+tools = root / "target/pages/tools"
+
+CRATES = """# listed as crates.txt lists them
+low: memchr
+aside: low
+middle: low arrayvec # which crates.txt does not list
+ringplan: middle
+ringcheck: middle
+ringkit_c staticlib: middle
+"""
+
+RT = r"""#!/usr/bin/env bash
+[ "$1" != version ] || { echo stand-in; exit; }
+name=$(basename "$PWD")
+echo "$1 $name" >>../../asked
+[ ! -e out/proved ] || exit 0
+echo "rt: chose --jobs 4 for $name"
+echo "fn $name::one: proved"
+[ ! -e fails ] || { echo "fn $name::two: not proved"; exit 1; }
+mkdir -p out && touch out/proved
+cp ../../program "out/$name" && cp ../../empty.a out/libringkit_c.a
+"""
+
+PROGRAM = r"""#!/usr/bin/env bash
+cat
+"""
+
+
+def write(path, text, mode=0o644):
+    path.parent.mkdir(parents=True, exist_ok=True)
+    path.write_text(text, encoding="utf-8")
+    path.chmod(mode)
+
+
+def make_tools():
+    """A folder with what the scripts call, and the stand-in; so that a path of this folder alone lacks what is removed from it."""
+    shutil.rmtree(tools, ignore_errors=True)
+    tools.mkdir(parents=True)
+    compiler = run('. ./host.sh; echo "$x86_cc"').stdout.strip()
+    for name in "bash env awk basename cat cp dirname find grep head id install ld as mkdir mv readlink rm sed sha256sum sort touch xargs tee tr chmod diff mktemp tail wc python3 nm size pkg-config rustc git man valgrind gcc g++".split():
+        found = shutil.which(compiler if name == "gcc" else name)
+        if found:
+            write(tools / name, f'#!{shutil.which("bash")}\nexec {found} "$@"\n', 0o755)
+    # on every processor the tree is that of a machine whose programs need no emulator
+    write(tools / "uname", f"#!{shutil.which('bash')}\necho x86_64\n", 0o755)
+    write(tools / "rt", RT.replace("/usr/bin/env bash", shutil.which("bash")), 0o755)
+
+
+def make_tree():
+    """The scripts in a tree of a few crates, none of them proved."""
+    shutil.rmtree(tree, ignore_errors=True)
+    for name in ("plan", "build", "host.sh", "proving.sh", "count.sh", ".ci/run"):
+        write(tree / name, (root / name).read_text(encoding="utf-8"), 0o755)
+    (tree / "check").symlink_to("plan")
+    write(tree / "crates.txt", CRATES)
+    for crate in "low aside middle ringplan ringcheck ringkit_c".split():
+        write(tree / f"crates/{crate}/src/{'main' if crate in ('ringplan', 'ringcheck') else 'lib'}.rt", "")
+    write(tree / "program", PROGRAM.replace("/usr/bin/env bash", shutil.which("bash")), 0o755)
+    write(tree / "empty.a", "!<arch>\n")
+    for name in ("include/ringkit.h", "man/desk.1", "completions/desk"):
+        write(tree / name, (root / name).read_text(encoding="utf-8"))
+    write(tree / "desk/main.c", "int main(void) { return 0; }\n")
+
+
+def says(command, cwd=tree, **environment):
+    """What a command writes, complains of and ends with, seconds left out, on a path of the tools alone where the tree is the small one."""
+    if cwd == tree:
+        environment = {"PATH": str(tools), "CC": "gcc", **environment}
+    done = run(command, cwd=cwd, **environment)
+    return done.stdout, done.stderr, done.returncode
+
+
+def without_seconds(text):
+    return "".join(line.rsplit(" ", 2)[0] + "\n" if line.endswith(" s") else line + "\n" for line in text.splitlines())
+
+
+def asked():
+    """What rt was asked since the last time."""
+    file = tree / "asked"
+    found = file.read_text(encoding="utf-8").split("\n")[:-1] if file.exists() else []
+    file.unlink(missing_ok=True)
+    return found
+
+
+def of_words():
+    """The words of the scripts: --help, and words that make no order."""
+    for name in ("plan", "check", "build"):
+        wrote, complained, status = says(f"./{name} --help", cwd=root)
+        told(f"./{name} --help", (wrote.startswith(f"usage: {name} ["), "\nExit status: 0" in wrote, complained, status), (True, True, "", 0))
+        line = wrote.splitlines()[0] + "\n"
+        for words in ("--json", "a b", "--help --help") + (("a", "--install", "--install ''") if name == "build" else ()):
+            told(f"./{name} {words}", says(f"./{name} {words}", cwd=root), ("", line, 2))
+
+
+def of_refusals():
+    """What the programs write goes through as it is, and a refusal ends with 1."""
+    for name, file, first, status in (("plan", "square.table", "R", 0), ("plan", "square.sheet", "E", 1), ("plan", "full-64.table", "R", 0), ("check", "square.sheet", "Y", 0), ("check", "not-best.sheet", "E", 1)):
+        due = run(f'. ./host.sh; take_emulator_of_rt; "${{emulator[@]}}" "$(program_of ring{name})" <examples/{file}', cwd=root).stdout
+        told(f"./{name} {file}", (due[:1], says(f"./{name} examples/{file}", cwd=root)), (first, (due, "", status)))
+        for words in ("", "-"):
+            told(f"./{name} {words} <{file}", says(f"./{name} {words} <examples/{file}", cwd=root), (due, "", status))
+    told("a file that is not there", says("./plan nowhere.table", cwd=root), ("", "plan: cannot read nowhere.table\n", 2))
+    told("a folder", says("./check examples", cwd=root), ("", "check: cannot read examples\n", 2))
+    told("standard input is closed", says("./plan <&-", cwd=root)[::2], ("", 2))
+    told("the output cannot be written", says("./plan examples/square.table >/dev/full", cwd=root)[2], 2)
+
+
+def of_proving():
+    """Each crate is told of as it is proved, those alone that are needed; what is proved already is passed in silence."""
+    make_tree()
+    lines = ["plan: proving low, 1 of 3 ...", "plan: proving middle, 2 of 3 ...", "plan: proving ringplan, 3 of 3 ..."]
+    wrote, complained, status = says("echo R | ./plan")
+    told("the first plan", (wrote, without_seconds(complained).splitlines(), status), ("R\n", lines, 0))
+    told("what rt is asked for it", asked(), ["lib low", "lib middle", "run ringplan"])
+    told("the second plan", says("echo R | ./plan"), ("R\n", "", 0))
+    told("what rt is asked for it", asked(), [])
+    (tools / "rt").rename(tools / "aside")
+    told("a plan without rt, once all is built", says("echo R | ./plan"), ("R\n", "", 0))
+    (tools / "aside").rename(tools / "rt")
+    wrote, complained, status = says("echo Y | ./check")
+    told("the first check", (wrote, without_seconds(complained), status), ("Y\n", "check: proving ringcheck, 3 of 3 ...\n", 0))
+    told("a program that cannot write", says("sed -i 's/^cat/exit 1/' crates/ringplan/out/ringplan; ./plan </dev/null")[2], 2)
+    asks_again()
+
+
+def asks_again():
+    """rt is asked again where a source is changed, new or gone."""
+    for command in ("echo >>crates/low/src/lib.rt", "touch crates/aside/src/new.rt", "rm crates/aside/src/new.rt"):
+        says("./plan </dev/null")
+        asked()
+        says(f"{command}; ./plan </dev/null")
+        told(f"what rt is asked behind {command}", "run ringplan" in asked(), True)
+
+
+def of_failures():
+    """A crate that is not proved ends it: its complaints are shown, and what was proved is not."""
+    make_tree()
+    write(tree / "crates/middle/fails", "")
+    for name, status in (("plan", 2), ("check", 2), ("build", 1)):
+        wrote, complained, ended = says(f"./{name} </dev/null")
+        told(f"{name}: the status", (wrote, ended), ("", status))
+        told(f"{name}: the crate is named", f"{name}: the crate middle is not proved and built; target/proofs/middle.log has" in complained, True)
+        told(f"{name}: what is not proved is shown", "fn middle::two: not proved\n" in complained, True)
+        told(f"{name}: what is proved is not", "middle::one" in complained, False)
+    told("what rt is asked", set(asked()), {"lib low", "lib middle"})
+    (tree / "crates/middle/fails").unlink()
+    told("once it is mended", says("echo R | ./plan")[::2], ("R\n", 0))
+
+
+def of_building():
+    """./build proves what it is made of, and on a second run says nothing of it."""
+    make_tree()
+    wrote, complained, status = says("./build")
+    proved = [line.split()[2] for line in complained.splitlines() if " proving " in line]
+    told("the first build", (proved, status), (["low,", "middle,", "ringplan,", "ringcheck,", "ringkit_c,"], 0))
+    asked()
+    wrote, complained, status = says("./build")
+    told("the second build", (wrote, complained.startswith("build: dist has "), len(complained.splitlines()), status), ("", True, 1, 0))
+    told("what rt is asked for it", asked(), [])
+    write(tree / "crates/ringkit_c/src/lib.rt", "// changed\n")
+    says("./build")
+    told("what rt is asked behind a change", asked(), ["lib low", "lib middle", "lib ringkit_c"])
+    write(tree / "crates/ringplan/src/main.rt", "// changed\n")
+    says("./plan </dev/null")
+    asked()
+    says("./build")
+    told("what rt is asked for a program that ./plan has built", asked(), [])
+    (tree / "crates/ringplan/out/ringplan").write_text("spoiled", encoding="utf-8")
+    says("./build")
+    told("what rt is asked for a program that is not its own", asked(), ["lib low", "lib middle", "run ringplan"])
+
+
+LACKING = {
+    "rt": "there is no rt: it comes with the Rattle toolchain, ",
+    "python3": "there is no python3, which runs rt and the tests of the pages: install the package python3\n",
+    "gcc": "there is no C compiler gcc: install the package gcc, or name another in CC\n",
+}
+
+
+def of_missing_tools():
+    """A tool that is missing is named, with the package that has it."""
+    for tool, due in LACKING.items():
+        for name, status in (("plan", 2), ("check", 2), ("build", 1)):
+            if tool == "gcc" and name != "build":
+                continue
+            make_tree()
+            (tools / tool).rename(tools / "aside")
+            wrote, complained, ended = says(f"./{name} </dev/null")
+            (tools / "aside").rename(tools / tool)
+            told(f"{name} without {tool}", (wrote, complained.startswith(f"{name}: {due}"), len(complained.splitlines()), ended), ("", True, 1, status))
+    make_tree()
+    aarch64 = f"{tools}/aarch64"
+    write(pathlib.Path(aarch64) / "uname", f"#!{shutil.which('bash')}\necho aarch64\n", 0o755)
+    complained = says("echo R | ./plan", PATH=f"{aarch64}:{tools}")[1]
+    told("plan without an emulator", "plan: there is no qemu-x86_64, which runs programs for x86-64 on this processor: install the package qemu-user\n" in complained, True)
+    complained = says("./build", PATH=f"{aarch64}:{tools}", CC="")[1]
+    told("build without a cross compiler", complained, "build: there is no C compiler x86_64-linux-gnu-gcc: install the package gcc-x86-64-linux-gnu, or name another in CC\n")
+
+
+def of_the_gate():
+    """.ci/run says at its beginning what is missing, and without rt ends there."""
+    make_tree()
+    packages = {"rt": "rattle-kit-13f", "valgrind": "package valgrind", "pkg-config": "package pkg-config", "nm": "package binutils", "python3": "package python3", "rustc": "package rustc", "g++": "package g++"}
+    for tool in packages:
+        (tools / tool).unlink(missing_ok=True)
+    wrote, _, status = says(".ci/run")
+    lines = wrote.splitlines()
+    for tool, package in packages.items():
+        told(f".ci/run without {tool}", [package in line for line in lines if line.startswith(f"error: there is no {tool}")], [True])
+    told("the end of .ci/run without rt", (lines[-1:], status), (["0 passed, 7 failed"], 1))
+
+
+def all_of_them():
+    make_tools()
+    of_words()
+    of_refusals()
+    of_proving()
+    of_failures()
+    of_building()
+    of_missing_tools()
+    of_the_gate()
