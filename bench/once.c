@@ -1,5 +1,6 @@
 /* What the library does once, to be counted from outside: it is all that the function `counted` does.
- *   once route TABLE, once check SHEET           what a call writes goes to standard output
+ *   once route|best|lowered|lowered_best TABLE   the sheet goes to standard output
+ *   once check SHEET                             nothing does
  *   once turn TABLE                              peak, link and turns, and the ways as letters, go there
  *   once judge SHEET                             the values that the sheet says
  *   once add|change|remove|write [FIRST SECOND]  of a full working table of 64 offices, at its last place, a row of these nodes or else the dearest
@@ -28,6 +29,27 @@ static uint32_t told;
 static uint32_t route(void)
 {
     ringkit_reply reply = ringkit_route(text, length, buffer, sizeof buffer);
+    written = reply.length;
+    return reply.reason;
+}
+
+static uint32_t best(void)
+{
+    ringkit_reply reply = ringkit_route_best(text, length, buffer, sizeof buffer);
+    written = reply.length;
+    return reply.reason;
+}
+
+static uint32_t lowered(void)
+{
+    ringkit_reply reply = ringkit_route_lowered(text, length, buffer, sizeof buffer);
+    written = reply.length;
+    return reply.reason;
+}
+
+static uint32_t lowered_best(void)
+{
+    ringkit_reply reply = ringkit_route_lowered_best(text, length, buffer, sizeof buffer);
     written = reply.length;
     return reply.reason;
 }
@@ -168,7 +190,7 @@ static const struct job {
     void (*prepare)(void);
     uint32_t (*call)(void);
 } JOBS[] = {
-    {"route", nothing, route}, {"turn", nothing, turn}, {"check", nothing, check}, {"judge", take_down, judge}, {"add", all_but_one, add}, {"change", all, change}, {"remove", all, removes}, {"write", all, writes},
+    {"route", nothing, route}, {"best", nothing, best}, {"lowered", nothing, lowered}, {"lowered_best", nothing, lowered_best}, {"turn", nothing, turn}, {"check", nothing, check}, {"judge", take_down, judge}, {"add", all_but_one, add}, {"change", all, change}, {"remove", all, removes}, {"write", all, writes},
     {"kept", draw, kept}, {"afresh", draw, afresh},
 };
 

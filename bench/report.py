@@ -47,7 +47,7 @@ def ratio(ours, best):
 
 @dataclass
 class Result:
-    """A line of the raw data. Peaks are in units, across in halves; counts are given for some tables only."""
+    """A line of the raw data. Peaks are in units, across in halves; counts are given for some tables only, and those of the best choice, by level rooms and by lowered ones, where few enough rows are left split."""
 
     family: str
     n: int
@@ -57,6 +57,9 @@ class Result:
     across: int
     ours: int
     turned: int
+    chosen: int
+    lowered: int
+    lowered_chosen: int
     best: int
     bound: int
     proved: int
@@ -181,28 +184,34 @@ def times_row(n, some):
     )
 
 
+# In the place of A: its own rooms with all ways tried and in one pass, then ours, and one turn at a time.
+IN_PLACE_OF_A = {
+    "here": lambda r: r.lowered_chosen,
+    "in one pass": lambda r: r.lowered,
+    "level rooms, best choice": lambda r: r.chosen,
+    "level rooms, rule D": lambda r: r.ours,
+    "one turn": lambda r: r.turned,
+}
+
+
 def beside_8_1(results):
-    head = "offices", "A-C, there", "rule D-C, here", "turned-C, here", "A=C, there", "rule D=C, here", "turned=C, here", "C-B, there", "C-B, here", "B=C, there", "B=C, here"
-    return grid(head, *(beside_8_1_row(n, some) for n, some in by_size(results, "pairs").items()))
-
-
-def beside_8_1_row(n, some):
     """As there, only the tables whose optimum was found enter."""
-    bound_gap, bound_hit, gap, hit = TABLE_8_1[n]
-    sure = [r for r in some if r.proved]
-    return (
-        n,
-        f"{gap:.4f}",
-        f"{mean(r.over for r in sure):.4f}",
-        f"{mean(r.turned_over for r in sure):.4f}",
-        f"{hit:.0f} %",
-        share_of(sure, lambda r: r.ours == r.best),
-        share_of(sure, lambda r: r.turned == r.best),
-        f"{bound_gap:.4f}",
-        f"{mean(1 - r.across / 2 / r.best for r in sure):.4f}",
-        f"{bound_hit} %",
-        share_of(sure, lambda r: r.best == r.least),
-    )
+    sizes = {n: [r for r in some if r.proved] for n, some in by_size(results, "pairs").items()}
+    errors = grid(("offices", "A-C, there", *IN_PLACE_OF_A, "C-B, there", "C-B, here"), *(errors_8_1(n, sure) for n, sure in sizes.items()))
+    hits = grid(("offices", "A=C, there", *IN_PLACE_OF_A, "B=C, there", "B=C, here", "tables"), *(hits_8_1(n, sure) for n, sure in sizes.items()))
+    return f"{errors}\n\n{hits}"
+
+
+def errors_8_1(n, sure):
+    bound_gap, _, gap, _ = TABLE_8_1[n]
+    ours = (f"{mean(ratio(peak(r), r.best) - 1 for r in sure):.4f}" for peak in IN_PLACE_OF_A.values())
+    return n, f"{gap:.4f}", *ours, f"{bound_gap:.4f}", f"{mean(1 - r.across / 2 / r.best for r in sure):.4f}"
+
+
+def hits_8_1(n, sure):
+    _, bound_hit, _, hit = TABLE_8_1[n]
+    ours = (share_of(sure, lambda r, peak=peak: peak(r) == r.best) for peak in IN_PLACE_OF_A.values())
+    return n, f"{hit:.0f} %", *ours, f"{bound_hit} %", share_of(sure, lambda r: r.best == r.least), len(sure)
 
 
 def beside_6_to_8(results):

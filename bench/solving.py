@@ -14,6 +14,8 @@ PLANNER = ["crates/ringplan/out/ringplan"]
 ONCE = str(OUT / "once")
 TURNER = [ONCE, "turn", TABLE]
 SIMPLEX = ["glpsol", "--lp", MODEL, "-w", SOLUTION]
+# as many rows left split as the best choice is sought for
+MOST_SPLIT = 16
 # the least of so many runs is a program's time
 RUNS = 5
 
@@ -73,6 +75,27 @@ def turn(table):
     return int(peak)
 
 
+def sheet_of(call, table):
+    """The rows of a sheet, its across number and its unsplit peak, which is that of its ways."""
+    lines = [line.split("\t") for line in run([ONCE, call, TABLE])[0].splitlines()]
+    rows = [line for line in lines if line[0] == "D"]
+    peak = int(lines[-1][1])
+    must(peak_of(table, {place for place, row in enumerate(rows) if row[6] == "F"}) == peak, "the unsplit peak is not that of the ways")
+    across = int(next(line for line in lines if line[0] == "C")[3])
+    loads = [int(line[2]) for line in lines if line[0] == "L"]
+    must(max(loads) == across, "the split peak is not the across number")
+    return rows, across, peak, loads
+
+
+def both_choices(table, by_rule_d, by_choice):
+    """By the calls for rule D and for the best choice: how many rows are left split, the two peaks, the second None where too many rows are, the across number and the split loads."""
+    rows, across, rule_d, loads = sheet_of(by_rule_d, table)
+    split = sum(int(row[4]) > 0 and int(row[5]) > 0 for row in rows)
+    chosen = sheet_of(by_choice, table)[2] if split <= MOST_SPLIT else None
+    must(chosen is None or (across + 1) // 2 <= chosen <= rule_d, f"the best choice has {chosen}, rule D {rule_d}")
+    return split, rule_d, chosen, across, loads
+
+
 def model(table, whole):
     """The peak z to be made least, in CPLEX's LP format. Of row k the part x_k goes front and the rest back; x_k is 0 or 1 where it has to be whole."""
     used = [(place, row) for place, row in enumerate(table.rows) if row[2] > 0]
@@ -127,17 +150,20 @@ def solve(table, limit, counted):
     """All that is kept of one table, by name."""
     across, ours = plan(table)
     turned = turn(table)
+    _, by_rule_d, chosen, *_ = both_choices(table, "route", "best")
+    _, lowered, lowered_chosen, lowered_across, _ = both_choices(table, "lowered", "lowered_best")
+    must((by_rule_d, lowered_across) == (ours, across), "the program and the library's call differ, or the two rooms in the across number")
     times = {"ours_time": least(PLANNER, TABLE)}
     check_split(table, across)
     times["glpsol_time"] = least(SIMPLEX)
     counts = [count(PLANNER, TABLE), count(SIMPLEX), count([*SIMPLEX, "--check"])] if counted else ["", "", ""]
     found, bound, proved, times["cbc_time"] = branch(table, limit)
-    best = min(ours, turned) if found is None else min(ours, turned, found)
+    best = min(peak for peak in (ours, turned, chosen, lowered, lowered_chosen, found) if peak is not None)
     must(2 * best >= across, f"cbc's peak {best} is below half our across number {across / 2}")
     must(best == found or not proved, f"cbc says that no peak is below {found}, ours are {ours} and {turned}")
     return {
         **dict(zip(("family", "n", "share", "number"), table)),
-        **{"rows": len(table.rows), "across": across, "ours": ours, "turned": turned, "best": best, "bound": max(bound, (across + 1) // 2), "proved": int(proved)},
+        **{"rows": len(table.rows), "across": across, "ours": ours, "turned": turned, "chosen": chosen, "lowered": lowered, "lowered_chosen": lowered_chosen, "best": best, "bound": max(bound, (across + 1) // 2), "proved": int(proved)},
         **times,
         **dict(zip(("ours_count", "glpsol_count", "glpsol_reading_count"), counts)),
     }

@@ -1,17 +1,23 @@
 //! `twin make N [ROWS]` writes the table of all pairs of N offices, or of as many as there
 //! may be rows, with amounts drawn from a fixed seed, or of so many rows, some of the pairs
 //! or more circuits of them; `twin route FILE` routes a table once by the twin, to be
-//! counted from outside, and writes the sheet; `twin turn FILE` sends its circuits
-//! one turn at a time, and writes peak, link and turns, and the ways as letters.
+//! counted from outside, and writes the sheet, `twin best FILE` does so by the best choice,
+//! `twin lowered FILE` and `twin lowered_best FILE` by lowered rooms;
+//! `twin turn FILE` sends its circuits one turn at a time, and writes peak, link and
+//! turns, and the ways as letters.
 
 #![allow(dead_code)]
 
 #[path = "../tests/twin/src/check.rs"]
 mod check;
+#[path = "../tests/twin/src/choice.rs"]
+mod choice;
 #[path = "../tests/twin/src/gen.rs"]
 mod gen;
 #[path = "../tests/twin/src/limits.rs"]
 mod limits;
+#[path = "../tests/twin/src/lowered.rs"]
+mod lowered;
 #[path = "../tests/twin/src/matrix.rs"]
 mod matrix;
 #[path = "../tests/twin/src/rng.rs"]
@@ -50,7 +56,13 @@ fn counted(what: &str, table: &[u8], buffer: &mut [u8]) -> Counted {
     if what == "turn" {
         return Counted::Turned(turns::turn(table, &mut buffer[..WAYS]));
     }
-    Counted::Routed(twin::reply(&twin::answer(Call::Route, table), buffer))
+    let call = match what {
+        "best" => Call::RouteBest,
+        "lowered" => Call::RouteLowered,
+        "lowered_best" => Call::RouteLoweredBest,
+        _ => Call::Route,
+    };
+    Counted::Routed(twin::reply(&twin::answer(call, table), buffer))
 }
 
 /// Rows left out, or circuits put in.
@@ -80,7 +92,7 @@ fn main() {
         out.write_all(&sheet::table_text(&table)).expect("output");
         return;
     }
-    assert!(what == "route" || what == "turn");
+    assert!(["route", "best", "lowered", "lowered_best", "turn"].contains(&what));
     let table = std::fs::read(word).expect("a table");
     let mut buffer = vec![0; ROOM];
     let written = match counted(what, &table, &mut buffer) {

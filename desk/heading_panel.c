@@ -44,13 +44,13 @@ static void draw_split_peak(const struct picture *picture, unsigned place)
 {
     struct units split = in_units(picture->plan.across);
     draw_words(at(place, FIGURES), FIGURE, "%u.%u", split.whole, split.tenths);
-    draw_words(at(place, REMARKS), SAID, "the lowest there is");
+    draw_words(at(place, REMARKS), SAID, picture->plan.method.rooms == LOWERED_ROOMS ? "lowest, by lowered rooms" : "the lowest there is");
 }
 
 static void draw_unsplit_peak(const struct picture *picture, unsigned place)
 {
     draw_words(at(place, FIGURES), FIGURE, "%u", picture->plan.peak);
-    draw_words(at(place, REMARKS), SAID, picture->turned ? "sent one turn at a time" : "each circuit whole");
+    draw_words(at(place, REMARKS), SAID, picture->turned ? "sent one turn at a time" : picture->plan.method.choice == BEST_CHOICE ? "by the best choice" : "each circuit whole");
 }
 
 static void draw_floor(const struct picture *picture, unsigned place)

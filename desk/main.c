@@ -1,9 +1,11 @@
 /* The desk: plans a ring and checks plan sheets, and tells a planner what comes of it.
  *
- *   desk plan [--sheet | --json] [TABLE ...]  the plan of the table in words, or its sheet, or an object of JSON
+ *   desk plan [--lowered] [--best] [--sheet | --json] [TABLE ...]     the plan of the table in words, or its sheet, or an object of JSON; --lowered with circuits divided by lowered rooms, --best with
+ *                                 the best way of sending whole the circuits left divided
  *   desk turn [--json] [TABLE ...]    whole circuits sent one turn at a time: often a lower peak than the plan's, and sometimes proved the lowest
  *   desk check [--json] [SHEET ...]   whether the sheet is accepted
- *   desk picture [--turn] [TABLE or SHEET]    the plan, or the accepted sheet, as an SVG picture; --turn with whole circuits sent one turn at a time
+ *   desk picture [--turn | [--lowered] [--best]] [TABLE or SHEET]     the plan, or the accepted sheet, as an SVG picture; --turn with whole circuits sent one turn at a time, --lowered and --best as
+ *                                 plan does with these
  *   desk parallel [SHEET]         its first two split rows that are parallel
  *   desk table --fibres 2 [MATRIX]    the table of a matrix of demands, on a ring of two fibres; --fibres 4 of four
  *   desk matrix [TABLE]           the matrix of a table, circuits of the same two offices added up
@@ -34,8 +36,6 @@ static enum status refused(const struct text *text, ringkit_reply reply)
     return REFUSED;
 }
 
-typedef ringkit_reply writing(const uint8_t *, size_t, uint8_t *, size_t);
-
 /* Writes the bytes that the call makes of the text, with so much room for them. */
 static enum status pass_on(const struct text *text, writing *call, uint8_t *room, size_t length)
 {
@@ -47,10 +47,10 @@ static enum status pass_on(const struct text *text, writing *call, uint8_t *room
     return FINE;
 }
 
-static enum status sheet_of(const struct text *table)
+static enum status sheet_of(const struct text *table, struct method method)
 {
     uint8_t sheet[RINGKIT_SHEET_BYTES];
-    return pass_on(table, ringkit_route, sheet, sizeof sheet);
+    return pass_on(table, routing_by(method), sheet, sizeof sheet);
 }
 
 /* The table of a matrix on a ring of so many fibres. */
@@ -123,13 +123,13 @@ static enum status ask_parallel(const struct text *sheet)
 /* ---- what the words ask for */
 
 /* The options, each a bit of its own. */
-enum { SHEET = 1, JSON = 2, TURN = 4, RING = 8, FIBRES = 16, HELP = 32 };
+enum { SHEET = 1, JSON = 2, TURN = 4, RING = 8, FIBRES = 16, HELP = 32, BEST = 64, LOWERED = 128 };
 
 static const struct option {
     const char *name;
     unsigned bit;
 } OPTIONS[] = {
-    {"--sheet", SHEET}, {"--json", JSON}, {"--turn", TURN}, {"--ring", RING}, {"--fibres", FIBRES}, {"--help", HELP},
+    {"--sheet", SHEET}, {"--json", JSON}, {"--turn", TURN}, {"--ring", RING}, {"--fibres", FIBRES}, {"--help", HELP}, {"--best", BEST}, {"--lowered", LOWERED},
 };
 
 struct order {
@@ -144,9 +144,30 @@ struct order {
 
 typedef enum status telling(const struct text *);
 typedef enum status putting(const char *file);
+typedef enum status telling_plan(const struct text *, struct method);
+typedef enum status putting_plan(const char *file, struct method);
+
+/* What is done with a file: it is told, or put as an object where --json is asked for; of a plan that is made by a method the latter two. */
+struct task {
+    telling *tell;
+    putting *put;
+    telling_plan *tell_plan;
+    putting_plan *put_plan;
+    struct method method;
+};
+
+static enum status tell_text(const struct task *task, const struct text *text)
+{
+    return task->tell_plan != NULL ? task->tell_plan(text, task->method) : task->tell(text);
+}
+
+static enum status put_file(const struct task *task, const char *file)
+{
+    return task->put_plan != NULL ? task->put_plan(file, task->method) : task->put(file);
+}
 
 /* Where there are several files, each has a heading, as head and tail write it. */
-static enum status tell_file(const struct order *order, int k, const char *file, telling *tell)
+static enum status tell_file(const struct order *order, int k, const char *file, const struct task *task)
 {
     struct text text;
     if (order->count > 1) {
@@ -154,19 +175,24 @@ static enum status tell_file(const struct order *order, int k, const char *file,
         show_name(stdout, name_of(file));
         fputs(" <==\n", stdout);
     }
-    return read_text(&text, file) ? tell(&text) : TROUBLE;
+    return read_text(&text, file) ? tell_text(task, &text) : TROUBLE;
 }
 
 /* Tells of one file after the other, or puts an object for each; the worst of their status. A command without --json has nothing to put. */
-static enum status each_file(const struct order *order, telling *tell, putting *put)
+static enum status each_file(const struct order *order, struct task task)
 {
     enum status worst = FINE;
     for (int k = 0; k == 0 || k < order->count; k++) {
         const char *file = order->count > 0 ? order->files[k] : "-";
-        enum status status = order->said & JSON ? put(file) : tell_file(order, k, file, tell);
+        enum status status = order->said & JSON ? put_file(&task, file) : tell_file(order, k, file, &task);
         worst = status > worst ? status : worst;
     }
     return worst;
+}
+
+static struct method method_of(const struct order *order)
+{
+    return (struct method){order->said & LOWERED ? LOWERED_ROOMS : FULL_ROOMS, order->said & BEST ? BEST_CHOICE : RULE_D};
 }
 
 /* Several sheets behind each other would be no sheet. */
@@ -175,31 +201,38 @@ static bool order_plan(const struct order *order, enum status *status)
     if (order->said & SHEET && (order->said & JSON || order->count > 1)) {
         return false;
     }
-    *status = each_file(order, order->said & SHEET ? sheet_of : plan_table, plan_object);
+    struct task task = {.tell_plan = order->said & SHEET ? sheet_of : plan_table, .put_plan = plan_object, .method = method_of(order)};
+    *status = each_file(order, task);
     return true;
 }
 
 static bool order_turn(const struct order *order, enum status *status)
 {
-    *status = each_file(order, turn_table, turn_object);
+    *status = each_file(order, (struct task){.tell = turn_table, .put = turn_object});
     return true;
 }
 
 static bool order_check(const struct order *order, enum status *status)
 {
-    *status = each_file(order, check_sheet, check_object);
+    *status = each_file(order, (struct task){.tell = check_sheet, .put = check_object});
     return true;
 }
 
+/* Circuits go one way or the other. */
 static bool order_picture(const struct order *order, enum status *status)
 {
-    *status = each_file(order, order->said & TURN ? draw_turned : draw_plan, NULL);
+    unsigned methods = order->said & (LOWERED | BEST);
+    if (order->said & TURN && methods != 0) {
+        return false;
+    }
+    struct task by_method = {.tell_plan = draw_plan_by, .method = method_of(order)};
+    *status = each_file(order, methods != 0 ? by_method : (struct task){.tell = order->said & TURN ? draw_turned : draw_plan});
     return true;
 }
 
 static bool order_parallel(const struct order *order, enum status *status)
 {
-    *status = each_file(order, ask_parallel, NULL);
+    *status = each_file(order, (struct task){.tell = ask_parallel});
     return true;
 }
 
@@ -214,13 +247,13 @@ static bool order_table(const struct order *order, enum status *status)
     if (!is(order->fibres, "2") && !is(order->fibres, "4")) {
         return false;
     }
-    *status = each_file(order, is(order->fibres, "2") ? table_for_two : table_for_four, NULL);
+    *status = each_file(order, (struct task){.tell = is(order->fibres, "2") ? table_for_two : table_for_four});
     return true;
 }
 
 static bool order_matrix(const struct order *order, enum status *status)
 {
-    *status = each_file(order, matrix_of, NULL);
+    *status = each_file(order, (struct task){.tell = matrix_of});
     return true;
 }
 
@@ -245,10 +278,10 @@ static const struct command {
     int files;        /* that it takes at most */
     bool (*carry_out)(const struct order *, enum status *);
 } COMMANDS[] = {
-    {"plan", SHEET | JSON, INT_MAX, order_plan},
+    {"plan", LOWERED | BEST | SHEET | JSON, INT_MAX, order_plan},
     {"turn", JSON, INT_MAX, order_turn},
     {"check", JSON, INT_MAX, order_check},
-    {"picture", TURN, 1, order_picture},
+    {"picture", TURN | LOWERED | BEST, 1, order_picture},
     {"parallel", 0, 1, order_parallel},
     {"table", FIBRES, 1, order_table},
     {"matrix", 0, 1, order_matrix},
@@ -330,10 +363,10 @@ static bool read_order(struct order *order, int count, char **words)
     return takes_files(order);
 }
 
-static const char USAGE[] = "usage: desk plan [--sheet | --json] [TABLE ...]\n"
+static const char USAGE[] = "usage: desk plan [--lowered] [--best] [--sheet | --json] [TABLE ...]\n"
                             "       desk turn [--json] [TABLE ...]\n"
                             "       desk check [--json] [SHEET ...]\n"
-                            "       desk picture [--turn] [TABLE or SHEET]\n"
+                            "       desk picture [--turn | [--lowered] [--best]] [TABLE or SHEET]\n"
                             "       desk parallel [SHEET]\n"
                             "       desk table --fibres 2|4 [MATRIX]\n"
                             "       desk matrix [TABLE]\n"

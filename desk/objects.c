@@ -37,17 +37,29 @@ static void put_file(struct json *json, const char *file)
     }
 }
 
-static enum status put_object(const char *command, const char *file, answering *answer)
+/* Opens the object and reads the file; where that fails, puts why. */
+static enum status open_answer(struct json *json, struct text *text, const char *command, const char *file)
 {
-    struct json json = {.out = stdout};
-    struct text text;
-    open_object(&json, NULL);
-    put_text(&json, "command", command);
-    put_file(&json, file);
-    enum status status = take_text(&text, file) ? answer(&json, &text) : put_trouble(&json, strerror(errno));
-    close_object(&json);
+    *json = (struct json){.out = stdout};
+    open_object(json, NULL);
+    put_text(json, "command", command);
+    put_file(json, file);
+    return take_text(text, file) ? FINE : put_trouble(json, strerror(errno));
+}
+
+static enum status close_answer(struct json *json, enum status status)
+{
+    close_object(json);
     putchar('\n');
     return status;
+}
+
+static enum status put_object(const char *command, const char *file, answering *answer)
+{
+    struct json json;
+    struct text text;
+    enum status status = open_answer(&json, &text, command, file);
+    return close_answer(&json, status == FINE ? answer(&json, &text) : status);
 }
 
 /* ---- a plan */
@@ -125,21 +137,33 @@ static void put_floor(struct json *json, const struct plan *plan, unsigned peak)
 }
 
 /* Finds the plan, or puts why there is none. */
-static enum status plan_or_put(struct json *json, struct plan *plan, const struct text *table)
+static enum status plan_or_put(struct json *json, struct plan *plan, const struct text *table, struct method method)
 {
     struct refusal refusal;
-    enum status status = find_plan(plan, &refusal, table);
+    enum status status = find_plan(plan, &refusal, table, method);
     return status == REFUSED ? put_refused(json, refusal) : status == TROUBLE ? put_trouble(json, STRANGE_SHEET) : FINE;
 }
 
-static enum status put_plan(struct json *json, const struct text *table)
+/* An object by the four rules has neither key. */
+static void put_method(struct json *json, struct method method)
+{
+    if (method.rooms == LOWERED_ROOMS) {
+        put_truth(json, "lowered_rooms", true);
+    }
+    if (method.choice == BEST_CHOICE) {
+        put_truth(json, "best_choice", true);
+    }
+}
+
+static enum status put_plan(struct json *json, const struct text *table, struct method method)
 {
     struct plan plan;
-    enum status status = plan_or_put(json, &plan, table);
+    enum status status = plan_or_put(json, &plan, table, method);
     if (status != FINE) {
         return status;
     }
     put_ring(json, &plan);
+    put_method(json, method);
     put_circuits(json, &plan);
     put_cut(json, &plan);
     put_links(json, &plan);
@@ -149,9 +173,12 @@ static enum status put_plan(struct json *json, const struct text *table)
     return FINE;
 }
 
-enum status plan_object(const char *file)
+enum status plan_object(const char *file, struct method method)
 {
-    return put_object("plan", file, put_plan);
+    struct json json;
+    struct text text;
+    enum status status = open_answer(&json, &text, "plan", file);
+    return close_answer(&json, status == FINE ? put_plan(&json, &text, method) : status);
 }
 
 /* ---- circuits that are turned */
@@ -197,7 +224,7 @@ static enum status put_turned(struct json *json, const struct text *table)
     if (reply.reason != RINGKIT_OK) {
         return put_refused(json, REFUSAL_OF(reply));
     }
-    enum status status = plan_or_put(json, &plan, table);
+    enum status status = plan_or_put(json, &plan, table, FOUR_RULES);
     if (status != FINE) {
         return status;
     }

@@ -2,12 +2,13 @@
 #ifndef DESK_OBJECTS_H
 #define DESK_OBJECTS_H
 
+#include "plan.h"
 #include "status.h"
 
 /* Each reads a file, standard input where it is "-", and writes one line. A refusal, and why a file cannot be read, stand in the object, and nothing is said on standard error. */
 
-/* The plan of the table. */
-enum status plan_object(const char *file);
+/* The plan of the table by that method. */
+enum status plan_object(const char *file, struct method method);
 
 /* The table's circuits sent one turn at a time, beside the plan's own peak. */
 enum status turn_object(const char *file);

@@ -97,13 +97,18 @@ static unsigned carried_by(const struct plan *plan)
 
 /* ---- the file */
 
+static const char *how_sent(const struct picture *picture)
+{
+    return picture->turned ? "one turn at a time" : picture->plan.method.choice == BEST_CHOICE ? "by the best choice" : "as planned";
+}
+
 /* For who hears the picture. */
 static void describe(const struct picture *picture)
 {
     const struct plan *plan = &picture->plan;
     struct units split = in_units(plan->across);
     printf("<title id=\"title\">Ring of %u offices and %u fibres, %u circuit%s</title>\n", plan->offices, plan->fibres, plan->circuits, plan->circuits == 1 ? "" : "s");
-    printf("<desc id=\"desc\">Each circuit sent whole, %s: unsplit peak %u, floor %u, ", picture->turned ? "one turn at a time" : "as planned", plan->peak, floor_of(plan));
+    printf("<desc id=\"desc\">Each circuit sent whole, %s: unsplit peak %u, floor %u, ", how_sent(picture), plan->peak, floor_of(plan));
     if (plan->size > 0) {
         printf("line size %u. ", plan->size);
     } else {
@@ -111,6 +116,9 @@ static void describe(const struct picture *picture)
     }
     printf("With circuits divided the peak is %u.%u. The cut of links %u and %u, across %u, parts ", split.whole, split.tenths, plan->g, plan->h, plan->across);
     tell_parted(stdout, plan->g, plan->h);
+    if (plan->method.rooms == LOWERED_ROOMS) {
+        printf("Circuits are divided by lowered rooms. ");
+    }
     printf("Office 1 stands at the top of a circle, and the others clockwise from it; link k joins office k and the next. Loads and amounts are in %s.</desc>\n", RINGKIT_UNIT);
 }
 
@@ -129,25 +137,45 @@ static void draw(struct picture *picture)
     end_drawing();
 }
 
-static enum status draw_text(const struct text *text, bool turned)
+/* The plan of a table, or what an accepted sheet says. */
+static enum status take_plan(struct plan *plan, const struct text *text)
 {
-    struct picture picture = {.turned = turned};
-    enum status status = is_sheet(text) ? accept_sheet(&picture.plan, text) : make_plan(&picture.plan, text);
-    if (status == FINE && turned) {
-        status = turn_circuits(&picture.plan);
-    }
+    return is_sheet(text) ? accept_sheet(plan, text) : make_plan(plan, text, FOUR_RULES);
+}
+
+static enum status draw_where_fine(struct picture *picture, enum status status)
+{
     if (status == FINE) {
-        draw(&picture);
+        draw(picture);
     }
     return status;
 }
 
 enum status draw_plan(const struct text *text)
 {
-    return draw_text(text, false);
+    struct picture picture = {.turned = false};
+    return draw_where_fine(&picture, take_plan(&picture.plan, text));
 }
 
 enum status draw_turned(const struct text *text)
 {
-    return draw_text(text, true);
+    struct picture picture = {.turned = true};
+    enum status status = take_plan(&picture.plan, text);
+    return draw_where_fine(&picture, status == FINE ? turn_circuits(&picture.plan) : status);
+}
+
+enum status draw_plan_by(const struct text *text, struct method method)
+{
+    struct picture picture = {.turned = false};
+    struct text table;
+    if (!is_sheet(text)) {
+        return draw_where_fine(&picture, make_plan(&picture.plan, text, method));
+    }
+    enum status status = accept_sheet(&picture.plan, text);
+    if (status == FINE) {
+        write_table(&table, &picture.plan);
+        table.name = text->name;
+        status = make_plan(&picture.plan, &table, method);
+    }
+    return draw_where_fine(&picture, status);
 }

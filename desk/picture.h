@@ -2,6 +2,7 @@
 #ifndef DESK_PICTURE_H
 #define DESK_PICTURE_H
 
+#include "plan.h"
 #include "status.h"
 #include "text.h"
 
@@ -10,5 +11,8 @@ enum status draw_plan(const struct text *text);
 
 /* The same, with whole circuits sent one turn at a time; of a sheet those of its table. */
 enum status draw_turned(const struct text *text);
+
+/* Draws the plan by that method; of a sheet its table is planned. */
+enum status draw_plan_by(const struct text *text, struct method method);
 
 #endif

@@ -3,6 +3,8 @@
 #include "fields.h"
 #include "refusal.h"
 
+const struct method FOUR_RULES = {FULL_ROOMS, RULE_D};
+
 static struct circuit read_circuit(struct rest *rest)
 {
     struct circuit c;
@@ -35,6 +37,7 @@ static bool read_loads(struct plan *plan, struct rest *rest)
 static bool read_plan(struct plan *plan, const uint8_t *sheet, size_t length)
 {
     struct rest rest = {sheet, sheet + length};
+    plan->method = FOUR_RULES;
     plan->offices = begins(&rest, 'R') ? number(&rest) : 0;
     if (plan->offices < RINGKIT_MIN_OFFICES || plan->offices > RINGKIT_MAX_OFFICES) {
         return false;
@@ -106,6 +109,9 @@ static void tell_cut(FILE *out, const struct plan *plan)
     fprintf(out, "The circuits between the two parts add up to %u, all of it over these two links.\n", plan->across);
     fprintf(out, "So in every routing, however finely circuits are divided, one of the two links\n");
     fprintf(out, "carries at least %u.%u. The split peak is just that: no routing has a lower one.\n", least.whole, least.tenths);
+    if (plan->method.rooms == LOWERED_ROOMS) {
+        fprintf(out, "By lowered rooms: no link can be less full without another being fuller.\n");
+    }
 }
 
 static void tell_links(FILE *out, const struct plan *plan)
@@ -141,7 +147,7 @@ unsigned line_size(unsigned peak, unsigned fibres)
     struct plan plan;
     unsigned amount = peak < RINGKIT_MAX_AMOUNT ? peak : RINGKIT_MAX_AMOUNT;
     table.length = (size_t)sprintf((char *)table.bytes, "R\t%d\t%u\nD\t1\t2\t%u\n", RINGKIT_MIN_OFFICES, fibres, amount);
-    return make_plan(&plan, &table) == FINE ? plan.size : 0;
+    return make_plan(&plan, &table, FOUR_RULES) == FINE ? plan.size : 0;
 }
 
 unsigned floor_of(const struct plan *plan)
@@ -175,6 +181,14 @@ void tell_floor(FILE *out, const struct plan *plan, unsigned peak)
     }
 }
 
+/* What the best choice is the best of. */
+static void tell_choice(FILE *out, const struct plan *plan)
+{
+    if (plan->method.choice == BEST_CHOICE) {
+        fprintf(out, "By the best choice: no other way of sending the divided circuits whole has a lower peak than %u.\n", plan->peak);
+    }
+}
+
 /* Which way each circuit goes, the cut and what it means, the links' loads, the line size to buy, and how low a peak could be. */
 static void tell_plan(FILE *out, const struct plan *plan)
 {
@@ -186,6 +200,7 @@ static void tell_plan(FILE *out, const struct plan *plan)
     tell_links(out, plan);
     tell_size(out, plan);
     fputc('\n', out);
+    tell_choice(out, plan);
     tell_floor(out, plan, plan->peak);
 }
 
@@ -200,21 +215,32 @@ enum status take_apart(struct plan *plan, const uint8_t *sheet, size_t length)
     return FINE;
 }
 
-enum status find_plan(struct plan *plan, struct refusal *refusal, const struct text *table)
+writing *routing_by(struct method method)
+{
+    static writing *const CALLS[2][2] = {
+        [FULL_ROOMS] = {[RULE_D] = ringkit_route, [BEST_CHOICE] = ringkit_route_best},
+        [LOWERED_ROOMS] = {[RULE_D] = ringkit_route_lowered, [BEST_CHOICE] = ringkit_route_lowered_best},
+    };
+    return CALLS[method.rooms][method.choice];
+}
+
+enum status find_plan(struct plan *plan, struct refusal *refusal, const struct text *table, struct method method)
 {
     uint8_t sheet[RINGKIT_SHEET_BYTES];
-    ringkit_reply reply = ringkit_route(table->bytes, table->length, sheet, sizeof sheet);
+    ringkit_reply reply = routing_by(method)(table->bytes, table->length, sheet, sizeof sheet);
     *refusal = REFUSAL_OF(reply);
     if (reply.reason != RINGKIT_OK) {
         return REFUSED;
     }
-    return read_plan(plan, sheet, reply.length) ? FINE : TROUBLE;
+    bool good = read_plan(plan, sheet, reply.length);
+    plan->method = method;
+    return good ? FINE : TROUBLE;
 }
 
-enum status make_plan(struct plan *plan, const struct text *table)
+enum status make_plan(struct plan *plan, const struct text *table, struct method method)
 {
     struct refusal refusal;
-    enum status status = find_plan(plan, &refusal, table);
+    enum status status = find_plan(plan, &refusal, table, method);
     if (status == REFUSED) {
         tell_refusal(table, refusal, true);
     } else if (status == TROUBLE) {
@@ -223,10 +249,10 @@ enum status make_plan(struct plan *plan, const struct text *table)
     return status;
 }
 
-enum status plan_table(const struct text *table)
+enum status plan_table(const struct text *table, struct method method)
 {
     struct plan plan;
-    enum status status = make_plan(&plan, table);
+    enum status status = make_plan(&plan, table, method);
     if (status == FINE) {
         tell_plan(stdout, &plan);
     }

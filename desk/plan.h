@@ -16,7 +16,22 @@ struct load {
     unsigned split, unsplit;
 };
 
+/* With what rooms the links begin when circuits are divided: with level ones, or with lowered ones, after which no link can be less full without another being fuller. */
+enum rooms { FULL_ROOMS, LOWERED_ROOMS };
+
+/* How the circuits that are left divided go whole: by the last of the four rules, or by the best choice, which no other way of sending them beats. */
+enum choice { RULE_D, BEST_CHOICE };
+
+struct method {
+    enum rooms rooms;
+    enum choice choice;
+};
+
+/* Level rooms and rule D. */
+extern const struct method FOUR_RULES;
+
 struct plan {
+    struct method method; /* of a sheet that was not planned here the four rules */
     unsigned offices, fibres, circuits;
     struct circuit circuit[RINGKIT_MAX_ROWS];
     unsigned g, h, across;
@@ -24,20 +39,26 @@ struct plan {
     unsigned peak, size;
 };
 
+/* A call that writes a text of a text. */
+typedef ringkit_reply writing(const uint8_t *, size_t, uint8_t *, size_t);
+
+/* The call that routes so. */
+writing *routing_by(struct method method);
+
 /* Routes the table and takes its sheet apart. The refusal is what the library answers where it refuses the table; TROUBLE is a sheet that this desk cannot read. */
-enum status find_plan(struct plan *plan, struct refusal *refusal, const struct text *table);
+enum status find_plan(struct plan *plan, struct refusal *refusal, const struct text *table, struct method method);
 
 /* What is said of such trouble. */
 extern const char STRANGE_SHEET[];
 
 /* The same, and says on standard error why it cannot. */
-enum status make_plan(struct plan *plan, const struct text *table);
+enum status make_plan(struct plan *plan, const struct text *table, struct method method);
 
 /* Takes a sheet apart that the library wrote or accepted. Says on standard error why it cannot. */
 enum status take_apart(struct plan *plan, const uint8_t *sheet, size_t length);
 
 /* Routes the table and tells its plan: which way each circuit goes, the cut and what it means, the links' loads, the line size to buy, and how low a peak could be. */
-enum status plan_table(const struct text *table);
+enum status plan_table(const struct text *table, struct method method);
 
 /* The line size to buy at a peak; 0 where none is large enough. */
 unsigned line_size(unsigned peak, unsigned fibres);

@@ -27,6 +27,7 @@ static const char *const SENTENCES[] = {
     [RINGKIT_FIBRES] = "the ring has neither 2 nor 4 fibres",
     [RINGKIT_FULL] = "all " NUMBER(RINGKIT_MAX_ROWS) " places are taken",
     [RINGKIT_NO_ROW] = "the place named holds no row",
+    [RINGKIT_TOO_MANY_SPLIT] = "more than " NUMBER(RINGKIT_MAX_SPLIT) " circuits are left divided, too many to try every way of sending them: plan without --best",
 };
 
 const char *sentence_of(uint32_t reason)

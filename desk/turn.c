@@ -78,7 +78,7 @@ enum status turn_table(const struct text *table)
         tell_refusal(table, REFUSAL_OF(reply), true);
         return REFUSED;
     }
-    enum status status = make_plan(&plan, table);
+    enum status status = make_plan(&plan, table, FOUR_RULES);
     if (status != FINE) {
         return status;
     }

@@ -125,7 +125,7 @@ static void plan(struct dialogue *d, const struct said *said)
     struct text table;
     (void)said;
     write_table(d, &table);
-    at_least(d, plan_table(&table));
+    at_least(d, plan_table(&table, FOUR_RULES));
 }
 
 static void write_file(struct dialogue *d, const struct said *said)

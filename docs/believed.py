@@ -19,6 +19,8 @@ JUDGING = "judging values"
 TURNING = "one turn at a time"
 OFFICES = "sixty-four offices (`old` and `desk`)"
 BEST = "the best choice"
+LOWERED = "lowered rooms"
+REPORT = "a report over many plans"
 
 # files, as crate/File; the first that fits counts
 FILES = [
@@ -34,6 +36,7 @@ FILES = [
     ("ringkit_c/Working", WORKING),
     ("text/FieldByte", BYTE),
     ("text/FirstFault", BYTE),
+    ("lines/DueBytes", BYTE),
     ("rows/SheetRow", JUDGING),
     ("ringkit/Judging", JUDGING),
     ("turns/*", TURNING),
@@ -41,7 +44,10 @@ FILES = [
     ("laws/Old", OFFICES),
     ("laws/Digits", OFFICES),
     ("best/*", BEST),
-    *((f"{crate}/*", TEXTS) for crate in ("text", "table", "sheet", "judge", "checker", "ringkit", "ringkit_c", "laws")),
+    ("engines/*", LOWERED),
+    ("report/*", REPORT),
+    ("router/Plans", BEST),
+    *((f"{crate}/*", TEXTS) for crate in ("reasons", "text", "lines", "table", "sheet", "judge", "checker", "ringkit", "ringkit_c", "laws")),
 ]
 
 # names that one request alone needs, by file: a definition, or the beginning of one line
@@ -50,32 +56,32 @@ NAMES = {
         "ring/TableRows": ["PairUpTo"],
         "ring/Rules": ["SameNodes", "NotBoth"],
         "laws/Rules": ["SameAreParallel", "OneIsSplit", "EarlierIsOuter"],
-        "table/Reasons": ["number_of TooMany", "rank_of TooMany"],
+        "reasons/Reasons": ["number_of TooMany", "rank_of TooMany"],
         "table/RowReasons": ["says_too_many :", "at_count :"],
         "ring/WithinLimits": ["count :"],
     },
     MATRICES: {
         "table/Table": ["table_room"],
         "text/Shapes": ["numbers", "numbers_line"],
-        "table/Reasons": [f"{word} {reason}" for word in ("number_of", "rank_of") for reason in ("NotZero", "NotSymmetric", "SumTooMuch")],
+        "reasons/Reasons": [f"{word} {reason}" for word in ("number_of", "rank_of") for reason in ("NotZero", "NotSymmetric", "SumTooMuch")],
         "ringkit/Texts": ["MatrixOf", "SomeMatrix", "MatrixDue", "MatrixGiven", "SumsDue", "SumsFit", "SumsGiven"],
         "ringkit/Promises": ["ReadMatrixPromise", "WriteMatrixPromise"],
         "ringkit/Back": ["MatrixToTableToMatrix", "TableToMatrixToTable"],
         "laws/Texts": ["AcceptedMatrixIs"],
     },
     FIBRES: {
-        "table/Reasons": ["number_of Fibres", "rank_of Fibres"],
+        "reasons/Reasons": ["number_of Fibres", "rank_of Fibres"],
         "table/RowReasons": ["says_fibres :"],
         "ring/WithinLimits": ["fibres :"],
         "laws/Rules": ["SizeOfRising", "SizeOfFamily"],
     },
     WORKING: {
-        "table/Reasons": [f"{word} {reason}" for word in ("number_of", "rank_of") for reason in ("NoRow", "Full")],
-        "table/Findings": ["ring_findings", "Falls", "demand_findings"],
+        "reasons/Reasons": [f"{word} {reason}" for word in ("number_of", "rank_of") for reason in ("NoRow", "Full")],
+        "reasons/Findings": ["ring_findings", "Falls", "demand_findings"],
     },
     BYTE: {
-        "table/Reasons": ["byte_is :"],
-        "table/RowReasons": ["RowsByte", "DueByte", "ShapeByte"],
+        "reasons/Reasons": ["byte_is :"],
+        "table/RowReasons": ["RowsByte"],
         "table/Says": ["LineByte", "ByteIs"],
         "sheet/Says": ["NeitherGoesOn", "LineByte", "ByteIs"],
         "matrix/Says": ["NumbersFault", "LineByte", "EntryStarts", "AmountByte", "FaultyByte", "ByteIs"],
@@ -93,9 +99,14 @@ NAMES = {
     OFFICES: {
         "ring/Limits": ["Countable", "digits :", "countable :", "old"],
     },
+    BEST: {
+        "reasons/Reasons": ["number_of TooManySplit", "rank_of TooManySplit"],
+        "ringkit/Texts": ["PlanGiven", "FewSplit", "Takes", "OnRingUpTo"],
+        "laws/Rules": ["SomeBest", "BestIsThere", "BestIsOne", "RuleDChooses", "FewAreSplit"],
+    },
 }
 
-ROWS = [RULES, TEXTS, CIRCUITS, MATRICES, FIBRES, WORKING, BYTE, JUDGING, TURNING, OFFICES, BEST]
+ROWS = [RULES, TEXTS, CIRCUITS, MATRICES, FIBRES, WORKING, BYTE, JUDGING, TURNING, OFFICES, BEST, LOWERED, REPORT]
 
 
 def extent(lines, name):

@@ -50,7 +50,7 @@ extern "C" {
 #endif
 
 /* Grows by 1 whenever a call, an answer or a limit changes. */
-#define RINGKIT_VERSION 8
+#define RINGKIT_VERSION 10
 
 /* The limits of what is accepted. */
 #define RINGKIT_MAX_TEXT_BYTES 32768
@@ -61,6 +61,9 @@ extern "C" {
 #define RINGKIT_TWO_FIBRES 2
 #define RINGKIT_FOUR_FIBRES 4
 
+/* The rows left split of which ringkit_route_best and ringkit_route_lowered_best try every way of sending them, at most. */
+#define RINGKIT_MAX_SPLIT 16
+
 /* The way of a row: front or back. Of a row that is held as a struct any number but RINGKIT_F is B; ringkit_turn writes these two. */
 #define RINGKIT_F 0
 #define RINGKIT_B 1
@@ -68,7 +71,8 @@ extern "C" {
 /* One unit of an amount, a load or a line size. */
 #define RINGKIT_UNIT "STS-1"
 
-/* A buffer of so many bytes suffices for every sheet that ringkit_route writes; this is proved. For rewriting, the text's own length suffices. */
+/* A buffer of so many bytes suffices for every sheet that ringkit_route, ringkit_route_best, ringkit_route_lowered and ringkit_route_lowered_best write; this is
+ * proved. For rewriting, the text's own length suffices. */
 #define RINGKIT_SHEET_BYTES 29164
 
 /* The same for every table that ringkit_read_matrix writes, and ringkit_work_write of a working table that calls made; and for every matrix that
@@ -76,14 +80,15 @@ extern "C" {
 #define RINGKIT_TABLE_BYTES 13319
 #define RINGKIT_MATRIX_BYTES 20480
 
-/* Enough stack for each call, with some to spare for binding memcpy and memset when they are first called: the deepest, routing, takes some 36,600 bytes. */
+/* Enough stack for each call, with some to spare for binding memcpy and memset when they are first called: the deepest, turning, takes some 34,700 bytes, and the
+ * best choice 34,000. */
 #define RINGKIT_STACK_BYTES 57344
 
 /* Why a text, values or a call is refused. Each is given exactly when it holds and nothing before it in this order does: the fibres that a matrix is read with; RINGKIT_TOO_LONG; then line by line,
  * and in a line by rising number, 2 to 7, RINGKIT_FIBRES behind 3 and RINGKIT_TOO_MANY_ROWS between 6 and 7; then, when all lines have been read, of a sheet 8 to 12 line by line,
  * and 13 and 14; of a matrix the first entry in reading order that is 17 or 18, and then RINGKIT_TOO_MANY_ROWS, with no line, where it makes too many rows; of a table to be
- * written as a matrix the first row that is 19; then 15. So a fault of form (2 to 7, 16) is told before a false figure (8 to 14), on whichever lines the two are: 4 on line 3
- * before 8 on line 2.
+ * written as a matrix the first row that is 19, and of a table to be routed by the best choice RINGKIT_TOO_MANY_SPLIT, with no line; then 15. So a fault of form (2 to 7, 16)
+ * is told before a false figure (8 to 14), on whichever lines the two are: 4 on line 3 before 8 on line 2.
  * Of values the order is 3, 20; then row by row 4, 5, 6, 16, 7, 8, 9; then 10; then 11, of the count of links and then link by link; then 12, 13, 14.
  * The calls of a working table have no text. Starting one tries 3, then 20, and writing it 15; the others try 22 of the place that is named, then 4, 5 and 7 of the row that
  * is given, and for adding 21. */
@@ -110,10 +115,11 @@ enum ringkit_reason {
     RINGKIT_SUM_TOO_MUCH = 19,  /* with this row, the sum of the rows of its two nodes passes 9,999, and no entry of a matrix can say it */
     RINGKIT_FIBRES = 20,        /* fibres neither 2 nor 4 */
     RINGKIT_FULL = 21,          /* all 1,024 places of a working table are taken */
-    RINGKIT_NO_ROW = 22         /* the place named holds no row of the working table, as 0 and 1,025 never do */
+    RINGKIT_NO_ROW = 22,        /* the place named holds no row of the working table, as 0 and 1,025 never do */
+    RINGKIT_TOO_MANY_SPLIT = 23 /* rules A to C, by the rooms that are asked for, leave more than 16 rows split, too many to try every way of sending them; never on a ring of 33 offices or fewer */
 };
 
-/* The answer of a call. The line counts from 1, a missing line being the one after the last; it is 0 for reasons 1, 13, 14 and 15, and for 16 and 20 of a matrix.
+/* The answer of a call. The line counts from 1, a missing line being the one after the last; it is 0 for reasons 1, 13, 14, 15 and 23, and for 16 and 20 of a matrix.
  *
  * The byte counts from 1 in that line. Of a line of the wrong shape (2) it is the first at which no line of the shape that is due goes on like this, and
  * so the place of a tab, a digit or LF that is missing, which may be one behind the line's last byte. Where a sheet may have a D line or the C line, it is the
@@ -206,6 +212,27 @@ typedef struct ringkit_work_row_reply {
 
 /* Routes a table and writes its sheet. */
 ringkit_reply ringkit_route(const uint8_t *table, size_t table_length, uint8_t *buffer, size_t buffer_length);
+
+/* Routes a table and writes its sheet, with the best choice in the place of rule D. Of all ways of sending whole the rows that rules A to C leave split it takes the one
+ * with the least unsplit peak; of several the one that sends the fewest of these rows back; and of several of those the one that sends front the first row, by rising first
+ * node, at which they differ. Rows that are not split go as rule D says, and all else on the sheet is as ringkit_route has it, but for ways, unsplit loads, unsplit peak and
+ * size.
+ *
+ * So no other way of sending the split rows has a lower peak, and this one is at most as high as that of ringkit_route; ways that turn other rows may come to less
+ * (ringkit_turn). The checker accepts the sheet. Where more than RINGKIT_MAX_SPLIT rows are left split the table is refused with RINGKIT_TOO_MANY_SPLIT, behind its own
+ * reasons and before RINGKIT_NO_ROOM, however large the buffer is. It takes longer the more rows are left split: 65,536 ways are tried of 16. */
+ringkit_reply ringkit_route_best(const uint8_t *table, size_t table_length, uint8_t *buffer, size_t buffer_length);
+
+/* Routes a table and writes its sheet, as ringkit_route does, but with the links' rooms lowered before any row is sent: links 1 to n in turn get as the room of link g, in halves, the largest of
+ * 2 x across(h,g) - room(h) for the links h below g and 2 x across(g,h) - M for those above, M being the across number of the cut on the C line.
+ *
+ * The split peak is the same as by ringkit_route, the least there is. But here no division of the rows, however fine, loads every link at most as much and some link less: the split loads are the rooms.
+ * Rule C then changes nothing. The unsplit peak, which is within the bound of rule D, may be above or below that of ringkit_route. The sheet is accepted by the checker. Reasons are those of
+ * ringkit_route. */
+ringkit_reply ringkit_route_lowered(const uint8_t *table, size_t table_length, uint8_t *buffer, size_t buffer_length);
+
+/* The same with the best choice in the place of rule D: to ringkit_route_lowered what ringkit_route_best is to ringkit_route, with its reasons. */
+ringkit_reply ringkit_route_lowered_best(const uint8_t *table, size_t table_length, uint8_t *buffer, size_t buffer_length);
 
 /* Sends every row of a table whole, one turn at a time, and writes the ways: the first `rows` bytes become RINGKIT_F or RINGKIT_B, row by row, and those behind them stay; a refusal,
  * which is one of the table's own, changes no byte. There is no sheet, and so no split peak and no size.

@@ -1,15 +1,18 @@
 #!/usr/bin/env python3
 """Writes crates/cases/stdin and stdout: stored cases for the public calls, and the answers that the rules of docs/RULES.md give them.
 
-The answers come from the reading of these in reading.py, matrix.py, pointing.py and rules.py and from nothing else: no source of the project is used. Run it by hand after adding a
+The answers come from the reading of these in reading.py, matrix.py, pointing.py, rules.py and best.py and from nothing else: no source of the project is used. Run it by hand after adding a
 case and look at the difference; the tests only compare what the program writes with what is stored."""
 import functools
 import itertools
 import random
 
+import best
+import chosen
 import circuits
 import columns
 import fibres
+import lowering
 import matrices
 import matrix
 import rules
@@ -38,10 +41,34 @@ def written(letter, text):
     if letter == "S":
         return rewritten(text)
     values = (*matrix.rows_of(text), int(letter)) if letter.isdigit() else matrix.table_values(text)
-    return {"R": rules.sheet, "W": matrix.write_matrix}.get(letter, write_table)(*values)
+    return WRITTEN.get(letter, write_table)(*values)
 
 
-REFUSALS = {"T": first_reason, "R": first_reason, "W": matrix.first_reason_of_sums}
+LOWERED = rules.lowered_rooms
+
+WRITTEN = {
+    "R": rules.sheet,
+    "B": best.sheet,
+    "l": functools.partial(rules.sheet, rooms=LOWERED),
+    "m": functools.partial(best.sheet, rooms=LOWERED),
+    "W": matrix.write_matrix,
+}
+
+
+def first_reason_of_best(text, rooms=rules.level_rooms):
+    """The table's own, and then 23, on no line."""
+    own = first_reason(text)
+    return own or ((23, 0) if best.too_many(*matrix.table_values(text)[:2], rooms) else None)
+
+
+REFUSALS = {
+    "T": first_reason,
+    "R": first_reason,
+    "B": first_reason_of_best,
+    "l": first_reason,
+    "m": functools.partial(first_reason_of_best, rooms=LOWERED),
+    "W": matrix.first_reason_of_sums,
+}
 
 
 @functools.cache
@@ -275,6 +302,8 @@ def main():
     calls = [("T", text, min(room, ROOM)) for text, room in all_cases()] + [("R", *case) for case in to_route()] + [*of_sheets(), *of_matrices()]
     calls += fibres.cases(lambda table: written("R", table), ROOM)
     calls += columns.cases(refused, ROOM)
+    calls += [("B", *case) for case in chosen.cases(functools.partial(written, "B"), functools.partial(refused, "B"), ROOM)]
+    calls += lowering.cases(written, refused, ROOM)
     for letter, text, room in dict.fromkeys(calls):
         # the program that runs the cases has no more memory
         assert len(text) <= ROOM and room <= ROOM
@@ -282,7 +311,7 @@ def main():
         due.append(letter + " %s\n" % " ".join(map(str, answer(letter, text, room))))
     open("crates/cases/stdin", "wb").write(b"".join(given))
     open("crates/cases/stdout", "w").write("".join(line[2:] for line in due))
-    for letter in "TRCPSW0123456789":
+    for letter in "TRBlmCPSW0123456789":
         mine = [line.split() for line in due if line[0] == letter]
         print(letter, len(mine), "cases, reasons seen:", sorted({int(words[1]) for words in mine}))
     print("pairs seen:", len({line for line in due if line.startswith("P 0") and not line.endswith(" 0 0\n")}))

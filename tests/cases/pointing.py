@@ -37,7 +37,7 @@ def due_in_matrix(matrix, at):
 def due(letter, text, at):
     if letter.isdigit():
         return due_in_matrix(Matrix(text), at)
-    return [TABLE["R" if at == 1 else "D"]] if letter in "TRW" else due_in_sheet(Sheet(text), at)
+    return [TABLE["R" if at == 1 else "D"]] if letter in "TRBlmW" else due_in_sheet(Sheet(text), at)
 
 
 def first_fault(line, shapes):

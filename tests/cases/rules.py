@@ -21,9 +21,23 @@ def rule_a(n, rows):
     return next((g, h, m) for g, h in cuts if across(rows, g, h) == m)
 
 
-def rule_b(n, rows, m):
+def level_rooms(n, rows, m):
+    return {k: m for k in range(1, n + 1)}
+
+
+def lowered_rooms(n, rows, m):
+    """Links 1 to n in turn (Rules, lowered rooms): those below g have their own rooms by now, those above still M."""
+    room = {}
+    for g in range(1, n + 1):
+        below = [2 * across(rows, h, g) - room[h] for h in range(1, g)]
+        above = [2 * across(rows, g, h) - m for h in range(g + 1, n + 1)]
+        room[g] = max(below + above)
+    return room
+
+
+def rule_b(n, rows, m, rooms=level_rooms):
     """A front and a back amount for each row."""
-    room = {k: m for k in range(1, n + 1)}
+    room = dict(rooms(n, rows, m))
     sent = []
     for at, row in enumerate(rows):
         left = rows[at:]
@@ -119,9 +133,16 @@ def text_of(lines):
 
 
 @functools.cache
-def sheet(n, rows, fibres=4):
-    """The text of our sheet."""
+def sent_by(n, rows, rooms=level_rooms):
+    """Rule A's cut, and what rules A to C send of each row."""
     cut = rule_a(n, rows)
-    sent = rule_b(n, rows, cut[2])
+    sent = rule_b(n, rows, cut[2], rooms)
     rule_c(rows, sent)
+    return cut, tuple(map(tuple, sent))
+
+
+@functools.cache
+def sheet(n, rows, fibres=4, rooms=level_rooms):
+    """The text of our sheet."""
+    cut, sent = sent_by(n, rows, rooms)
     return text_of(figures(n, rows, cut, sent, rule_d(rows, sent), fibres))

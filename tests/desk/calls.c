@@ -166,6 +166,131 @@ static void route(const char *name)
     make(name, ringkit_route, &table, &sheet, RINGKIT_SHEET_BYTES);
 }
 
+/* ---- refused texts */
+
+/* A call gives the text that reason, line and byte, and touches nothing where it refuses. */
+static void judges(const char *name, writing *call, const struct text *text, uint32_t reason, uint32_t line, uint32_t byte)
+{
+    ringkit_reply reply = lend(call, text, RINGKIT_MAX_TEXT_BYTES);
+    expect(says(reply, reason, line, byte, reason == RINGKIT_OK ? reply.length : 0), "%s: %u on line %u at byte %u", name, (unsigned)reply.reason, (unsigned)reply.line, (unsigned)reply.byte);
+    expect(reason == RINGKIT_OK || holds(RINGKIT_MAX_TEXT_BYTES, &NOTHING), "%s: a refusal touches the buffer", name);
+}
+
+/* ---- the best choice */
+
+/* Rows that all cross each other, so many of two offices each: all of them are left split. */
+static void crossing_rows(unsigned rows)
+{
+    table.length = 0;
+    add(&table, "R\t%u\t4\n", RINGKIT_MAX_OFFICES);
+    for (unsigned k = 1; k <= rows; k++) {
+        add(&table, "D\t%u\t%u\t%u\n", k, k + rows, mixed(k, k + rows));
+    }
+}
+
+static unsigned split_rows(void)
+{
+    unsigned split = 0;
+    for (size_t k = 0; k < held.row_count; k++) {
+        split += held.rows[k].front > 0 && held.rows[k].back > 0;
+    }
+    return split;
+}
+
+/* What is promised of the best choice's sheet, by the call, beside that by rule D, which is held, without trying any way: it is accepted, differs in ways, unsplit loads, unsplit peak and size alone,
+ * and has no higher peak; or it is 23, where more than 16 rows are left split. */
+static void test_best(const char *name, writing *call)
+{
+    static struct text best;
+    static struct held by_rule_d;
+    by_rule_d = held;
+    if (split_rows() > RINGKIT_MAX_SPLIT) {
+        judges(name, call, &table, RINGKIT_TOO_MANY_SPLIT, 0, 0);
+        return;
+    }
+    make(name, call, &table, &best, RINGKIT_SHEET_BYTES);
+    writes(name, call, &table, &best);
+    expect(says(ringkit_check(fenced(&best), best.length), RINGKIT_OK, 0, 0, 0), "%s: the best choice's sheet is refused", name);
+    hold(best.bytes, best.length);
+    expect(held.row_count == by_rule_d.row_count && held.peak <= by_rule_d.peak, "%s: the best choice has peak %u", name, (unsigned)held.peak);
+    for (size_t k = 0; k < held.row_count; k++) {
+        ringkit_row row = held.rows[k];
+        row.way = row.front > 0 && row.back > 0 ? by_rule_d.rows[k].way : row.way;
+        expect(memcmp(&row, &by_rule_d.rows[k], sizeof row) == 0, "%s: the best choice has another row %zu", name, k + 1);
+    }
+    held = by_rule_d;
+}
+
+/* ---- lowered rooms */
+
+static bool front_holds(const ringkit_row *row, uint32_t link)
+{
+    return row->first <= link && link < row->second;
+}
+
+static int64_t twice_across(uint32_t g, uint32_t h)
+{
+    int64_t sum = 0;
+    for (size_t k = 0; k < held.row_count; k++) {
+        sum += front_holds(&held.rows[k], g) != front_holds(&held.rows[k], h) ? held.rows[k].amount : 0;
+    }
+    return 2 * sum;
+}
+
+/* Whether each link that is held carries just its room as it is lowered, links 1 to n in turn: the largest of twice the across numbers less the rooms of links below and less the cut's across number for links above. */
+static bool carries_rooms(void)
+{
+    int64_t room[RINGKIT_MAX_OFFICES + 1];
+    bool good = held.link_count == held.n;
+    for (uint32_t g = 1; g <= held.n && good; g++) {
+        room[g] = INT64_MIN;
+        for (uint32_t h = 1; h <= held.n; h++) {
+            int64_t asked = h == g ? INT64_MIN : twice_across(g, h) - (h < g ? room[h] : held.across);
+            room[g] = asked > room[g] ? asked : room[g];
+        }
+        good = held.links[g - 1].split == room[g];
+    }
+    return good;
+}
+
+/* What is promised of the sheet by lowered rooms beside that by level ones, which is held: it is accepted, of as many rows, with the same cut and no parallel pair, and its split loads are the lowered
+ * rooms. Then of that by the best choice. */
+static void test_lowered(const char *name)
+{
+    static struct text lowered;
+    static struct held by_level;
+    by_level = held;
+    make(name, ringkit_route_lowered, &table, &lowered, RINGKIT_SHEET_BYTES);
+    writes(name, ringkit_route_lowered, &table, &lowered);
+    expect(says(ringkit_check(fenced(&lowered), lowered.length), RINGKIT_OK, 0, 0, 0), "%s: the sheet by lowered rooms is refused", name);
+    expect(finds(ringkit_parallel(fenced(&lowered), lowered.length), RINGKIT_OK, 0, 0, 0, 0), "%s: the sheet by lowered rooms has a parallel pair", name);
+    hold(lowered.bytes, lowered.length);
+    expect(held.g == by_level.g && held.h == by_level.h && held.across == by_level.across, "%s: by lowered rooms the cut is another", name);
+    expect(held.row_count == by_level.row_count && carries_rooms(), "%s: the split loads are not the lowered rooms", name);
+    test_best(name, ringkit_route_lowered_best);
+    held = by_level;
+}
+
+/* As many rows left split as are chosen for, and one more: 23 comes before the buffer is looked at, and behind the table's own reasons. */
+static void test_most_split(void)
+{
+    crossing_rows(RINGKIT_MAX_SPLIT);
+    route("16 rows that cross");
+    hold(sheet.bytes, sheet.length);
+    expect(split_rows() == RINGKIT_MAX_SPLIT, "16 rows that cross: %u are split", split_rows());
+    test_best("16 rows that cross", ringkit_route_best);
+    test_lowered("16 rows that cross");
+    crossing_rows(RINGKIT_MAX_SPLIT + 1);
+    route("17 rows that cross");
+    judges("17 rows that cross", ringkit_route_best, &table, RINGKIT_TOO_MANY_SPLIT, 0, 0);
+    judges("17 rows that cross, by lowered rooms", ringkit_route_lowered_best, &table, RINGKIT_TOO_MANY_SPLIT, 0, 0);
+    expect(says(ringkit_route_best(fenced(&table), table.length, NULL, 0), RINGKIT_TOO_MANY_SPLIT, 0, 0, 0), "17 rows that cross: another reason comes first");
+    expect(says(ringkit_route_lowered_best(fenced(&table), table.length, NULL, 0), RINGKIT_TOO_MANY_SPLIT, 0, 0, 0), "17 rows that cross, by lowered rooms: another reason comes first");
+    add(&table, "D\t17\t34\t10000\n");
+    judges("17 rows that cross, and one too large", ringkit_route_best, &table, RINGKIT_TOO_MUCH, RINGKIT_MAX_SPLIT + 3, 9);
+    judges("17 rows that cross, and one too large, by lowered rooms", ringkit_route_lowered_best, &table, RINGKIT_TOO_MUCH, RINGKIT_MAX_SPLIT + 3, 9);
+}
+
 /* ---- whole circuits, one turn at a time */
 
 /* The lent ways end before the fence. */
@@ -311,6 +436,8 @@ static void test_table(const char *name)
     writes(name, ringkit_rewrite_table, &table, &table);
     writes(name, ringkit_rewrite_sheet, &sheet, &sheet);
     hold(sheet.bytes, sheet.length);
+    test_best(name, ringkit_route_best);
+    test_lowered(name);
     test_ways(name);
     test_values(name);
 }
@@ -380,14 +507,6 @@ static void test_matrix(const char *name)
     writes(name, read_matrix, &matrix, &table);
     writes(name, ringkit_write_matrix, &table, &matrix);
     route(name);
-}
-
-/* A call gives the text that reason, line and byte, and touches nothing where it refuses. */
-static void judges(const char *name, writing *call, const struct text *text, uint32_t reason, uint32_t line, uint32_t byte)
-{
-    ringkit_reply reply = lend(call, text, RINGKIT_MAX_TEXT_BYTES);
-    expect(says(reply, reason, line, byte, reply.length), "%s: %u on line %u at byte %u", name, (unsigned)reply.reason, (unsigned)reply.line, (unsigned)reply.byte);
-    expect(reason == RINGKIT_OK || holds(RINGKIT_MAX_TEXT_BYTES, &NOTHING), "%s: a refusal touches the buffer", name);
 }
 
 /* A matrix of two offices, given by its bytes. */
@@ -657,8 +776,8 @@ static void test_work(void)
 /* The calls that route, rewrite or turn give the table that reason, line and byte. */
 static void table_judged(const char *name, uint32_t reason, uint32_t line, uint32_t byte)
 {
-    writing *calls[] = {ringkit_route, ringkit_rewrite_table};
-    for (unsigned k = 0; k < 2; k++) {
+    writing *calls[] = {ringkit_route, ringkit_route_best, ringkit_route_lowered, ringkit_route_lowered_best, ringkit_rewrite_table};
+    for (unsigned k = 0; k < sizeof calls / sizeof *calls; k++) {
         judges(name, calls[k], &table, reason, line, byte);
     }
     turn_judged(name, reason, line, byte);
@@ -754,6 +873,9 @@ static void test_no_text(void)
     expect(finds(pair, RINGKIT_MISSHAPEN, 1, 1, 0, 0), "parallel: no text");
     expect(says(ringkit_check(NULL, 0), RINGKIT_MISSHAPEN, 1, 1, 0), "check: no text");
     expect(says(ringkit_route(NULL, 0, NULL, 0), RINGKIT_MISSHAPEN, 1, 1, 0), "route: no text");
+    expect(says(ringkit_route_best(NULL, 0, NULL, 0), RINGKIT_MISSHAPEN, 1, 1, 0), "route by the best choice: no text");
+    expect(says(ringkit_route_lowered(NULL, 0, NULL, 0), RINGKIT_MISSHAPEN, 1, 1, 0), "route by lowered rooms: no text");
+    expect(says(ringkit_route_lowered_best(NULL, 0, NULL, 0), RINGKIT_MISSHAPEN, 1, 1, 0), "route by lowered rooms and the best choice: no text");
     expect(says(ringkit_rewrite_table(NULL, 0, NULL, 0), RINGKIT_MISSHAPEN, 1, 1, 0), "rewrite a table: no text");
     expect(says(ringkit_rewrite_sheet(NULL, 0, NULL, 0), RINGKIT_MISSHAPEN, 1, 1, 0), "rewrite a sheet: no text");
     expect(turn_says(ringkit_turn(NULL, 0, lent_ways()), RINGKIT_MISSHAPEN, 1, 1), "turn: no text");
@@ -771,6 +893,7 @@ static void *test_texts(void *unused)
     test_no_values();
     test_late_form();
     test_pair();
+    test_most_split();
     test_limits();
     test_bytes();
     test_matrices();

@@ -2,7 +2,7 @@
 """Holds what the desk writes with --json, and what it says of several files, to what it says without: `objects.py DESK`, from the tree's root.
 
 Each object is one line of ASCII that a parser of JSON reads, and has the shape that docs/desk.schema.json says. Figures of a plan, written as a sheet, are the bytes of
-`desk plan --sheet`; those of turning are worked out again from the ways, and held to the stored cases (tests/cases/turning.calls); a refusal is the sentence that is said on standard error. The module
+`desk plan --sheet`, with --best and --lowered too; those of turning are worked out again from the ways, and held to the stored cases (tests/cases/turning.calls); a refusal is the sentence that is said on standard error. The module
 jsonschema reads the schema where it is there; shape.py does in any case, and the first line says which of them did. The last line is 'N passed, M failed'."""
 import json
 import os
@@ -97,9 +97,9 @@ def hold_name(one, name):
     check({key: value for key, value in one.items() if key.startswith("file")} == due, f"{str(one)[:80]} is not of the file {name}")
 
 
-def ask(command, names, typed=b""):
+def ask(command, names, typed=b"", words=()):
     """Asks for objects of files, holds them to the schema and to the names, and gives them with the exit status."""
-    written, complained, status = said(command, "--json", *names, typed=typed)
+    written, complained, status = said(command, "--json", *words, *names, typed=typed)
     what = f"{command} --json {b' '.join(names)[:60]}"
     check(complained == b"", f"{what}: it complains: {complained[:200]}")
     found = objects(written, what, max(len(names), 1))
@@ -160,6 +160,48 @@ def hold_turned(one, sheet, what):
     check(ends_true(one, one["peak"], int(cut[3])), f"turning {what}: unit, floor or proof is false")
 
 
+def split_of(one):
+    """What goes each way of each circuit, and the way of those that are not divided."""
+    return [(c["front_halves"], c["back_halves"], c["way"] if 0 in (c["front_halves"], c["back_halves"]) else None) for c in one["circuits"]]
+
+
+def hold_best(names, planned, words=()):
+    """By the best choice: the object is that of its sheet, has the key that says so, and differs from the plan's, with the same words, in nothing that is not sent whole; its peak is never above the plan's. A refusal is 23, on
+    no line. Gives how many peaks were lower, and how many were refused."""
+    lower = refused = 0
+    for name, one, plan in zip(names, ask("plan", names, words=[*words, "--best"])[0], planned):
+        what = f"{os.path.basename(name).decode('ascii')} by the best choice {' '.join(words)}"
+        sheet, complained, _ = said("plan", "--best", *words, "--sheet", name)
+        if one["status"] == "refused":
+            check((one["reason"], one["line"], one["byte"]) == (23, None, None), f"{what}: it is refused for another reason")
+            check(one["sentence"] in complained.decode("ascii"), f"{what}: it is not told as in words")
+            check(sum(c["front_halves"] > 0 and c["back_halves"] > 0 for c in plan["circuits"]) > 16, f"{what}: it has at most 16 divided circuits")
+            refused += 1
+            continue
+        check(one["best_choice"] is True and "best_choice" not in plan and ("lowered_rooms" in one) == bool(words), f"{what}: the keys do not tell it")
+        hold_plan(one, sheet.decode("ascii"), what)
+        check(split_of(one) == split_of(plan), f"{what}: another split plan, or a circuit that is not divided goes otherwise")
+        check(one["cut"] == plan["cut"] and one["peaks"]["unsplit"] <= plan["peaks"]["unsplit"], f"{what}: another cut, or a higher peak")
+        lower += one["peaks"]["unsplit"] < plan["peaks"]["unsplit"]
+    return lower, refused
+
+
+def hold_lowered(names, planned):
+    """By lowered rooms: the object is that of its sheet, has the key that says so, and the cut and the split peak of the plan; no link is lighter by the plan where none is heavier. Gives the objects, and how many have a
+    lighter link."""
+    found = ask("plan", names, words=["--lowered"])[0]
+    lighter = 0
+    for name, one, plan in zip(names, found, planned):
+        what = f"{os.path.basename(name).decode('ascii')} by lowered rooms"
+        check(one["lowered_rooms"] is True and not {"lowered_rooms", "best_choice"} & set(plan), f"{what}: the key does not tell it")
+        hold_plan(one, said("plan", "--lowered", "--sheet", name)[0].decode("ascii"), what)
+        check(one["cut"] == plan["cut"] and one["peaks"]["split_halves"] == plan["peaks"]["split_halves"], f"{what}: another cut or split peak")
+        loads, full = ([k["split_halves"] for k in links["links"]] for links in (one, plan))
+        check(loads == full or any(a < b for a, b in zip(loads, full)), f"{what}: no link is lighter than by level rooms, and one is heavier")
+        lighter += any(a < b for a, b in zip(loads, full))
+    return found, lighter
+
+
 def hold(names):
     """Holds both objects of each table to its sheet, and gives them."""
     (planned, status), (turned, other) = ask("plan", names), ask("turn", names)
@@ -186,6 +228,17 @@ def made(folder):
         names.append(os.path.join(folder, b"made-%d.table" % k))
         pathlib.Path(os.fsdecode(names[-1])).write_text(lines_of([("R", offices, draw.choice((2, 4)))] + [("D", *row, draw.randint(0, most)) for row in rows]), encoding="ascii")
     return names
+
+
+CROSSING = [(34, 17), (64, 32), (33, 16)]
+
+
+def crossing(folder):
+    """Tables of circuits that all cross each other, more than may be chosen for and as many as that."""
+    for offices, count in CROSSING:
+        name = os.path.join(folder, b"crossing-%d.table" % count)
+        pathlib.Path(os.fsdecode(name)).write_text(lines_of([("R", offices, 4), *(("D", k, k + offices // 2, 3 + k % 4) for k in range(1, count + 1))]), encoding="ascii")
+        yield name
 
 
 def covered(planned, turned):
@@ -283,6 +336,9 @@ def hold_refused(folder):
                 check(words == f"{os.fsdecode(name)}: {place}{one.get('sentence')} (reason {due[0]})", f"{command} {name}: the words are {words}")
         check({due[0] for _, *due in texts} == {*range(1, 8), 16, 20, *(range(8, 15) if command == "check" else [])}, f"{command}: not each reason is met")
         found, status = ask(command, names)
+        if command == "plan":
+            for words in (["--best"], ["--lowered"], ["--best", "--lowered"]):
+                check(ask(command, names, words=words) == (found, status), f"plan {' '.join(words)}: what is no table is refused otherwise")
         check(status == 1 and [one.get("reason") for one in found] == [due[0] for _, *due in texts], f"{command}: refused one after the other they are others")
 
 
@@ -393,7 +449,14 @@ os.chdir(root)
 with tempfile.TemporaryDirectory() as scratch:
     here = os.fsencode(scratch)
     examples = [os.fsencode(path) for path in sorted(pathlib.Path("examples").glob("*.table"))]
-    covered(*(a + b for a, b in zip(hold(examples), hold(made(here)))))
+    tables = [*made(here), *crossing(here)]
+    of_examples, of_made = hold(examples), hold(tables)
+    covered(*(a + b for a, b in zip(of_examples, of_made)))
+    lower, refused = map(sum, zip(hold_best(examples, of_examples[0]), hold_best(tables, of_made[0])))
+    check(lower > 0 and refused >= 2, "no peak of the best choice is lower, or no table is refused for it")
+    lowered, lighter = hold_lowered(examples + tables, of_examples[0] + of_made[0])
+    lower, refused = hold_best(examples + tables, lowered, ["--lowered"])
+    check(lighter > 0 and lower > 0 and refused >= 2, "by lowered rooms no link is lighter, no peak of the best choice lower, or no table is refused for it")
     hold_stored(here)
     hold_refused(here)
     hold_names(here)

@@ -1,5 +1,5 @@
 #!/usr/bin/env python3
-"""Holds the pictures of the desk that is named, `pictures.py DESK`, to the plans that they are drawn of: of all examples and of tables made here, as planned and with --turn, and of their
+"""Holds the pictures of the desk that is named, `pictures.py DESK`, to the plans that they are drawn of: of all examples and of tables made here, as planned, with --turn, --best and --lowered, and of their
 sheets, ours and ones whose split circuits another tool sent otherwise. Each picture is well-formed XML and calls for nothing outside of itself; each number that it shows is that of the
 sheet, or of the ways that `desk turn` tells; its lines lead where they should; no two texts overlap, in letters as wide as they are in any usual font, and none leaves the paper. The last line is 'N passed, M
 failed'."""
@@ -122,7 +122,17 @@ def closed(picture, written):
         yield "it has no name or no description"
 
 
-def heading(picture, due, turned):
+# by the words behind the command
+HOW = {
+    (): "each circuit whole",
+    ("--turn",): "sent one turn at a time",
+    ("--best",): "by the best choice",
+    ("--lowered",): "each circuit whole",
+    ("--lowered", "--best"): "by the best choice",
+}
+
+
+def heading(picture, due, words):
     """The figures of the heading, and the words that say them again."""
     line = str(due.size) if due.size else "none"
     wanted = [str(due.offices), str(due.fibres), str(len(due.circuits)), units(due.across), str(due.peak), str(due.floor()), line]
@@ -138,8 +148,10 @@ def heading(picture, due, turned):
     filled = f"{100 * 2 * due.peak // due.carried()} % full at the peak" if due.size else "no line is large enough"
     if texts(found["Line size"])[2:] != [filled]:
         yield "the line is not told how full it is"
-    if ("sent one turn at a time" in texts(found["Unsplit peak"])) != turned:
+    if texts(found["Unsplit peak"])[2:] != [HOW[words]]:
         yield "it is not told how circuits are sent"
+    if texts(found["Split peak"])[2:] != ["lowest, by lowered rooms" if "--lowered" in words else "the lowest there is"]:
+        yield "it is not told by what rooms circuits are divided"
 
 
 def in_words(picture, due):
@@ -388,8 +400,14 @@ def faults_of(text, due, *words):
         picture = xml.etree.ElementTree.fromstring(written)
     except (ValueError, xml.etree.ElementTree.ParseError) as fault:
         return {name: [f"there is no picture: {fault}"] for name in CHECKS}
-    rest = {"closed": (written,), "heading": (due, bool(words)), "apart": ()}
+    rest = {"closed": (written,), "heading": (due, words), "apart": ()}
     return {name: list(check(picture, *rest.get(name, (due,)))) for name, check in CHECKS.items()}
+
+
+def sheet_by(text, words):
+    """Its sheet with these words; None where that is refused."""
+    done = subprocess.run([sys.argv[1], "plan", *words, "--sheet"], input=text, stdout=subprocess.PIPE, stderr=subprocess.PIPE, check=False)
+    return done.stdout if done.returncode == 0 else None
 
 
 def hold(case):
@@ -403,6 +421,12 @@ def hold(case):
         if other is not None:
             found.append((f"{name}, {what}", faults_of(other, Due(other))))
             found.append((f"{name}, {what}, turned", faults_of(other, Due(other, ways), "--turn")))
+    for words in (("--best",), ("--lowered",), ("--lowered", "--best")):
+        due = sheet_by(text, words)
+        if due is not None:
+            # of a sheet of whichever tool its table is planned
+            texts_of_it = {"the table": text, "its sheet": sheet, "sent otherwise": sent_otherwise(sheet)}
+            found += [(f"{name}, {what}, {' '.join(words)}", faults_of(other, Due(due), *words)) for what, other in texts_of_it.items() if other is not None]
     return found
 
 

@@ -27,6 +27,21 @@ static uint32_t route(void)
     return ringkit_route(text, length, buffer, sizeof buffer).reason;
 }
 
+static uint32_t route_best(void)
+{
+    return ringkit_route_best(text, length, buffer, sizeof buffer).reason;
+}
+
+static uint32_t route_lowered(void)
+{
+    return ringkit_route_lowered(text, length, buffer, sizeof buffer).reason;
+}
+
+static uint32_t route_lowered_best(void)
+{
+    return ringkit_route_lowered_best(text, length, buffer, sizeof buffer).reason;
+}
+
 static uint32_t turn(void)
 {
     return ringkit_turn(text, length, ways).reason;
@@ -103,6 +118,9 @@ static const struct named {
     const char *small; /* a text that it accepts */
 } CALLS[] = {
     {"ringkit_route", route, TABLE},
+    {"ringkit_route_best", route_best, TABLE},
+    {"ringkit_route_lowered", route_lowered, TABLE},
+    {"ringkit_route_lowered_best", route_lowered_best, TABLE},
     {"ringkit_turn", turn, TABLE},
     {"ringkit_rewrite_table", rewrite_table, TABLE},
     {"ringkit_rewrite_sheet", rewrite_sheet, SHEET},

@@ -40,6 +40,9 @@ static const struct call {
     working *work;
 } CALLS[] = {
     {.name = "Route", .write = ringkit_route},
+    {.name = "RouteBest", .write = ringkit_route_best},
+    {.name = "RouteLowered", .write = ringkit_route_lowered},
+    {.name = "RouteLoweredBest", .write = ringkit_route_lowered_best},
     {.name = "Rewrite", .write = ringkit_rewrite_table},
     {.name = "Check", .judge = ringkit_check},
     {.name = "RewriteSheet", .write = ringkit_rewrite_sheet},

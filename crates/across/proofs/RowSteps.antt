@@ -88,7 +88,7 @@ pub record Lent (t : List ℕ) : Type 0 where
   pub size : length t ≡ most_pairs
   pub fits : (x : ℕ) → Fits w32 (get_or t x 0)
 
-module _ (n : ℕ) (r : Demand) (i j : ℕ) (ei : i ≡ r.first) (ej : j ≡ r.second) (old : List ℕ) (lent : Lent old) (low : 1 ≤ r.first) (few : n ≤ desk.nodes) where
+module _ (n : ℕ) (r : Demand) (old : List ℕ) (lent : Lent old) (low : 1 ≤ r.first) (few : n ≤ desk.nodes) where
   abbrev op : ℕ → ℕ
   op y = raised y r.amount
 
@@ -98,7 +98,7 @@ module _ (n : ℕ) (r : Demand) (i j : ℕ) (ei : i ≡ r.first) (ej : j ≡ r.s
   none g k true p q = rw (part_of r g k true true p q) (sym (raised-none (at old g k) (omega (arith, lent.fits (place_of g k)))))
   none g k false p q = rw (part_of r g k false false p q) (sym (raised-none (at old g k) (omega (arith, lent.fits (place_of g k)))))
 
-  pub rows_start : Rowing n r old old i
+  pub rows_start : Rowing n r old old r.first
   rows_start =
       record {
         past = omega arith;
@@ -132,24 +132,24 @@ module _ (n : ℕ) (r : Demand) (i j : ℕ) (ei : i ≡ r.first) (ej : j ≡ r.s
       moved l m t g a b p q = t.within g p q ∙ ap op (s.kept g h a b (omega arith) (omega arith))
 
       -- h lies in the front: links before the front change
-      pub turn_in : h < j → LineStep op h 1 i now new → Rowing n r old new (h + 1)
+      pub turn_in : h < r.second → LineStep op h 1 r.first now new → Rowing n r old new (h + 1)
       unfolding xor
-      turn_in l t = turned 1 i t due
+      turn_in l t = turned 1 r.first t due
         where
           here : in_front r h ≡ true
           here = in-front r h s.past (omega arith)
 
           due : (g : ℕ) → 1 ≤ g → g < h → at new g h ≡ raised (at old g h) (part r g h)
           due g a b =
-              elim (dec_lt g i) [
-                | yes z ↦ rw (part_of r g h false true (before-front r g (omega arith)) here) (moved 1 i t g a b a z)
-                | no z ↦ same 1 i t g a b (λ y. omega arith) ∙ none g h true (in-front r g (omega arith) (omega arith)) here
+              elim (dec_lt g r.first) [
+                | yes z ↦ rw (part_of r g h false true (before-front r g (omega arith)) here) (moved 1 r.first t g a b a z)
+                | no z ↦ same 1 r.first t g a b (λ y. omega arith) ∙ none g h true (in-front r g (omega arith) (omega arith)) here
               ]
 
       -- h lies behind it: links of the front change
-      pub turn-behind : j ≤ h → LineStep op h i j now new → Rowing n r old new (h + 1)
+      pub turn-behind : r.second ≤ h → LineStep op h r.first r.second now new → Rowing n r old new (h + 1)
       unfolding xor
-      turn-behind l t = turned i j t due
+      turn-behind l t = turned r.first r.second t due
         where
           here : in_front r h ≡ false
           here = after_front r h (omega arith)
@@ -158,9 +158,9 @@ module _ (n : ℕ) (r : Demand) (i j : ℕ) (ei : i ≡ r.first) (ej : j ≡ r.s
           due g a b = go (side r g)
             where
               go : Side r g → at new g h ≡ raised (at old g h) (part r g h)
-              go (before z p) = same i j t g a b (λ y. omega arith) ∙ none g h false p here
-              go (within z y p) = rw (part_of r g h true false p here) (moved i j t g a b (omega arith) (omega arith))
-              go (after z p) = same i j t g a b (λ y. omega arith) ∙ none g h false p here
+              go (before z p) = same r.first r.second t g a b (λ y. omega arith) ∙ none g h false p here
+              go (within z y p) = rw (part_of r g h true false p here) (moved r.first r.second t g a b (omega arith) (omega arith))
+              go (after z p) = same r.first r.second t g a b (λ y. omega arith) ∙ none g h false p here
 
   pub rows-done : (now : List ℕ) (h : ℕ) → n + 1 ≤ h → Rowing n r old now h → now ≡ step_row raised n r old
   unfolding step_row

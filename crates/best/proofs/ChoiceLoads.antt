@@ -9,7 +9,7 @@ use Rattle.best.specs.declared.tries.Tried.{Tried}
 use Rattle.best.specs.Best.{splits, IsBest}
 use Rattle.best.specs.Tries.{tried_in}
 use Rattle.best.specs.Choices.{choose, split_rows, whole_load, choice_load, tried_of, best_over}
-use Rattle.best.proofs.TrySteps.{peak-same}
+use Rattle.ring.proofs.Peaks.{same-peak}
 use Rattle.best.proofs.TriedAll.{over-same, tried-all}
 use Rattle.best.proofs.BestWays.{Leads, best-leads, is-best}
 
@@ -44,7 +44,7 @@ module _ (n : ℕ) (ss : List Sent) (load : ℕ → ℕ) (loads : (k : ℕ) → 
 
   figures : (d : ℕ) → summed d ≡ tried_of n ss d
   unfolding figure
-  figures d = ap₂ figure (sym (peak-same n _ _ (λ k a b. load-is d ss k))) (omega arith)
+  figures d = ap₂ figure (sym (same-peak _ _ n (λ k a b. load-is d ss k))) (omega arith)
 
   all-tried : best ≡ best_over (tried_of n ss) 0 (2 ^ splits ss) (tried_of n ss 0)
   all-tried =

@@ -8,7 +8,7 @@ use Rattle.ring.specs.Routing.{peak}
 use Rattle.best.specs.declared.tries.Tried.{Tried}
 use Rattle.best.specs.Tries.{better_of, back_over, tried_in}
 use Rattle.best.specs.Choices.{choice_load, best_over}
-use Rattle.best.proofs.TrySteps.{peak-same}
+use Rattle.ring.proofs.Peaks.{same-peak}
 
 -- ---- the best of many
 
@@ -56,7 +56,7 @@ module _ (n : ℕ) where
     unfolding choice_load
     front-made d l =
         let t = lt-ltb d bit l in
-        let same = peak-same n (λ k. base k + choice_load (r ∷ rs) d k) (λ k. in_front_of k + choice_load rs d k) (λ k a b. rw t (omega arith)) in
+        let same = same-peak (λ k. base k + choice_load (r ∷ rs) d k) (λ k. in_front_of k + choice_load rs d k) n (λ k a b. rw t (omega arith)) in
         let number : c * 2 ^ length (r ∷ rs) + d ≡ (2 * c) * bit + d = omega (arith, ap (λ x. c * x) twice) in
         rw (same, number) refl
 
@@ -65,7 +65,7 @@ module _ (n : ℕ) where
     back-made d l =
         let t = le-ltb (bit + d) bit (omega arith) in
         let z : bit + d - bit ≡ d = omega arith in
-        let same = peak-same n (λ k. base k + choice_load (r ∷ rs) (bit + d) k) (λ k. behind k + choice_load rs d k) (λ k a b. rw (t, z) (omega arith)) in
+        let same = same-peak (λ k. base k + choice_load (r ∷ rs) (bit + d) k) (λ k. behind k + choice_load rs d k) n (λ k a b. rw (t, z) (omega arith)) in
         let number : c * 2 ^ length (r ∷ rs) + (bit + d) ≡ (2 * c + 1) * bit + d = omega (arith, ap (λ x. c * x) twice) in
         rw (same, number) refl
 
@@ -73,7 +73,7 @@ module _ (n : ℕ) where
       → tried_in n load rs c b ≡ best_over (made base rs c) 0 (2 ^ length rs) b
   unfolding tried_in choice_load best_over back_over
   tried-all base load [] c b h =
-      let same = peak-same n load (λ k. base k + 0) h in
+      let same = same-peak load (λ k. base k + 0) n h in
       let number : c ≡ c * 2 ^ 0 + 0 = omega arith in
       ap₂ (λ p c. better_of b (record { peak = p; choice = c })) same number
   tried-all base load (r ∷ rs) c b h =

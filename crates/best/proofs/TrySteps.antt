@@ -6,16 +6,11 @@ use Rattle.ring.specs.declared.types.Demand.{Demand}
 use Rattle.ring.specs.Demand.{in_front, OnRing}
 use Rattle.ring.specs.Lists.{Each, none, more}
 use Rattle.ring.specs.Routing.{peak}
+use Rattle.ring.proofs.Peaks.{same-peak}
 use Rattle.weight.specs.Limits.{load_bound}
 use Rattle.weight.specs.LinkSteps.{link_at, OverFits, OverStep}
 use Rattle.best.specs.Tries.{better_of, back_over, tried_in, ahead_of, amounts_of, Turnable, TurnedBack}
 use Rattle.best.specs.declared.tries.Tried.{Tried}
-
--- a peak is that of the loads of links
-pub peak-same : (n : ℕ) (f g : ℕ → ℕ) → ((k : ℕ) → 1 ≤ k → k ≤ n → f k ≡ g k) → peak f n ≡ peak g n
-unfolding peak
-peak-same zero f g h = refl
-peak-same (suc n) f g h = ap₂ max (peak-same n f g (λ k a b. h k a (omega arith))) (h (suc n) (omega arith) (omega arith))
 
 -- the largest load, link after link
 pub peak_turn : (loads : List ℕ) (k most load z : ℕ) → most ≡ peak (link_at loads) k → load ≡ get_or loads k 0 → z ≡ max most load → z ≡ peak (link_at loads) (k + 1)
@@ -36,7 +31,7 @@ module _ (n : ℕ) (loads : List ℕ) (long : n ≤ length loads) where
 
   -- the peak of the ring's links
   pub line_peak : (p : ℕ) → p ≡ peak (link_at line) (length line) → p ≡ peak (link_at loads) n
-  line_peak p e = e ∙ (rw length-line (peak-same n (link_at line) (link_at loads) (λ k a b. let i : (k - 1) + 1 ≡ k = omega arith in rw i at (line-here (k - 1) 0 (omega arith)))))
+  line_peak p e = e ∙ (rw length-line (same-peak (link_at line) (link_at loads) n (λ k a b. let i : (k - 1) + 1 ≡ k = omega arith in rw i at (line-here (k - 1) 0 (omega arith)))))
 
   -- no load falls below 0, and none grows too large
   pub back_fits : (r : Demand) {ahead behind : ℕ → Type 0} → Turnable n (r ∷ []) loads → ((x : ℕ) → r.amount ≤ x → ahead x) → ((x : ℕ) → x + r.amount ≤ load_bound → behind x) → OverFits ahead behind r line
@@ -135,7 +130,7 @@ module _ {r : Demand} {rs ss : List Demand} (is : ss ≡ r ∷ rs) (c most : ℕ
 
 pub tried-same : (n : ℕ) (f g : ℕ → ℕ) → ((k : ℕ) → 1 ≤ k → k ≤ n → f k ≡ g k) → (rs : List Demand) (c : ℕ) (b : Tried) → tried_in n f rs c b ≡ tried_in n g rs c b
 unfolding tried_in back_over
-tried-same n f g h [] c b = ap (λ p. better_of b (record { peak = p; choice = c })) (peak-same n f g h)
+tried-same n f g h [] c b = ap (λ p. better_of b (record { peak = p; choice = c })) (same-peak f g n h)
 tried-same n f g h (r ∷ rs) c b =
     ap (λ x. tried_in n (back_over r f) rs (2 * c + 1) x) (tried-same n f g h rs (2 * c) b)
     ∙ tried-same n (back_over r f) (back_over r g) (λ k a l. let e = h k a l in rw e refl) rs (2 * c + 1) (tried_in n g rs (2 * c) b)

@@ -34,7 +34,7 @@ pub data GoesF : List Routed → List Routed → Type 0 where
   here : {s : Sent} {l m : List Routed} → GoesF (routed s Front ∷ l) (routed s Back ∷ m)
   there : {r : Routed} {l m : List Routed} → GoesF l m → GoesF (r ∷ l) (r ∷ m)
 
--- no choice has a lower peak; of those with the same none has fewer rows turned back; and any other of those goes back at the first difference
+-- no choice has a lower peak; of those with the same none has fewer rows turned back; and any other with as few goes back at the first difference
 pub record IsBest (n : ℕ) (ss : List Sent) (ways : List Routed) : Type 0 where
   pub choice : Choice ss ways
   pub least : (other : List Routed) → Choice ss other → peak (unsplit_load ways) n ≤ peak (unsplit_load other) n

@@ -8,7 +8,6 @@ ghost use Rattle.ring.specs.Sheet.{sents};
 ghost use Rattle.weight.specs.Rows.{Fit};
 ghost use Rattle.best.specs.Best.{splits, most_split, IsBest};
 
-use ring::wide;
 use rows::RowsMut;
 use send::{send_by, split_rows};
 use tries::{Tried, try_all, unsplit_loads};
@@ -38,7 +37,7 @@ pub fn send_best<R: RowsMut>(nodes: u32, rows: &mut R) -> Result<(), TooManySpli
         peak: weight.unsplit_peak,
         choice: 0,
     };
-    let best = try_all(split.as_slice(), &loads, wide(nodes), 0, first);
+    let best = try_all(split.as_slice(), &loads, nodes as usize, 0, first);
     send_by(rows, split.len(), best.choice);
     Ok(())
 }

@@ -1,7 +1,6 @@
 //! The split rows, and how rows go by a choice.
 ghost use Rattle.std.specs.Prelude.{◌≡◌, ◌≤◌, ◌<◌, true, IfOk, IfErr};
 ghost use Rattle.ring.specs.Routing.{is_split};
-ghost use Rattle.ring.specs.RuleD.{whole_way};
 ghost use Rattle.ring.specs.Sheet.{sents};
 ghost use Rattle.best.specs.Best.{splits, most_split};
 ghost use Rattle.best.specs.Choices.{choose, split_rows};
@@ -30,18 +29,6 @@ pub(crate) fn split_rows<R: Rows>(rows: &R) -> Result<ArrayVec<Demand, MOST_SPLI
     Ok(split)
 }
 
-// The way of a row that is not split.
-#[tactic(auto, unfolding(ring::specs::RuleD::whole_way))]
-fn whole_way(sent: Sent) -> Way
-    ensures { result ≡ whole_way sent }
-{
-    if sent.back == 0 {
-        Way::Front
-    } else {
-        Way::Back
-    }
-}
-
 // How many split rows are left, and what is left of the choice.
 #[derive(Drop)]
 struct Left {
@@ -57,7 +44,7 @@ impl Left {
         ensures { NextWay sent self.old self.new result }
     {
         if !is_split(sent) {
-            return whole_way(sent);
+            return sent.whole_way();
         }
         self.split -= 1;
         let bit: u32 = 1 << self.split;

@@ -2,6 +2,7 @@
 ghost use Rattle.std.specs.Prelude.{◌≡◌, ◌+◌, ◌*◌, ◌^◌, ◌≤◌, [], ◌∷◌, length};
 ghost use Rattle.ring.specs.Routing.{peak};
 ghost use Rattle.weight.specs.LinkSteps.{link_at};
+ghost use Rattle.best.specs.Best.{most_split};
 ghost use Rattle.best.specs.Tries.{better_of, tried_in, Turnable, TurnedBack, UnsplitOf};
 
 use ring::{Demand, LINKS, Link};
@@ -73,7 +74,7 @@ pub(crate) fn try_all(
     choice: u32,
     best: Tried,
 ) -> Tried
-    requires few { (choice + 1) * 2 ^ length split.now ≤ 65536 }
+    requires few { (choice + 1) * 2 ^ length split.now ≤ 2 ^ most_split }
     requires loads { Turnable n split.now loads.now }
     ensures { result ≡ tried_in n (link_at loads.now) split.now choice best }
 {

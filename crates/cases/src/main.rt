@@ -1,15 +1,16 @@
 #![tactic(auto)]
 // Runs stored cases: each is a header of 12 bytes (the letter of the call, the text's length and the buffer's in five digits each, LF) and
 // the text. Each is answered by a line: the reply's numbers, and a sum over every byte of the buffer, which is filled with a pattern before the call.
-// The letter T is `ringkit_rewrite_table`, R is `ringkit_route`, S is `ringkit_rewrite_sheet`, W is `ringkit_write_matrix`, and a digit is
-// `ringkit_read_matrix` with so many fibres. C is `ringkit_check` and P is `ringkit_parallel`: these lend no buffer, so their lines have reason, line and byte,
+// The letter T is `ringkit_rewrite_table`, R is `ringkit_route`, B is `ringkit_route_best`, l is `ringkit_route_lowered`, m is `ringkit_route_lowered_best`,
+// S is `ringkit_rewrite_sheet`, W is `ringkit_write_matrix`, and a digit is `ringkit_read_matrix` with so many fibres. C is `ringkit_check` and P is
+// `ringkit_parallel`: these lend no buffer, so their lines have reason, line and byte,
 // and for P the two places. Any other letter ends the run.
 ghost use Rattle.std.specs.Prelude.{◌≤◌, ◌<◌};
 
 use checker::Pair;
+use reasons::Refusal;
 use std::alloc::Global;
 use std::io::{self, BufReader, BufWriter, Read, Write};
-use table::Refusal;
 
 const ROOM: usize = 40000;
 
@@ -59,6 +60,9 @@ enum Call {
 enum Filling {
     RewriteTable,
     Route,
+    RouteBest,
+    RouteLowered,
+    RouteLoweredBest,
     RewriteSheet,
     WriteMatrix,
     ReadMatrix(u32),
@@ -68,6 +72,9 @@ fn call_of(letter: u8) -> Option<Call> {
     match letter {
         b'T' => Some(Call::Filling(Filling::RewriteTable)),
         b'R' => Some(Call::Filling(Filling::Route)),
+        b'B' => Some(Call::Filling(Filling::RouteBest)),
+        b'l' => Some(Call::Filling(Filling::RouteLowered)),
+        b'm' => Some(Call::Filling(Filling::RouteLoweredBest)),
         b'S' => Some(Call::Filling(Filling::RewriteSheet)),
         b'W' => Some(Call::Filling(Filling::WriteMatrix)),
         b'0'..=b'9' => Some(Call::Filling(Filling::ReadMatrix(u32::from(letter - b'0')))),
@@ -89,6 +96,9 @@ fn filled(call: Filling, text: &[u8], buffer: &mut [u8]) -> Result<usize, Refusa
     match call {
         Filling::RewriteTable => ringkit::ringkit_rewrite_table(text, buffer),
         Filling::Route => ringkit::ringkit_route(text, buffer),
+        Filling::RouteBest => ringkit::ringkit_route_best(text, buffer),
+        Filling::RouteLowered => ringkit::ringkit_route_lowered(text, buffer),
+        Filling::RouteLoweredBest => ringkit::ringkit_route_lowered_best(text, buffer),
         Filling::RewriteSheet => ringkit::ringkit_rewrite_sheet(text, buffer),
         Filling::WriteMatrix => ringkit::ringkit_write_matrix(text, buffer),
         Filling::ReadMatrix(fibres) => ringkit::ringkit_read_matrix(text, fibres, buffer),

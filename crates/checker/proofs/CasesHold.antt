@@ -7,8 +7,8 @@ use Rattle.text.specs.Field.{spell}
 use Rattle.text.specs.FieldByte.{field_byte}
 use Rattle.text.specs.ReadLine.{field_at, read_line, fields_from}
 use Rattle.text.specs.WriteLine.{end_of, write_line}
-use Rattle.table.specs.Lines.{lines}
-use Rattle.table.specs.Judge.{wrong_size, other_fibres, ring_verdict, row_verdict, outside, falls}
+use Rattle.lines.specs.Lines.{lines}
+use Rattle.reasons.specs.Judge.{wrong_size, other_fibres, ring_verdict, row_verdict, outside, falls}
 use Rattle.checker.specs.Cases.{cases, stated, computed, CasesHold}
 
 pub cases-hold : CasesHold

@@ -7,9 +7,9 @@ use Rattle.std.specs.Prelude.{Result as Either, Ok, Err}
 use Rattle.ring.specs.Limits.{desk}
 use Rattle.ring.specs.declared.types.Routed.{Routed}
 use Rattle.ring.specs.declared.types.Link.{Link}
-use Rattle.table.specs.Findings.{First}
-use Rattle.table.specs.declared.finding.Finding.{Finding}
-use Rattle.table.specs.declared.reason.Refusal.{Refusal}
+use Rattle.reasons.specs.Findings.{First}
+use Rattle.reasons.specs.declared.finding.Finding.{Finding}
+use Rattle.reasons.specs.declared.reason.Refusal.{Refusal}
 use Rattle.judge.specs.Findings.{findings}
 use Rattle.judge.proofs.Tests.{judged-is}
 use Rattle.sheet.specs.ReadInto.{with_values}
@@ -21,7 +21,7 @@ use Rattle.checker.proofs.Reasons.{read-as}
 
 module _ (s : List ℕ) (rs : List Routed) (ls : List Link) (answer : Either Figures Refusal) (e : with_values rs ls answer ≡ read_sheet desk s) where
   pub read-refused : (x : Refusal) → answer ≡ Err x → with_values rs ls (Err x) ≡ check desk s
-  unfolding check check_read
+  unfolding check
   read-refused x a = ap (check_read desk) (sym (ap (with_values rs ls) a) ∙ e)
 
   module _ (x : Figures) (a : answer ≡ Ok x) where
@@ -33,7 +33,7 @@ module _ (s : List ℕ) (rs : List Routed) (ls : List Link) (answer : Either Fig
 
     module _ (held : List Link) (same : held ≡ ls) (v : Either Unit Finding) (first : First (findings desk (sheet_in x rs held)) v) where
       judged-so : check desk s ≡ judged_on (sheet_in x rs ls) v
-      unfolding check check_read
+      unfolding check
       judged-so = ap (check_read desk) read ∙ ap (judged_on (sheet_in x rs ls)) (sym (judged-is (sheet_in x rs ls) v (rw same at first)))
 
       pub fine-so : (u : Unit) → v ≡ Ok u → with_values rs ls (Ok x) ≡ check desk s

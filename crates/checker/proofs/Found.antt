@@ -13,12 +13,11 @@ use Rattle.ring.specs.Limits.{Limits}
 use Rattle.ring.specs.Lists.{Each, none, more}
 use Rattle.ring.specs.Demand.{OnRing}
 use Rattle.ring.specs.Sheet.{Sheet, true_link}
-use Rattle.ring.proofs.Lists.{each-of-map}
-use Rattle.ring.proofs.Small.{demands-length}
-use Rattle.table.specs.Findings.{Findings, nothing, finding, then, found, First, ring_findings, demand_findings}
-use Rattle.table.specs.declared.finding.Finding.{Finding}
-use Rattle.table.specs.declared.reason.Reason.{Reason}
-use Rattle.table.specs.declared.reason.Reason.TheVariants.{WrongSum, WrongWay, WrongCut, WrongLink, WrongLast, NotTight, OverBound}
+use Rattle.ring.proofs.Small.{demands-length, each-of-demands}
+use Rattle.reasons.specs.Findings.{Findings, nothing, finding, then, found, First, ring_findings, demand_findings}
+use Rattle.reasons.specs.declared.finding.Finding.{Finding}
+use Rattle.reasons.specs.declared.reason.Reason.{Reason}
+use Rattle.reasons.specs.declared.reason.Reason.TheVariants.{WrongSum, WrongWay, WrongCut, WrongLink, WrongLast, NotTight, OverBound}
 use Rattle.judge.specs.Findings.{sending_findings, row_findings, rows_findings, cut_findings, links_findings, loads_findings, findings}
 use Rattle.judge.proofs.Rows.{From, behind, has-nodes}
 use Rattle.sheet.specs.Range.{InRange}
@@ -68,8 +67,8 @@ all-links due k (x ∷ ls) = (λ _. a_link, all-links due (k + 1) ls)
 
 pub all-figures : (limits : Limits) (x : Sheet) → InRange limits x → All OfFigures (findings limits x)
 all-figures limits x range =
-    let on = each-of-map (λ (r : Routed). r.sent) x.rows (each-of-map (λ s. s.demand) _ range.within.rows.nodes) in
-    let amounts = each-of-map (λ (r : Routed). r.sent) x.rows (each-of-map (λ s. s.demand) _ range.within.amounts) in
+    let on = each-of-demands x.rows range.within.rows.nodes in
+    let amounts = each-of-demands x.rows range.within.amounts in
     all-then _ (ring_findings limits x.ring) _
     (⊎_elim (λ l. absurd (omega (arith, range.within.few))) (λ l. absurd (omega (arith, range.within.many))), (λ d. absurd (d range.within.fibres), tt))
     (all-then _ (rows_findings limits x.ring.nodes 1 None x.rows) _ (all-rows limits x.ring.nodes 1 None x.rows on amounts range.within.rows.order (omega (arith, range.within.count, demands-length x.rows)))

@@ -3,23 +3,24 @@
 -- reads (`LowerSheets`) and finds (`LowerJudged`).
 use Prim.Native.Nat.{ℕ, ◌+◌, ◌≤◌, ◌<◌}
 use mathlib.Core.List.{List}
-use mathlib.Core.Path.{◌≡◌, refl, sym}
+use mathlib.Core.Path.{◌≡◌, refl, sym, subst}
 use native.Mathlib.Omega.{arith}
 use lib.ListN.{length}
-use Rattle.std.specs.Prelude.{Result, Ok}
+use Rattle.std.specs.Prelude.{Result, Ok, Err}
 use Rattle.ring.specs.Limits.{Limits, desk, old}
 use Rattle.ring.specs.Sheet.{Sheet}
 use Rattle.ring.specs.True.{TrueSheet}
-use Rattle.table.specs.declared.finding.Finding.{Finding}
-use Rattle.table.specs.declared.reason.Reason.{Reason}
-use Rattle.table.specs.declared.reason.Reason.TheVariants.{Misshapen, RingSize, TooMany}
-use Rattle.table.proofs.LowerLimits.{Lower, old-lower, Lost, lost_shape, lost_size, lost_count}
+use Rattle.reasons.specs.declared.finding.Finding.{Finding}
+use Rattle.reasons.specs.declared.reason.Reason.{Reason}
+use Rattle.reasons.specs.declared.reason.Reason.TheVariants.{Misshapen, RingSize, TooMany}
+use Rattle.reasons.proofs.LowerLimits.{Lower, old-lower, Lost, lost_shape, lost_size, lost_count}
 use Rattle.table.proofs.TableText.{desk-spelled}
 use Rattle.judge.proofs.Tests.{judged-is}
 use Rattle.judge.proofs.LowerJudged.{FindingAlike, same_finding, lost_finding, judged-alike, judged-same}
 use Rattle.sheet.specs.Range.{InRange}
 use Rattle.sheet.specs.WriteSheet.{write_sheet}
-use Rattle.sheet.specs.Read.{SheetResult, accepted, refused}
+use Rattle.reasons.specs.Refusals.{refuse}
+use Rattle.reasons.specs.declared.reason.Refusal.{Refusal}
 use Rattle.sheet.proofs.Short.{old-fits}
 use Rattle.sheet.proofs.SheetText.{sheet-text}
 use Rattle.sheet.proofs.LowerSheets.{Alike, same_result, lost_result, sheet-alike, LowerSheet, more-nodes, more-rows, same, lower-sheet}
@@ -34,10 +35,9 @@ module _ {low high : Limits} (lower : Lower low high) where
   on-alike x same_finding = same_result
   on-alike x (lost_finding l) = lost_result l
 
-  read-alike : {y z : SheetResult} → Alike y z → Alike (check_read low y) (check_read high z)
-  unfolding check_read
-  read-alike (same_result {x = accepted x}) = on-alike x (judged-alike lower x)
-  read-alike (same_result {x = refused r line byte}) = same_result
+  read-alike : {y z : Result Sheet Refusal} → Alike y z → Alike (check_read low y) (check_read high z)
+  read-alike (same_result {x = Ok x}) = on-alike x (judged-alike lower x)
+  read-alike (same_result {x = Err r}) = same_result
   read-alike (lost_result l) = lost_result l
 
   pub check-alike : (t : List ℕ) → Alike (check low t) (check high t)
@@ -50,57 +50,56 @@ not-lost lost_size a b c = b refl
 not-lost lost_count a b c = c refl
 
 -- what the old desk refuses by another reason than 2, 3 and 16, the desk refuses alike
-pub old-refused : (t : List ℕ) (r : Reason) (line byte : ℕ) → check old t ≡ refused r line byte → (r ≡ Misshapen → ⊥) → (r ≡ RingSize → ⊥) → (r ≡ TooMany → ⊥)
-    → check desk t ≡ refused r line byte
-old-refused t r line byte e a b c = go (check-alike old-lower t) e
+pub old-refused : (t : List ℕ) (r : Refusal) → check old t ≡ Err r → (r.reason ≡ Misshapen → ⊥) → (r.reason ≡ RingSize → ⊥) → (r.reason ≡ TooMany → ⊥) → check desk t ≡ Err r
+old-refused t r e a b c = go (check-alike old-lower t) e
   where
-    go : {y z : SheetResult} → Alike y z → y ≡ refused r line byte → z ≡ refused r line byte
+    go : {y z : Result Sheet Refusal} → Alike y z → y ≡ Err r → z ≡ Err r
     go same_result f = f
-    go (lost_result {r = s} l) f = let q : s ≡ r = cc in absurd (not-lost (rw q at l) a b c)
+    go (lost_result {r = s} l) f = let same : s ≡ r = cc in absurd (not-lost (subst (λ (x : Refusal). Lost x.reason) same l) a b c)
 
 -- what it accepts is accepted
-pub old-accepted : (t : List ℕ) (x : Sheet) → check old t ≡ accepted x → check desk t ≡ accepted x
+pub old-accepted : (t : List ℕ) (x : Sheet) → check old t ≡ Ok x → check desk t ≡ Ok x
 old-accepted t x e = go (check-alike old-lower t) e
   where
-    go : {y z : SheetResult} → Alike y z → y ≡ accepted x → z ≡ accepted x
+    go : {y z : Result Sheet Refusal} → Alike y z → y ≡ Ok x → z ≡ Ok x
     go same_result f = f
     go (lost_result l) f = absurd (cc)
 
 -- ---- an accepted sheet
 
-module _ (t : List ℕ) (x : Sheet) (e : check desk t ≡ accepted x) where
+module _ (t : List ℕ) (x : Sheet) (e : check desk t ≡ Ok x) where
   old-check : LowerSheet old x (check old t)
-  unfolding check check_read judged_on
+  unfolding check judged_on
   old-check = go (lower-sheet old-lower old-fits t x ((sheet-text desk desk-spelled t x).1 (h.0, h.1.0)) h.1.1)
     where
       h : (t ≡ write_sheet x) × (InRange desk x × TrueSheet x)
       h = (check-text t x).0 e
 
-      go : {y : SheetResult} → LowerSheet old x y → LowerSheet old x (check_read old y)
+      go : {y : Result Sheet Refusal} → LowerSheet old x y → LowerSheet old x (check_read old y)
       go (more-nodes n) = more-nodes n
       go (more-rows n r) = more-rows n r
       go (same n r) = rw (judged-same old-lower x h.1.0.within.few n r, sym (judged-is x (Ok tt) ((accepted-as t x).0 e).1)) (same n r)
 
-  pub old-nodes : old.nodes < x.ring.nodes → check old t ≡ refused RingSize 1 3
+  pub old-nodes : old.nodes < x.ring.nodes → check old t ≡ refuse RingSize 1 3
   old-nodes big = go old-check
     where
-      go : {r : SheetResult} → LowerSheet old x r → r ≡ refused RingSize 1 3
+      go : {r : Result Sheet Refusal} → LowerSheet old x r → r ≡ refuse RingSize 1 3
       go (more-nodes n) = refl
       go (more-rows n r) = absurd (omega arith)
       go (same n r) = absurd (omega arith)
 
-  pub old-rows : x.ring.nodes ≤ old.nodes → old.rows < length x.rows → check old t ≡ refused TooMany (old.rows + 2) 1
+  pub old-rows : x.ring.nodes ≤ old.nodes → old.rows < length x.rows → check old t ≡ refuse TooMany (old.rows + 2) 1
   old-rows small many = go old-check
     where
-      go : {r : SheetResult} → LowerSheet old x r → r ≡ refused TooMany (old.rows + 2) 1
+      go : {r : Result Sheet Refusal} → LowerSheet old x r → r ≡ refuse TooMany (old.rows + 2) 1
       go (more-nodes n) = absurd (omega arith)
       go (more-rows n r) = refl
       go (same n r) = absurd (omega arith)
 
-  pub old-same : x.ring.nodes ≤ old.nodes → length x.rows ≤ old.rows → check old t ≡ accepted x
+  pub old-same : x.ring.nodes ≤ old.nodes → length x.rows ≤ old.rows → check old t ≡ Ok x
   old-same small few = go old-check
     where
-      go : {r : SheetResult} → LowerSheet old x r → r ≡ accepted x
+      go : {r : Result Sheet Refusal} → LowerSheet old x r → r ≡ Ok x
       go (more-nodes n) = absurd (omega arith)
       go (more-rows n r) = absurd (omega arith)
       go (same n r) = refl

@@ -1,17 +1,16 @@
--- The plan of rules A to D has no such pair, for every list of rows that an accepted table can have: rule C leaves no two split rows parallel, and rule D
--- keeps what is sent.
+-- What rules A to C send has no such pair, for every list of rows that an accepted table can have: rule C leaves no two split rows parallel.
 use Prim.Native.Nat.{ℕ, ◌+◌, ◌≤◌}
 use mathlib.Core.Bool.{true≢false}
 use mathlib.Core.List.{List}
 use mathlib.Core.Path.{◌≡◌, sym, ◌∙◌, subst}
 use Rattle.ring.specs.Lists.{Each, more, Pairs, no_pair, and_pairs, none}
-use Rattle.ring.specs.declared.types.Ring.{Ring}
 use Rattle.ring.specs.TableRows.{TableRows}
 use Rattle.ring.specs.declared.types.Demand.{Demand}
 use Rattle.ring.specs.declared.types.Sent.{Sent}
-use Rattle.ring.specs.Sheet.{sents, plan}
 use Rattle.ring.specs.Rules.{Quiet}
-use Rattle.ring.proofs.OurPlan.{untangled, directed, table-order}
+use Rattle.engines.specs.declared.Engine.{Engine}
+use Rattle.engines.specs.Engine.{split_routing_by}
+use Rattle.engines.proofs.Engines.{untangled-by}
 use Rattle.checker.specs.Pair.{RowFrom, at_first, behind, ParallelSplit, PairAt, NoneFrom, NoPair}
 use Rattle.checker.specs.FindPair.{first_pair}
 use Rattle.checker.specs.declared.pair.Pair.TheVariants.{None}
@@ -33,10 +32,5 @@ quiet_none k (and_pairs {a = s} {l = ss} e h) p q x = go (quiet_none (k + 1) h p
     go m (with_head i r c) = not-both (each_at e r) c
     go m (in_tail y) = m y
 
-pub plan-no-pair : (ring : Ring) (rs : List Demand) → 2 ≤ ring.nodes → TableRows ring.nodes rs → first_pair (sents (plan ring rs).rows) ≡ None
-unfolding plan
-plan-no-pair ring rs two table =
-    let n = ring.nodes in
-    let quiet = (untangled n rs two table.nodes).quiet in
-    let same = (directed n rs two table.nodes (table-order n rs two table)).same in
-    (no-pair-is (sents (plan ring rs).rows)).1 (subst NoPair (sym same) (quiet_none 1 quiet))
+pub divided-no-pair : (engine : Engine) (n : ℕ) (rs : List Demand) → 2 ≤ n → TableRows n rs → (ss : List Sent) → ss ≡ split_routing_by engine n rs → first_pair ss ≡ None
+divided-no-pair engine n rs two table ss same = (no-pair-is ss).1 (subst NoPair (sym same) (quiet_none 1 (untangled-by engine n rs two table.nodes).quiet))

@@ -3,18 +3,20 @@ use Prim.Native.Nat.{ℕ, ◌<◌, ◌≤◌}
 use mathlib.Core.List.{List}
 use mathlib.Core.Path.{◌≡◌, refl}
 use native.Mathlib.Omega.{arith}
+use Rattle.std.specs.Prelude.{Result, Ok, Err}
 use Rattle.ring.specs.Limits.{desk}
-use Rattle.ring.specs.Sheet.{plan}
+use Rattle.ring.specs.Sheet.{Sheet, plan}
 use Rattle.ring.proofs.NoLower.{no_lower}
 use Rattle.ring.proofs.OurPlan.{plan-true}
-use Rattle.table.specs.Findings.{found}
+use Rattle.reasons.specs.Findings.{found}
 use Rattle.judge.specs.Findings.{findings}
-use Rattle.table.specs.Reasons.{rank_of}
+use Rattle.reasons.specs.Reasons.{rank_of}
 use Rattle.table.specs.RowReasons.{says_too_long, says_misshapen, says_ring_size, says_fibres, says_no_such_node, says_not_below, says_out_of_order, says_too_many, says_too_much}
-use Rattle.table.specs.declared.reason.Reason.{Reason}
-use Rattle.table.specs.declared.reason.Reason.TheVariants.{WrongSum, OverBound}
+use Rattle.reasons.specs.declared.reason.Reason.{Reason}
+use Rattle.reasons.specs.declared.reason.Reason.TheVariants.{WrongSum, OverBound}
+use Rattle.reasons.specs.declared.reason.Refusal.{Refusal}
 use Rattle.table.proofs.TableText.{desk-spelled}
-use Rattle.sheet.specs.Read.{SheetResult, accepted, refused, read_sheet}
+use Rattle.sheet.specs.Read.{read_sheet}
 use Rattle.sheet.specs.Says as reading
 use Rattle.sheet.specs.WriteSheet.{write_sheet}
 use Rattle.sheet.proofs.Promised.{same-sheet}
@@ -71,9 +73,9 @@ formed-is t = (λ w r line byte g. to_late w g, λ all. formed all (read_sheet d
     to_late w {r} {line} (of_form g) = absurd (w r line g.holds)
     to_late w {r} (of_figures x place is first stands) = late (first-is _ (findings desk x) (found r place) (all-figures desk x is.range) first)
 
-    formed : ((r : Reason) (line byte : ℕ) → Given desk t r line byte → (rank_of WrongSum ≤ rank_of r) × (rank_of r ≤ rank_of OverBound)) → (y : SheetResult) → read_sheet desk t ≡ y → reading.WellFormed desk t
-    formed all (accepted x) e = (well-formed-is desk t).0 (record { x = x; is = e })
-    formed all (refused r line byte) e =
-        let g = (read-given desk t r line byte).0 e in
-        let early : rank_of r < rank_of WrongSum = of-reading g.holds in
-        absurd (omega (arith, (all r line byte (of_form g)).0))
+    formed : ((r : Reason) (line byte : ℕ) → Given desk t r line byte → (rank_of WrongSum ≤ rank_of r) × (rank_of r ≤ rank_of OverBound)) → (y : Result Sheet Refusal) → read_sheet desk t ≡ y → reading.WellFormed desk t
+    formed all (Ok x) e = (well-formed-is desk t).0 (record { x = x; is = e })
+    formed all (Err r) e =
+        let g = (read-given desk t r).0 e in
+        let early : rank_of r.reason < rank_of WrongSum = of-reading g.holds in
+        absurd (omega (arith, (all r.reason r.line r.byte (of_form g)).0))

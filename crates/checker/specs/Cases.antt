@@ -1,6 +1,6 @@
 -- Examples: rings small enough to be worked out by hand (Rules, stated cases): one list, each case by its texts and what is said besides; and the answers to
 -- them all, as they are stated and as the definitions have them.
-use Rattle.std.specs.Prelude.{ℕ, ◌+◌, ◌*◌, min, cond, List, [], ◌∷◌, ◌++◌, map, leb, eqb, ◌≡◌}
+use Rattle.std.specs.Prelude.{ℕ, ◌+◌, ◌*◌, min, cond, List, [], ◌∷◌, ◌++◌, map, leb, eqb, ◌≡◌, Result, Ok, Err}
 use Prim.Native.String.{String}
 use Rattle.ring.specs.Cut.{across}
 use Rattle.ring.specs.Limits.{desk}
@@ -9,12 +9,19 @@ use Rattle.ring.specs.declared.types.Sent.{Sent}
 use Rattle.ring.specs.declared.types.Routed.{Routed}
 use Rattle.ring.specs.declared.types.Way.TheVariants.{Front, Back}
 use Rattle.ring.specs.RuleA.{rule_a}
-use Rattle.ring.specs.RuleB.{rule_b}
-use Rattle.ring.specs.Sheet.{Sheet, sents, demands, plan, split_peak, unsplit_peak, largest_split_of}
-use Rattle.table.specs.Reasons.{number_of}
-use Rattle.table.specs.ReadTable.{TableResult, accepted as a-table, refused as no_table, table_of}
+use Rattle.ring.specs.RuleB.{rule_b, send_all}
+use Rattle.ring.specs.RuleC.{rule_c}
+use Rattle.ring.specs.RuleD.{rule_d}
+use Rattle.engines.specs.declared.Engine.{Engine}
+use Rattle.engines.specs.declared.Engine.TheVariants.{Level, Lowered}
+use Rattle.engines.specs.Engine.{plan_by}
+use Rattle.engines.specs.Lowering.{lowered_rooms}
+use Rattle.ring.specs.Sheet.{Sheet, sents, demands, sheet_of, split_peak, unsplit_peak, largest_split_of}
+use Rattle.reasons.specs.Reasons.{number_of}
+use Rattle.table.specs.ReadTable.{Table, table_of}
+use Rattle.reasons.specs.declared.reason.Refusal.{Refusal}
 use Rattle.sheet.specs.WriteSheet.{write_sheet}
-use Rattle.sheet.specs.Read.{SheetResult, accepted, refused, read_sheet}
+use Rattle.sheet.specs.Read.{read_sheet}
 use Rattle.checker.specs.Check.{check}
 use Rattle.checker.specs.Printed.{printed}
 
@@ -45,8 +52,8 @@ abbrev pub Text : Type 0
 Text = List String
 
 pub data Case : Type 0 where
-  -- a table; the sheet that is routed for it, which the checker accepts; and what is stated of that sheet
-  plan_case : Text → Text → List Claim → Case
+  -- an engine and a table; the sheet that is routed for it by rule D, which the checker accepts; and what is stated of that sheet
+  plan_case : Engine → Text → Text → List Claim → Case
   -- a sheet; the reason, the line and the byte that the checker refuses it with; and what is stated of it
   refusal_case : Text → ℕ → ℕ → ℕ → List Claim → Case
 
@@ -54,37 +61,46 @@ pub data Case : Type 0 where
 unfoldable pub cases : List Case
 cases =
     -- the square
-    plan_case ("R|4|4" ∷ "D|1|3|1" ∷ "D|2|4|1" ∷ [])
+    plan_case Level ("R|4|4" ∷ "D|1|3|1" ∷ "D|2|4|1" ∷ [])
     ("R|4|4" ∷ "D|1|3|1|1|1|F" ∷ "D|2|4|1|1|1|B" ∷ "C|1|3|2" ∷ "L|1|2|2" ∷ "L|2|2|1" ∷ "L|3|2|0" ∷ "L|4|2|1" ∷ "Z|2|3" ∷ [])
     (M_is 2 ∷ 4 at-most 2 plus 3 ∷ []) ∷
     -- n = 2, no rows
-    plan_case ("R|2|4" ∷ [])
+    plan_case Level ("R|2|4" ∷ [])
     ("R|2|4" ∷ "C|1|2|0" ∷ "L|1|0|0" ∷ "L|2|0|0" ∷ "Z|0|3" ∷ [])
     [] ∷
     -- n = 2, 1-2 of 5
-    plan_case ("R|2|4" ∷ "D|1|2|5" ∷ [])
+    plan_case Level ("R|2|4" ∷ "D|1|2|5" ∷ [])
     ("R|2|4" ∷ "D|1|2|5|5|5|F" ∷ "C|1|2|5" ∷ "L|1|5|5" ∷ "L|2|5|0" ∷ "Z|5|12" ∷ [])
     [] ∷
     -- n = 4, 1-2 of 1
-    plan_case ("R|4|4" ∷ "D|1|2|1" ∷ [])
+    plan_case Level ("R|4|4" ∷ "D|1|2|1" ∷ [])
     ("R|4|4" ∷ "D|1|2|1|1|1|F" ∷ "C|1|2|1" ∷ "L|1|1|1" ∷ "L|2|1|0" ∷ "L|3|1|0" ∷ "L|4|1|0" ∷ "Z|1|3" ∷ [])
     [] ∷
     -- six demands between five offices: rule B splits 1-4 as 6/4 and 2-4 as 4/18
-    plan_case ("R|5|4" ∷ "D|1|2|2" ∷ "D|1|4|5" ∷ "D|2|3|9" ∷ "D|2|4|11" ∷ "D|3|4|4" ∷ "D|3|5|3" ∷ [])
+    plan_case Level ("R|5|4" ∷ "D|1|2|2" ∷ "D|1|4|5" ∷ "D|2|3|9" ∷ "D|2|4|11" ∷ "D|3|4|4" ∷ "D|3|5|3" ∷ [])
     ("R|5|4" ∷ "D|1|2|2|4|0|F" ∷ "D|1|4|5|0|10|B" ∷ "D|2|3|9|18|0|F" ∷ "D|2|4|11|10|12|B" ∷ "D|3|4|4|8|0|F" ∷ "D|3|5|3|6|0|F" ∷
     "C|2|4|28" ∷ "L|1|16|13" ∷ "L|2|28|9" ∷ "L|3|24|7" ∷ "L|4|28|19" ∷ "L|5|22|16" ∷ "Z|19|48" ∷ [])
     (sent_by_B (4 & 0 ∷ 6 & 4 ∷ 18 & 0 ∷ 4 & 18 ∷ 8 & 0 ∷ 6 & 0 ∷ []) ∷ []) ∷
     -- two short rows inside two longer ones: the best possible peak is 3, ours is 4 and within the bound
-    plan_case ("R|8|4" ∷ "D|1|4|1" ∷ "D|2|3|1" ∷ "D|5|8|2" ∷ "D|6|7|2" ∷ [])
+    plan_case Level ("R|8|4" ∷ "D|1|4|1" ∷ "D|2|3|1" ∷ "D|5|8|2" ∷ "D|6|7|2" ∷ [])
     ("R|8|4" ∷ "D|1|4|1|2|0|F" ∷ "D|2|3|1|2|0|F" ∷ "D|5|8|2|4|0|F" ∷ "D|6|7|2|2|2|F" ∷ "C|2|6|6" ∷
     "L|1|4|1" ∷ "L|2|6|2" ∷ "L|3|4|1" ∷ "L|4|2|0" ∷ "L|5|6|2" ∷ "L|6|6|4" ∷ "L|7|6|2" ∷ "L|8|2|0" ∷ "Z|4|12" ∷ [])
     (best_peak_is 3 ∷ 8 at-most 6 plus 6 ∷ []) ∷
+    -- the six and the four with lowered rooms: of the six the same sheet, of the four 5-8 is split and 6-7 is not
+    plan_case Lowered ("R|5|4" ∷ "D|1|2|2" ∷ "D|1|4|5" ∷ "D|2|3|9" ∷ "D|2|4|11" ∷ "D|3|4|4" ∷ "D|3|5|3" ∷ [])
+    ("R|5|4" ∷ "D|1|2|2|4|0|F" ∷ "D|1|4|5|0|10|B" ∷ "D|2|3|9|18|0|F" ∷ "D|2|4|11|10|12|B" ∷ "D|3|4|4|8|0|F" ∷ "D|3|5|3|6|0|F" ∷
+    "C|2|4|28" ∷ "L|1|16|13" ∷ "L|2|28|9" ∷ "L|3|24|7" ∷ "L|4|28|19" ∷ "L|5|22|16" ∷ "Z|19|48" ∷ [])
+    [] ∷
+    plan_case Lowered ("R|8|4" ∷ "D|1|4|1" ∷ "D|2|3|1" ∷ "D|5|8|2" ∷ "D|6|7|2" ∷ [])
+    ("R|8|4" ∷ "D|1|4|1|2|0|F" ∷ "D|2|3|1|2|0|F" ∷ "D|5|8|2|2|2|F" ∷ "D|6|7|2|4|0|F" ∷ "C|2|6|6" ∷
+    "L|1|4|1" ∷ "L|2|6|2" ∷ "L|3|4|1" ∷ "L|4|2|0" ∷ "L|5|2|2" ∷ "L|6|6|4" ∷ "L|7|2|2" ∷ "L|8|2|0" ∷ "Z|4|12" ∷ [])
+    [] ∷
     -- n = 2, 1-2 of 768
-    plan_case ("R|2|4" ∷ "D|1|2|768" ∷ [])
+    plan_case Level ("R|2|4" ∷ "D|1|2|768" ∷ [])
     ("R|2|4" ∷ "D|1|2|768|768|768|F" ∷ "C|1|2|768" ∷ "L|1|768|768" ∷ "L|2|768|0" ∷ "Z|768|768" ∷ [])
     [] ∷
     -- of 769
-    plan_case ("R|2|4" ∷ "D|1|2|769" ∷ [])
+    plan_case Level ("R|2|4" ∷ "D|1|2|769" ∷ [])
     ("R|2|4" ∷ "D|1|2|769|769|769|F" ∷ "C|1|2|769" ∷ "L|1|769|769" ∷ "L|2|769|0" ∷ "Z|769|0" ∷ [])
     [] ∷
     -- n = 4, 1-2 of 1 sent 0/2, B, with cut 1, 2 across 1 and true figures: 13
@@ -98,7 +114,7 @@ cases =
     14 0 0
     (tight 4 4 ∷ 8 above 4 plus 3 ∷ []) ∷
     -- three circuits between offices 1 and 3 of the square, of which rule B splits the second
-    plan_case ("R|4|4" ∷ "D|1|3|1" ∷ "D|1|3|1" ∷ "D|1|3|1" ∷ "D|2|4|1" ∷ [])
+    plan_case Level ("R|4|4" ∷ "D|1|3|1" ∷ "D|1|3|1" ∷ "D|1|3|1" ∷ "D|2|4|1" ∷ [])
     ("R|4|4" ∷ "D|1|3|1|2|0|F" ∷ "D|1|3|1|1|1|F" ∷ "D|1|3|1|0|2|B" ∷ "D|2|4|1|1|1|B" ∷ "C|1|3|4" ∷
     "L|1|4|3" ∷ "L|2|4|2" ∷ "L|3|4|1" ∷ "L|4|4|2" ∷ "Z|3|3" ∷ [])
     (M_is 4 ∷ 6 at-most 4 plus 3 ∷ []) ∷
@@ -107,15 +123,15 @@ cases =
     6 4 1
     [] ∷
     -- n = 2, 1-2 of 384 on two fibres: twice 384 is 768
-    plan_case ("R|2|2" ∷ "D|1|2|384" ∷ [])
+    plan_case Level ("R|2|2" ∷ "D|1|2|384" ∷ [])
     ("R|2|2" ∷ "D|1|2|384|384|384|F" ∷ "C|1|2|384" ∷ "L|1|384|384" ∷ "L|2|384|0" ∷ "Z|384|768" ∷ [])
     [] ∷
     -- of 385: no size is at least 770
-    plan_case ("R|2|2" ∷ "D|1|2|385" ∷ [])
+    plan_case Level ("R|2|2" ∷ "D|1|2|385" ∷ [])
     ("R|2|2" ∷ "D|1|2|385|385|385|F" ∷ "C|1|2|385" ∷ "L|1|385|385" ∷ "L|2|385|0" ∷ "Z|385|0" ∷ [])
     [] ∷
     -- the square on two fibres: only its R line and its Z line differ
-    plan_case ("R|4|2" ∷ "D|1|3|1" ∷ "D|2|4|1" ∷ [])
+    plan_case Level ("R|4|2" ∷ "D|1|3|1" ∷ "D|2|4|1" ∷ [])
     ("R|4|2" ∷ "D|1|3|1|1|1|F" ∷ "D|2|4|1|1|1|B" ∷ "C|1|3|2" ∷ "L|1|2|2" ∷ "L|2|2|1" ∷ "L|3|2|0" ∷ "L|4|2|1" ∷ "Z|2|12" ∷ [])
     [] ∷
     -- the square on two fibres with the size for four: 12
@@ -180,36 +196,39 @@ pub data CaseAnswer : Type 0 where
   E : ℕ → ℕ → ℕ → CaseAnswer
   claim : Claim → CaseAnswer
 
+-- to what was read; or the refusal
+unfoldable pub answer_to : {A : Type 0} → (A → CaseAnswer) → Result A Refusal → CaseAnswer
+answer_to answer (Ok x) = answer x
+answer_to answer (Err r) = E (number_of r.reason) r.line r.byte
+
 -- the router's
-unfoldable pub routing : TableResult → CaseAnswer
-unfolding plan write_sheet
-routing (a-table ring rs) = text (write_sheet (plan ring rs))
-routing (no_table reason line byte) = E (number_of reason) line byte
+unfoldable pub routing : Engine → Result Table Refusal → CaseAnswer
+unfolding answer_to rule_a rule_b send_all lowered_rooms rule_c rule_d sheet_of write_sheet
+routing engine read = answer_to (λ (x : Table). text (write_sheet (plan_by engine x.0 x.1))) read
 
 -- the checker's
-unfoldable pub checking : SheetResult → CaseAnswer
-checking (accepted x) = Y
-checking (refused reason line byte) = E (number_of reason) line byte
+unfoldable pub checking : Result Sheet Refusal → CaseAnswer
+unfolding answer_to
+checking read = answer_to (λ x. Y) read
 
 -- to a claim: any well-formed sheet can be asked, true or not
-unfoldable pub claiming : SheetResult → Claim → CaseAnswer
-unfolding truth
-claiming (accepted x) c = claim (truth x c)
-claiming (refused reason line byte) c = E (number_of reason) line byte
+unfoldable pub claiming : Result Sheet Refusal → Claim → CaseAnswer
+unfolding answer_to truth
+claiming read c = answer_to (λ x. claim (truth x c)) read
 
 -- all answers as they are stated
 unfoldable pub stated : List Case → List CaseAnswer
 unfolding printed
 stated [] = []
-stated (plan_case table sheet claims ∷ cs) = text (printed sheet) ∷ Y ∷ map claim claims ++ stated cs
+stated (plan_case engine table sheet claims ∷ cs) = text (printed sheet) ∷ Y ∷ map claim claims ++ stated cs
 stated (refusal_case sheet reason line byte claims ∷ cs) = E reason line byte ∷ map claim claims ++ stated cs
 
 -- and as the definitions have them
 unfoldable pub computed : List Case → List CaseAnswer
 unfolding printed table_of routing check checking read_sheet claiming
 computed [] = []
-computed (plan_case table sheet claims ∷ cs) =
-    routing (table_of desk (printed table)) ∷ checking (check desk (printed sheet)) ∷
+computed (plan_case engine table sheet claims ∷ cs) =
+    routing engine (table_of desk (printed table)) ∷ checking (check desk (printed sheet)) ∷
     map (claiming (read_sheet desk (printed sheet))) claims ++ computed cs
 computed (refusal_case sheet reason line byte claims ∷ cs) =
     checking (check desk (printed sheet)) ∷ map (claiming (read_sheet desk (printed sheet))) claims ++ computed cs

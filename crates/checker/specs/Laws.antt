@@ -8,10 +8,10 @@ use Rattle.ring.specs.Routing.{split_load, peak}
 use Rattle.ring.specs.declared.types.Sent.{Sent}
 use Rattle.ring.specs.Sheet.{Sheet, sents, demands, plan}
 use Rattle.ring.specs.True.{TrueSheet}
-use Rattle.table.specs.Reasons.{rank_of}
+use Rattle.reasons.specs.Reasons.{rank_of}
 use Rattle.table.specs.Table as table
-use Rattle.table.specs.declared.reason.Reason.{Reason}
-use Rattle.table.specs.declared.reason.Reason.TheVariants.{WrongSum, OverBound}
+use Rattle.reasons.specs.declared.reason.Reason.{Reason}
+use Rattle.reasons.specs.declared.reason.Reason.TheVariants.{WrongSum, OverBound}
 use Rattle.judge.specs.Findings.{Fits}
 use Rattle.sheet.specs.Range.{InRange}
 use Rattle.sheet.specs.Says.{WellFormed}

@@ -6,10 +6,10 @@ ghost use Rattle.checker.specs.Check.{line_of, check};
 
 use arrayvec::ArrayVec;
 use judge::judge;
+use reasons::{Finding, Reason, Refusal};
 use ring::{Figures, LINKS, Link};
 use rows::{Columns, Rows};
 use sheet::read_sheet;
-use table::{Finding, Reason, Refusal};
 
 // The line on which a finding against the values of a sheet of so many rows and nodes stands, counted from 1: behind the R line stand the rows, the C line, a line for
 // each link, and the Z line. 0 where the finding is against the sheet as a whole; other reasons than these are not found against values that were read.

@@ -3,8 +3,6 @@ use Rattle.std.proofs.Common.{ℕ, ◌+◌, ◌*◌, ◌<◌, ◌≤◌, List, [
 use Rattle.std.proofs.lemmas.List.{length-map}
 use mathlib.Core.Logic.{⊎_elim}
 use native.Mathlib.Decide.{dec_lt, dec_le}
-use Rattle.ring.specs.declared.types.Demand.{Demand}
-use Rattle.ring.specs.declared.types.Sent.{Sent}
 use Rattle.ring.specs.declared.types.Routed.{Routed}
 use Rattle.ring.specs.declared.types.Cut.{Cut}
 use Rattle.ring.specs.declared.types.Link.{Link}
@@ -15,10 +13,10 @@ use Rattle.ring.specs.Cut.{IsCut}
 use Rattle.ring.specs.Sheet.{Sheet, figures_of, numbers_from, sents, demands, true_link, split_peak, unsplit_peak, largest_split_of}
 use Rattle.ring.specs.True.{SumsTo2d, GoesByRuleD, TrueSheet}
 use Rattle.ring.proofs.Lists.{each, each-map, each-of-map}
-use Rattle.ring.proofs.Small.{demands-length}
-use Rattle.table.specs.Findings.{Findings, then, First, ring_findings}
-use Rattle.table.specs.declared.finding.Finding.{Finding}
-use Rattle.table.proofs.Findings.{fine, then-on, none-of, both-of, one-answer}
+use Rattle.ring.proofs.Small.{demands-length, each-of-demands, each-demands}
+use Rattle.reasons.specs.Findings.{Findings, then, First, ring_findings}
+use Rattle.reasons.specs.declared.finding.Finding.{Finding}
+use Rattle.reasons.proofs.Findings.{fine, then-on, none-of, both-of, one-answer}
 use Rattle.judge.specs.Findings.{rows_findings, cut_findings, loads_findings, last_findings, findings, Fits}
 use Rattle.judge.proofs.Rows.{same-number, Fine, rows-fine, fine-rows}
 use Rattle.judge.proofs.Links.{links-true, true-links, length-numbers}
@@ -37,20 +35,13 @@ module _ (x : Sheet) where
       then (loads_findings x.ring.nodes (true_link x.rows) x.links)
       (last_findings (figures_of x) (split_peak x) (unsplit_peak x) (largest_split_of x))
 
-  -- what holds of each row holds of the demands
-  of-demands : {P : Demand → Type 0} → Each (λ (r : Routed). P r.sent.demand) x.rows → Each P (demands (sents x.rows))
-  of-demands e = each-map (λ (s : Sent). s.demand) _ (each-map (λ (r : Routed). r.sent) x.rows e)
-
-  of-rows : {P : Demand → Type 0} → Each P (demands (sents x.rows)) → Each (λ (r : Routed). P r.sent.demand) x.rows
-  of-rows e = each-of-map (λ (r : Routed). r.sent) x.rows (each-of-map (λ (s : Sent). s.demand) _ e)
-
   pub fine-fits : First (ring_findings desk x.ring) fine → First (rows_findings desk x.ring.nodes 1 None x.rows) fine → Fits desk x
   fine-fits a b =
       let ring = ring-fine desk x.ring a in
       let rows = rows-fine desk x.ring.nodes 1 None x.rows b in
       let rs = demands (sents x.rows) in
-      let nodes = of-demands (each (λ r f. f.on) rows.each) in
-      let amounts = of-demands (each (λ r f. f.amount) rows.each) in
+      let nodes = each-demands {P = OnRing x.ring.nodes} x.rows (each (λ r f. f.on) rows.each) in
+      let amounts = each-demands {P = λ r. r.amount ≤ desk.amount} x.rows (each (λ r f. f.amount) rows.each) in
       let count : length rs ≤ desk.rows = omega (arith, rows.count, demands-length x.rows) in
       record {
         few = ring.few;
@@ -107,7 +98,7 @@ module _ (x : Sheet) where
   true-fine f t =
       let many = many-of t in
       let sums = each-of-map (λ (r : Routed). r.sent) x.rows t.sums in
-      let rows = each-fine x.rows (of-rows f.rows.nodes) (of-rows f.amounts) sums t.ways in
+      let rows = each-fine x.rows (each-of-demands x.rows f.rows.nodes) (each-of-demands x.rows f.amounts) sums t.ways in
       then-on _ _ _ (inr (⊎_elim (λ l. omega (arith, f.few)) (λ l. omega (arith, f.many)), inr (λ d. d f.fibres, refl)))
       (then-on _ _ _ (fine-rows desk x.ring.nodes 1 None x.rows rows f.rows.order (omega (arith, f.count, demands-length x.rows)))
       (then-on _ _ _ (inr (⊎_elim (λ d. d t.cut) (λ d. d t.across), refl))

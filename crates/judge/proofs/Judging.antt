@@ -7,17 +7,16 @@ use Rattle.ring.specs.Limits.{Limits, desk}
 use Rattle.ring.specs.LineSize.{IsFibres}
 use Rattle.ring.specs.Sheet.{Sheet, figures_of, true_link, largest_split_of}
 use Rattle.ring.proofs.Lists.{each}
-use Rattle.table.specs.Faults.{ring_found}
-use Rattle.table.specs.Findings.{First, found, found_at, ring_findings}
-use Rattle.table.specs.declared.fault.Fault.{Fault}
-use Rattle.table.proofs.Faults.{ring_given}
-use Rattle.table.specs.declared.finding.Finding.{Finding}
-use Rattle.table.proofs.Findings.{fine, then-on, then-stop, none-of, fibres-of}
+use Rattle.reasons.specs.Faults.{ring_found}
+use Rattle.reasons.specs.Findings.{First, found, found_at, ring_findings}
+use Rattle.reasons.specs.declared.fault.Fault.{Fault}
+use Rattle.reasons.proofs.Faults.{ring_given}
+use Rattle.reasons.specs.declared.finding.Finding.{Finding}
+use Rattle.reasons.proofs.Findings.{fine, then-on, then-stop, none-of, fibres-of}
 use Rattle.weight.specs.Rows.{Fit}
-use Rattle.weight.specs.Weighed.{weight_in}
+use Rattle.weight.specs.Weighed.{weight_in, weighed_link}
 use Rattle.weight.specs.declared.Weight.{Weight}
 use Rattle.weight.proofs.Weighing.{peak-fits, link_is}
-use Rattle.weight.specs.Weighed.{weighed_link}
 use Rattle.judge.specs.Findings.{rows_findings, cut_findings, loads_findings, last_findings, findings}
 use Rattle.judge.proofs.Rows.{rows-fine}
 use Rattle.judge.proofs.Links.{loads-same}

@@ -4,9 +4,9 @@ use Rattle.ring.specs.declared.types.Link.{Link}
 use Rattle.ring.specs.Lists.{Each, none, more}
 use Rattle.ring.specs.Sheet.{Sheet, numbers_from, true_link}
 use Rattle.ring.specs.True.{TrueLoads}
-use Rattle.table.specs.Findings.{First}
-use Rattle.table.specs.declared.finding.Finding.{Finding}
-use Rattle.table.proofs.Findings.{fine, none-of}
+use Rattle.reasons.specs.Findings.{First}
+use Rattle.reasons.specs.declared.finding.Finding.{Finding}
+use Rattle.reasons.proofs.Findings.{fine, none-of}
 use Rattle.judge.specs.Findings.{links_findings, loads_findings}
 use Rattle.judge.proofs.Rows.{same-number}
 

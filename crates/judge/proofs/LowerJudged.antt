@@ -4,21 +4,21 @@ use Rattle.ring.specs.Limits.{Limits}
 use Rattle.ring.specs.Sheet.{Sheet}
 use Rattle.ring.specs.declared.types.Demand.{Demand}
 use Rattle.ring.specs.declared.types.Routed.{Routed}
-use Rattle.table.specs.Faults.{verdict_found, ring_found, row_found}
-use Rattle.table.specs.Findings.{found_at}
-use Rattle.table.specs.Verdict.{Verdict}
-use Rattle.table.specs.declared.finding.Finding.{Finding}
-use Rattle.table.specs.declared.reason.Reason.{Reason}
-use Rattle.table.proofs.LowerLimits.{Lower, Lost, VerdictAlike, same_verdict, lost_verdict, ring-alike, row-alike, ring-same, row-same}
-use Rattle.judge.specs.Tests.{or_else, row_judged, rows_judged, sheet_judged}
+use Rattle.reasons.specs.AndThen.{and_then}
+use Rattle.reasons.specs.Faults.{verdict_found, ring_found, row_found}
+use Rattle.reasons.specs.Findings.{found_at}
+use Rattle.reasons.specs.Verdict.{Verdict}
+use Rattle.reasons.specs.declared.finding.Finding.{Finding}
+use Rattle.reasons.specs.declared.reason.Reason.{Reason}
+use Rattle.reasons.proofs.LowerLimits.{Lower, Lost, VerdictAlike, same_verdict, lost_verdict, ring-alike, row-alike, ring-same, row-same}
+use Rattle.judge.specs.Tests.{row_judged, rows_judged, sheet_judged}
 
 -- the same finding, or none; or one that higher limits may lose
 pub data FindingAlike : Result Unit Finding → Result Unit Finding → Type 0 where
   same_finding : {x : Result Unit Finding} → FindingAlike x x
   lost_finding : {f : Finding} {x : Result Unit Finding} → Lost f.reason → FindingAlike (Err f) x
 
-or-alike : {a b c d : Result Unit Finding} → FindingAlike a b → FindingAlike c d → FindingAlike (or_else a c) (or_else b d)
-unfolding or_else
+or-alike : {a b c d : Result Unit Finding} → FindingAlike a b → FindingAlike c d → FindingAlike (and_then a λ u. c) (and_then b λ u. d)
 or-alike (same_finding {x = Ok tt}) h = h
 or-alike (same_finding {x = Err f}) h = same_finding
 or-alike (lost_finding l) h = lost_finding l

@@ -5,11 +5,11 @@ use Rattle.ring.specs.declared.types.Routed.{Routed}
 use Rattle.ring.specs.declared.types.Link.{Link}
 use Rattle.ring.specs.Limits.{Limits, desk}
 use Rattle.ring.specs.Sheet.{Sheet, figures_of, true_link, split_peak, unsplit_peak, largest_split_of}
-use Rattle.table.specs.Findings.{Findings, nothing, finding, then, found, First, ring_findings}
-use Rattle.table.specs.declared.finding.Finding.{Finding}
-use Rattle.table.specs.declared.reason.Reason.{Reason}
-use Rattle.table.specs.declared.reason.Reason.TheVariants.{WrongLink}
-use Rattle.table.proofs.Findings.{fine, either-of}
+use Rattle.reasons.specs.Findings.{Findings, nothing, finding, then, found, First, ring_findings}
+use Rattle.reasons.specs.declared.finding.Finding.{Finding}
+use Rattle.reasons.specs.declared.reason.Reason.{Reason}
+use Rattle.reasons.specs.declared.reason.Reason.TheVariants.{WrongLink}
+use Rattle.reasons.proofs.Findings.{fine, either-of}
 use Rattle.judge.specs.Findings.{row_findings, rows_findings, cut_findings, links_findings, loads_findings, last_findings, findings}
 use Rattle.judge.proofs.Rows.{same-number, row-fine}
 use Rattle.judge.proofs.Judging.{ring-fine}

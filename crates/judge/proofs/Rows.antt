@@ -13,13 +13,12 @@ use Rattle.ring.specs.Demand.{OnRing}
 use Rattle.ring.specs.TableRows.{PairBefore, InTableOrder}
 use Rattle.ring.specs.Sheet.{sents, demands}
 use Rattle.ring.specs.True.{SumsTo2d, GoesByRuleD}
-use Rattle.table.specs.RowReasons.{NoNode}
-use Rattle.table.specs.Findings.{then, First, Falls, found_at, demand_findings}
-use Rattle.table.specs.Faults.{row_found}
-use Rattle.table.specs.declared.fault.Fault.{Fault}
-use Rattle.table.proofs.Faults.{row_given}
-use Rattle.table.specs.declared.finding.Finding.{Finding}
-use Rattle.table.proofs.Findings.{fine, then-on, then-stop, none-of, both-of}
+use Rattle.reasons.specs.Findings.{NoNode, then, First, Falls, found_at, demand_findings}
+use Rattle.reasons.specs.Faults.{row_found}
+use Rattle.reasons.specs.declared.fault.Fault.{Fault}
+use Rattle.reasons.proofs.Faults.{row_given}
+use Rattle.reasons.specs.declared.finding.Finding.{Finding}
+use Rattle.reasons.proofs.Findings.{fine, then-on, then-stop, none-of, both-of}
 use Rattle.judge.specs.Findings.{sending_findings, row_findings, rows_findings}
 
 -- ---- as the code goes through them

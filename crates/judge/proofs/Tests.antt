@@ -13,15 +13,16 @@ use Rattle.ring.specs.LineSize.{line_size}
 use Rattle.ring.specs.Cut.{IsCut, across}
 use Rattle.ring.specs.Sheet.{Sheet, figures_of, sents, demands, true_link, split_peak, unsplit_peak, largest_split_of}
 use Rattle.ring.specs.True.{GoesByRuleD}
-use Rattle.table.specs.Findings.{Findings, nothing, finding, then, found, First, ring_findings, demand_findings}
-use Rattle.table.specs.declared.finding.Finding.{Finding}
-use Rattle.table.specs.declared.reason.Reason.{Reason}
-use Rattle.table.proofs.Findings.{then-on, then-stop, one-answer}
-use Rattle.table.proofs.Faults.{ring-first, row-first}
-use Rattle.table.proofs.Tested.{Tested, is_so, not_so, test_of, test-or, test-and, test-less, test-most, test-same, test-other}
+use Rattle.reasons.specs.AndThen.{and_then}
+use Rattle.reasons.specs.Findings.{Findings, nothing, finding, then, found, First, ring_findings, demand_findings}
+use Rattle.reasons.specs.declared.finding.Finding.{Finding}
+use Rattle.reasons.specs.declared.reason.Reason.{Reason}
+use Rattle.reasons.proofs.Findings.{then-on, then-stop, one-answer}
+use Rattle.reasons.proofs.Faults.{ring-first, row-first}
+use Rattle.reasons.proofs.Tested.{Tested, is_so, not_so, test_of, test-or, test-and, test-less, test-most, test-same, test-other}
 use Rattle.judge.specs.Findings.{row_findings, rows_findings, cut_findings, links_findings, loads_findings, last_findings, findings}
 use Rattle.judge.proofs.Rows.{same-number}
-use Rattle.judge.specs.Tests.{Test, first_of, or_else, strays, row_tests, row_judged, rows_judged, cut_tests, differs, links_tests, loads_tests, last_tests, figures_tests, sheet_judged}
+use Rattle.judge.specs.Tests.{Test, first_of, strays, row_tests, row_judged, rows_judged, cut_tests, differs, links_tests, loads_tests, last_tests, figures_tests, sheet_judged}
 
 -- ---- test by test
 
@@ -41,8 +42,7 @@ tested-then no_test u = u
 tested-then (test a t) u = test a (tested-then t u)
 
 -- so of tests behind an answer that is the first
-first-or : (fs gs : Findings) (r s : Result Unit Finding) → First fs r → First gs s → First (then fs gs) (or_else r s)
-unfolding or_else
+first-or : (fs gs : Findings) (r s : Result Unit Finding) → First fs r → First gs s → First (then fs gs) (and_then r λ u. s)
 first-or fs gs (Ok tt) s h k = then-on fs gs s h k
 first-or fs gs (Err f) s h k = then-stop fs gs f h
 
@@ -125,7 +125,7 @@ loads-tested n due ls = test (test-other (length ls) n) (links-tested due 1 ls)
 last-tested : (x : Figures) (split unsplit largest : ℕ) → AllTested (last_findings x split unsplit largest) (last_tests x split unsplit largest)
 unfolding last_tests
 last-tested x split unsplit largest =
-    test (test-or (test-other x.peak unsplit) (test-other x.size (line_size sonet_sizes x.ring.fibres unsplit)))
+    test (test-or (test-other x.unsplit_peak unsplit) (test-other x.size (line_size sonet_sizes x.ring.fibres unsplit)))
     (test (test-other split x.cut.across)
     (test (test-less (split + 3 * largest) (2 * unsplit))
     no_test))

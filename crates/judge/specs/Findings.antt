@@ -12,8 +12,8 @@ use Rattle.ring.specs.Cut.{IsCut, across}
 use Rattle.ring.specs.Sheet.{Sheet, figures_of, sents, demands, true_link, split_peak, unsplit_peak, largest_split_of}
 use Rattle.ring.specs.WithinLimits.{WithinLimits}
 use Rattle.ring.specs.True.{SumsTo2d, GoesByRuleD}
-use Rattle.table.specs.Findings.{Findings, nothing, finding, then, ring_findings, demand_findings}
-use Rattle.table.specs.declared.reason.Reason.TheVariants.{WrongSum, WrongWay, WrongCut, WrongLink, WrongLast, NotTight, OverBound}
+use Rattle.reasons.specs.Findings.{Findings, nothing, finding, then, ring_findings, demand_findings}
+use Rattle.reasons.specs.declared.reason.Reason.TheVariants.{WrongSum, WrongWay, WrongCut, WrongLink, WrongLast, NotTight, OverBound}
 
 -- ---- the rows
 
@@ -52,7 +52,7 @@ loads_findings n due ls = finding (length ls ≡ n → ⊥) WrongLink 0 (links_f
 -- number of the cut; twice the unsplit peak is above the split peak and 3D
 abbrev pub last_findings : Figures → ℕ → ℕ → ℕ → Findings
 last_findings x split unsplit largest =
-    finding ((x.peak ≡ unsplit → ⊥) ⊎ (x.size ≡ line_size sonet_sizes x.ring.fibres unsplit → ⊥)) WrongLast 0
+    finding ((x.unsplit_peak ≡ unsplit → ⊥) ⊎ (x.size ≡ line_size sonet_sizes x.ring.fibres unsplit → ⊥)) WrongLast 0
     (finding (split ≡ x.cut.across → ⊥) NotTight 0
     (finding (split + 3 * largest < 2 * unsplit) OverBound 0
     nothing))

@@ -15,10 +15,11 @@ use Rattle.ring.specs.Routing.{split_load, unsplit_load, peak}
 use Rattle.ring.specs.RuleD.{largest_split}
 use Rattle.ring.specs.Cut.{across}
 use Rattle.ring.specs.Sheet.{Sheet, figures_of, sents, demands, true_link, split_peak, unsplit_peak, largest_split_of}
-use Rattle.table.specs.Faults.{ring_found, row_found}
-use Rattle.table.specs.Findings.{found, found_at}
-use Rattle.table.specs.declared.finding.Finding.{Finding}
-use Rattle.table.specs.declared.reason.Reason.TheVariants.{WrongSum, WrongWay, WrongCut, WrongLink, WrongLast, NotTight, OverBound}
+use Rattle.reasons.specs.Faults.{ring_found, row_found}
+use Rattle.reasons.specs.AndThen.{and_then}
+use Rattle.reasons.specs.Findings.{found, found_at}
+use Rattle.reasons.specs.declared.finding.Finding.{Finding}
+use Rattle.reasons.specs.declared.reason.Reason.TheVariants.{WrongSum, WrongWay, WrongCut, WrongLink, WrongLast, NotTight, OverBound}
 
 -- what is found where a test holds
 abbrev pub Test : Type 0
@@ -28,11 +29,6 @@ Test = Bool × Finding
 unfoldable pub first_of : List Test → Result Unit Finding
 first_of [] = Ok tt
 first_of ((holds, f) ∷ ts) = let rest = first_of ts in cond holds (Err f) rest
-
--- what is found, or where nothing is, what is found next
-unfoldable pub or_else : Result Unit Finding → Result Unit Finding → Result Unit Finding
-or_else (Ok tt) next = next
-or_else (Err f) next = Err f
 
 -- ---- the rows
 
@@ -51,14 +47,14 @@ row_tests place r =
 
 -- of a row behind k rows, of which the last is `above`: what a table finds against its demand, then these
 unfoldable pub row_judged : Limits → ℕ → ℕ → Option Demand → Routed → Result Unit Finding
-unfolding or_else first_of row_found row_tests
-row_judged limits n k above r = or_else (found_at (k + 1) (row_found limits n k above r.sent.demand)) (first_of (row_tests (k + 1) r))
+unfolding first_of row_found row_tests
+row_judged limits n k above r = and_then (found_at (k + 1) (row_found limits n k above r.sent.demand)) λ u. first_of (row_tests (k + 1) r)
 
 -- of the rows behind k rows
 unfoldable pub rows_judged : Limits → ℕ → ℕ → Option Demand → List Routed → Result Unit Finding
-unfolding or_else row_judged
+unfolding row_judged
 rows_judged limits n k above [] = Ok tt
-rows_judged limits n k above (r ∷ rs) = or_else (row_judged limits n k above r) (rows_judged limits n (k + 1) (Some r.sent.demand) rs)
+rows_judged limits n k above (r ∷ rs) = and_then (row_judged limits n k above r) λ u. rows_judged limits n (k + 1) (Some r.sent.demand) rs
 
 -- ---- the figures
 
@@ -81,7 +77,7 @@ loads_tests n due ls = (not (eqb (length ls) n), found WrongLink 0) ∷ links_te
 unfoldable pub last_tests : Figures → ℕ → ℕ → ℕ → List Test
 unfolding line_size
 last_tests x split unsplit largest =
-    (not (eqb x.peak unsplit) || not (eqb x.size (line_size sonet_sizes x.ring.fibres unsplit)), found WrongLast 0) ∷
+    (not (eqb x.unsplit_peak unsplit) || not (eqb x.size (line_size sonet_sizes x.ring.fibres unsplit)), found WrongLast 0) ∷
     (not (eqb split x.cut.across), found NotTight 0) ∷
     (ltb (split + 3 * largest) (2 * unsplit), found OverBound 0) ∷
     []
@@ -97,5 +93,6 @@ figures_tests x =
 
 -- what judging a sheet answers (`judged-first`)
 unfoldable pub sheet_judged : Limits → Sheet → Result Unit Finding
-unfolding or_else first_of ring_found rows_judged figures_tests
-sheet_judged limits x = or_else (found_at 0 (ring_found limits x.ring)) (or_else (rows_judged limits x.ring.nodes 0 None x.rows) (first_of (figures_tests x)))
+unfolding first_of ring_found rows_judged figures_tests
+sheet_judged limits x =
+    and_then (found_at 0 (ring_found limits x.ring)) λ u. and_then (rows_judged limits x.ring.nodes 0 None x.rows) λ w. first_of (figures_tests x)

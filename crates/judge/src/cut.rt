@@ -2,12 +2,12 @@
 ghost use Rattle.std.specs.Prelude.{◌≡◌, ◌↔◌, ◌^◌, ◌<◌, IsTrue, sum_by};
 ghost use Rattle.ring.specs.Cut.{IsCut, part};
 ghost use Rattle.weight.specs.Rows.{Fit};
-ghost use Rattle.table.specs.Findings.{First};
+ghost use Rattle.reasons.specs.Findings.{First};
 ghost use Rattle.judge.specs.Findings.{cut_findings};
 
+use reasons::{Finding, Reason};
 use ring::{Cut, Demand};
 use rows::{Rows, each};
-use table::{Finding, Reason};
 
 // Whether two links are a cut of a ring of so many nodes.
 fn is_cut(nodes: u32, cut: Cut) -> bool

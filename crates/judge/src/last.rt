@@ -1,10 +1,10 @@
 // The unsplit peak and the size, the split peak, and the bound of the directions.
 ghost use Rattle.std.specs.Prelude.{◌*◌, ◌^◌, ◌<◌};
-ghost use Rattle.table.specs.Findings.{First};
+ghost use Rattle.reasons.specs.Findings.{First};
 ghost use Rattle.judge.specs.Findings.{last_findings};
 
-use ring::{Figures, wide};
-use table::{Finding, Reason};
+use reasons::{Finding, Reason};
+use ring::Figures;
 use weight::Weight;
 
 /// 12: unsplit peak or size false; 13: the split peak, in halves, is not the across number; 14: twice the unsplit peak is above the split peak plus 3D, where D
@@ -15,13 +15,13 @@ pub(crate) fn judge_last(figures: Figures, weight: &Weight, largest: u32) -> Res
         result }
 {
     let size = figures.ring.line_size(weight.unsplit_peak);
-    if figures.peak != weight.unsplit_peak || figures.size != size {
+    if figures.unsplit_peak != weight.unsplit_peak || figures.size != size {
         return Err(Finding::at(Reason::WrongLast, 0));
     }
     if weight.split_peak != figures.cut.across {
         return Err(Finding::at(Reason::NotTight, 0));
     }
-    if wide(weight.split_peak) + 3 * wide(largest) < 2 * wide(weight.unsplit_peak) {
+    if u64::from(weight.split_peak) + 3 * u64::from(largest) < 2 * u64::from(weight.unsplit_peak) {
         return Err(Finding::at(Reason::OverBound, 0));
     }
     Ok(())

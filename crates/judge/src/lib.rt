@@ -9,16 +9,16 @@ ghost use Rattle.std.specs.Prelude.{◌≡◌, ◌↔◌, ◌+◌, ◌≤◌, Re
 ghost use Rattle.ring.specs.Limits.{desk};
 ghost use Rattle.ring.specs.Sheet.{sheet_in};
 ghost use Rattle.ring.specs.True.{TrueSheet};
-ghost use Rattle.table.specs.Findings.{First, ring_findings};
+ghost use Rattle.reasons.specs.Findings.{First, ring_findings};
 ghost use Rattle.judge.specs.Findings.{findings, Fits};
 
 use crate::cut::judge_cut;
 use crate::last::judge_last;
 use crate::link::judge_links;
 use crate::row::judge_rows;
+use reasons::{Finding, check_ring};
 use ring::{Figures, Link, Ring};
 use rows::Rows;
-use table::{Finding, check_ring};
 use weight::{largest_split, weigh};
 
 // How many nodes the ring has, and then its fibres.
@@ -45,7 +45,7 @@ fn judge_parts<R: Rows>(figures: Figures, rows: &R, links: &[Link]) -> Result<()
 
 /// Judges a sheet by its values, however its rows are held: accepted, or the first reason that holds, with its place, counted from 1: that of the row for 4 to 9 and
 /// 16, and that of the link for 11; 0 for all else, and for 11 where there are not as many links as the ring has. Amounts, the cut's `across`, a link's
-/// `unsplit` and the figure `peak` are in units; a row's `front` and `back` and a link's `split` are in halves. Each may be any number, and there may be any
+/// `unsplit` and the figure `unsplit_peak` are in units; a row's `front` and `back` and a link's `split` are in halves. Each may be any number, and there may be any
 /// number of rows and links.
 pub fn judge<R: Rows>(figures: Figures, rows: &R, links: &[Link]) -> Result<(), Finding>
     // The first of the findings that holds, with its place.

@@ -2,18 +2,18 @@
 ghost use Rattle.std.specs.Prelude.{◌↔◌, ◌+◌, ◌^◌, ◌<◌, IsTrue, None};
 ghost use Rattle.ring.specs.Limits.{desk};
 ghost use Rattle.ring.specs.True.{SumsTo2d, GoesByRuleD};
-ghost use Rattle.table.specs.Findings.{First};
+ghost use Rattle.reasons.specs.Findings.{First};
 ghost use Rattle.judge.specs.Findings.{row_findings, rows_findings};
 
-use ring::{Demand, Routed, Sent, Way, wide};
+use reasons::{Finding, Reason, check_row};
+use ring::{Demand, Routed, Sent, Way};
 use rows::Rows;
-use table::{Finding, Reason, check_row};
 
 // Whether front and back are twice the amount. Each is below 2 to the 32, so their sum fits.
 fn sums(sent: Sent) -> bool
     ensures { IsTrue result ↔ SumsTo2d sent }
 {
-    wide(sent.front) + wide(sent.back) == 2 * wide(sent.demand.amount)
+    u64::from(sent.front) + u64::from(sent.back) == 2 * u64::from(sent.demand.amount)
 }
 
 // Whether a row that is not split goes where rule D sends it.

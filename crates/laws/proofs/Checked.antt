@@ -1,45 +1,24 @@
--- What routing writes for an accepted table is the plan of its values, which checking accepts, and judging too.
-use Prim.Native.Nat.{ℕ}
+-- What routing writes for a table that the rule takes is the sheet of its plan, which checking accepts, and judging too.
 use mathlib.Core.List.{List, [], ◌∷◌, map}
 use mathlib.Core.Path.{◌≡◌, refl}
 use native.Mathlib.Omega.{arith}
-use Rattle.ring.specs.Limits.{desk}
-use Rattle.ring.specs.declared.types.Ring.{Ring}
-use Rattle.ring.specs.declared.types.Demand.{Demand}
 use Rattle.ring.specs.declared.types.Routed.{Routed}
 use Rattle.ring.specs.Routing.{routed, way_number}
-use Rattle.ring.specs.Sheet.{plan}
-use Rattle.ring.proofs.OurPlan.{plan-true, plan-demands}
 use Rattle.rows.specs.SheetRow.{routed_row}
 use Rattle.rows.specs.declared.sheet_row.SheetRow.{SheetRow}
-use Rattle.table.specs.Table as table
-use Rattle.judge.specs.Findings.{Fits}
-use Rattle.checker.specs.Says as sheet
-use Rattle.checker.proofs.Promised.{plan-accepted}
 use Rattle.sheet.proofs.SheetLines.{way_back}
-use Rattle.sheet.proofs.Short.{plan-in-range}
-use Rattle.ringkit.specs.Texts.{TableDue, sheet_due}
-use Rattle.ringkit.proofs.TableCalls.{due-accepted, due-short, SomeDue}
+use Rattle.ringkit.proofs.PlanCalls.{some-plan, due-short, due-sheet, due-within}
+use Rattle.ringkit.proofs.SheetCalls.{sheet-accepted}
 use Rattle.laws.specs.Calls.{RoutedChecked, RoutedJudged}
 
-due-checked : (t text : List ℕ) → TableDue sheet_due t text → sheet.Accepted desk text
-due-checked t text d = rw d.is (plan-accepted d.ring d.rs d.of.range)
-
 pub routed-checked : RoutedChecked
-routed-checked t old new r p a room =
-    let s : SomeDue sheet_due t = (due-accepted t sheet_due).0 a in
+routed-checked engine rule t old new r p a takes room =
+    let s = some-plan engine rule t a takes p.cases in
     record {
-      text = s.text;
-      success = (p.succeeds s.text).1 (s.is, omega (arith, due-short t s.text s.is));
-      checked = λ q c. c.accepts.1 (due-checked t s.text s.is);
+      text = s.sheet;
+      success = (p.succeeds s.sheet).1 (s.due, omega (arith, room, due-short engine rule t s.sheet s.due));
+      checked = λ q c. c.accepts.1 (sheet-accepted s.sheet s.due.x (due-sheet engine rule t s.sheet s.due));
     }
-
-plan-ring : (ring : Ring) (rs : List Demand) → (plan ring rs).ring ≡ ring
-unfolding plan
-plan-ring ring rs = refl
-
-plan-fits : (ring : Ring) (rs : List Demand) → table.InRange desk ring rs → Fits desk (plan ring rs)
-plan-fits ring rs h = rw (plan-ring ring rs, plan-demands ring rs h.within.few h.within.rows) h.within
 
 -- rows as C holds them
 as_held : List Routed → List SheetRow
@@ -60,17 +39,16 @@ held-same [] = refl
 held-same (r ∷ rs) = λ i. routed r.sent (way_back r.way i) ∷ held-same rs i
 
 pub routed-judged : RoutedJudged
-routed-judged t old new r p a room =
-    let s : SomeDue sheet_due t = (due-accepted t sheet_due).0 a in
-    let d = s.is in
-    let range = d.of.range in
-    let short = due-short t s.text s.is in
-    let x = plan d.ring d.rs in
+routed-judged engine rule t old new r p a takes room =
+    let s = some-plan engine rule t a takes p.cases in
+    let d = s.due in
+    let of = due-sheet engine rule t s.sheet d in
+    let x = d.x in
     record {
       x = x;
-      range = plan-in-range d.ring d.rs range;
+      range = of.range;
       rows = as_held x.rows;
-      same = λ i. record { ring = x.ring; rows = held-same x.rows i; cut = x.cut; links = x.links; peak = x.peak; size = x.size };
-      success = rw d.is at ((p.succeeds s.text).1 (s.is, omega arith));
-      judged = λ q j. j.accepts.1 (plan-fits d.ring d.rs range, plan-true d.ring d.rs range.within.few range.within.rows);
+      same = λ i. record { ring = x.ring; rows = held-same x.rows i; cut = x.cut; links = x.links; unsplit_peak = x.unsplit_peak; size = x.size };
+      success = rw d.is at ((p.succeeds s.sheet).1 (d, omega (arith, room, due-short engine rule t s.sheet d)));
+      judged = λ q j. j.accepts.1 (due-within engine rule t s.sheet d, of.true_sheet);
     }

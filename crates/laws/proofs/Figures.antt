@@ -6,11 +6,10 @@ use Rattle.ring.specs.Limits.{desk}
 use Rattle.ring.specs.Lists.{Each}
 use Rattle.ring.specs.Demand.{OnRing}
 use Rattle.ring.specs.declared.types.Routed.{Routed}
-use Rattle.ring.specs.declared.types.Sent.{Sent}
-use Rattle.ring.specs.Sheet.{Sheet, sents}
+use Rattle.ring.specs.Sheet.{Sheet}
 use Rattle.ring.specs.True.{TrueSheet}
-use Rattle.ring.proofs.Lists.{each, each-of-map}
-use Rattle.ring.proofs.Small.{SmallFigures, figures-small}
+use Rattle.ring.proofs.Lists.{each}
+use Rattle.ring.proofs.Small.{SmallFigures, figures-small, each-of-demands}
 use Rattle.text.specs.Number.{base}
 use Rattle.text.specs.Field.{spell}
 use Rattle.text.proofs.Widths.{number-wide}
@@ -32,7 +31,7 @@ module _ (x : Sheet) (f : Fits desk x) (t : TrueSheet x) where
   spelled = true-spelled desk desk-fits x t f
 
   on-ring : Each (λ (r : Routed). OnRing x.ring.nodes r.sent.demand) x.rows
-  on-ring = each-of-map (λ (r : Routed). r.sent) {P = λ s. OnRing x.ring.nodes s.demand} x.rows (each-of-map (λ (s : Sent). s.demand) {P = OnRing x.ring.nodes} (sents x.rows) f.rows.nodes)
+  on-ring = each-of-demands {P = OnRing x.ring.nodes} x.rows f.rows.nodes
 
   pub short-nodes : ShortNodes x
   short-nodes =
@@ -57,7 +56,7 @@ module _ (x : Sheet) (f : Fits desk x) (t : TrueSheet x) where
       record {
         across = few-digits 7 x.cut.across (omega arith) spelled.cut.1.1;
         links = each (λ l h. (few-digits 7 l.split (omega arith) h.split, few-digits 7 l.unsplit (omega arith) h.unsplit)) spelled.loads;
-        peak = few-digits 7 x.peak (omega arith) spelled.last.0;
+        unsplit_peak = few-digits 7 x.unsplit_peak (omega arith) spelled.last.0;
         size = few-digits 7 x.size (omega arith) spelled.last.1;
       }
 

@@ -1,4 +1,5 @@
 -- What the rules give, of the rows of every table: the rules' theorems, with what `TableRows` says.
+use Prim.Native.Nat.{◌^◌}
 use mathlib.Core.Bool.{true}
 use mathlib.Core.Path.{◌≡◌}
 use native.Mathlib.Omega.{arith}
@@ -6,14 +7,20 @@ use Rattle.ring.specs.Routing.{is_split, Split}
 use Rattle.ring.specs.declared.types.Sent.{Sent}
 use Rattle.ring.proofs.LargestCut.{rule-A, one-best}
 use Rattle.ring.proofs.Move.{moved}
-use Rattle.ring.proofs.OurPlan.{rule-B, rule-B-peak, untangled, final-divides, rule-C-peak, split-rows-rise, directed, rule-D-peak, table-order, one-circuit-split}
+use Rattle.ring.proofs.OurPlan.{rule-B, rule-B-peak, one-circuit-split}
 use Rattle.ring.proofs.Parallel.{disjoint-is, encloses-is, parallel-is, parallel-either}
 use Rattle.ring.proofs.SameNodes.{first-is-outer}
 use Rattle.ring.proofs.Splits.{split, whole, splitting, is-split}
+use Rattle.best.specs.Best.{splits}
+use Rattle.best.specs.Choices.{choose, tried_of, best_over}
+use Rattle.best.proofs.BestTrue.{rule-D-chooses, few-split}
+use Rattle.engines.proofs.Engines.{untangled-by, divides-by, split-peak, rows-rise, directed-by, bound-by}
+use Rattle.best.proofs.BestWays.{is-best, best-leads}
 use Rattle.laws.specs.Rules.{DisjointIs, EnclosesIs, ParallelIs, ParallelEither, SplitIs, CutIsBest, CutIsOne}
 use Rattle.laws.specs.Rules.{RowsAreSent, SendingIsOne, SentPeakIsM, OneIsSplit}
 use Rattle.laws.specs.Rules.{MoveIs, EarlierIsOuter, RowsAreUntangled, UntangledDivides, UntangledPeakIsM}
 use Rattle.laws.specs.Rules.{SplitRowsRise, RowsAreDirected, DirectionsAreOne, DirectedPeak}
+use Rattle.laws.specs.Rules.{BestIsThere, RuleDChooses, FewAreSplit}
 use Rattle.laws.proofs.OneResult.{one-sending, one-run}
 
 -- ---- two rows
@@ -69,24 +76,37 @@ pub earlier-outer : EarlierIsOuter
 earlier-outer n a b oa same p q = first-is-outer a b same oa.order (said-split a p) (said-split b q)
 
 pub rows-untangled : RowsAreUntangled
-rows-untangled n rs two table = untangled n rs two table.nodes
+rows-untangled engine n rs two table = untangled-by engine n rs two table.nodes
 
 pub untangled-divides : UntangledDivides
-untangled-divides n rs two table = final-divides n rs two table.nodes
+untangled-divides engine n rs two table = divides-by engine n rs two table.nodes
 
 pub untangled-peak : UntangledPeakIsM
-untangled-peak n rs two table = rule-C-peak n rs two table.nodes
+untangled-peak engine n rs two table = split-peak engine n rs two table.nodes
 
 -- ---- D
 
-pub rows-rise : SplitRowsRise
-rows-rise n rs two table = split-rows-rise n rs two table.nodes (table-order n rs two table)
+pub split-rise : SplitRowsRise
+split-rise engine n rs two table = rows-rise engine n rs two table
 
 pub rows-directed : RowsAreDirected
-rows-directed n rs two table = directed n rs two table.nodes (table-order n rs two table)
+rows-directed engine n rs two table = directed-by engine n rs two table
 
 pub directions-one : DirectionsAreOne
-directions-one n rs two table routed d = one-run d.run (rows-directed n rs two table).run
+directions-one engine n rs two table routed d = one-run d.run (rows-directed engine n rs two table).run
 
 pub directed-peak : DirectedPeak
-directed-peak n rs two table = omega (arith, untangled-peak n rs two table, rule-D-peak n rs two table.nodes (table-order n rs two table))
+directed-peak engine n rs two table = omega (arith, untangled-peak engine n rs two table, bound-by engine n rs two table)
+
+-- ---- the best choice
+
+pub best-there : BestIsThere
+best-there n ss =
+    let best = best_over (tried_of n ss) 0 (2 ^ splits ss) (tried_of n ss 0) in
+    record { ways = choose best.choice ss; best = is-best n ss best (best-leads n ss) }
+
+pub rule-D-one : RuleDChooses
+rule-D-one engine n rs two table = rule-D-chooses engine n rs two table
+
+pub few-rows : FewAreSplit
+few-rows engine n rs two table = few-split engine n rs two table

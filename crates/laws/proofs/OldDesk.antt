@@ -2,14 +2,16 @@
 use Prim.Native.Nat.{ℕ, ◌+◌}
 use mathlib.Core.List.{List}
 use mathlib.Core.Path.{◌≡◌, refl, ◌∙◌, sym}
+use Rattle.std.specs.Prelude.{Ok}
 use Rattle.ring.specs.Limits.{Limits, old, desk}
 use Rattle.ring.specs.Sheet.{Sheet, plan}
-use Rattle.table.specs.declared.reason.Reason.TheVariants.{RingSize, TooMany}
-use Rattle.table.proofs.LowerLimits.{old-lower, low-spelled, old-table-accepted}
+use Rattle.reasons.specs.Refusals.{refusal}
+use Rattle.reasons.specs.declared.reason.Reason.TheVariants.{RingSize, TooMany}
+use Rattle.reasons.proofs.LowerLimits.{old-lower}
+use Rattle.table.proofs.LowerTables.{low-spelled, old-table-accepted}
 use Rattle.table.proofs.ReasonsGiven.{accepted-is}
 use Rattle.table.proofs.TableText.{desk-spelled, table-text}
 use Rattle.table.proofs.Spelled.{LimitsSpelled}
-use Rattle.sheet.specs.Read.{accepted}
 use Rattle.sheet.specs.WriteSheet.{write_sheet}
 use Rattle.sheet.proofs.LowerSheets.{same-bytes}
 use Rattle.checker.specs.Check.{check}
@@ -41,18 +43,18 @@ same-text t a =
 -- ---- sheets
 
 module _ (limits : Limits) (spelled : LimitsSpelled limits) (t : List ℕ) (x : Sheet) where
-  accepts : check limits t ≡ accepted x → AcceptedAs limits t x
+  accepts : check limits t ≡ Ok x → AcceptedAs limits t x
   accepts e = let h = (accepted-by limits spelled t x).0 e in record { is = h.0; none = h.1 }
 
-  checks : AcceptedAs limits t x → check limits t ≡ accepted x
+  checks : AcceptedAs limits t x → check limits t ≡ Ok x
   checks a = (accepted-by limits spelled t x).1 (a.is, a.none)
 
 pub beyond-old : BeyondOld
 beyond-old t x a =
     let e = checks desk desk-spelled t x a in
     record {
-      nodes = λ big. (given-by old old-spelled t RingSize 1 3).0 (old-nodes t x e big);
-      rows = λ small many. (given-by old old-spelled t TooMany (old.rows + 2) 1).0 (old-rows t x e small many);
+      nodes = λ big. (given-by old old-spelled t (refusal RingSize 1 3)).0 (old-nodes t x e big);
+      rows = λ small many. (given-by old old-spelled t (refusal TooMany (old.rows + 2) 1)).0 (old-rows t x e small many);
       within = λ small few. accepts old old-spelled t x (old-same t x e small few);
     }
 
@@ -60,4 +62,4 @@ pub old-is-accepted : OldAccepted
 old-is-accepted t x a = accepts desk desk-spelled t x (old-accepted t x (checks old old-spelled t x a))
 
 pub old-is-refused : OldRefused
-old-is-refused t r line byte g a b c = (given-by desk desk-spelled t r line byte).0 (old-refused t r line byte ((given-by old old-spelled t r line byte).1 g) a b c)
+old-is-refused t r line byte g a b c = let s = refusal r line byte in (given-by desk desk-spelled t s).0 (old-refused t s ((given-by old old-spelled t s).1 g) a b c)

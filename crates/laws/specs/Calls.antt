@@ -7,7 +7,10 @@ use Rattle.checker.specs.Says as sheet
 use Rattle.sheet.specs.Range.{InRange, longest}
 use Rattle.sheet.specs.WriteSheet.{write_sheet}
 use Rattle.ringkit.specs.Says.{Answer, Success}
-use Rattle.ringkit.specs.Promises.{RoutePromise, RewriteSheetPromise}
+use Rattle.engines.specs.declared.Engine.{Engine}
+use Rattle.router.specs.Plans.{Rule}
+use Rattle.ringkit.specs.Texts.{Takes}
+use Rattle.ringkit.specs.Promises.{PlanPromise, RewriteSheetPromise}
 use Rattle.ringkit.specs.Answers.{Checked, yes, CheckPromise}
 use Rattle.rows.specs.declared.sheet_row.SheetRow.{SheetRow}
 use Rattle.ringkit.specs.Judging.{Judged, sheet_given, valid, JudgePromise}
@@ -24,11 +27,11 @@ pub record WroteChecked (old new : List ℕ) (r : Answer) : Type 0 where
   pub success : Success text old new r
   pub checked : (q : Checked) → CheckPromise text q → q ≡ yes
 
--- with room for the longest sheet, routing an accepted table does
+-- with room for the longest sheet, routing an accepted table does, by each engine and each rule that takes it
 abbrev pub RoutedChecked : Type 0
 RoutedChecked =
-    (t old new : List ℕ) (r : Answer) → RoutePromise t old new r
-    → table.Accepted desk t → longest desk ≤ length old → WroteChecked old new r
+    (engine : Engine) (rule : Rule) (t old new : List ℕ) (r : Answer) → PlanPromise engine rule t old new r
+    → table.Accepted desk t → Takes engine rule t → longest desk ≤ length old → WroteChecked old new r
 
 -- a call wrote the text of a sheet, and to its values, lent as rows and links, judging says yes; in range it is the text of no other (`SameSheet`)
 pub record WroteJudged (old new : List ℕ) (r : Answer) : Type 0 where
@@ -36,11 +39,11 @@ pub record WroteJudged (old new : List ℕ) (r : Answer) : Type 0 where
   pub range : InRange desk x
   pub success : Success (write_sheet x) old new r
   pub rows : List SheetRow
-  pub same : sheet_given (record { ring = x.ring; cut = x.cut; peak = x.peak; size = x.size }) rows x.links ≡ x
+  pub same : sheet_given (record { ring = x.ring; cut = x.cut; unsplit_peak = x.unsplit_peak; size = x.size }) rows x.links ≡ x
   pub judged : (q : Judged) → JudgePromise x q → q ≡ valid
 
--- with room for the longest sheet, routing an accepted table does
+-- with room for the longest sheet, routing an accepted table does, by each engine and each rule that takes it
 abbrev pub RoutedJudged : Type 0
 RoutedJudged =
-    (t old new : List ℕ) (r : Answer) → RoutePromise t old new r
-    → table.Accepted desk t → longest desk ≤ length old → WroteJudged old new r
+    (engine : Engine) (rule : Rule) (t old new : List ℕ) (r : Answer) → PlanPromise engine rule t old new r
+    → table.Accepted desk t → Takes engine rule t → longest desk ≤ length old → WroteJudged old new r

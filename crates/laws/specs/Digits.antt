@@ -40,7 +40,7 @@ ShortHalves x = Each (λ (r : Routed). (Digits 5 r.sent.front) × (Digits 5 r.se
 pub record ShortLoads (x : Sheet) : Type 0 where
   pub across : Digits desk.digits x.cut.across
   pub links : Each (λ (l : Link). (Digits desk.digits l.split) × (Digits desk.digits l.unsplit)) x.links
-  pub peak : Digits desk.digits x.peak
+  pub unsplit_peak : Digits desk.digits x.unsplit_peak
   pub size : Digits desk.digits x.size
 
 -- so it is for every sheet whose values judging accepts

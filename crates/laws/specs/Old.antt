@@ -5,11 +5,11 @@ use Rattle.ring.specs.Limits.{Limits, old, desk}
 use Rattle.ring.specs.declared.types.Ring.{Ring}
 use Rattle.ring.specs.declared.types.Demand.{Demand}
 use Rattle.ring.specs.Sheet.{Sheet, plan}
-use Rattle.table.specs.Findings as found
+use Rattle.reasons.specs.Findings as found
 use Rattle.table.specs.Says as table
 use Rattle.table.specs.Table.{InRange, write_table}
-use Rattle.table.specs.declared.reason.Reason.{Reason}
-use Rattle.table.specs.declared.reason.Reason.TheVariants.{Misshapen, RingSize, TooMany}
+use Rattle.reasons.specs.declared.reason.Reason.{Reason}
+use Rattle.reasons.specs.declared.reason.Reason.TheVariants.{Misshapen, RingSize, TooMany}
 use Rattle.judge.specs.Findings.{findings}
 use Rattle.sheet.specs.WriteSheet.{write_sheet}
 use Rattle.checker.specs.Says.{ReadTo, Given}

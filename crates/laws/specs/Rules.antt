@@ -4,7 +4,6 @@ use Rattle.std.specs.Prelude.{ℕ, ◌+◌, ◌*◌, ◌≤◌, true, not, List,
 use Rattle.sonet.specs.Size.{sonet_sizes, sonet_size, rises, Answers}
 use Rattle.ring.specs.Lists.{Pairs}
 use Rattle.ring.specs.Demand.{OnRing, in_front, Leads}
-use Rattle.ring.specs.TableRows.{TableRows}
 use Rattle.ring.specs.declared.types.Demand.{Demand}
 use Rattle.ring.specs.Cut.{IsCut, across}
 use Rattle.ring.specs.declared.types.Cut.{Cut}
@@ -18,12 +17,11 @@ use Rattle.ring.specs.RuleA.{rule_a, largest_across}
 use Rattle.ring.specs.RuleB.{rule_b}
 use Rattle.ring.specs.RuleC.{both, to_front, to_back, inward, move, rule_c}
 use Rattle.ring.specs.RuleD.{largest_split}
-use Rattle.ring.specs.Sheet.{split_routing, unsplit_routing}
+use Rattle.engines.specs.Laws.{OfTables}
+use Rattle.engines.specs.declared.Engine.{Engine}
+use Rattle.engines.specs.Engine.{sent_by, split_routing_by, unsplit_routing_by}
+use Rattle.best.specs.Best.{splits, Choice, IsBest}
 use Rattle.ring.specs.Rules.{Best, Sends, SameNodes, NotBoth, Moved, OncePerPair, Untangled, Staggered, Largest, Directed}
-
--- it holds for the rows of every table, on a ring of two nodes or more
-abbrev pub OfTables : (ℕ → List Demand → Type 0) → Type 0
-OfTables Holding = (n : ℕ) (rs : List Demand) → 2 ≤ n → TableRows n rs → Holding n rs
 
 -- it holds of every two rows on a ring
 abbrev pub OfTwoRows : (Demand → Demand → Type 0) → Type 0
@@ -134,21 +132,21 @@ MovedIsOne = (ss new : List Sent) → OncePerPair ss new → new ≡ rule_c ss
 
 -- no load rises, demands and sums stay, and no two split rows are parallel afterwards
 abbrev pub RowsAreUntangled : Type 0
-RowsAreUntangled = OfTables (λ n rs. Untangled (rule_b n rs) (split_routing n rs))
+RowsAreUntangled = (engine : Engine) → OfTables (λ n rs. Untangled (sent_by engine n rs) (split_routing_by engine n rs))
 
 -- so the rows still divide the table's demands in halves
 abbrev pub UntangledDivides : Type 0
-UntangledDivides = OfTables (λ n rs. Divides 2 rs (split_routing n rs))
+UntangledDivides = (engine : Engine) → OfTables (λ n rs. Divides 2 rs (split_routing_by engine n rs))
 
 -- and the split peak stays M
 abbrev pub UntangledPeakIsM : Type 0
-UntangledPeakIsM = OfTables (λ n rs. peak (split_load (split_routing n rs)) n ≡ largest_across n rs)
+UntangledPeakIsM = (engine : Engine) → OfTables (λ n rs. peak (split_load (split_routing_by engine n rs)) n ≡ largest_across n rs)
 
 -- ---- D, unsplit directions
 
 -- split rows are taken by rising first node: of two the later begins later, inside the front of the earlier, and ends later
 abbrev pub SplitRowsRise : Type 0
-SplitRowsRise = OfTables (λ n rs. Pairs Staggered (split_routing n rs))
+SplitRowsRise = (engine : Engine) → OfTables (λ n rs. Pairs Staggered (split_routing_by engine n rs))
 
 -- D is the largest amount of a split row, 0 if none is split
 abbrev pub LargestSplitIs : Type 0
@@ -156,16 +154,40 @@ LargestSplitIs = (ss : List Sent) → Largest ss (largest_split ss)
 
 -- the rows go from S = 0 as the rule says, those that are not split are kept, and each link keeps to the bound
 abbrev pub RowsAreDirected : Type 0
-RowsAreDirected = OfTables (λ n rs. Directed (split_routing n rs) (unsplit_routing n rs))
+RowsAreDirected = (engine : Engine) → OfTables (λ n rs. Directed (split_routing_by engine n rs) (unsplit_routing_by engine n rs))
 
 -- no other directions are so
 abbrev pub DirectionsAreOne : Type 0
-DirectionsAreOne = OfTables (λ n rs. (routed : List Routed) → Directed (split_routing n rs) routed → routed ≡ unsplit_routing n rs)
+DirectionsAreOne =
+    (engine : Engine) → OfTables (λ n rs. (routed : List Routed) → Directed (split_routing_by engine n rs) routed → routed ≡ unsplit_routing_by engine n rs)
 
 -- in halves, the unsplit peak is at most M plus 3D
 abbrev pub DirectedPeak : Type 0
 DirectedPeak =
-    OfTables (λ n rs. 2 * peak (unsplit_load (unsplit_routing n rs)) n ≤ largest_across n rs + 3 * largest_split (split_routing n rs))
+    (engine : Engine) → OfTables (λ n rs.
+    2 * peak (unsplit_load (unsplit_routing_by engine n rs)) n ≤ largest_across n rs + 3 * largest_split (split_routing_by engine n rs))
+
+-- ---- the best choice
+
+-- of every split routing there is a best choice
+pub record SomeBest (n : ℕ) (ss : List Sent) : Type 0 where
+  pub ways : List Routed
+  pub best : IsBest n ss ways
+
+abbrev pub BestIsThere : Type 0
+BestIsThere = (n : ℕ) (ss : List Sent) → SomeBest n ss
+
+-- and one only
+abbrev pub BestIsOne : Type 0
+BestIsOne = (n : ℕ) (ss : List Sent) (a b : List Routed) → IsBest n ss a → IsBest n ss b → a ≡ b
+
+-- rule D's answer is a choice
+abbrev pub RuleDChooses : Type 0
+RuleDChooses = (engine : Engine) → OfTables (λ n rs. Choice (split_routing_by engine n rs) (unsplit_routing_by engine n rs))
+
+-- at most half as many rows are split as the ring has links
+abbrev pub FewAreSplit : Type 0
+FewAreSplit = (engine : Engine) → OfTables (λ n rs. 2 * splits (split_routing_by engine n rs) ≤ n)
 
 -- ---- line sizes
 

@@ -6,8 +6,8 @@ use Rattle.text.specs.Number.{limit, digits, Spelling}
 use Rattle.text.specs.declared.field.Field.{Field}
 use Rattle.text.specs.WriteLine.{write_line, FitsShape}
 use Rattle.text.specs.FirstFault.{FirstFault}
-use Rattle.table.specs.Reasons.{number_of}
-use Rattle.table.specs.declared.reason.Reason.{Reason}
+use Rattle.reasons.specs.Reasons.{number_of}
+use Rattle.reasons.specs.declared.reason.Reason.{Reason}
 use Rattle.matrix.specs.Says as matrix
 use Rattle.sheet.specs.Says as sheet
 use Rattle.ringkit.specs.Texts.{SomeForm, SomeMatrix}

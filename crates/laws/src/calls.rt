@@ -23,17 +23,17 @@ pub fn sheet_there_and_back()
     ensures { SheetThereAndBack }
 {}
 
-/// A working table, written out and routed, has the cut that the last accepted answer named.
+/// A working table, written out and routed by a rule that takes it, has the cut that the last accepted answer named.
 pub fn routed_as_named()
     ensures { RoutedAsNamed }
 {}
 
-/// What routing wrote for an accepted table, with room, is a sheet to which checking says yes.
+/// What routing wrote for an accepted table that its rule takes, with room, is a sheet to which checking says yes.
 pub fn routed_checked()
     ensures { RoutedChecked }
 {}
 
-/// What routing wrote for an accepted table, with room, is a sheet to whose values judging says yes.
+/// What routing wrote for an accepted table that its rule takes, with room, is a sheet to whose values judging says yes.
 pub fn routed_judged()
     ensures { RoutedJudged }
 {}

@@ -7,6 +7,7 @@ ghost use Rattle.laws.specs.Rules.{CutIsBest, CutIsOne};
 ghost use Rattle.laws.specs.Rules.{RowsAreSent, SendingIsOne, SentPeakIsM, OneIsSplit};
 ghost use Rattle.laws.specs.Rules.{MoveIs, EarlierIsOuter, MovesOncePerPair, MovedIsOne, RowsAreUntangled, UntangledDivides, UntangledPeakIsM};
 ghost use Rattle.laws.specs.Rules.{SplitRowsRise, LargestSplitIs, RowsAreDirected, DirectionsAreOne, DirectedPeak};
+ghost use Rattle.laws.specs.Rules.{BestIsThere, BestIsOne, RuleDChooses, FewAreSplit};
 ghost use Rattle.laws.specs.Rules.{SizeOfRising, SizeOfFamily, FamilyAnswers};
 ghost use Rattle.laws.specs.Papers.{AcrossIsD, UnsplitIsL, SplitIsStar, AllAreThePapers};
 
@@ -77,6 +78,14 @@ pub fn directions_rule()
     ensures directed { RowsAreDirected }
     ensures only { DirectionsAreOne }
     ensures peak { DirectedPeak }
+{}
+
+/// The best choice: each split routing has one, and one only; rule D's answer is a choice; and at most half as many rows are split as the ring has links.
+pub fn best_choice_rule()
+    ensures there { BestIsThere }
+    ensures only { BestIsOne }
+    ensures chooses { RuleDChooses }
+    ensures few { FewAreSplit }
 {}
 
 /// The line size is the smallest that carries the peak, on two fibres twice the peak; 0 if none is.

@@ -1,6 +1,6 @@
 // What texts are, and what holds of all sheets.
 ghost use Rattle.ring.specs.Limits.{desk};
-ghost use Rattle.table.specs.Laws.{LinesAre};
+ghost use Rattle.lines.specs.Laws.{LinesAre};
 ghost use Rattle.matrix.specs.Laws.{RowsOfMatrixIs};
 ghost use Rattle.sheet.specs.Laws.{SameSheet};
 ghost use Rattle.checker.specs.Cases.{CasesHold};

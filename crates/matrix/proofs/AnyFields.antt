@@ -21,7 +21,7 @@ use Rattle.text.proofs.LineLaws.{fewer}
 use Rattle.text.specs.FirstFault.{Agrees, FirstFault}
 use Rattle.text.proofs.Apart.{clash}
 use Rattle.text.proofs.Digits.{tens}
-use Rattle.table.specs.Lines.{with_byte, lines, LineIs, at_first, behind}
+use Rattle.lines.specs.Lines.{with_byte, lines, LineIs, at_first, behind}
 use Rattle.matrix.specs.Read.{fields_in}
 use Rattle.matrix.specs.Says.{NumbersFault}
 use Rattle.matrix.proofs.MatrixText.{fields-behind, fields-line}

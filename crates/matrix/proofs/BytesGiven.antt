@@ -12,14 +12,13 @@ use Rattle.text.specs.ReadLine.{read_line}
 use Rattle.text.specs.Shapes.{numbers, numbers_line}
 use Rattle.text.specs.FirstFault.{FirstFault}
 use Rattle.text.proofs.LineLaws.{one-fault}
-use Rattle.table.specs.declared.reason.Reason.{Reason}
-use Rattle.table.specs.declared.reason.Reason.TheVariants.{TooLong, Misshapen, RingSize, TooMany, TooMuch, NotZero, NotSymmetric}
-use Rattle.table.specs.RowReasons.{DueByte}
-use Rattle.table.proofs.BytesGiven.{one-due}
-use Rattle.table.proofs.LineNumbers.{line-one}
+use Rattle.reasons.specs.declared.reason.Reason.{Reason}
+use Rattle.lines.specs.DueBytes.{DueByte}
+use Rattle.lines.proofs.DueBytes.{one-due}
+use Rattle.lines.proofs.LineNumbers.{line-one}
 use Rattle.matrix.specs.Matrix.{entry_byte}
 use Rattle.matrix.specs.Read.{fields_in}
-use Rattle.matrix.specs.Says.{NumbersAre, EntryIs, LineByte, first_due, later_due, none_due, EntryStarts, AmountByte, FirstFaulty, FaultyByte, ByteIs}
+use Rattle.matrix.specs.Says.{NumbersAre, EntryIs, LineByte, first_due, later_due, none_due, EntryStarts, AmountByte, FirstFaulty, FaultyByte, at_none, at_fault, at_size, at_amount, at_diagonal, at_mirror, at_rows, ByteIs}
 use Rattle.matrix.proofs.LinesText.{numbers-line-read, FirstOver}
 use Rattle.matrix.proofs.MatrixText.{fields-are}
 use Rattle.matrix.proofs.AnyFields.{one-any-fault}
@@ -89,13 +88,11 @@ one-faulty-byte x y =
     let q : y.faulty.j < x.faulty.j → ⊥ = faulty-not-before y.faulty x.faulty in
     one-start (omega arith) x.starts y.starts
 
-pub one_byte : (limits : Limits) (t : List ℕ) (line b c : ℕ) (r : Reason) → ByteIs limits t r line b → ByteIs limits t r line c → b ≡ c
-unfolding ByteIs
-one_byte limits t line b c TooLong x y = x ∙ sym y
-one_byte limits t line b c Misshapen x y = one-line-byte x y
-one_byte limits t line b c RingSize x y = x ∙ sym y
-one_byte limits t line b c TooMany x y = x ∙ sym y
-one_byte limits t line b c TooMuch x y = one-amount-byte x y
-one_byte limits t line b c NotZero x y = one-faulty-byte x y
-one_byte limits t line b c NotSymmetric x y = one-faulty-byte x y
-one_byte limits t line b c _ x y = absurd x
+pub one_byte : {limits : Limits} {t : List ℕ} {line b c : ℕ} {r : Reason} → ByteIs limits t r line b → ByteIs limits t r line c → b ≡ c
+one_byte (at_none x) (at_none y) = x ∙ sym y
+one_byte (at_fault x) (at_fault y) = one-line-byte x y
+one_byte (at_size x) (at_size y) = x ∙ sym y
+one_byte (at_amount x) (at_amount y) = one-amount-byte x y
+one_byte (at_diagonal x) (at_diagonal y) = one-faulty-byte x y
+one_byte (at_mirror x) (at_mirror y) = one-faulty-byte x y
+one_byte (at_rows x) (at_rows y) = x ∙ sym y

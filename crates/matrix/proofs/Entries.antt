@@ -8,11 +8,11 @@ use native.Mathlib.Decide.{dec_lt, ℕ_discrete}
 use borrow.Author.Tests.{eq-eqb, ne_eqb}
 use Rattle.std.specs.Prelude.{Ok, Err}
 use Rattle.ring.specs.TableRows.{PairBefore}
-use Rattle.table.specs.OnLine.{and_then}
-use Rattle.table.specs.Verdict.{Verdict}
-use Rattle.table.specs.declared.reason.Reason.{Reason}
-use Rattle.table.specs.declared.reason.Reason.TheVariants.{NotZero, NotSymmetric}
-use Rattle.table.specs.Refusals.{refuse}
+use Rattle.reasons.specs.AndThen.{and_then}
+use Rattle.reasons.specs.Verdict.{Verdict}
+use Rattle.reasons.specs.declared.reason.Reason.{Reason}
+use Rattle.reasons.specs.declared.reason.Reason.TheVariants.{NotZero, NotSymmetric}
+use Rattle.reasons.specs.Refusals.{refuse}
 use Rattle.matrix.specs.Matrix.{entry, Node}
 use Rattle.matrix.specs.Read.{MatrixVerdict, check_entry, on_entry, square_byte, judge_across, judge_down}
 
@@ -55,7 +55,7 @@ module _ (m : List (List ℕ)) where
     across_right : ((x : ℕ) (s : Reason) → j ≤ x → x < j + k → WrongEntry m i x s → ⊥) → AcrossJudged i j k next next
 
   across-judged : (i j k : ℕ) (next : MatrixVerdict) → AcrossJudged i j k next (judge_across m i j k next)
-  unfolding judge_across on_entry and_then
+  unfolding judge_across on_entry
   across-judged i j zero next = across_right (λ x s l h w. omega arith)
   across-judged i j (suc k) next = go (entry-judged i j) (across-judged i (j + 1) k next)
     where

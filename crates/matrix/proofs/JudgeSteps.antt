@@ -4,9 +4,9 @@ use mathlib.Core.List.{List}
 use mathlib.Core.Path.{◌≡◌, ◌∙◌, sym}
 use native.Mathlib.Omega.{arith}
 use Rattle.std.specs.Prelude.{Ok, Err}
-use Rattle.table.specs.OnLine.{and_then}
-use Rattle.table.specs.Verdict.{Verdict}
-use Rattle.table.specs.declared.reason.Refusal.{Refusal}
+use Rattle.reasons.specs.AndThen.{and_then}
+use Rattle.reasons.specs.Verdict.{Verdict}
+use Rattle.reasons.specs.declared.reason.Refusal.{Refusal}
 use Rattle.matrix.specs.Matrix.{entry}
 use Rattle.matrix.specs.Read.{MatrixVerdict, check_entry, on_entry, square_byte, judge_across, judge_down}
 
@@ -33,11 +33,9 @@ module _ (m : List (List ℕ)) (n : ℕ) where
       next-entry = let e : n + 1 - j ≡ suc (n + 1 - (j + 1)) = omega arith in across.rest ∙ rw (e, ← ex, ← ey, ← ev, ← ef)
 
       pub entry-faulty : (r : Refusal) → f ≡ Err r → Err r ≡ judge_down m n 1 n
-      unfolding and_then
       entry-faulty r e = sym (next-entry ∙ rw e)
 
       pub entry-fine : f ≡ Ok tt → Across i (j + 1)
-      unfolding and_then
       entry-fine e = record { rest = next-entry ∙ rw e }
 
     pub line-fine : n + 1 ≤ j → Down (i + 1)

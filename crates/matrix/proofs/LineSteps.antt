@@ -16,14 +16,15 @@ use Rattle.text.specs.Shapes.{numbers}
 use Rattle.text.specs.declared.field.Field.TheVariants.{Number}
 use Rattle.text.proofs.Apart.{clash}
 use Rattle.text.proofs.LineLaws.{bad-within}
-use Rattle.table.specs.declared.reason.Refusal.{Refusal}
-use Rattle.table.specs.declared.reason.Reason.TheVariants.{TooMuch}
+use Rattle.reasons.specs.declared.reason.Refusal.{Refusal}
+use Rattle.reasons.specs.declared.reason.Reason.TheVariants.{TooMuch}
 use Rattle.matrix.specs.Matrix.{entry_byte}
 use Rattle.std.specs.List.{count_by}
 use Rattle.std.proofs.lemmas.List.Recursion.{is_count_by}
 use Rattle.matrix.proofs.AnyFields.{fields-some}
-use Rattle.table.specs.OnLine.{and_then, values_on}
-use Rattle.table.specs.Refusals.{refuse}
+use Rattle.reasons.specs.AndThen.{and_then}
+use Rattle.lines.specs.OnLine.{values_on}
+use Rattle.reasons.specs.Refusals.{refuse}
 use Rattle.matrix.specs.ReadInto.{read_as}
 use Rattle.matrix.specs.Read.{Numbers, is_tab, fields_in, first_numbers, first_over, unless_over, amounts_in}
 use Rattle.matrix.proofs.LinesText.{NumbersRead, are_numbers, numbers-read}
@@ -72,7 +73,7 @@ module _ (s : List ℕ) (n : ℕ) (read : List ℕ) (p left : ℕ) (on : Reading
         on.rest ∙ ap (λ k. fields_from desk.digits (numbers k) s p on.vs) e ∙ rw (length-replicate (left - 1) Number, ← behind_it, ← ex)
 
     pub reading-stops : (q : ℕ) → x ≡ Err q → read_as (Err q) read ≡ first_numbers (read_line desk.digits (numbers n) s)
-    unfolding field_then first_numbers read_as
+    unfolding field_then first_numbers
     reading-stops q f = let h : read_line desk.digits (numbers n) s ≡ Err q = next-is ∙ rw f in rw h
 
     pub reads-number : (v q : ℕ) (new : List ℕ) → x ≡ Ok (v, q) → new ≡ take desk.nodes (read ++ v ∷ []) → ReadingOn s n new q (left - 1)
@@ -85,22 +86,20 @@ module _ (s : List ℕ) (n : ℕ) (read : List ℕ) (p left : ℕ) (on : Reading
     all_read = let e : left ≡ 0 = omega arith in rw e at on.rest
 
     pub reading-done : p ≡ length s → read_as (Ok tt) read ≡ first_numbers (read_line desk.digits (numbers n) s)
-    unfolding fields_from first_numbers read_as
+    unfolding fields_from first_numbers
     reading-done e = rw (all_read, eq-eqb _ _ e, on.held)
 
     pub reading-over : (p ≡ length s → ⊥) → read_as (Err p) read ≡ first_numbers (read_line desk.digits (numbers n) s)
-    unfolding fields_from first_numbers read_as
+    unfolding fields_from first_numbers
     reading-over e = rw (all_read, ne_eqb _ _ e)
 
 -- ---- what the caller learns
 
 module _ {E : Type 0} (x : Result Unit E) (read : List ℕ) where
   pub read-not : (e : E) → x ≡ Err e → read_as x read ≡ Err e
-  unfolding read_as
   read-not e is = rw is
 
   pub read-all : x ≡ Ok tt → read_as x read ≡ Ok read
-  unfolding read_as
   read-all is = rw is
 
 bad-kept : (line : ℕ) (y : Reading) (r : Refusal) → values_on line (first_numbers y) ≡ Err r → values_on line y ≡ Err r
@@ -135,9 +134,9 @@ module _ (n line : ℕ) (l : List ℕ) (x : Numbers) (ex : x ≡ values_on line 
   pub told-good : (read : List ℕ) → x ≡ Ok read → Good (read_line desk.digits (numbers n) l) read
   told-good read e = good-kept line (read_line desk.digits (numbers n) l) read (sym ex ∙ e)
 
-  pub not-numbers : (r : Refusal) → x ≡ Err r → (read : List ℕ) → read_as (Err r) read ≡ amounts_in desk line (read_line desk.digits (numbers n) l)
-  unfolding amounts_in and_then read_as
-  not-numbers r e read = rw (told-bad r e)
+  pub not-numbers : (r : Refusal) → x ≡ Err r → Err r ≡ amounts_in desk line (read_line desk.digits (numbers n) l)
+  unfolding amounts_in
+  not-numbers r e = rw (told-bad r e)
 
   module _ (few : n ≤ desk.nodes) (read : List ℕ) (e : x ≡ Ok read) where
     -- all of so few numbers are kept
@@ -149,9 +148,9 @@ module _ (n line : ℕ) (l : List ℕ) (x : Numbers) (ex : x ≡ values_on line 
 
     module _ (v : Option ℕ) (ev : v ≡ first_over desk read) where
       pub numbers-over : (k byte : ℕ) → v ≡ Some k → byte ≡ entry_byte read k → read_as (refuse TooMuch line byte) read ≡ amounts_in desk line (read_line desk.digits (numbers n) l)
-      unfolding amounts_in and_then values_on unless_over read_as
+      unfolding amounts_in values_on unless_over
       numbers-over k byte f b = rw (all-kept, ← ev, f, b)
 
       pub numbers-fine : v ≡ None → read_as (Ok tt) read ≡ amounts_in desk line (read_line desk.digits (numbers n) l)
-      unfolding amounts_in and_then values_on unless_over read_as
+      unfolding amounts_in values_on unless_over
       numbers-fine f = rw (all-kept, ← ev, f)

@@ -23,13 +23,14 @@ use Rattle.text.specs.Shapes.{numbers, numbers_line}
 use Rattle.text.specs.declared.field.Field.TheVariants.{Number}
 use Rattle.text.proofs.Apart.{clash}
 use Rattle.text.proofs.LineLaws.{line-good, line-bad}
-use Rattle.table.specs.Lines.{lines}
-use Rattle.table.specs.declared.reason.Refusal.{Refusal}
-use Rattle.table.specs.declared.reason.Reason.TheVariants.{Misshapen, TooMuch}
-use Rattle.table.proofs.LinesOf.{NoLf, FirstLine, written-first}
+use Rattle.lines.specs.Lines.{lines}
+use Rattle.reasons.specs.declared.reason.Refusal.{Refusal}
+use Rattle.reasons.specs.declared.reason.Reason.TheVariants.{Misshapen, TooMuch}
+use Rattle.lines.proofs.LinesOf.{NoLf, FirstLine, written-first}
 use Rattle.matrix.specs.Matrix.{write_matrix, entry_byte}
-use Rattle.table.specs.OnLine.{and_then, values_on}
-use Rattle.table.specs.Refusals.{refuse}
+use Rattle.reasons.specs.AndThen.{and_then}
+use Rattle.lines.specs.OnLine.{values_on}
+use Rattle.reasons.specs.Refusals.{refuse}
 use Rattle.matrix.specs.Read.{SquareRead, Numbers, first_over, unless_over, amounts_in, square_lines}
 
 -- ---- one line
@@ -140,7 +141,7 @@ pub data LineRead (limits : Limits) (n line : ℕ) (l : List ℕ) : Numbers → 
       → LineRead limits n line l (refuse Misshapen line (p + 1))
 
 pub line-read : (limits : Limits) (n line : ℕ) (l : List ℕ) → LineRead limits n line l (amounts_in limits line (read_line limits.digits (numbers n) l))
-unfolding amounts_in and_then values_on unless_over
+unfolding amounts_in values_on unless_over
 line-read limits n line l = go (numbers-read limits n l)
   where
     amounts : {vs : List ℕ} (v : Option ℕ) → first_over limits vs ≡ v → l ≡ numbers_line vs → length vs ≡ n → Spelled limits vs → LineRead limits n line l (unless_over v line vs)
@@ -175,7 +176,7 @@ module _ {limits : Limits} {n : ℕ} where
   line-more e k a lines_refused = lines_refused
 
   pub lines-read : (ls : List (List ℕ)) (line left : ℕ) (m : List (List ℕ)) → LinesRead limits n left m ls (square_lines limits n line left m ls)
-  unfolding square_lines and_then write_matrix flatten
+  unfolding square_lines write_matrix flatten
   lines-read [] line zero m = lines_are [] (sym (append-nil m)) refl refl none none
   lines-read (l ∷ ls) line zero m = lines_refused
   lines-read [] line (suc left) m = lines_refused
@@ -192,7 +193,7 @@ module _ {limits : Limits} {n : ℕ} where
 -- and back
 pub written-lines-read : (limits : Limits) (n : ℕ) → limits.amount < limit limits.digits → 1 ≤ n → (line : ℕ) (m rest : List (List ℕ)) → Wide n rest → Within limits rest
     → square_lines limits n line (length rest) m (lines (write_matrix rest)) ≡ Ok (n, m ++ rest)
-unfolding square_lines and_then values_on amounts_in unless_over write_matrix lines
+unfolding square_lines values_on amounts_in unless_over write_matrix lines
 written-lines-read limits n small some line m [] none none = ap (λ l. Ok (n, l)) (sym (append-nil m))
 written-lines-read limits n small some line m (vs ∷ rest) (more k ks) (more a bs) =
     let s : Spelled limits vs = spelled-line limits small a in

@@ -18,18 +18,19 @@ use Rattle.text.specs.Field.{spell}
 use Rattle.text.specs.WriteLine.{end_of, write_line}
 use Rattle.text.specs.Shapes.{numbers, numbers_line}
 use Rattle.text.proofs.Digits.{tens, by_digits, digits-one, digits_more}
-use Rattle.table.specs.Lines.{lines}
-use Rattle.table.specs.declared.reason.Reason.{Reason}
-use Rattle.table.specs.Verdict as of_table
-use Rattle.table.proofs.Judged.{SizeJudged, not_so_many, right_size, size-judged, fine-size}
-use Rattle.table.proofs.LinesOf.{join-lines}
+use Rattle.lines.specs.Lines.{lines}
+use Rattle.reasons.specs.declared.reason.Reason.{Reason}
+use Rattle.reasons.specs.Verdict as of_reasons
+use Rattle.reasons.proofs.Judged.{SizeJudged, not_so_many, right_size, size-judged, fine-size}
+use Rattle.lines.proofs.LinesOf.{join-lines}
 use Rattle.matrix.specs.Matrix.{entry, write_matrix, Node}
 use Rattle.matrix.specs.Range.{InRange}
 use Rattle.matrix.specs.Demands.{rows_of_matrix}
 use Rattle.matrix.specs.Read.{SquareRead, MatrixVerdict, fields_in, square_lines, judge_down, judge_count, square_judged, on_first, matrix_lines, matrix_of}
 use Rattle.std.specs.Prelude.{Ok, Err}
-use Rattle.table.specs.OnLine.{and_then, values_on}
-use Rattle.table.specs.declared.reason.Refusal.{Refusal}
+use Rattle.reasons.specs.AndThen.{and_then}
+use Rattle.lines.specs.OnLine.{values_on}
+use Rattle.reasons.specs.declared.reason.Refusal.{Refusal}
 use Rattle.matrix.proofs.LinesText.{Spelled, NumbersRead, are_numbers, no_numbers, numbers-read, numbers-line-read, numbers-first, spelled-line, Wide, Within, LinesRead, lines_are, lines_refused, lines-read, written-lines-read}
 use Rattle.matrix.proofs.Entries.{WrongEntry, not_zero, not_mirror, DownJudged, down_wrong, down_right, down-judged}
 
@@ -70,7 +71,7 @@ data MatrixRead (limits : Limits) (t : List ℕ) : SquareRead → Type 0 where
 module _ {limits : Limits} {t : List ℕ} (short : length t ≤ limits.bytes) where
   square-read : {n : ℕ} {ls : List (List ℕ)} {x : SquareRead} → limits.fewest ≤ n → n ≤ limits.nodes → t ≡ flatten ls → LinesRead limits n n [] ls x
       → MatrixRead limits t (square_judged limits x)
-  unfolding square_judged and_then
+  unfolding square_judged
   square-read few many whole lines_refused = matrix_refused
   square-read {n} few many whole (lines_are {all = m} rest is text tall wide within) = go (down-judged m n 1 n)
     where
@@ -95,18 +96,18 @@ module _ {limits : Limits} {t : List ℕ} (short : length t ≤ limits.bytes) wh
           }))
 
   lines-matrix : (ls : List (List ℕ)) → t ≡ flatten ls → MatrixRead limits t (matrix_lines limits ls)
-  unfolding matrix_lines and_then values_on on_first
+  unfolding matrix_lines values_on on_first
   lines-matrix [] whole = matrix_refused
   lines-matrix (l ∷ ls) whole = go (numbers-read limits (fields_in l) l) (size-judged limits (fields_in l))
     where
       next : SquareRead
       next = square_judged limits (square_lines limits (fields_in l) 1 (fields_in l) [] (l ∷ ls))
 
-      ring : {v : of_table.Verdict} → SizeJudged limits (fields_in l) v → MatrixRead limits t (and_then (on_first v) (λ u. next))
+      ring : {v : of_reasons.Verdict} → SizeJudged limits (fields_in l) v → MatrixRead limits t (and_then (on_first v) (λ u. next))
       ring (not_so_many w) = matrix_refused
       ring (right_size few many) = square-read few many whole (lines-read (l ∷ ls) 1 (fields_in l) [])
 
-      go : {x : Reading} {v : of_table.Verdict} → NumbersRead limits (fields_in l) l x → SizeJudged limits (fields_in l) v → MatrixRead limits t (and_then (values_on 1 x) (λ vs. and_then (on_first v) (λ u. next)))
+      go : {x : Reading} {v : of_reasons.Verdict} → NumbersRead limits (fields_in l) l x → SizeJudged limits (fields_in l) v → MatrixRead limits t (and_then (values_on 1 x) (λ vs. and_then (on_first v) (λ u. next)))
       go (are_numbers e k s) judged = ring judged
       go (no_numbers h fault) judged = matrix_refused
 
@@ -131,7 +132,7 @@ right-square limits n m range = go (down-judged m n 1 n)
 
 module _ (limits : Limits) (possible : Possible limits) where
   first-written : (n : ℕ) (m : List (List ℕ)) → InRange limits n m → (l : List (List ℕ)) → lines (write_matrix m) ≡ l → matrix_lines limits l ≡ Ok (n, m)
-  unfolding matrix_lines and_then values_on on_first square_judged write_matrix
+  unfolding matrix_lines values_on on_first square_judged write_matrix
   first-written n [] range l e = absurd (omega (arith, range.square.tall, range.few, possible.some))
   first-written n (vs ∷ m) range l e = go range.square.wide range.amounts
     where

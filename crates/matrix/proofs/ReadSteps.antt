@@ -13,15 +13,16 @@ use Rattle.ring.specs.Lists.{Each}
 use Rattle.ring.specs.declared.types.Demand.{Demand}
 use Rattle.text.specs.ReadLine.{read_line}
 use Rattle.text.specs.Shapes.{numbers}
-use Rattle.table.specs.Lines.{lines}
-use Rattle.table.specs.Judge.{check_size}
-use Rattle.table.specs.Verdict as of_table
-use Rattle.table.specs.declared.reason.Reason.TheVariants.{TooLong, Misshapen}
-use Rattle.table.specs.declared.reason.Refusal.{Refusal}
-use Rattle.table.proofs.Judged.{SizeJudged, right_size, size-judged}
+use Rattle.lines.specs.Lines.{lines}
+use Rattle.reasons.specs.Judge.{check_size}
+use Rattle.reasons.specs.Verdict as of_reasons
+use Rattle.reasons.specs.declared.reason.Reason.TheVariants.{TooLong, Misshapen}
+use Rattle.reasons.specs.declared.reason.Refusal.{Refusal}
+use Rattle.reasons.proofs.Judged.{SizeJudged, right_size, size-judged}
 use Rattle.matrix.specs.Demands.{rows_of_matrix}
-use Rattle.table.specs.OnLine.{and_then, values_on}
-use Rattle.table.specs.Refusals.{refusal, refuse}
+use Rattle.reasons.specs.AndThen.{and_then}
+use Rattle.lines.specs.OnLine.{values_on}
+use Rattle.reasons.specs.Refusals.{refusal, refuse}
 use Rattle.matrix.specs.Read.{SquareRead, MatrixVerdict, Numbers, fields_in, first_numbers, amounts_in, square_lines, judge_down, judge_count, square_judged, on_first, matrix_of}
 use Rattle.matrix.specs.ReadInto.{read_to, IsMatrix, IsGiven}
 use Rattle.matrix.proofs.LineSteps.{told-bad, told-good}
@@ -31,11 +32,11 @@ use Rattle.matrix.proofs.ReasonsGiven.{given}
 
 -- ---- the first line
 
-pub ring-few : (n : ℕ) (v : of_table.Verdict) → v ≡ check_size desk n → (y : MatrixVerdict) → y ≡ on_first v → y ≡ Ok tt → n ≤ desk.nodes
+pub ring-few : (n : ℕ) (v : of_reasons.Verdict) → v ≡ check_size desk n → (y : MatrixVerdict) → y ≡ on_first v → y ≡ Ok tt → n ≤ desk.nodes
 unfolding on_first
 ring-few n v e y ey f = go v (rw (← e) at (size-judged desk n)) (sym ey ∙ f)
   where
-    go : (v : of_table.Verdict) → SizeJudged desk n v → on_first v ≡ Ok tt → n ≤ desk.nodes
+    go : (v : of_reasons.Verdict) → SizeJudged desk n v → on_first v ≡ Ok tt → n ≤ desk.nodes
     go (Ok tt) (right_size few many) g = many
     go (Err r) judged g = absurd (cc)
 
@@ -52,20 +53,18 @@ module _ (s : List ℕ) where
     module _ (first : List ℕ) (ls : List (List ℕ)) (left : lines s ≡ first ∷ ls) where
       module _ (count : ℕ) (ec : count ≡ fields_in first) (x : Numbers) (ex : x ≡ values_on 1 (first_numbers (read_line desk.digits (numbers count) first))) where
         pub first-misshapen : (r : Refusal) → x ≡ Err r → matrix_of desk s ≡ Err r
-        unfolding matrix_of and_then
+        unfolding matrix_of
         first-misshapen r f = rw (le-ltb desk.bytes (length s) short, left, ← ec, told-bad count 1 first x ex r f)
 
-        module _ (read : List ℕ) (f : x ≡ Ok read) (v : of_table.Verdict) (ev : v ≡ check_size desk count) (y : MatrixVerdict) (ey : y ≡ on_first v) where
+        module _ (read : List ℕ) (f : x ≡ Ok read) (v : of_reasons.Verdict) (ev : v ≡ check_size desk count) (y : MatrixVerdict) (ey : y ≡ on_first v) where
           size-told : matrix_of desk s ≡ and_then y (λ u. square_judged desk (square_lines desk count 1 count [] (lines s)))
-          unfolding matrix_of and_then values_on
+          unfolding matrix_of values_on
           size-told = rw (le-ltb desk.bytes (length s) short, left, ← ec, (told-good count 1 first x ex read f).is, ← ev, ← ey)
 
           pub ring-fault : (r : Refusal) → y ≡ Err r → matrix_of desk s ≡ Err r
-          unfolding and_then
           ring-fault r g = size-told ∙ rw g
 
           pub then-square : y ≡ Ok tt → matrix_of desk s ≡ square_judged desk (square_lines desk count 1 count [] (lines s))
-          unfolding and_then
           then-square g = size-told ∙ rw g
 
 -- ---- line by line: those before `line` are read, and `left` are left of the lines ls
@@ -98,7 +97,7 @@ module _ (ls : List (List ℕ)) (n : ℕ) (square : List (List ℕ)) (line : ℕ
 
     -- no line is left, and one is missing
     pub missing : left ≡ [] → (r : Refusal) → r ≡ refusal Misshapen line 1 → read_to (Err r) square ≡ whole
-    unfolding square_lines and_then read_to
+    unfolding square_lines
     missing none r e = sym (on.rest ∙ rw (one-more, none, e))
 
     module _ (l : List ℕ) (behind : List (List ℕ)) (there : left ≡ l ∷ behind) (x : Numbers) (ex : x ≡ amounts_in desk line (read_line desk.digits (numbers n) l)) where
@@ -107,11 +106,9 @@ module _ (ls : List (List ℕ)) (n : ℕ) (square : List (List ℕ)) (line : ℕ
       next-line = on.rest ∙ rw (one-more, there, ← ex)
 
       pub line-refused : (r : Refusal) → x ≡ Err r → read_to (Err r) square ≡ whole
-      unfolding and_then read_to
       line-refused r e = sym (next-line ∙ rw e)
 
       pub line-kept : (vs : List ℕ) → x ≡ Ok vs → (new : List (List ℕ)) → new ≡ set square (line - 1) vs → ReadingLines ls n new (line + 1) behind
-      unfolding and_then
       line-kept vs e new en =
           let k : line - 1 + 1 ≡ line + 1 - 1 = omega arith in
           let m : n - line ≡ n + 1 - (line + 1) = omega arith in
@@ -124,7 +121,7 @@ module _ (ls : List (List ℕ)) (n : ℕ) (square : List (List ℕ)) (line : ℕ
 
     -- a line behind the n-th is left over
     pub lines-over : line ≤ n + 1 → (x : MatrixVerdict) → IfOk x (λ _. left ≡ []) → IfErr x (λ r. (r ≡ refusal Misshapen (n + 1) 1) × (left ≡ [] → ⊥)) → read_to x square ≡ whole
-    unfolding read_to and_then square_lines
+    unfolding square_lines
     lines-over high (Ok tt) none over = sym (on.rest ∙ rw (none-due, none, take_all (line - 1) square (omega (arith, on.tall)), on.tall))
     lines-over high (Err r) none over = sym (on.rest ∙ rw (none-due, over.0) (left-over left over.1))
       where
@@ -146,25 +143,22 @@ module _ (s : List ℕ) (n : ℕ) (is : matrix_of desk s ≡ square_judged desk 
     lines-are x e = is ∙ ap (square_judged desk) (sym (rw tall at e))
 
     pub told-lines : (x : MatrixVerdict) → read_to x square ≡ square_lines desk (length old) 1 (length old) [] (lines s) → (r : Refusal) → x ≡ Err r → IsGiven s r
-    unfolding square_judged and_then read_to
+    unfolding square_judged
     told-lines x e r f = told-refusal s r (lines-are x e ∙ rw f)
 
     module _ (x : MatrixVerdict) (e : read_to x square ≡ square_lines desk (length old) 1 (length old) [] (lines s)) (f : x ≡ Ok tt) (v : MatrixVerdict) (ev : v ≡ judge_down square (length square) 1 (length square)) where
       judged : matrix_of desk s ≡ and_then v (λ u. and_then (judge_count desk (length square) square) (λ w. Ok (length square, square)))
-      unfolding square_judged and_then read_to
+      unfolding square_judged
       judged = lines-are x e ∙ rw (f, ev)
 
       pub told-entries : (r : Refusal) → v ≡ Err r → IsGiven s r
-      unfolding and_then
       told-entries r g = told-refusal s r (judged ∙ rw g)
 
       module _ (g : v ≡ Ok tt) (w : MatrixVerdict) (ew : w ≡ judge_count desk (length square) square) where
         pub told-count : (r : Refusal) → w ≡ Err r → IsGiven s r
-        unfolding and_then
         told-count r h = told-refusal s r (judged ∙ rw (g, ← ew, h))
 
         pub told-matrix : w ≡ Ok tt → (rs : List Demand) → rs ≡ rows_of_matrix (length square) square → IsMatrix s n rs
-        unfolding and_then read_to
         told-matrix h rs er =
             let w = (matrix-text desk desk-possible s (length square) square).0 (judged ∙ rw (g, ← ew, h)) in
             let k : length square ≡ n = as-many (rw (f, tall) at e) in

@@ -16,24 +16,25 @@ use Rattle.ring.proofs.Side.{cond-elim}
 use Rattle.text.specs.ReadLine.{Reading}
 use Rattle.text.specs.Shapes.{numbers, numbers_line}
 use Rattle.text.specs.FirstFault.{FirstFault}
-use Rattle.table.specs.Reasons.{rank_of}
-use Rattle.table.specs.Lines.{lines, LineIs}
-use Rattle.table.specs.RowReasons.{DueByte, line_missing, line_faulty}
-use Rattle.table.specs.declared.reason.Reason.{Reason}
-use Rattle.table.specs.declared.reason.Reason.TheVariants.{TooLong, Misshapen, RingSize, TooMany, TooMuch, NotZero, NotSymmetric}
+use Rattle.reasons.specs.Reasons.{rank_of}
+use Rattle.lines.specs.Lines.{lines, LineIs}
+use Rattle.lines.specs.DueBytes.{DueByte, line_missing, line_faulty}
+use Rattle.reasons.specs.declared.reason.Reason.{Reason}
+use Rattle.reasons.specs.declared.reason.Reason.TheVariants.{TooLong, Misshapen, RingSize, TooMany, TooMuch}
 use Rattle.std.specs.Prelude.{Ok, Err}
-use Rattle.table.specs.OnLine.{and_then, values_on}
-use Rattle.table.specs.declared.reason.Refusal.{Refusal}
-use Rattle.table.specs.Verdict as of_table
-use Rattle.table.specs.Refusals.{refuse}
-use Rattle.table.proofs.Judged.{SizeJudged, not_so_many, right_size, size-judged}
-use Rattle.table.proofs.Walked.{one-first, same-place as same-on-lines}
-use Rattle.table.proofs.LineNumbers.{line-low, line-one, LinesFrom, from_first, from_next, line-here, no-line-left}
-use Rattle.table.proofs.ReasonNumbers.{no-rank-0}
+use Rattle.reasons.specs.AndThen.{and_then}
+use Rattle.lines.specs.OnLine.{values_on}
+use Rattle.reasons.specs.declared.reason.Refusal.{Refusal}
+use Rattle.reasons.specs.Verdict as of_reasons
+use Rattle.reasons.specs.Refusals.{refuse}
+use Rattle.reasons.proofs.Judged.{SizeJudged, not_so_many, right_size, size-judged}
+use Rattle.reasons.proofs.FirstGiven.{one-first, same-place as same-on-lines}
+use Rattle.lines.proofs.LineNumbers.{line-low, line-one, LinesFrom, from_first, from_next, line-here, no-line-left}
+use Rattle.reasons.proofs.ReasonNumbers.{no-rank-0}
 use Rattle.matrix.specs.Matrix.{entry, entry_byte, Node}
 use Rattle.matrix.specs.Demands.{pairs_from, above_zero, rows_by, rows_of_matrix}
 use Rattle.matrix.specs.Read.{SquareRead, Numbers, MatrixVerdict, fields_in, square_lines, square_byte, judge_count, square_judged, on_first, matrix_lines, matrix_of}
-use Rattle.matrix.specs.Says.{NumbersAre, EntryIs, NoFirstLine, NoLaterLine, LeftOver, SaysRingSize, SaysTooMuch, WrongEntry, not_zero, not_mirror, FirstFaulty, SaysTooMany, Says, LineByte, first_due, later_due, none_due, EntryStarts, FaultyByte, ByteIs, stage, Earlier, Given, Accepted}
+use Rattle.matrix.specs.Says.{NumbersAre, EntryIs, NoFirstLine, NoLaterLine, LeftOver, SaysRingSize, SaysTooMuch, WrongEntry, not_zero, not_mirror, FirstFaulty, SaysTooMany, says_too_long, says_no_first_line, says_no_later_line, says_left_over, says_ring_size, says_too_much, says_not_zero, says_not_symmetric, says_too_many, Says, LineByte, first_due, later_due, none_due, EntryStarts, FaultyByte, at_none, at_fault, at_size, at_amount, at_diagonal, at_mirror, at_rows, ByteIs, stage, Earlier, Given, Accepted}
 use Rattle.matrix.proofs.LinesText.{NumbersRead, are_numbers, no_numbers, numbers-read, FirstOver, LineRead, line_is, line_over, line_not, line-read, Spelled, each_by, each_at}
 use Rattle.matrix.proofs.MatrixText.{fields-are}
 use Rattle.matrix.proofs.RoundTrip.{same-lines}
@@ -57,18 +58,16 @@ data Told (limits : Limits) (t : List ℕ) (line : ℕ) (r : Reason) : Type 0 wh
   of_square : stage r ≡ 1 → FirstFaulty limits t r line → Told limits t line r
   of_rows : r ≡ TooMany → SaysTooMany limits t line → Told limits t line r
 
-told : {limits : Limits} {t : List ℕ} {line : ℕ} (r : Reason) → Says limits t r line → Told limits t line r
-unfolding Says
-told TooLong h = of_line refl (too_long h.0 h.1)
-told Misshapen (inl h) = of_line refl (no_first h)
-told Misshapen (inr (inl h)) = of_line refl (no_later h)
-told Misshapen (inr (inr h)) = of_line refl (left_over h)
-told RingSize h = of_line refl (wrong_n h)
-told TooMuch h = of_line refl (wrong_amount h)
-told NotZero h = of_square refl h
-told NotSymmetric h = of_square refl h
-told TooMany h = of_rows refl h
-told _ h = absurd h
+told : {limits : Limits} {t : List ℕ} {line : ℕ} {r : Reason} → Says limits t r line → Told limits t line r
+told (says_too_long e long) = of_line refl (too_long e long)
+told (says_no_first_line h) = of_line refl (no_first h)
+told (says_no_later_line h) = of_line refl (no_later h)
+told (says_left_over h) = of_line refl (left_over h)
+told (says_ring_size h) = of_line refl (wrong_n h)
+told (says_too_much h) = of_line refl (wrong_amount h)
+told (says_not_zero h) = of_square refl h
+told (says_not_symmetric h) = of_square refl h
+told (says_too_many h) = of_rows refl h
 
 -- ---- a result that is right by what the reasons say
 
@@ -84,7 +83,7 @@ module _ {limits : Limits} {t : List ℕ} where
   -- a reason of a line is given where nothing is said of the lines before, and nothing of a lower rank of it
   given-here : {line byte : ℕ} (r : Reason) → stage r ≡ 0 → Clean limits t line → Says limits t r line → ((s : Reason) → rank_of s < rank_of r → Said limits t line s → ⊥)
       → ByteIs limits t r line byte → Given limits t r line byte
-  given-here {line} r z clean holds least b = record { holds = holds; first = λ s other e h. go s other e (told s h); byte_is = b }
+  given-here {line} r z clean holds least b = record { holds = holds; first = λ s other e h. go s other e (told h); byte_is = b }
     where
       go : (s : Reason) (other : ℕ) → Earlier s other r line → Told limits t other s → ⊥
       go s other (inl l) h = omega arith
@@ -123,8 +122,7 @@ module _ {limits : Limits} {t : List ℕ} where
   below_two low l (wrong_amount h) = omega arith
 
   misshapen-here : {line byte : ℕ} → 1 ≤ line → Clean limits t line → Says limits t Misshapen line → LineByte limits t line byte → Given limits t Misshapen line byte
-  unfolding ByteIs
-  misshapen-here low clean h b = given-here Misshapen refl clean h (λ s l k. below_two low l k) b
+  misshapen-here low clean h b = given-here Misshapen refl clean h (λ s l k. below_two low l k) (at_fault b)
 
 some-each : {A : Type 0} {P : A → Type 0} {l : List A} → Some P l → Each (λ a. P a → ⊥) l → ⊥
 some-each (here p) (more q qs) = q p
@@ -258,14 +256,12 @@ module _ (limits : Limits) (t : List ℕ) (us : List ℕ) (first : NumbersAre li
       one-wrong (mirror-wrong e w) (mirror-wrong f u) = refl
 
       faulty-says : {i j : ℕ} {r : Reason} → Wrong m i j r → FirstFaulty limits t r i → (stage r ≡ 1) × Says limits t r i
-      unfolding Says
-      faulty-says (zero-wrong e w) h = (refl, h)
-      faulty-says (mirror-wrong e w) h = (refl, h)
+      faulty-says (zero-wrong e w) h = (refl, says_not_zero h)
+      faulty-says (mirror-wrong e w) h = (refl, says_not_symmetric h)
 
       faulty-byte : {i j byte : ℕ} {r : Reason} → Wrong m i j r → FaultyByte limits t r i byte → ByteIs limits t r i byte
-      unfolding ByteIs
-      faulty-byte (zero-wrong e w) h = h
-      faulty-byte (mirror-wrong e w) h = h
+      faulty-byte (zero-wrong e w) h = at_diagonal h
+      faulty-byte (mirror-wrong e w) h = at_mirror h
 
       starts-at : (i j : ℕ) → Node n i → EntryStarts limits t i j (square_byte m i j)
       starts-at i j p = record { vs = get_or m (i - 1) []; is = held.at i p.0 (omega (arith, p.1)); at = refl }
@@ -292,19 +288,18 @@ module _ (limits : Limits) (t : List ℕ) (us : List ℕ) (first : NumbersAre li
 
       -- 16, where nothing is wrong with an entry
       many-given : ((x y : ℕ) (s : Reason) → WrongEntry limits t x y s → ⊥) → limits.rows < length (rows_of_matrix n m) → Given limits t TooMany 0 0
-      unfolding Says ByteIs
       many-given right l =
           record {
-            holds = record {
+            holds = says_too_many (record {
               at = refl;
               n = n;
               m = m;
               square = record { tall = tall; wide = each_by [] m (λ k h. let e : k + 1 - 1 ≡ k = omega arith in rw e at (held.wide (k + 1) (omega arith) (omega arith))) };
               lines = λ i p. held.at i p.0 (omega (arith, p.1));
               wrong = l;
-            };
-            first = λ s other e h. go s other e (told s h);
-            byte_is = refl;
+            });
+            first = λ s other e h. go s other e (told h);
+            byte_is = at_rows refl;
           }
         where
           go : (s : Reason) (other : ℕ) → Earlier s other TooMany 0 → Told limits t other s → ⊥
@@ -314,10 +309,9 @@ module _ (limits : Limits) (t : List ℕ) (us : List ℕ) (first : NumbersAre li
           go s other (inr e) (of_rows z h) = ⊎_elim (λ l. omega arith) (λ l. omega (arith, l.1, ap rank_of z)) e.1
 
       square-right : {z : MatrixVerdict} → DownJudged m n 1 n z → Right limits t (and_then z (λ u. and_then (judge_count limits n m) (λ w. Ok (n, m))))
-      unfolding and_then
       square-right (down_right all) =
           cond-elim (λ (z : MatrixVerdict). Right limits t (and_then z (λ w. Ok (n, m)))) _ _ _ (λ e. first_holds (many-given right (ltb-true limits.rows (length (rows_of_matrix n m)) e)))
-          (λ e. none_holds (λ r other h. go (ltb-false limits.rows (length (rows_of_matrix n m)) e) (told r h)))
+          (λ e. none_holds (λ r other h. go (ltb-false limits.rows (length (rows_of_matrix n m)) e) (told h)))
         where
           right : (x y : ℕ) (s : Reason) → WrongEntry limits t x y s → ⊥
           right x y s h = let w = wrong-in h in all x y s w.0.0 (omega (arith, w.0.1)) w.1 w.2
@@ -327,7 +321,7 @@ module _ (limits : Limits) (t : List ℕ) (us : List ℕ) (first : NumbersAre li
           go {r} {other} l (of_square z h) = right other h.j r h.wrong
           go l (of_rows z h) = few-rows l h
       square-right (down_wrong {r} {line = i} j low high q wrong before) =
-          first_holds (record { holds = says.1; first = λ s other e h. go s other e (told s h); byte_is = faulty-byte wrong (record { faulty = found; starts = starts-at i j p }) })
+          first_holds (record { holds = says.1; first = λ s other e h. go s other e (told h); byte_is = faulty-byte wrong (record { faulty = found; starts = starts-at i j p }) })
         where
           p : Node n i
           p = (low, omega arith)
@@ -369,10 +363,9 @@ module _ (limits : Limits) (t : List ℕ) (us : List ℕ) (first : NumbersAre li
       is_later : {before : ℕ} {l : List ℕ} → LineIs (lines t) before l → line ≡ before + 1 → Prev line
 
     no-line-here : {line : ℕ} → Prev line → 1 ≤ line → line ≤ n → ((vs : List ℕ) → length vs ≡ n → NumbersAre limits t line vs → ⊥) → Says limits t Misshapen line
-    unfolding Says
     no-line-here (is_first e) low due out = absurd (out us refl (subst (λ x. NumbersAre limits t x us) (sym e) first))
     no-line-here (is_later {before} {l} stands next) low due out =
-        inr (inl (record { us = us; first = first; before = before; next = next; l = l; there = stands; due = due; none = out }))
+        says_no_later_line (record { us = us; first = first; before = before; next = next; l = l; there = stands; due = due; none = out })
 
     no-line-byte : {line byte : ℕ} → Prev line → line ≤ n → ((vs : List ℕ) → length vs ≡ n → NumbersAre limits t line vs → ⊥) → DueByte t line (FirstFault limits.digits (numbers n)) byte
         → LineByte limits t line byte
@@ -385,18 +378,16 @@ module _ (limits : Limits) (t : List ℕ) (us : List ℕ) (first : NumbersAre li
     not-numbers prev low due clean out b = first_holds (misshapen-here low clean (no-line-here prev low due out) (no-line-byte prev due out b))
 
     left-over-here : {line : ℕ} {l : List ℕ} → LineIs (lines t) line l → n < line → Says limits t Misshapen line
-    unfolding Says
-    left-over-here {l = l} is over = inr (inr (record { us = us; first = first; l = l; is = is; wrong = over }))
+    left-over-here {l = l} is over = says_left_over (record { us = us; first = first; l = l; is = is; wrong = over })
 
     amount-given : {line : ℕ} {vs : List ℕ} (x : ℕ) → 1 ≤ line → line ≤ n → Clean limits t line → NumbersAre limits t line vs → length vs ≡ n → FirstOver limits vs x
         → Given limits t TooMuch line (entry_byte vs x)
-    unfolding Says ByteIs
     amount-given {line} {vs} x low due clean is wide f =
-        given-here TooMuch refl clean (record { vs = vs; is = is; wrong = f.some }) (amount-first line low due vs is wide) (amount-byte x is f)
+        given-here TooMuch refl clean (says_too_much (record { vs = vs; is = is; wrong = f.some })) (amount-first line low due vs is wide) (at_amount (amount-byte x is f))
 
     lines-right : (ls : List (List ℕ)) (line left : ℕ) (m : List (List ℕ)) → 1 ≤ line → line + left ≡ n + 1 → LinesFrom (lines t) line ls → Prev line → Clean limits t line
         → Held m line → Right limits t (square_judged limits (square_lines limits n line left m ls))
-    unfolding square_lines and_then square_judged
+    unfolding square_lines square_judged
     lines-right [] line zero m low due from prev clean held =
         square-right m line held (omega (arith, held.count)) clean from (down-judged m n 1 n)
     lines-right (l ∷ ls) line zero m low due from prev clean held =
@@ -426,16 +417,14 @@ module _ (limits : Limits) (t : List ℕ) (us : List ℕ) (first : NumbersAre li
 
 module _ (limits : Limits) (t : List ℕ) where
   first_says : ((vs : List ℕ) → NumbersAre limits t 1 vs → ⊥) → Says limits t Misshapen 1
-  unfolding Says
-  first_says out = inl (record { at = refl; none = out })
+  first_says out = says_no_first_line (record { at = refl; none = out })
 
   size-given : {us : List ℕ} → length t ≤ limits.bytes → NumbersAre limits t 1 us → (length us < limits.fewest) ⊎ (limits.nodes < length us) → Given limits t RingSize 1 1
-  unfolding Says ByteIs
   size-given {us} short first w =
-      given-here RingSize refl (clean-start short) (record { at = refl; us = us; first = first; wrong = w }) (λ s l h. size-first limits t us first l h) refl
+      given-here RingSize refl (clean-start short) (says_ring_size (record { at = refl; us = us; first = first; wrong = w })) (λ s l h. size-first limits t us first l h) (at_size refl)
 
   all_right : length t ≤ limits.bytes → (ls : List (List ℕ)) → LinesFrom (lines t) 1 ls → Right limits t (matrix_lines limits ls)
-  unfolding matrix_lines and_then values_on on_first square_judged
+  unfolding matrix_lines values_on on_first square_judged
   all_right short [] from =
       first_holds (misshapen-here (omega arith) (clean-start short) (first_says (λ vs is. omega (arith, no-line-left from is.text)))
       (first_due refl (line_missing (λ l is. omega (arith, no-line-left from is)))))
@@ -444,7 +433,7 @@ module _ (limits : Limits) (t : List ℕ) where
       next : SquareRead
       next = square_judged limits (square_lines limits (fields_in l) 1 (fields_in l) [] (l ∷ ls))
 
-      ring : (us : List ℕ) {v : of_table.Verdict} → NumbersAre limits t 1 us → length us ≡ fields_in l → SizeJudged limits (fields_in l) v → Right limits t (and_then (on_first v) (λ u. next))
+      ring : (us : List ℕ) {v : of_reasons.Verdict} → NumbersAre limits t 1 us → length us ≡ fields_in l → SizeJudged limits (fields_in l) v → Right limits t (and_then (on_first v) (λ u. next))
       ring us first k (not_so_many w) =
           first_holds (size-given short first (subst (λ x. (x < limits.fewest) ⊎ (limits.nodes < x)) (sym k) w))
       ring us first k (right_size few many) =
@@ -452,7 +441,7 @@ module _ (limits : Limits) (t : List ℕ) where
           (lines-right limits t us first (omega arith) (omega arith) (l ∷ ls) 1 (length us) [] (omega arith) (omega arith) from (is_first refl) (clean-start short)
           (record { count = refl; at = λ i p q. absurd (omega arith); wide = λ i p q. absurd (omega arith) }))
 
-      go : {x : Reading} {v : of_table.Verdict} → NumbersRead limits (fields_in l) l x → SizeJudged limits (fields_in l) v → Right limits t (and_then (values_on 1 x) (λ vs. and_then (on_first v) (λ u. next)))
+      go : {x : Reading} {v : of_reasons.Verdict} → NumbersRead limits (fields_in l) l x → SizeJudged limits (fields_in l) v → Right limits t (and_then (values_on 1 x) (λ vs. and_then (on_first v) (λ u. next)))
       go (are_numbers {vs = us} e k s) judged =
           ring us (record { text = subst (LineIs (lines t) 1) e (line-here from); some = omega (arith, fields-some l); spelled = s }) k judged
       go (no_numbers {p} out fault) judged =
@@ -462,8 +451,7 @@ module _ (limits : Limits) (t : List ℕ) where
           (first_due refl (line_faulty (line-here from) (any-fault limits l p (line-ended (lines-ended t) (line-here from)) fault))))
 
   too-long-given : limits.bytes < length t → Given limits t TooLong 0 0
-  unfolding Says ByteIs
-  too-long-given long = record { holds = (refl, long); first = λ s other e h. go s other e; byte_is = refl }
+  too-long-given long = record { holds = says_too_long refl long; first = λ s other e h. go s other e; byte_is = at_none refl }
     where
       go : (s : Reason) (other : ℕ) → Earlier s other TooLong 0 → ⊥
       go s other (inl l) = omega arith
@@ -487,7 +475,7 @@ same-place r s line other up down =
 
 -- a text has one first reason, with one byte
 pub one-given : (limits : Limits) (t : List ℕ) {r s : Reason} {line other byte on : ℕ} → Given limits t r line byte → Given limits t s other on → (r ≡ s) × (line ≡ other) × (byte ≡ on)
-one-given limits t f g = one-first same-place (λ line b c r x y. one_byte limits t line b c r x y) f g
+one-given limits t f g = one-first same-place (λ line b c r x y. one_byte x y) f g
 
 pub given : (limits : Limits) (t : List ℕ) (r : Refusal) → (matrix_of limits t ≡ Err r) ↔ Given limits t r.reason r.line r.byte
 given limits t r = (λ e. there (subst (Right limits t) e (right limits t)), λ g. back g (right limits t))

@@ -3,8 +3,8 @@ use Rattle.std.specs.Prelude.{ℕ, ◌+◌, ◌≤◌, cond, List, [], ◌∷◌
 use Rattle.ring.specs.Limits.{Limits, desk}
 use Rattle.ring.specs.Lists.{Each}
 use Rattle.ring.specs.declared.types.Demand.{Demand}
-use Rattle.table.specs.declared.reason.Reason.TheVariants.{SumTooMuch}
-use Rattle.table.specs.Refusals.{refuse}
+use Rattle.reasons.specs.declared.reason.Reason.TheVariants.{SumTooMuch}
+use Rattle.reasons.specs.Refusals.{refuse}
 use Rattle.matrix.specs.Demands.{sum_of}
 use Rattle.matrix.specs.Read.{MatrixVerdict}
 

@@ -4,13 +4,14 @@ use Rattle.ring.specs.Limits.{Limits, desk}
 use Rattle.text.specs.Bytes.{tab}
 use Rattle.text.specs.ReadLine.{Reading, read_line}
 use Rattle.text.specs.Shapes.{numbers}
-use Rattle.table.specs.Lines.{lines}
-use Rattle.table.specs.Judge.{check_size}
-use Rattle.table.specs.OnLine.{and_then, values_on}
-use Rattle.table.specs.Verdict as of_table
-use Rattle.table.specs.declared.reason.Refusal.{Refusal}
-use Rattle.table.specs.declared.reason.Reason.TheVariants.{TooLong, Misshapen, TooMany, TooMuch, NotZero, NotSymmetric}
-use Rattle.table.specs.Refusals.{refuse}
+use Rattle.lines.specs.Lines.{lines}
+use Rattle.reasons.specs.Judge.{check_size}
+use Rattle.reasons.specs.AndThen.{and_then}
+use Rattle.lines.specs.OnLine.{values_on}
+use Rattle.reasons.specs.Verdict as of_reasons
+use Rattle.reasons.specs.declared.reason.Refusal.{Refusal}
+use Rattle.reasons.specs.declared.reason.Reason.TheVariants.{TooLong, Misshapen, TooMany, TooMuch, NotZero, NotSymmetric}
+use Rattle.reasons.specs.Refusals.{refuse}
 use Rattle.matrix.specs.Matrix.{entry, entry_byte}
 use Rattle.matrix.specs.Demands.{rows_of_matrix}
 
@@ -50,14 +51,14 @@ unless_over None line vs = Ok vs
 unless_over (Some k) line vs = refuse TooMuch line (entry_byte vs k)
 
 unfoldable pub amounts_in : Limits → ℕ → Reading → Numbers
-unfolding and_then values_on unless_over
+unfolding values_on unless_over
 amounts_in limits line reading = and_then (values_on line reading) λ vs. unless_over (first_over limits vs) line vs
 
 -- ---- the lines in order
 
 -- `left` lines of n numbers are due in ls, of which the first has the number `line`, behind the lines m
 unfoldable pub square_lines : Limits → ℕ → ℕ → ℕ → List (List ℕ) → List (List ℕ) → SquareRead
-unfolding and_then amounts_in
+unfolding amounts_in
 square_lines limits n line zero m [] = Ok (n, m)
 square_lines limits n line zero m (l ∷ ls) = refuse Misshapen line 1
 square_lines limits n line (suc left) m [] = refuse Misshapen line 1
@@ -67,11 +68,11 @@ square_lines limits n line (suc left) m (l ∷ ls) =
 -- ---- the entries in order
 
 -- 17 and 18, of the entry x at i, j whose mirror entry is y
-unfoldable pub check_entry : ℕ → ℕ → ℕ → ℕ → of_table.Verdict
+unfoldable pub check_entry : ℕ → ℕ → ℕ → ℕ → of_reasons.Verdict
 check_entry i j x y = cond (eqb i j) (cond (eqb x 0) (Ok tt) (Err NotZero)) (cond (eqb x y) (Ok tt) (Err NotSymmetric))
 
 -- what is found against an entry that starts there
-unfoldable pub on_entry : of_table.Verdict → ℕ → ℕ → MatrixVerdict
+unfoldable pub on_entry : of_reasons.Verdict → ℕ → ℕ → MatrixVerdict
 on_entry (Ok tt) line byte = Ok tt
 on_entry (Err reason) line byte = refuse reason line byte
 
@@ -81,7 +82,7 @@ square_byte m i j = entry_byte (get_or m (i - 1) []) (j - 1)
 
 -- the entries i, j and on, k of them, then what is next
 unfoldable pub judge_across : List (List ℕ) → ℕ → ℕ → ℕ → MatrixVerdict → MatrixVerdict
-unfolding check_entry on_entry and_then
+unfolding check_entry on_entry
 judge_across m i j zero next = next
 judge_across m i j (suc k) next =
     and_then (on_entry (check_entry i j (entry m i j) (entry m j i)) i (square_byte m i j)) λ u. judge_across m i (j + 1) k next
@@ -97,19 +98,19 @@ abbrev pub judge_count : Limits → ℕ → List (List ℕ) → MatrixVerdict
 judge_count limits n m = cond (ltb limits.rows (length (rows_of_matrix n m))) (refuse TooMany 0 0) (Ok tt)
 
 unfoldable pub square_judged : Limits → SquareRead → SquareRead
-unfolding judge_down and_then
+unfolding judge_down
 square_judged limits x = and_then x λ s. and_then (judge_down s.1 s.0 1 s.0) λ u. and_then (judge_count limits s.0 s.1) λ w. Ok s
 
 -- ---- the whole
 
 -- what is found against the number of fields of the first line
-unfoldable pub on_first : of_table.Verdict → MatrixVerdict
+unfoldable pub on_first : of_reasons.Verdict → MatrixVerdict
 on_first (Ok tt) = Ok tt
 on_first (Err reason) = refuse reason 1 1
 
 -- n is the number of fields of the first line
 unfoldable pub matrix_lines : Limits → List (List ℕ) → SquareRead
-unfolding and_then values_on on_first square_lines square_judged fields_in
+unfolding values_on on_first square_lines square_judged fields_in
 matrix_lines limits [] = refuse Misshapen 1 1
 matrix_lines limits (l ∷ ls) =
     and_then (values_on 1 (read_line limits.digits (numbers (fields_in l)) l)) λ vs.

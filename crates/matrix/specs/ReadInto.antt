@@ -1,9 +1,9 @@
 -- Internal: what reading a matrix answers, of what the contracts of reading are made.
-use Rattle.std.specs.Prelude.{ℕ, List, ◌≡◌, length, Result, Ok, Err}
+use Rattle.std.specs.Prelude.{ℕ, List, ◌≡◌, length, Result, Ok}
 use Rattle.ring.specs.Limits.{desk}
 use Rattle.ring.specs.declared.types.Demand.{Demand}
-use Rattle.table.specs.declared.reason.Refusal.{Refusal}
-use Rattle.table.specs.OnLine.{and_then}
+use Rattle.reasons.specs.declared.reason.Refusal.{Refusal}
+use Rattle.reasons.specs.AndThen.{and_then}
 use Rattle.matrix.specs.Matrix.{write_matrix}
 use Rattle.matrix.specs.Range.{InRange}
 use Rattle.matrix.specs.Demands.{rows_of_matrix}
@@ -11,13 +11,11 @@ use Rattle.matrix.specs.Read.{SquareRead, MatrixVerdict}
 use Rattle.matrix.specs.Says.{Given}
 
 -- numbers of a line that were read, or what is said in their place
-unfoldable pub read_as : {E : Type 0} → Result Unit E → List ℕ → Result (List ℕ) E
-read_as (Ok u) vs = Ok vs
-read_as (Err e) vs = Err e
+abbrev pub read_as : {E : Type 0} → Result Unit E → List ℕ → Result (List ℕ) E
+read_as x vs = and_then x λ u. Ok vs
 
 -- lines that were read, or the refusal
-unfoldable pub read_to : MatrixVerdict → List (List ℕ) → SquareRead
-unfolding and_then
+abbrev pub read_to : MatrixVerdict → List (List ℕ) → SquareRead
 read_to x m = and_then x λ u. Ok (length m, m)
 
 -- the text is a matrix of n nodes in the desk's range, and these are its rows

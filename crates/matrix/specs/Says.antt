@@ -6,11 +6,11 @@ use Rattle.ring.specs.TableRows.{PairBefore}
 use Rattle.text.specs.Number.{limit}
 use Rattle.text.specs.FirstFault.{Agrees, FirstFault}
 use Rattle.text.specs.Shapes.{numbers, numbers_line}
-use Rattle.table.specs.Lines.{lines, LineIs}
-use Rattle.table.specs.Reasons.{rank_of, FirstReason, NoReason}
-use Rattle.table.specs.RowReasons.{DueByte}
-use Rattle.table.specs.declared.reason.Reason.{Reason}
-use Rattle.table.specs.declared.reason.Reason.TheVariants.{TooLong, Misshapen, RingSize, TooMany, TooMuch, NotZero, NotSymmetric}
+use Rattle.lines.specs.Lines.{lines, LineIs}
+use Rattle.reasons.specs.Reasons.{rank_of, FirstReason, NoReason}
+use Rattle.lines.specs.DueBytes.{DueByte}
+use Rattle.reasons.specs.declared.reason.Reason.{Reason}
+use Rattle.reasons.specs.declared.reason.Reason.TheVariants.{TooLong, Misshapen, RingSize, TooMany, TooMuch, NotZero, NotSymmetric}
 use Rattle.matrix.specs.Matrix.{entry_byte, IsSquare, Node}
 use Rattle.matrix.specs.Demands.{rows_of_matrix}
 
@@ -89,17 +89,20 @@ pub record SaysTooMany (limits : Limits) (t : List ℕ) (line : ℕ) : Type 0 wh
   pub lines : (i : ℕ) → Node n i → NumbersAre limits t i (get_or m (i - 1) [])
   pub wrong : limits.rows < length (rows_of_matrix n m)
 
--- what a reason says, with its line
-unfoldable pub Says : Limits → List ℕ → Reason → ℕ → Type 0
-Says limits t TooLong line = (line ≡ 0) × (limits.bytes < length t)
-Says limits t Misshapen line = NoFirstLine limits t line ⊎ (NoLaterLine limits t line ⊎ LeftOver limits t line)
-Says limits t RingSize line = SaysRingSize limits t line
-Says limits t TooMuch line = SaysTooMuch limits t line
-Says limits t NotZero line = FirstFaulty limits t NotZero line
-Says limits t NotSymmetric line = FirstFaulty limits t NotSymmetric line
-Says limits t TooMany line = SaysTooMany limits t line
--- the others judge no matrix
-Says limits t _ line = ⊥
+-- what a reason says, with its line. The others judge no matrix
+pub data MatrixSays (limits : Limits) (t : List ℕ) (line : ℕ) : Reason → Type 0 where
+  says_too_long : line ≡ 0 → limits.bytes < length t → MatrixSays limits t line TooLong
+  says_no_first_line : NoFirstLine limits t line → MatrixSays limits t line Misshapen
+  says_no_later_line : NoLaterLine limits t line → MatrixSays limits t line Misshapen
+  says_left_over : LeftOver limits t line → MatrixSays limits t line Misshapen
+  says_ring_size : SaysRingSize limits t line → MatrixSays limits t line RingSize
+  says_too_much : SaysTooMuch limits t line → MatrixSays limits t line TooMuch
+  says_not_zero : FirstFaulty limits t NotZero line → MatrixSays limits t line NotZero
+  says_not_symmetric : FirstFaulty limits t NotSymmetric line → MatrixSays limits t line NotSymmetric
+  says_too_many : SaysTooMany limits t line → MatrixSays limits t line TooMany
+
+abbrev pub Says : Limits → List ℕ → Reason → ℕ → Type 0
+Says limits t r line = MatrixSays limits t line r
 
 -- ---- the byte of the line that is given with a reason, counted from 1
 
@@ -137,24 +140,21 @@ pub record FaultyByte (limits : Limits) (t : List ℕ) (r : Reason) (line byte :
   pub faulty : FirstFaulty limits t r line
   pub starts : EntryStarts limits t line faulty.j byte
 
--- the byte of a reason that holds on a line
-unfoldable pub ByteIs : Limits → List ℕ → Reason → ℕ → ℕ → Type 0
--- a reason with line 0
-ByteIs limits t TooLong line byte = byte ≡ 0
-ByteIs limits t TooMany line byte = byte ≡ 0
-ByteIs limits t Misshapen line byte = LineByte limits t line byte
--- a reason that judges the line as a whole
-ByteIs limits t RingSize line byte = byte ≡ 1
--- a reason about one field
-ByteIs limits t TooMuch line byte = AmountByte limits t line byte
-ByteIs limits t NotZero line byte = FaultyByte limits t NotZero line byte
-ByteIs limits t NotSymmetric line byte = FaultyByte limits t NotSymmetric line byte
--- the others judge no matrix
-ByteIs limits t _ line byte = ⊥
+-- the byte of the line that is given with a reason. 1 and 16 have line 0, and 3 judges the line as a whole
+pub data MatrixByte (limits : Limits) (t : List ℕ) (line byte : ℕ) : Reason → Type 0 where
+  at_none : byte ≡ 0 → MatrixByte limits t line byte TooLong
+  at_fault : LineByte limits t line byte → MatrixByte limits t line byte Misshapen
+  at_size : byte ≡ 1 → MatrixByte limits t line byte RingSize
+  at_amount : AmountByte limits t line byte → MatrixByte limits t line byte TooMuch
+  at_diagonal : FaultyByte limits t NotZero line byte → MatrixByte limits t line byte NotZero
+  at_mirror : FaultyByte limits t NotSymmetric line byte → MatrixByte limits t line byte NotSymmetric
+  at_rows : byte ≡ 0 → MatrixByte limits t line byte TooMany
+
+abbrev pub ByteIs : Limits → List ℕ → Reason → ℕ → ℕ → Type 0
+ByteIs limits t r line byte = MatrixByte limits t line byte r
 
 -- ---- which is given
 
--- 17 and 18 come behind all lines, and 16 behind them
 abbrev pub stage : Reason → ℕ
 stage NotZero = 1
 stage NotSymmetric = 1

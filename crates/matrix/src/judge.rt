@@ -5,8 +5,8 @@ ghost use Rattle.matrix.specs.Read.{check_entry, judge_down, judge_count};
 
 use crate::fill::count_rows;
 use crate::square::Square;
+use reasons::{Reason, Refusal};
 use ring::ROWS;
-use table::{Reason, Refusal};
 
 /// What is found against the entry x at i, j, whose mirror entry is y.
 #[tactic(auto, unfolding(crate::specs::Read::check_entry))]

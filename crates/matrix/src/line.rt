@@ -3,12 +3,13 @@ ghost use Rattle.std.specs.Prelude.{◌≡◌, ◌≤◌, ◌+◌};
 ghost use Rattle.ring.specs.Limits.{desk};
 ghost use Rattle.text.specs.ReadLine.{read_line};
 ghost use Rattle.text.specs.Shapes.{numbers};
-ghost use Rattle.table.specs.OnLine.{values_on};
+ghost use Rattle.lines.specs.OnLine.{values_on};
 ghost use Rattle.matrix.specs.Read.{fields_in, first_numbers, amounts_in};
 ghost use Rattle.matrix.specs.ReadInto.{read_as};
 
 use crate::numbers::{Numbers, byte_of, first_over};
-use table::{Line, Reason, Refusal};
+use lines::Line;
+use reasons::{Reason, Refusal};
 use text::{Field, end_of, read_field};
 
 /// How many tabs a line has: one less than its fields.
@@ -36,7 +37,7 @@ fn numbers_in(text: &[u8], count: usize, values: &mut Numbers) -> Result<(), usi
 }
 
 /// The same of the line with this number; or its refusal.
-#[tactic(auto, using(crate::proofs::LineSteps::line_place), unfolding(crate::specs::Read::first_numbers, crate::specs::ReadInto::read_as, table::specs::OnLine::values_on))]
+#[tactic(auto, using(crate::proofs::LineSteps::line_place), unfolding(crate::specs::Read::first_numbers, lines::specs::OnLine::values_on))]
 pub(crate) fn numbers_on(
     line: &Line,
     number: u32,

@@ -2,7 +2,7 @@
 ghost use Rattle.std.specs.Prelude.{◌≡◌, [], ◌≤◌, length, IfOk, IfErr};
 ghost use Rattle.ring.specs.Limits.{desk};
 ghost use Rattle.ring.specs.Sheet.{sents, demands};
-ghost use Rattle.table.specs.Lines.{lines as lines_in};
+ghost use Rattle.lines.specs.Lines.{lines as lines_in};
 ghost use Rattle.matrix.specs.Read.{square_lines, square_judged, matrix_of};
 ghost use Rattle.matrix.specs.ReadInto.{read_to, IsMatrix, IsGiven};
 
@@ -11,9 +11,9 @@ use crate::judge::{judge_count, judge_square};
 use crate::line::{amounts_on, numbers_on, tabs};
 use crate::numbers::Numbers;
 use crate::square::Square;
-use ring::wide;
+use lines::Lines;
+use reasons::{Refusal, check_size};
 use rows::Columns;
-use table::{Lines, Refusal, check_size};
 
 /// How many nodes the ring of a matrix has: as many as the first line has fields. The size is judged once the line is known to be all numbers, so that it may
 /// have any number of them.
@@ -46,7 +46,7 @@ fn read_lines(lines: &mut Lines, square: &mut Square) -> Result<(), Refusal>
     let mut values = Numbers::new();
     for number in 1..nodes + 1 {
         let line = lines.due(number)?;
-        amounts_on(&line, number, wide(nodes), &mut values)?;
+        amounts_on(&line, number, nodes as usize, &mut values)?;
         square.put(number, &values);
     }
     lines.end(nodes + 1)

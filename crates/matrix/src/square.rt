@@ -6,7 +6,7 @@ ghost use Rattle.matrix.specs.Matrix.{entry, IsSquare, Node};
 ghost use Rattle.matrix.specs.Read.{square_byte};
 
 use crate::numbers::{Numbers, byte_of};
-use ring::{LINKS, wide};
+use ring::LINKS;
 use std::marker::Model;
 
 /// Puts the numbers of entries, at most as many as a line has, into a list that holds none. It is lent, so that it is filled where it stays.
@@ -80,7 +80,7 @@ impl Square {
     {
         // opens the value, so that its invariant is known: how many entries there are
         let _ = &self.nodes;
-        u32::from(self.entries[wide(i) - 1][wide(j) - 1])
+        u32::from(self.entries[i as usize - 1][j as usize - 1])
     }
 
     /// The byte of line i where entry j starts, both counted from 1. It is asked only of a matrix that is refused.
@@ -92,9 +92,9 @@ impl Square {
     {
         // opens the value, so that its invariant is known: how many entries there are
         let _ = &self.nodes;
-        let before = wide(j) - 1;
+        let before = j as usize - 1;
         let mut numbers = Numbers::new();
-        put_numbers(&self.entries[wide(i) - 1][..before], &mut numbers);
+        put_numbers(&self.entries[i as usize - 1][..before], &mut numbers);
         byte_of(&numbers, before)
     }
 
@@ -107,6 +107,6 @@ impl Square {
     {
         // opens the value, so that its invariant is known: how many entries there are
         let _ = &self.nodes;
-        self.entries[wide(i) - 1] = entries_of(numbers);
+        self.entries[i as usize - 1] = entries_of(numbers);
     }
 }

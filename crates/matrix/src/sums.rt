@@ -5,9 +5,9 @@ ghost use Rattle.ring.specs.Sheet.{sents, demands};
 ghost use Rattle.matrix.specs.Demands.{joins, sum_of};
 ghost use Rattle.matrix.specs.Judged.{judge_sums, Amounts};
 
+use reasons::{Reason, Refusal};
 use ring::{AMOUNT, Demand};
 use rows::{Rows, each};
-use table::{Reason, Refusal};
 
 /// What the demand of a row adds to the pair i, j, which it may name in either order.
 #[tactic(auto, unfolding(crate::specs::Demands::same_pair))]

@@ -14,13 +14,20 @@ use Rattle.ring.specs.Cut.{across}
 use Rattle.ring.specs.Routing.{Sent, Routed, split_load, unsplit_load}
 use Rattle.ring.specs.Sheet.{Link, Sheet, sents, demands, unsplit_peak}
 use Rattle.ring.specs.True.{SumsTo2d, TrueSheet}
-use Rattle.ring.proofs.Lists.{each, each_both, each-of-map}
+use Rattle.ring.proofs.Lists.{each, each_both, each-of-map, each-map}
 use Rattle.ring.proofs.Peaks.{peak-least}
 use Rattle.ring.proofs.Totals.{total-most, across-total, split-total, unsplit-total, part_small, sent-small, whole-small}
 
 -- a sheet has as many demands as rows
 pub demands-length : (rs : List Routed) → length (demands (sents rs)) ≡ length rs
 demands-length rs = length-map (sents rs) (λ (s : Sent). s.demand) ∙ length-map rs (λ (r : Routed). r.sent)
+
+-- what holds of each demand holds of each row, and back
+pub each-of-demands : {P : Demand → Type 0} (rs : List Routed) → Each P (demands (sents rs)) → Each (λ (r : Routed). P r.sent.demand) rs
+each-of-demands {P} rs e = each-of-map (λ (r : Routed). r.sent) {P = λ s. P s.demand} rs (each-of-map (λ (s : Sent). s.demand) {P = P} (sents rs) e)
+
+pub each-demands : {P : Demand → Type 0} (rs : List Routed) → Each (λ (r : Routed). P r.sent.demand) rs → Each P (demands (sents rs))
+each-demands {P} rs e = each-map (λ (s : Sent). s.demand) {P = P} (sents rs) (each-map (λ (r : Routed). r.sent) {P = λ s. P s.demand} rs e)
 
 -- a row of at most `most`
 pub record SmallRow (most : ℕ) (r : Routed) : Type 0 where
@@ -66,7 +73,7 @@ pub record SmallFigures (most : ℕ) (x : Sheet) : Type 0 where
   pub rows : Each (SmallRow most) x.rows
   pub across : x.cut.across ≤ most * length x.rows
   pub links : Each (SmallLink most (length x.rows)) x.links
-  pub peak : x.peak ≤ most * length x.rows
+  pub unsplit_peak : x.unsplit_peak ≤ most * length x.rows
   pub size : x.size ≤ largest_of sonet_sizes
 
 -- no size is above the largest of the list
@@ -83,6 +90,6 @@ figures-small most x t amounts =
         split = omega (arith, loads.split, split-small most x.rows amounts t.sums l.link);
         unsplit = omega (arith, loads.unsplit, unsplit-small most x.rows amounts l.link);
       }) t.loads;
-      peak = omega (arith, t.peak, peak-least (unsplit_load x.rows) x.ring.nodes (most * length x.rows) (λ k a b. unsplit-small most x.rows amounts k));
+      unsplit_peak = omega (arith, t.peak, peak-least (unsplit_load x.rows) x.ring.nodes (most * length x.rows) (λ k a b. unsplit-small most x.rows amounts k));
       size = omega (arith, t.size, line-size-small sonet_sizes x.ring.fibres (unsplit_peak x));
     }

@@ -4,6 +4,7 @@ ghost use Rattle.sonet.specs.Size.{sonet_sizes};
 ghost use Rattle.ring.specs.Demand.{in_front};
 ghost use Rattle.ring.specs.LineSize.{needed, line_size};
 ghost use Rattle.ring.specs.Routing.{by_way, way_of, way_number};
+ghost use Rattle.ring.specs.RuleD.{whole_way};
 
 use crate::TWO_FIBRES;
 use sonet::Sonet;
@@ -66,6 +67,20 @@ pub struct Sent {
     pub back: u32,
 }
 
+impl Sent {
+    /// Its way where it is not split: over its front where nothing is sent over its back.
+    #[tactic(auto, unfolding(crate::specs::RuleD::whole_way))]
+    pub fn whole_way(self) -> Way
+        ensures { result ≡ whole_way self }
+    {
+        if self.back == 0 {
+            Way::Front
+        } else {
+            Way::Back
+        }
+    }
+}
+
 /// The way of a demand that goes whole: over its front (F on a sheet) or over its back (B).
 #[derive(Clone, Copy)]
 pub enum Way {
@@ -120,12 +135,12 @@ pub struct Cut {
     pub across: u32,
 }
 
-/// The figures of a sheet that are not of a row or of a link: R n fibres, C g h across, Z peak size; the peak is the unsplit one, in units.
+/// The figures of a sheet that are not of a row or of a link: R n fibres, C g h across, Z unsplit-peak size; the peak is in units.
 #[derive(Clone, Copy)]
 pub struct Figures {
     pub ring: Ring,
     pub cut: Cut,
-    pub peak: u32,
+    pub unsplit_peak: u32,
     pub size: u32,
 }
 

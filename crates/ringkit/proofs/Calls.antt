@@ -9,10 +9,10 @@ use lib.ListN.{length, take, drop}
 use lib.Seq.{take-append_seam}
 use borrow.Author.Tests.{lt-ltb, le-ltb}
 use Rattle.std.specs.Prelude.{Result, Ok, Err, IsOk, IfOk}
-use Rattle.table.specs.declared.reason.Reason.{Reason}
-use Rattle.table.specs.declared.reason.Reason.TheVariants.{NoRoom}
-use Rattle.table.specs.declared.reason.Refusal.{Refusal}
-use Rattle.table.specs.Refusals.{refuse}
+use Rattle.reasons.specs.declared.reason.Reason.{Reason}
+use Rattle.reasons.specs.declared.reason.Reason.TheVariants.{NoRoom}
+use Rattle.reasons.specs.declared.reason.Refusal.{Refusal}
+use Rattle.reasons.specs.Refusals.{refuse}
 use Rattle.ringkit.specs.Outcome.{Outcome, within, answer_of, buffer_after, Fills}
 use Rattle.ringkit.specs.Says.{Answer, Success, Refused, CallSays, with_room, without_room, none_due, TooLarge, CallPromise, Only}
 
@@ -48,7 +48,7 @@ same-err e = cc
 -- ---- every call is one of the three cases
 
 module _ {Due : List ℕ → Type 0} {Given : Reason → ℕ → ℕ → Type 0} {old new : List ℕ} {r : Answer} where
-  every_call : {outcome : Outcome} → Decided Due Given outcome → Fills outcome old new r → CallSays Due Given old new r
+  pub every_call : {outcome : Outcome} → Decided Due Given outcome → Fills outcome old new r → CallSays Due Given old new r
   unfolding within answer_of buffer_after
   every_call (is_due {text = t} due) f =
       elim (dec_lt (length old) (length t)) [
@@ -116,11 +116,12 @@ module _ {Due : List ℕ → Type 0} {Given : Reason → ℕ → ℕ → Type 0}
       back h (none_due g s) = let e = one-refusal s.answer h.answer in rw (← e.reason, ← e.line, ← e.byte) g
 
 -- all that a call promises that fills a buffer
+pub promise-of : {Due : List ℕ → Type 0} {Given : Reason → ℕ → ℕ → Type 0} {old new : List ℕ} {r : Answer} → One Due Given → CallSays Due Given old new r → CallPromise Due Given old new r
+promise-of one call = record { cases = call; succeeds = succeeds one call; no_room = no_room one call; refuses = refuses one call }
+
 pub call-promise : {Due : List ℕ → Type 0} {Given : Reason → ℕ → ℕ → Type 0} {outcome : Outcome} {old new : List ℕ} {r : Answer} → One Due Given → Decided Due Given outcome
     → Fills outcome old new r → CallPromise Due Given old new r
-call-promise one decided f =
-    let call = every_call decided f in
-    record { cases = call; succeeds = succeeds one call; no_room = no_room one call; refuses = refuses one call }
+call-promise one decided f = promise-of one (every_call decided f)
 
 -- ---- what follows from a promise alone
 

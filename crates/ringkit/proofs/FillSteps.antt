@@ -9,10 +9,10 @@ use native.Mathlib.Decide.{dec_lt}
 use borrow.Author.Tests.{lt-ltb}
 use Rattle.std.specs.Prelude.{Result, Ok, Err}
 use Rattle.text.specs.Written.{Written}
-use Rattle.table.specs.declared.reason.Refusal.{Refusal}
+use Rattle.reasons.specs.declared.reason.Refusal.{Refusal}
 use Rattle.ringkit.specs.Outcome.{Outcome, ask_room, within, answer_of, buffer_after, Fills}
-use Rattle.table.specs.declared.reason.Reason.TheVariants.{NoRoom}
-use Rattle.table.specs.Refusals.{refuse}
+use Rattle.reasons.specs.declared.reason.Reason.TheVariants.{NoRoom}
+use Rattle.reasons.specs.Refusals.{refuse}
 use Rattle.ringkit.specs.Says.{Answer}
 
 -- a refusal changes nothing

@@ -2,9 +2,9 @@
 use Rattle.std.proofs.Common.{Ok, Err, ◌≡◌, refl, sym}
 use Rattle.ring.specs.Limits.{desk}
 use Rattle.ring.specs.Sheet.{Sheet}
-use Rattle.table.specs.Findings.{First}
-use Rattle.table.specs.declared.finding.Finding.{Finding}
-use Rattle.table.proofs.Findings.{one-answer}
+use Rattle.reasons.specs.Findings.{First}
+use Rattle.reasons.specs.declared.finding.Finding.{Finding}
+use Rattle.reasons.proofs.Findings.{one-answer}
 use Rattle.judge.specs.Findings.{findings}
 use Rattle.judge.proofs.Accepted.{fine-accepted, true-fine}
 use Rattle.ringkit.specs.Judging.{Judged, valid, says_valid, says_fault, JudgePromise}

@@ -11,3 +11,4 @@ pub mod WorkSteps
 pub mod WorkCalls
 pub mod JudgeCalls
 pub mod TurnCalls
+pub mod PlanCalls

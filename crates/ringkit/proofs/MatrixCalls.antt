@@ -6,28 +6,29 @@ use mathlib.Core.Logic.{◌↔◌}
 use mathlib.Core.Path.{◌≡◌, refl, ap, ◌∙◌, sym, subst}
 use native.Mathlib.Omega.{arith}
 use lib.ListN.{length, take}
-use Rattle.std.specs.Prelude.{Ok, Err, IsOk, IfOk}
+use Rattle.std.specs.Prelude.{Result, Ok, Err, IsOk, IfOk}
 use Rattle.ring.specs.Limits.{desk}
 use Rattle.ring.specs.LineSize.{IsFibres}
 use Rattle.ring.specs.Ring.{ring_of}
 use Rattle.ring.specs.declared.types.Ring.{Ring}
 use Rattle.ring.specs.declared.types.Demand.{Demand}
-use Rattle.table.specs.Judge.{check_fibres}
-use Rattle.table.specs.OnLine.{and_then}
-use Rattle.table.specs.Reasons.{number_of}
+use Rattle.reasons.specs.Judge.{check_fibres}
+use Rattle.reasons.specs.AndThen.{and_then}
+use Rattle.reasons.specs.Reasons.{number_of}
 use Rattle.table.specs.Table.{write_table, table_room}
-use Rattle.table.specs.ReadTable.{TableResult, accepted, refused, table_of}
+use Rattle.table.specs.ReadTable.{Table, table_of}
 use Rattle.table.specs.Says as table
-use Rattle.table.specs.declared.reason.Reason.{Reason}
-use Rattle.table.specs.declared.reason.Reason.TheVariants.{NoRoom}
-use Rattle.table.proofs.Judged.{Fibred, other as not-fibres, known as are-fibres, fibred}
+use Rattle.reasons.specs.declared.reason.Reason.{Reason}
+use Rattle.reasons.specs.declared.reason.Refusal.{Refusal}
+use Rattle.reasons.specs.declared.reason.Reason.TheVariants.{NoRoom}
+use Rattle.reasons.proofs.Judged.{Fibred, other as not-fibres, known as are-fibres, fibred}
 use Rattle.table.proofs.ReasonsGiven as table-given
 use Rattle.table.proofs.Said.{not-15 as table-not-15}
 use Rattle.matrix.specs.Matrix.{write_matrix}
 use Rattle.matrix.specs.Demands.{rows_of_matrix, matrix_of_rows, Passes, OneEach}
 use Rattle.matrix.specs.Read.{SquareRead, MatrixVerdict, matrix_of}
 use Rattle.matrix.specs.Room.{matrix_room}
-use Rattle.matrix.specs.Says.{Says, Accepted}
+use Rattle.matrix.specs.Says.{says_too_long, says_no_first_line, says_no_later_line, says_left_over, says_ring_size, says_too_much, says_not_zero, says_not_symmetric, says_too_many, Says, Accepted}
 use Rattle.matrix.proofs.MatrixText.{desk-possible, matrix-text}
 use Rattle.matrix.proofs.ReasonsGiven.{one-given, given, accepted-is}
 use Rattle.matrix.proofs.RoundTrip.{matrix-back, table-back, table-room, rows-in-range, rows-one-each}
@@ -35,14 +36,13 @@ use Rattle.matrix.proofs.Rooms.{room-for-matrix, matrix-in-range}
 use Rattle.matrix.proofs.SumsGiven.{SumsJudged, sums_pass, sums_fit, sums-judged, one-passing}
 use Rattle.matrix.proofs.OneEach.{one-each-fit}
 use Rattle.ringkit.specs.Outcome.{Fills}
-use Rattle.ringkit.specs.TableCalls.{of_table}
 use Rattle.ringkit.specs.MatrixCalls.{table_of_matrix, on_call, matrix_read, matrix_of_table, matrix_written}
 use Rattle.ringkit.specs.Says.{Answer, CallPromise, Only}
 use Rattle.ringkit.specs.Back.{MatrixToTableToMatrix, TableToMatrixToTable}
 use Rattle.ringkit.specs.Texts.{TableOf, MatrixOf, SomeMatrix, MatrixDue, MatrixGiven, of_fibres, of_matrix, SumsDue, SumsFit, SumsGiven, of_the_table, of_sums}
 use Rattle.ringkit.specs.Promises.{ReadMatrixPromise, WriteMatrixPromise}
 use Rattle.ringkit.proofs.Calls.{Decided, is_due, is_given, One, call-promise, call-only, written-due, length-within, written, if-ok}
-use Rattle.ringkit.proofs.TableCalls.{read_is, due-accepted, same-values}
+use Rattle.ringkit.proofs.TableCalls.{read_is, accepted-table, same-values, no-reason}
 
 -- ---- reading
 
@@ -69,7 +69,7 @@ module _ (fibres : ℕ) (t : List ℕ) where
   decided f (Err r) e = is_given (of_matrix f ((given desk t r).0 e))
 
   all-decided : Decided (MatrixDue fibres t) (MatrixGiven fibres t) (matrix_read fibres t)
-  unfolding matrix_read check_fibres on_call and_then
+  unfolding matrix_read check_fibres on_call
   all-decided = go (fibred fibres)
     where
       go : Fibred fibres → Decided (MatrixDue fibres t) (MatrixGiven fibres t) (matrix_read fibres t)
@@ -79,9 +79,16 @@ module _ (fibres : ℕ) (t : List ℕ) where
   due-accepted-matrix : (text : List ℕ) → MatrixDue fibres t text → Accepted desk t
   due-accepted-matrix text d = (accepted-is desk t).0 (record { n = d.n; m = d.m; is = (matrix_is t d.n d.m).1 d.of })
 
-  not-15 : (reason : Reason) (line : ℕ) → Says desk t reason line → reason ≡ NoRoom → ⊥
-  unfolding Says
-  not-15 reason line h e = subst (λ s. Says desk t s line) e h
+  not-15 : {reason : Reason} {line : ℕ} → Says desk t reason line → number_of reason ≡ 15 → ⊥
+  not-15 (says_too_long e long) f = omega arith
+  not-15 (says_no_first_line h) f = omega arith
+  not-15 (says_no_later_line h) f = omega arith
+  not-15 (says_left_over h) f = omega arith
+  not-15 (says_ring_size h) f = omega arith
+  not-15 (says_too_much h) f = omega arith
+  not-15 (says_not_zero h) f = omega arith
+  not-15 (says_not_symmetric h) f = omega arith
+  not-15 (says_too_many h) f = omega arith
 
   one-given-matrix : {r s : Reason} {line other byte on : ℕ} → MatrixGiven fibres t r line byte → MatrixGiven fibres t s other on → (r ≡ s) × (line ≡ other) × (byte ≡ on)
   one-given-matrix (of_fibres f) (of_fibres g) = (refl, refl, refl)
@@ -95,7 +102,7 @@ module _ (fibres : ℕ) (t : List ℕ) where
 
   given-not-15 : {r : Reason} {line byte : ℕ} → MatrixGiven fibres t r line byte → r ≡ NoRoom → ⊥
   given-not-15 (of_fibres f) e = absurd (omega (arith, ap number_of e))
-  given-not-15 (of_matrix {reason} {line} {byte} f g) e = not-15 reason line g.holds e
+  given-not-15 (of_matrix f g) e = not-15 g.holds (ap number_of e)
 
   one-due : One (MatrixDue fibres t) (MatrixGiven fibres t)
   one-due =
@@ -122,7 +129,7 @@ module _ (fibres : ℕ) (t text : List ℕ) (d : MatrixDue fibres t text) where
   due-table = record { text = d.is; range = rows-in-range d.n fibres d.m d.two_or_four d.of.range }
 
   pub matrix-table-accepted : table.Accepted desk text
-  matrix-table-accepted = (due-accepted text write_table).1 (record { text = text; is = record { ring = ring_of d.n fibres; rs = rows_of_matrix d.n d.m; of = due-table; is = d.is } })
+  matrix-table-accepted = (accepted-table text).1 (record { ring = ring_of d.n fibres; rs = rows_of_matrix d.n d.m; of = due-table })
 
   -- and no longer than `table_room`
   pub matrix-table-short : length text ≤ table_room desk
@@ -145,19 +152,14 @@ always-read fibres t old new r call f a room =
 
 -- ---- writing
 
--- no reason is given to a text that is a table
-no-reason : {t : List ℕ} {ring : Ring} {rs : List Demand} → TableOf t ring rs → {reason : Reason} {line byte : ℕ} → table.Given desk t reason line byte → ⊥
-no-reason {t} {ring} {rs} of {reason} {line} {byte} g = (due-accepted t write_table).1 (record { text = t; is = record { ring = ring; rs = rs; of = of; is = of.text } }) reason line g.holds
-
 module _ (t : List ℕ) where
-  sums-decided : (x : TableResult) → table_of desk t ≡ x → Decided (SumsDue t) (SumsGiven t) (of_table matrix_of_table x)
-  unfolding of_table and_then
-  sums-decided (accepted ring rs) e = go (sums-judged desk rs)
+  sums-decided : (x : Result Table Refusal) → table_of desk t ≡ x → Decided (SumsDue t) (SumsGiven t) (and_then x λ y. matrix_of_table y.0 y.1)
+  sums-decided (Ok y) e = go (sums-judged desk y.1)
     where
-      go : {x : MatrixVerdict} → SumsJudged desk rs x → Decided (SumsDue t) (SumsGiven t) (and_then x λ u. Ok (write_matrix (matrix_of_rows ring.nodes rs)))
-      go (sums_fit fit) = is_due (record { ring = ring; rs = rs; of = (read_is t ring rs).0 e; fit = fit; is = refl })
-      go (sums_pass passes) = is_given (of_sums ((read_is t ring rs).0 e) passes)
-  sums-decided (refused reason line byte) e = is_given (of_the_table ((table-given.given desk t reason line byte).0 e))
+      go : {x : MatrixVerdict} → SumsJudged desk y.1 x → Decided (SumsDue t) (SumsGiven t) (and_then x λ u. Ok (write_matrix (matrix_of_rows y.0.nodes y.1)))
+      go (sums_fit fit) = is_due (record { ring = y.0; rs = y.1; of = (read_is t y.0 y.1).0 e; fit = fit; is = refl })
+      go (sums_pass passes) = is_given (of_sums ((read_is t y.0 y.1).0 e) passes)
+  sums-decided (Err r) e = is_given (of_the_table ((table-given.given desk t r).0 e))
 
   one-refusal : {r s : Reason} {line other byte on : ℕ} → SumsGiven t r line byte → SumsGiven t s other on → (r ≡ s) × (line ≡ other) × (byte ≡ on)
   one-refusal (of_the_table a) (of_the_table b) = table-given.one-given a b

@@ -12,11 +12,11 @@ use Rattle.ring.specs.declared.types.Demand.{Demand}
 use Rattle.ring.specs.declared.types.Routed.{Routed}
 use Rattle.ring.specs.Sheet.{sents, demands}
 use Rattle.ring.proofs.Small.{demands-length}
-use Rattle.table.specs.OnLine.{and_then}
-use Rattle.table.specs.Judge.{check_fibres}
-use Rattle.table.specs.Verdict.{Verdict}
+use Rattle.reasons.specs.AndThen.{and_then}
+use Rattle.reasons.specs.Judge.{check_fibres}
+use Rattle.reasons.specs.Verdict.{Verdict}
 use Rattle.table.specs.Table.{write_table}
-use Rattle.table.specs.declared.reason.Refusal.{Refusal}
+use Rattle.reasons.specs.declared.reason.Refusal.{Refusal}
 use Rattle.matrix.specs.Matrix.{write_matrix}
 use Rattle.matrix.specs.Demands.{matrix_of_rows}
 use Rattle.matrix.specs.Read.{MatrixVerdict, matrix_of}
@@ -37,12 +37,10 @@ module _ (s old : List ℕ) (fibres : ℕ) (v : Verdict) (ev : v ≡ check_fibre
   read-is = rw (ef, ev)
 
   pub fibres-refused : (x : Refusal) → found ≡ Err x → Fills (matrix_read fibres s) old old (Err x)
-  unfolding and_then
   fibres-refused x e = refuses (matrix_read fibres s) old x (read-is ∙ rw e)
 
   module _ (fine : found ≡ Ok tt) where
     known : matrix_read fibres s ≡ table_of_matrix fibres (matrix_of desk s)
-    unfolding and_then
     known = read-is ∙ rw fine
 
     pub matrix_refused : (x : Refusal) → IsGiven s x → Fills (matrix_read fibres s) old old (Err x)
@@ -64,9 +62,7 @@ matrix-rows-have-room s n rows is =
 
 module _ (ring : Ring) (rs : List Demand) (x : MatrixVerdict) (ex : x ≡ judge_sums desk rs) where
   pub sums-refused : (old : List ℕ) (y : Refusal) → x ≡ Err y → Fills (matrix_of_table ring rs) old old (Err y)
-  unfolding and_then
   sums-refused old y f = refuses (matrix_of_table ring rs) old y (rw (← ex, f))
 
   pub written-fills : x ≡ Ok tt → (old new : List ℕ) (r : Answer) → Fills (Ok (write_matrix (matrix_of_rows ring.nodes rs))) old new r → Fills (matrix_of_table ring rs) old new r
-  unfolding and_then
   written-fills f old new r = same-fills old new r (rw (← ex, f))

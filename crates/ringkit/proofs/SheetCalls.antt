@@ -1,63 +1,59 @@
--- The calls that read a sheet keep their promise (`Calls`), by the laws of checking a sheet; and what routing writes, the checker accepts and finds no
--- parallel split pair in.
+-- The calls that read a sheet keep their promise (`Calls`), by the laws of checking a sheet.
 use Prim.Native.Nat.{ℕ}
 use mathlib.Core.List.{List}
 use mathlib.Core.Logic.{◌↔◌}
 use mathlib.Core.Path.{◌≡◌, refl, ap, ◌∙◌, sym, subst}
 use Rattle.std.specs.Prelude.{Result, Ok, Err}
 use Rattle.ring.specs.Limits.{desk}
-use Rattle.ring.specs.Sheet.{Sheet, sents, plan}
-use Rattle.ring.proofs.OurPlan.{plan-true, plan-demands}
+use Rattle.ring.specs.Sheet.{Sheet, sents}
 use Rattle.ring.proofs.Papers.{paper-figures}
 use Rattle.ring.proofs.NoLower.{no_lower}
-use Rattle.table.specs.Reasons.{number_of}
-use Rattle.table.specs.Says as table
-use Rattle.table.specs.declared.reason.Reason.{Reason}
-use Rattle.table.specs.declared.reason.Refusal.{Refusal}
-use Rattle.table.specs.Refusals.{refuse}
-use Rattle.sheet.specs.Read.{SheetResult, accepted, refused, read_sheet}
+use Rattle.reasons.specs.Reasons.{number_of}
+use Rattle.reasons.specs.declared.reason.Reason.{Reason}
+use Rattle.reasons.specs.declared.reason.Refusal.{Refusal}
+use Rattle.reasons.specs.Refusals.{refusal, refuse}
+use Rattle.reasons.specs.AndThen.{and_then}
+use Rattle.sheet.specs.Read.{read_sheet}
 use Rattle.sheet.specs.Says.{WellFormed}
 use Rattle.sheet.proofs.SheetReasons.{well-formed-is}
 use Rattle.checker.specs.Check.{check}
 use Rattle.checker.specs.Says.{ReadTo, Given, Accepted}
 use Rattle.checker.proofs.Reasons.{read-as, given, accepted-is, check-text, accepted-if-true, one-given, not-both, not-15}
 use Rattle.sheet.specs.WriteSheet.{write_sheet}
-use Rattle.sheet.proofs.Short.{plan-in-range}
 use Rattle.checker.specs.FindPair.{first_pair}
 use Rattle.checker.specs.declared.pair.Pair.{Pair}
 use Rattle.checker.specs.declared.pair.Pair.TheVariants.{Are, None}
-use Rattle.checker.proofs.OurPair.{plan-no-pair}
 use Rattle.checker.proofs.PairLaws.{low, first-pair-is, no-pair-is}
 use Rattle.ringkit.specs.Outcome.{Fills}
-use Rattle.ringkit.specs.TableCalls.{table_routed}
-use Rattle.ringkit.specs.SheetCalls.{of_sheet, sheet_checked, sheet_parallel, sheet_afresh}
+use Rattle.ringkit.specs.SheetCalls.{sheet_checked, sheet_parallel, sheet_afresh}
 use Rattle.ringkit.specs.Says.{Answer, CallPromise, Only}
-use Rattle.ringkit.specs.Texts.{SheetOf, SomeSheet, SomeForm, TableDue, sheet_due, Itself}
+use Rattle.ringkit.specs.Texts.{SheetOf, SomeSheet, SomeForm, Itself}
 use Rattle.ringkit.specs.Answers.{Checked, Asked, yes, CheckSays, says_yes, says_no, CheckPromise, paired, unpaired, PairOf, NoPairOf, PairSays, a_pair, no_pair, refused as pair-refused, PairPromise}
 use Rattle.ringkit.specs.Promises.{RewriteSheetPromise}
-use Rattle.ringkit.specs.Sheets.{FormedSheet, BestSheet, RoutedWell}
+use Rattle.ringkit.specs.Sheets.{FormedSheet, BestSheet}
 use Rattle.ringkit.proofs.Calls.{Decided, is_due, is_given, One, call-promise, call-only, same-err}
-use Rattle.ringkit.proofs.TableCalls.{due-accepted, route-promise}
 
 -- ---- what a sheet is read to
 
 module _ (t : List ℕ) where
   -- a sheet is accepted as the values that it is the sheet of
-  checked-is : (x : Sheet) → (check desk t ≡ accepted x) ↔ SheetOf t x
+  checked-is : (x : Sheet) → (check desk t ≡ Ok x) ↔ SheetOf t x
   checked-is x = (
     λ e. let w = (check-text t x).0 e in record { text = w.0; range = w.1.0; true_sheet = w.1.1 },
     λ h. (check-text t x).1 (h.text, (h.range, h.true_sheet)),
   )
 
-  accepted-as : (x : Sheet) → check desk t ≡ accepted x → Accepted desk t
+  accepted-as : (x : Sheet) → check desk t ≡ Ok x → Accepted desk t
   accepted-as x e = (accepted-is t).0 (record { x = x; is = e })
+
+  pub sheet-accepted : (x : Sheet) → SheetOf t x → Accepted desk t
+  sheet-accepted x of = accepted-as x ((checked-is x).1 of)
 
 -- ---- rewriting
 
-afresh : (t : List ℕ) (x : SheetResult) → check desk t ≡ x → Decided (Itself (Accepted desk t) t) (Given desk t) (of_sheet write_sheet x)
-unfolding of_sheet
-afresh t (accepted x) e = is_due (record { accepted = accepted-as t x e; same = sym ((checked-is t x).0 e).text })
-afresh t (refused reason line byte) e = is_given ((given t reason line byte).0 e)
+afresh : (t : List ℕ) (x : Result Sheet Refusal) → check desk t ≡ x → Decided (Itself (Accepted desk t) t) (Given desk t) (and_then x λ y. Ok (write_sheet y))
+afresh t (Ok x) e = is_due (record { accepted = accepted-as t x e; same = sym ((checked-is t x).0 e).text })
+afresh t (Err r) e = is_given ((given t r).0 e)
 
 one-itself : (t : List ℕ) → One (Itself (Accepted desk t) t) (Given desk t)
 one-itself t =
@@ -78,12 +74,11 @@ rewrite-sheet-only t old new r f = call-only (rewrite-sheet-promise t old new r 
 -- ---- checking
 
 checked : (t : List ℕ) → CheckSays t (sheet_checked t)
-unfolding of_sheet
 checked t = go (check desk t) refl
   where
-    go : (x : SheetResult) → check desk t ≡ x → CheckSays t (of_sheet (λ x. tt) x)
-    go (accepted x) e = says_yes (accepted-as t x e)
-    go (refused reason line byte) e = says_no ((given t reason line byte).0 e)
+    go : (x : Result Sheet Refusal) → check desk t ≡ x → CheckSays t (and_then x λ y. Ok tt)
+    go (Ok x) e = says_yes (accepted-as t x e)
+    go (Err r) e = says_no ((given t r).0 e)
 
 -- yes is no refusal, and two refusals that are one answer name the same
 yes-not-no : {x : Refusal} → yes ≡ Err x → ⊥
@@ -134,23 +129,21 @@ well-formed-sheet t = (
 )
 
 pub formed-checked : (t : List ℕ) (r : Checked) → r ≡ sheet_checked t → WellFormed desk t → FormedSheet t r
-unfolding of_sheet
 formed-checked t r e w =
     let f = (well-formed-is desk t).1 w in
     let s = (read-as t f.x).0 f.is in
     let law = accepted-if-true t f.x s in
-    record { x = f.x; text = s.text; range = s.range; says_yes = (λ y. law.0 (same-x f.x s y), λ true_sheet. e ∙ ap (of_sheet (λ x. tt)) (law.1 true_sheet)) }
+    record { x = f.x; text = s.text; range = s.range; says_yes = (λ y. law.0 (same-x f.x s y), λ true_sheet. let a = law.1 true_sheet in e ∙ rw a) }
   where
-    same-x : (x : Sheet) → ReadTo desk t x → r ≡ yes → check desk t ≡ accepted x
+    same-x : (x : Sheet) → ReadTo desk t x → r ≡ yes → check desk t ≡ Ok x
     same-x x s y =
         let a = (accepted-is t).1 ((check-promise t r e).accepts.0 y) in
         let w = (check-text t a.x).0 a.is in
-        let g : read_sheet desk t ≡ accepted a.x = (read-as t a.x).1 (record { text = w.0; range = w.1.0 }) in
-        let h : accepted a.x ≡ accepted x = sym g ∙ (read-as t x).1 s in
-        a.is ∙ h
+        let g : read_sheet desk t ≡ Ok a.x = (read-as t a.x).1 (record { text = w.0; range = w.1.0 }) in
+        a.is ∙ sym g ∙ (read-as t x).1 s
 
 -- the sheet of some values is the best there is
-best_of : (t : List ℕ) (x : Sheet) → SheetOf t x → BestSheet t
+unfoldable pub best_of : (t : List ℕ) (x : Sheet) → SheetOf t x → BestSheet t
 best_of t x of = record { x = x; of = of; figures = paper-figures x of.true_sheet; no_lower = no_lower x of.true_sheet }
 
 pub yes-best : (t : List ℕ) (r : Checked) → r ≡ sheet_checked t → r ≡ yes → BestSheet t
@@ -159,25 +152,22 @@ yes-best t r e y = let a = (accepted-is t).1 ((check-promise t r e).accepts.0 y)
 -- ---- the question
 
 asked : (t : List ℕ) → PairSays t (sheet_parallel t)
-unfolding of_sheet
 asked t = go (check desk t) refl
   where
     pair_of : (x : Sheet) → SheetOf t x → (f : Pair) → first_pair (sents x.rows) ≡ f → PairSays t (Ok f)
     pair_of x of (Are p r) e = let are = (first-pair-is (sents x.rows) p r).0 e in a_pair (record { x = x; of = of; pair = are }) (low are.are.first)
     pair_of x of None e = no_pair (record { x = x; of = of; none = (no-pair-is (sents x.rows)).0 e })
 
-    go : (y : SheetResult) → check desk t ≡ y → PairSays t (of_sheet (λ x. first_pair (sents x.rows)) y)
-    go (accepted x) q = pair_of x ((checked-is t x).0 q) (first_pair (sents x.rows)) refl
-    go (refused reason line byte) q = pair-refused ((given t reason line byte).0 q)
+    go : (y : Result Sheet Refusal) → check desk t ≡ y → PairSays t (and_then y λ x. Ok (first_pair (sents x.rows)))
+    go (Ok x) q = pair_of x ((checked-is t x).0 q) (first_pair (sents x.rows)) refl
+    go (Err r) q = pair-refused ((given t r).0 q)
 
 module _ (t : List ℕ) where
   said : (x : Sheet) → SheetOf t x → (f : Pair) → first_pair (sents x.rows) ≡ f → sheet_parallel t ≡ Ok f
-  unfolding of_sheet
-  said x of f e = ap (of_sheet (λ x. first_pair (sents x.rows))) ((checked-is t x).1 of) ∙ ap (λ (f : Pair). Ok f) e
+  said x of f e = let q = (checked-is t x).1 of in rw (q, e)
 
   said-refusal : (reason : Reason) (line byte : ℕ) → Given desk t reason line byte → sheet_parallel t ≡ refuse reason line byte
-  unfolding of_sheet
-  said-refusal reason line byte g = ap (of_sheet (λ x. first_pair (sents x.rows))) ((given t reason line byte).1 g)
+  said-refusal reason line byte g = let q = (given t (refusal reason line byte)).1 g in rw q
 
   is-pair : (p q : ℕ) {r : Asked} → PairSays t r → r ≡ paired p q → PairOf t p q
   is-pair p q (a_pair {p = a} {q = b} x l) e = let ea : a ≡ p = cc in let eb : b ≡ q = cc in rw (← ea, ← eb) x
@@ -213,45 +203,3 @@ parallel-only t r e other p = go (parallel-promise t r e).cases p
     go (a_pair {p = a} {q = b} x l) p = (p.pair a b).1 x
     go (no_pair x) p = p.none.1 x
     go (pair-refused {reason} {line} {byte} g) p = (p.refuses reason line byte).1 g
-
--- ---- what routing writes
-
-module _ (t text : List ℕ) (due : TableDue sheet_due t text) where
-  routed-of : SheetOf text (plan due.ring due.rs)
-  routed-of =
-      record {
-        text = due.is;
-        range = plan-in-range due.ring due.rs due.of.range;
-        true_sheet = plan-true due.ring due.rs due.of.range.within.few due.of.range.within.rows;
-      }
-
-  accepted-sheet : check desk text ≡ accepted (plan due.ring due.rs)
-  accepted-sheet = (checked-is text (plan due.ring due.rs)).1 routed-of
-
-  -- the checker accepts the sheet that is due, and it has no parallel split pair
-  due-accepted-sheet : Accepted desk text
-  due-accepted-sheet = accepted-as text (plan due.ring due.rs) accepted-sheet
-
-  due-no-pair : NoPairOf text
-  due-no-pair =
-      record {
-        x = plan due.ring due.rs;
-        of = routed-of;
-        none = (no-pair-is (sents (plan due.ring due.rs).rows)).0 (plan-no-pair due.ring due.rs due.of.range.within.few due.of.range.within.rows);
-      }
-
--- an accepted table has a sheet, which is written where there is room, is the best, and is accepted
-pub routed-well : (t old new : List ℕ) (r : Answer) → Fills (table_routed t) old new r → table.Accepted desk t → RoutedWell t old new r
-unfolding best_of
-routed-well t old new r call a =
-    let s = (due-accepted t sheet_due).0 a in
-    let d = s.is in
-    record {
-      sheet = s.text;
-      due = d;
-      written = λ fits. ((route-promise t old new r call).succeeds s.text).1 (d, fits);
-      best = best_of s.text (plan d.ring d.rs) (routed-of t s.text d);
-      demands = plan-demands d.ring d.rs d.of.range.within.few d.of.range.within.rows;
-      checked = due-accepted-sheet t s.text d;
-      no_pair = due-no-pair t s.text d;
-    }

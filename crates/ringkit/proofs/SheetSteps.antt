@@ -9,7 +9,8 @@ use Rattle.ring.specs.Limits.{desk}
 use Rattle.ring.specs.Sheet.{Sheet, sents, sheet_in}
 use Rattle.ring.specs.declared.types.Link.{Link}
 use Rattle.ring.specs.declared.types.Routed.{Routed}
-use Rattle.table.specs.declared.reason.Refusal.{Refusal}
+use Rattle.reasons.specs.AndThen.{and_then}
+use Rattle.reasons.specs.declared.reason.Refusal.{Refusal}
 use Rattle.sheet.specs.ReadInto.{with_values}
 use Rattle.sheet.specs.WriteSheet.{write_sheet}
 use Rattle.sheet.specs.Range.{InRange}
@@ -20,7 +21,7 @@ use Rattle.checker.specs.declared.pair.Pair.{Pair}
 use Rattle.checker.proofs.Reasons.{check-text}
 use Rattle.ringkit.specs.Says.{Answer}
 use Rattle.ringkit.specs.Outcome.{Fills}
-use Rattle.ringkit.specs.SheetCalls.{of_sheet, sheet_checked, sheet_parallel, sheet_afresh}
+use Rattle.ringkit.specs.SheetCalls.{sheet_checked, sheet_parallel, sheet_afresh}
 use Rattle.ringkit.proofs.FillSteps.{refuses}
 use Rattle.ring.proofs.Small.{demands-length}
 
@@ -30,20 +31,18 @@ module _ (s : List ℕ) (rs : List Routed) (ls : List Link) (answer : Either Fig
     told-refusal = sym e ∙ ap (with_values rs ls) a
 
     -- whatever is due to an accepted sheet
-    pub sheet-refused : {A : Type 0} (due : Sheet → A) → Err x ≡ of_sheet due (check desk s)
-    unfolding of_sheet
-    sheet-refused due = sym (ap (of_sheet due) told-refusal)
+    pub sheet-refused : {A : Type 0} (next : Sheet → Either A Refusal) → Err x ≡ and_then (check desk s) next
+    sheet-refused next = rw told-refusal
 
     pub afresh-refused : (old : List ℕ) → Fills (sheet_afresh s) old old (Err x)
-    afresh-refused old = refuses (sheet_afresh s) old x (sym (sheet-refused write_sheet))
+    afresh-refused old = refuses (sheet_afresh s) old x (sym (sheet-refused λ y. Ok (write_sheet y)))
 
   module _ (x : Figures) (a : answer ≡ Ok x) where
     told : check desk s ≡ with_values rs ls (Ok x)
     told = sym e ∙ ap (with_values rs ls) a
 
     pub check-accepted : Ok tt ≡ sheet_checked s
-    unfolding of_sheet
-    check-accepted = sym (ap (of_sheet (λ x. tt)) told)
+    check-accepted = rw told
 
     range : InRange desk (sheet_in x rs ls)
     range = ((check-text s (sheet_in x rs ls)).0 told).1.0
@@ -56,9 +55,7 @@ module _ (s : List ℕ) (rs : List Routed) (ls : List Link) (answer : Either Fig
     rows-there = omega (arith, range.within.count, demands-length rs)
 
     pub pair-found : (pair : Pair) → pair ≡ first_pair (sents rs) → Ok pair ≡ sheet_parallel s
-    unfolding of_sheet
-    pair-found pair is = rw is (sym (ap (of_sheet (λ x. first_pair (sents x.rows))) told))
+    pair-found pair is = rw (told, is)
 
     pub sheet-fills : (old new : List ℕ) (r : Answer) → Fills (Ok (write_sheet (sheet_in x rs ls))) old new r → Fills (sheet_afresh s) old new r
-    unfolding of_sheet
-    sheet-fills old new r f = let is_text : sheet_afresh s ≡ Ok (write_sheet (sheet_in x rs ls)) = ap (of_sheet write_sheet) told in rw is_text f
+    sheet-fills old new r f = rw told f

@@ -10,23 +10,21 @@ use Rattle.ring.specs.declared.types.Demand.{Demand}
 use Rattle.ring.specs.declared.types.Routed.{Routed}
 use Rattle.ring.specs.Sheet.{sents, demands}
 use Rattle.ring.proofs.Small.{demands-length}
-use Rattle.table.specs.ReadTable.{table_of}
+use Rattle.reasons.specs.AndThen.{and_then}
+use Rattle.table.specs.ReadTable.{Table, table_of}
 use Rattle.table.specs.ReadInto.{with_rows}
 use Rattle.std.specs.Prelude.{Result, Ok, Err}
-use Rattle.table.specs.declared.reason.Refusal.{Refusal}
+use Rattle.reasons.specs.declared.reason.Refusal.{Refusal}
 use Rattle.table.proofs.Told.{read-table, read-refusal, read-range}
 use Rattle.ringkit.specs.Outcome.{Outcome, Fills}
 use Rattle.ringkit.specs.Says.{Answer}
-use Rattle.ringkit.specs.TableCalls.{of_table}
 use Rattle.ringkit.proofs.FillSteps.{refuses, same-fills}
 
-module _ (s : List ℕ) (rs : List Demand) (answer : Result Ring Refusal) (e : with_rows rs answer ≡ table_of desk s) (next : Ring → List Demand → Outcome) where
-  pub table-refused : (old : List ℕ) (x : Refusal) → answer ≡ Err x → Fills (of_table next (table_of desk s)) old old (Err x)
-  unfolding of_table
-  table-refused old x a = refuses (of_table next (table_of desk s)) old x (rw (read-refusal s rs answer e x a))
+module _ (s : List ℕ) (rs : List Demand) (answer : Result Ring Refusal) (e : with_rows rs answer ≡ table_of desk s) (next : Table → Outcome) where
+  pub table-refused : (old : List ℕ) (x : Refusal) → answer ≡ Err x → Fills (and_then (table_of desk s) next) old old (Err x)
+  table-refused old x a = refuses (and_then (table_of desk s) next) old x (rw (read-refusal s rs answer e x a))
 
-  pub table-fills : (ring : Ring) → answer ≡ Ok ring → (old new : List ℕ) (r : Answer) → Fills (next ring rs) old new r → Fills (of_table next (table_of desk s)) old new r
-  unfolding of_table
+  pub table-fills : (ring : Ring) → answer ≡ Ok ring → (old new : List ℕ) (r : Answer) → Fills (next (ring, rs)) old new r → Fills (and_then (table_of desk s) next) old new r
   table-fills ring a old new r = same-fills old new r (rw (read-table s rs answer e ring a))
 
 -- as many rows as their demands, which are in range

@@ -10,12 +10,11 @@ use Rattle.ring.specs.declared.types.Demand.{Demand}
 use Rattle.ring.specs.declared.types.Routed.{Routed}
 use Rattle.ring.specs.Sheet.{sents, demands}
 use Rattle.ring.proofs.Small.{demands-length}
-use Rattle.table.specs.ReadTable as read
-use Rattle.table.specs.ReadTable.{accepted, refused, table_of}
+use Rattle.table.specs.ReadTable.{Table, table_of}
 use Rattle.table.specs.ReadInto.{with_rows}
 use Rattle.table.specs.Says.{Given, Accepted}
-use Rattle.table.specs.declared.reason.Reason.{Reason}
-use Rattle.table.specs.declared.reason.Refusal.{Refusal}
+use Rattle.reasons.specs.declared.reason.Reason.{Reason}
+use Rattle.reasons.specs.declared.reason.Refusal.{Refusal}
 use Rattle.table.proofs.Told.{read-table, read-refusal}
 use Rattle.table.proofs.ReasonsGiven.{one-given, given, accepted-is}
 use Rattle.rows.proofs.Places.{first-left, behind-first}
@@ -74,26 +73,26 @@ turned_few rs rows e l = omega (arith, demands-length rows, ap length e)
 
 module _ (t : List ℕ) where
   -- what comes of reading
-  turns-read : (x : read.TableResult) (old new : List ℕ) (r : TurnAnswer) → table_of desk t ≡ x → TurnsTable x old new r → TurnsTable (table_of desk t) old new r
+  turns-read : (x : Result Table Refusal) (old new : List ℕ) (r : TurnAnswer) → table_of desk t ≡ x → TurnsTable x old new r → TurnsTable (table_of desk t) old new r
   turns-read x old new r e f = rw e f
 
   module _ (rs : List Demand) (answer : Result Ring Refusal) (e : with_rows rs answer ≡ table_of desk t) where
     pub turn_refused : (old : List ℕ) (x : Refusal) → answer ≡ Err x → TurnsTable (table_of desk t) old old (Err x)
-    turn_refused old x a = turns-read (refused x.reason x.line x.byte) old old (Err x) (read-refusal t rs answer e x a) (record { answer = refl; buffer = refl })
+    turn_refused old x a = turns-read (Err x) old old (Err x) (read-refusal t rs answer e x a) (record { answer = refl; buffer = refl })
 
     pub turn_fills : (ring : Ring) → answer ≡ Ok ring → (rows : List Routed) (x : Turned) (count : ℕ) (old new : List ℕ) → demands (sents rows) ≡ rs → rows ≡ (least_start ring.nodes rs).rows → x ≡ (least_start ring.nodes rs).figures →
         count ≡ length rows → new ≡ ways_of rows ++ drop (length rows) old → TurnsTable (table_of desk t) old new (turned_table x count)
     turn_fills ring a rows x count old new same is figures c w =
         let many : length rows ≡ length rs = sym (demands-length rows) ∙ ap length same in
-        turns-read (accepted ring rs) old new (turned_table x count) (read-table t rs answer e ring a)
+        turns-read (Ok (ring, rs)) old new (turned_table x count) (read-table t rs answer e ring a)
         (record { answer = rw (figures, c, many); ways = w ∙ (rw (many, is)) })
 
   -- ---- the promise
 
   module _ (old new : List ℕ) (r : TurnAnswer) where
-    says : (x : read.TableResult) → table_of desk t ≡ x → TurnsTable x old new r → TurnSays t old new r
-    says (accepted ring rs) e f = are_turned ((read_is t ring rs).0 e) f
-    says (refused reason line byte) e f = are_not ((given desk t reason line byte).0 e) f
+    says : (x : Result Table Refusal) → table_of desk t ≡ x → TurnsTable x old new r → TurnSays t old new r
+    says (Ok x) e f = are_turned ((read_is t x.0 x.1).0 e) f
+    says (Err x) e f = are_not ((given desk t x).0 e) f
 
     -- an accepted table is not refused
     apart : {ring : Ring} {rs : List Demand} {reason : Reason} {line byte : ℕ} → TableOf t ring rs → Given desk t reason line byte → ⊥

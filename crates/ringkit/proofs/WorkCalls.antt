@@ -2,16 +2,17 @@
 -- the cut that the last accepted answer named: by the rows that are written, and the promise of routing.
 use Prim.Native.Nat.{ℕ, ◌≤◌}
 use mathlib.Core.List.{List}
-use mathlib.Core.Path.{◌≡◌, refl, sym, ◌∙◌, ap}
+use mathlib.Core.Path.{◌≡◌, refl, sym, ◌∙◌, ap, ap₂}
 use native.Mathlib.Omega.{arith}
 use lib.ListN.{length, take}
 use Rattle.std.specs.Prelude.{IsOk, IfOk}
 use Rattle.ring.specs.Limits.{desk}
 use Rattle.ring.specs.RuleA.{rule_a}
-use Rattle.ring.specs.Sheet.{plan}
+use Rattle.ring.specs.declared.types.Ring.{Ring}
+use Rattle.ring.specs.declared.types.Demand.{Demand}
 use Rattle.table.specs.Table.{write_table, table_room}
 use Rattle.table.specs.Says.{Accepted}
-use Rattle.sheet.proofs.Short.{plan-short}
+use Rattle.table.proofs.Short.{desk-narrow, table-short}
 use Rattle.work.specs.Calls.{Call}
 use Rattle.work.specs.Made.{Made}
 use Rattle.work.specs.Keys.{sorted_rows, IsBytes}
@@ -24,10 +25,11 @@ use Rattle.work.proofs.Promised.{made-as-played}
 use Rattle.ringkit.specs.Outcome.{Fills}
 use Rattle.ringkit.specs.Says.{Answer, CallPromise}
 use Rattle.ringkit.specs.TableCalls.{work_written}
-use Rattle.ringkit.specs.Texts.{TableOf, TableDue, sheet_due}
+use Rattle.ringkit.specs.Texts.{TableOf}
 use Rattle.ringkit.specs.WorkCalls.{WorkDue, NoRefusal, RoutedAsNamed}
 use Rattle.ringkit.proofs.Calls.{is_due, One, call-promise, written-due, length-within, written, if-ok}
-use Rattle.ringkit.proofs.TableCalls.{due-accepted}
+use Rattle.ringkit.proofs.TableCalls.{accepted-table, same-values}
+use Rattle.ringkit.proofs.PlanCalls.{some-plan, due-short, due-cut}
 
 -- ---- every struct
 
@@ -57,19 +59,22 @@ work-write-promise w s b f = filled-promise w s (bytes-of w s b) f
 -- ---- one made by calls
 
 module _ {cs : List Call} {w : Work} (m : Made cs w) where
+  rows-short : length (write_table w.ring (sorted_rows w)) ≤ table_room desk
+  rows-short = let k = (made-writes-out m).within in table-short desk desk-narrow w.ring (sorted_rows w) k.many k.fibres k.rows.nodes k.count k.amounts
+
   module _ (text : List ℕ) (d : WorkDue w text) where
     same-rows : d.rs ≡ sorted_rows w
     same-rows = one-order w (made-sized m) (made-bytes m) d.sorted (made-writes-out m).sorted
 
     -- it is the table of its rows
     work-table : TableOf text w.ring d.rs
-    work-table = record { text = d.is; range = rw same-rows (made-writes-out m).range }
+    work-table = record { text = d.is; range = rw same-rows (record { within = (made-writes-out m).within; short = omega (arith, rows-short) }) }
 
     work-accepted : Accepted desk text
-    work-accepted = (due-accepted text write_table).1 (record { text = text; is = record { ring = w.ring; rs = d.rs; of = work-table; is = d.is } })
+    work-accepted = (accepted-table text).1 (record { ring = w.ring; rs = d.rs; of = work-table })
 
     work-short : length text ≤ table_room desk
-    work-short = let e = same-rows in omega (arith, ap length d.is, ap (λ rs. length (write_table w.ring rs)) e, (made-writes-out m).short)
+    work-short = let e = same-rows in omega (arith, ap length d.is, ap (λ rs. length (write_table w.ring rs)) e, rows-short)
 
   module _ {old new : List ℕ} {r : Answer} where
     pub writes-accepted : CallPromise (WorkDue w) NoRefusal old new r → IfOk r (λ n. Accepted desk (take n new))
@@ -82,17 +87,18 @@ module _ {cs : List Call} {w : Work} (m : Made cs w) where
     -- with that room it is always written
     pub always-work-written : CallPromise (WorkDue w) NoRefusal old new r → table_room desk ≤ length old → IsOk r
     always-work-written p room =
-        written p (work-due w (made-sized m) (made-bytes m)) (omega (arith, (made-writes-out m).short))
+        written p (work-due w (made-sized m) (made-bytes m)) (omega (arith, rows-short))
 
 -- with `longest` bytes of room it is always routed, and the C line of its sheet is the cut that the last accepted answer named
 pub routed-as-named : RoutedAsNamed
-unfolding plan
-routed-as-named cs w m text d old new r promise room =
-    let due : TableDue sheet_due text (sheet_due w.ring d.rs) = record { ring = w.ring; rs = d.rs; of = work-table m text d; is = refl } in
+routed-as-named engine rule cs w m text d takes old new r promise room =
+    let p = some-plan engine rule text (work-accepted m text d) takes promise.cases in
+    let due = p.due in
+    let e = same-values due.of (work-table m text d) in
     record {
-      x = plan w.ring d.rs;
-      success = (promise.succeeds (sheet_due w.ring d.rs)).1 (due, omega (arith, plan-short w.ring d.rs (work-table m text d).range));
+      x = due.x;
+      success = rw due.is at ((promise.succeeds p.sheet).1 (due, omega (arith, room, due-short engine rule text p.sheet due)));
       cut =
           let is : rule_a w.ring.nodes d.rs ≡ w.cut = (rw (same-rows m text d) (made-writes-out m).cut) ∙ sym (made-keeps m).largest in
-          rw is (made-as-played m).leads;
+          rw (due-cut engine rule text p.sheet due ∙ ap₂ (λ (ring : Ring) (rs : List Demand). rule_a ring.nodes rs) e.0 e.1 ∙ is) (made-as-played m).leads;
     }

@@ -7,9 +7,9 @@ use Rattle.ring.specs.Sheet.{Sheet, sheet_in}
 use Rattle.ring.specs.True.{TrueSheet}
 use Rattle.rows.specs.SheetRow.{routed_row}
 use Rattle.rows.specs.declared.sheet_row.SheetRow.{SheetRow}
-use Rattle.table.specs.Findings as found
-use Rattle.table.specs.declared.finding.Finding.{Finding}
-use Rattle.table.specs.declared.reason.Reason.{Reason}
+use Rattle.reasons.specs.Findings as found
+use Rattle.reasons.specs.declared.finding.Finding.{Finding}
+use Rattle.reasons.specs.declared.reason.Reason.{Reason}
 use Rattle.judge.specs.Findings.{findings, Fits}
 
 -- the values of a call as a sheet

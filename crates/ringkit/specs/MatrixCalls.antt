@@ -4,23 +4,21 @@ use Rattle.ring.specs.Limits.{desk}
 use Rattle.ring.specs.Ring.{ring_of}
 use Rattle.ring.specs.declared.types.Ring.{Ring}
 use Rattle.ring.specs.declared.types.Demand.{Demand}
-use Rattle.table.specs.OnLine.{and_then}
-use Rattle.table.specs.Judge.{check_fibres}
-use Rattle.table.specs.Verdict.{Verdict}
+use Rattle.reasons.specs.AndThen.{and_then}
+use Rattle.reasons.specs.Judge.{check_fibres}
+use Rattle.reasons.specs.Verdict.{Verdict}
 use Rattle.table.specs.Table.{write_table}
 use Rattle.table.specs.ReadTable.{table_of}
-use Rattle.table.specs.declared.reason.Refusal.{Refusal}
-use Rattle.table.specs.Refusals.{refuse}
+use Rattle.reasons.specs.declared.reason.Refusal.{Refusal}
+use Rattle.reasons.specs.Refusals.{refuse}
 use Rattle.matrix.specs.Matrix.{write_matrix}
 use Rattle.matrix.specs.Demands.{rows_of_matrix, matrix_of_rows}
 use Rattle.matrix.specs.Read.{SquareRead, matrix_of}
 use Rattle.matrix.specs.Judged.{judge_sums}
 use Rattle.ringkit.specs.Outcome.{Outcome}
-use Rattle.ringkit.specs.TableCalls.{of_table}
 
 -- the table of a matrix on a ring of so many fibres
 unfoldable pub table_of_matrix : ℕ → SquareRead → Outcome
-unfolding and_then
 table_of_matrix fibres m = and_then m λ s. Ok (write_table (ring_of s.0 fibres) (rows_of_matrix s.0 s.1))
 
 -- what is found against the fibres refuses the call as a whole
@@ -30,7 +28,7 @@ on_call (Err reason) = refuse reason 0 0
 
 -- reading a matrix and writing its table: 20 is tried first of all
 unfoldable pub matrix_read : ℕ → List ℕ → Outcome
-unfolding table_of_matrix check_fibres on_call and_then
+unfolding table_of_matrix check_fibres on_call
 matrix_read fibres t = and_then (on_call (check_fibres fibres)) λ u. table_of_matrix fibres (matrix_of desk t)
 
 -- the matrix of a table's rows; or 19, where a pair's sum passes the limit
@@ -39,4 +37,4 @@ matrix_of_table ring rs = and_then (judge_sums desk rs) λ u. Ok (write_matrix (
 
 -- reading a table and writing its matrix
 abbrev pub matrix_written : List ℕ → Outcome
-matrix_written t = of_table matrix_of_table (table_of desk t)
+matrix_written t = and_then (table_of desk t) λ x. matrix_of_table x.0 x.1

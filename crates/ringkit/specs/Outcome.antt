@@ -1,9 +1,9 @@
 -- Internal: what a call that fills a lent buffer does: its outcome, its answer, and the buffer after it.
 use Rattle.std.specs.Prelude.{ℕ, cond, List, ◌++◌, ◌≡◌, ltb, length, drop, Result, Ok, Err}
-use Rattle.table.specs.declared.reason.Reason.TheVariants.{NoRoom}
-use Rattle.table.specs.declared.reason.Refusal.{Refusal}
-use Rattle.table.specs.OnLine.{and_then}
-use Rattle.table.specs.Refusals.{refuse}
+use Rattle.reasons.specs.declared.reason.Reason.TheVariants.{NoRoom}
+use Rattle.reasons.specs.declared.reason.Refusal.{Refusal}
+use Rattle.reasons.specs.AndThen.{and_then}
+use Rattle.reasons.specs.Refusals.{refuse}
 use Rattle.ringkit.specs.Says.{Answer}
 
 -- a text to be written; or the refusal
@@ -16,7 +16,7 @@ ask_room room size = cond (ltb room size) (refuse NoRoom 0 0) (Ok tt)
 
 -- and comes after all other reasons
 unfoldable pub within : ℕ → Outcome → Outcome
-unfolding ask_room and_then
+unfolding ask_room
 within room outcome = and_then outcome λ t. and_then (ask_room room (length t)) λ u. Ok t
 
 -- success answers the text's length

@@ -2,13 +2,15 @@
 use Rattle.std.specs.Prelude.{ℕ, List}
 use Rattle.ring.specs.Limits.{desk}
 use Rattle.checker.specs.Says as sheet
+use Rattle.engines.specs.declared.Engine.{Engine}
+use Rattle.router.specs.Plans.{Rule}
 use Rattle.table.specs.Says as table
 use Rattle.ringkit.specs.Says.{Answer, CallPromise}
-use Rattle.ringkit.specs.Texts.{Itself, TableDue, sheet_due, MatrixDue, MatrixGiven, SumsDue, SumsGiven}
+use Rattle.ringkit.specs.Texts.{Itself, PlanDue, PlanGiven, MatrixDue, MatrixGiven, SumsDue, SumsGiven}
 
--- routing a table: the sheet that the four rules give, or the table's first reason
-abbrev pub RoutePromise : List ℕ → List ℕ → List ℕ → Answer → Type 0
-RoutePromise t = CallPromise (TableDue sheet_due t) (table.Given desk t)
+-- routing a table by a rule: the sheet of that plan; or the table's first reason, or, of the best choice, 23
+abbrev pub PlanPromise : Engine → Rule → List ℕ → List ℕ → List ℕ → Answer → Type 0
+PlanPromise engine rule t = CallPromise (PlanDue engine rule t) (PlanGiven engine rule t)
 
 -- reading a table and writing its values afresh: the same bytes, or the table's first reason
 abbrev pub RewriteTablePromise : List ℕ → List ℕ → List ℕ → Answer → Type 0

@@ -1,9 +1,9 @@
 -- To believe: what a call that fills a buffer says (Rules, the calls): success, 15, or a refusal of the text itself.
 use Rattle.std.specs.Prelude.{ℕ, ◌≤◌, ◌<◌, List, ◌++◌, ◌↔◌, ◌≡◌, length, drop, Result, Ok}
-use Rattle.table.specs.declared.reason.Reason.{Reason}
-use Rattle.table.specs.declared.reason.Reason.TheVariants.{NoRoom}
-use Rattle.table.specs.declared.reason.Refusal.{Refusal}
-use Rattle.table.specs.Refusals.{refuse}
+use Rattle.reasons.specs.declared.reason.Reason.{Reason}
+use Rattle.reasons.specs.declared.reason.Reason.TheVariants.{NoRoom}
+use Rattle.reasons.specs.declared.reason.Refusal.{Refusal}
+use Rattle.reasons.specs.Refusals.{refuse}
 
 -- how many bytes were written; or why nothing was
 abbrev pub Answer : Type 0

@@ -1,18 +1,22 @@
 -- To believe: which values a text is the table, the sheet or the matrix of, and which text is due to it.
-use Rattle.std.specs.Prelude.{ℕ, List, ◌≡◌}
+use Rattle.std.specs.Prelude.{ℕ, ◌≤◌, List, ◌≡◌}
 use Rattle.ring.specs.Limits.{desk}
 use Rattle.ring.specs.LineSize.{IsFibres}
 use Rattle.ring.specs.Ring.{ring_of}
 use Rattle.ring.specs.declared.types.Ring.{Ring}
 use Rattle.ring.specs.declared.types.Demand.{Demand}
-use Rattle.ring.specs.Sheet.{Sheet, plan}
+use Rattle.ring.specs.Sheet.{Sheet, split_routing}
 use Rattle.ring.specs.True.{TrueSheet}
 use Rattle.sheet.specs.Range as sheet_range
 use Rattle.sheet.specs.WriteSheet.{write_sheet}
 use Rattle.table.specs.Says.{Given}
 use Rattle.table.specs.Table.{write_table, InRange}
-use Rattle.table.specs.declared.reason.Reason.{Reason}
-use Rattle.table.specs.declared.reason.Reason.TheVariants.{Fibres, SumTooMuch}
+use Rattle.reasons.specs.declared.reason.Reason.{Reason}
+use Rattle.reasons.specs.declared.reason.Reason.TheVariants.{Fibres, SumTooMuch, TooManySplit}
+use Rattle.best.specs.Best.{splits, most_split}
+use Rattle.engines.specs.declared.Engine.{Engine}
+use Rattle.engines.specs.Engine.{split_routing_by}
+use Rattle.router.specs.Plans.{Rule, rule_D, best_choice, PlanBy, NoPlanBy}
 use Rattle.matrix.specs.Range as matrix
 use Rattle.matrix.specs.Says as matrix_says
 use Rattle.matrix.specs.Matrix.{write_matrix}
@@ -53,16 +57,40 @@ pub record SomeMatrix (t : List ℕ) : Type 0 where
 
 -- ---- what is due
 
--- the text that is due to a table
-pub record TableDue (due : Ring → List Demand → List ℕ) (t text : List ℕ) : Type 0 where
+-- the sheet that is due to a table: that of its plan by the engine and the rule that are asked for
+pub record PlanDue (engine : Engine) (rule : Rule) (t text : List ℕ) : Type 0 where
   pub ring : Ring
   pub rs : List Demand
   pub of : TableOf t ring rs
-  pub is : text ≡ due ring rs
+  pub x : Sheet
+  pub plan : PlanBy engine rule ring rs x
+  pub is : text ≡ write_sheet x
 
--- the sheet that the four rules give
-abbrev pub sheet_due : Ring → List Demand → List ℕ
-sheet_due ring rs = write_sheet (plan ring rs)
+-- what is given to a table that is planned: its own reasons; then 23, where it has no plan by these
+pub data PlanGiven (engine : Engine) (rule : Rule) (t : List ℕ) : Reason → ℕ → ℕ → Type 0 where
+  of_the_rows : {reason : Reason} {line byte : ℕ} → Given desk t reason line byte
+      → PlanGiven engine rule t reason line byte
+  of_the_split : {ring : Ring} {rs : List Demand} → TableOf t ring rs → NoPlanBy engine ring rs rule
+      → PlanGiven engine rule t TooManySplit 0 0
+
+-- t is a table of which rules A to C, by this engine, leave at most 16 rows split
+pub record FewSplit (engine : Engine) (t : List ℕ) : Type 0 where
+  pub ring : Ring
+  pub rs : List Demand
+  pub of : TableOf t ring rs
+  pub few : splits (split_routing_by engine ring.nodes rs) ≤ most_split
+
+-- rule D takes every table, the best choice one of these
+abbrev pub Takes : Engine → Rule → List ℕ → Type 0
+Takes engine rule_D t = Unit
+Takes engine best_choice t = FewSplit engine t
+
+-- t is a table on a ring of at most so many nodes
+pub record OnRingUpTo (most : ℕ) (t : List ℕ) : Type 0 where
+  pub ring : Ring
+  pub rs : List Demand
+  pub of : TableOf t ring rs
+  pub small : ring.nodes ≤ most
 
 -- the text that is due where an accepted text is read and written again: the same bytes
 pub record Itself (Accepted : Type 0) (t text : List ℕ) : Type 0 where

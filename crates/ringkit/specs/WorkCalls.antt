@@ -4,8 +4,7 @@ use Rattle.ring.specs.Limits.{desk}
 use Rattle.ring.specs.declared.types.Demand.{Demand}
 use Rattle.ring.specs.Sheet.{Sheet}
 use Rattle.table.specs.Table.{write_table}
-use Rattle.table.specs.Says.{Given}
-use Rattle.table.specs.declared.reason.Reason.{Reason}
+use Rattle.reasons.specs.declared.reason.Reason.{Reason}
 use Rattle.sheet.specs.Range.{longest}
 use Rattle.sheet.specs.WriteSheet.{write_sheet}
 use Rattle.work.specs.Places.{table_held}
@@ -14,8 +13,11 @@ use Rattle.work.specs.Sorted.{Sorted}
 use Rattle.work.specs.Made.{Made}
 use Rattle.work.specs.Played.{Played}
 use Rattle.work.specs.declared.Work.{Work}
-use Rattle.ringkit.specs.Says.{Answer, Success, CallPromise}
-use Rattle.ringkit.specs.Texts.{TableDue, sheet_due}
+use Rattle.engines.specs.declared.Engine.{Engine}
+use Rattle.router.specs.Plans.{Rule}
+use Rattle.ringkit.specs.Says.{Answer, Success}
+use Rattle.ringkit.specs.Texts.{Takes}
+use Rattle.ringkit.specs.Promises.{PlanPromise}
 
 -- the table of the rows held, by nodes, then by place
 pub record WorkDue (w : Work) (text : List ℕ) : Type 0 where
@@ -35,8 +37,10 @@ pub record RoutedCut (cs : List Call) (w : Work) (old new : List ℕ) (r : Answe
   pub success : Success (write_sheet x) old new r
   pub cut : Played cs (table_held w) x.cut
 
--- with room for the longest sheet, the table that is due to a struct made by calls is routed, and the cut is the one that the last accepted answer named
+-- with room for the longest sheet, the table that is due to a struct made by calls is routed by an engine and a rule that takes it, and the cut is the one that
+-- the last accepted answer named
 abbrev pub RoutedAsNamed : Type 0
 RoutedAsNamed =
-    (calls : List Call) (w : Work) → Made calls w → (text : List ℕ) → WorkDue w text → (old new : List ℕ) (r : Answer)
-    → CallPromise (TableDue sheet_due text) (Given desk text) old new r → longest desk ≤ length old → RoutedCut calls w old new r
+    (engine : Engine) (rule : Rule) (calls : List Call) (w : Work) → Made calls w → (text : List ℕ) → WorkDue w text
+    → Takes engine rule text → (old new : List ℕ) (r : Answer) → PlanPromise engine rule text old new r
+    → longest desk ≤ length old → RoutedCut calls w old new r

@@ -17,12 +17,13 @@ ghost use Rattle.sheet.specs.Range.{longest};
 ghost use Rattle.ringkit.specs.Outcome.{ask_room, Fills};
 
 pub use judging::ringkit_judge;
+use reasons::{Reason, Refusal};
 use ring::{BYTES, Figures, LINKS, Link, ROWS, Ring};
 use rows::Rows;
-use table::{Reason, Refusal};
 pub use texts::{
     ringkit_check, ringkit_parallel, ringkit_read_matrix, ringkit_rewrite_sheet,
-    ringkit_rewrite_table, ringkit_route, ringkit_write_matrix,
+    ringkit_rewrite_table, ringkit_route, ringkit_route_best, ringkit_route_lowered,
+    ringkit_route_lowered_best, ringkit_write_matrix,
 };
 pub use turning::{TurnedTable, ringkit_turn};
 pub use working::{

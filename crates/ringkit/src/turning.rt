@@ -7,9 +7,9 @@ ghost use Rattle.ringkit.specs.Says.{Only};
 ghost use Rattle.ringkit.specs.Turning.{ways_of, TurnPromise, TurnedWell};
 ghost use Rattle.ringkit.specs.TurnCalls.{TurnsTable};
 
+use reasons::Refusal;
 use ring::ROWS;
 use rows::{Columns, Rows, each};
-use table::Refusal;
 use turns::Turned;
 
 /// The figures of a table's turned rows, and how many rows there are.

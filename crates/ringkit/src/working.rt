@@ -16,9 +16,9 @@ ghost use Rattle.ringkit.specs.TableCalls.{work_written};
 ghost use Rattle.ringkit.specs.WorkCalls.{WorkDue, NoRefusal};
 
 use crate::put_table;
+use reasons::{Reason, Refusal};
 use ring::{Demand, Ring};
 use rows::Columns;
-use table::{Reason, Refusal};
 use work::{Changed, Placed, Work};
 
 // What a change answers, and the struct behind it: one that is refused leaves it as it was.

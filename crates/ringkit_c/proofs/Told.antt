@@ -3,8 +3,10 @@ use Prim.Native.Nat.{ℕ, ◌≤◌}
 use mathlib.Core.List.{List}
 use mathlib.Core.Path.{◌≡◌, ap, ◌∙◌, sym, subst}
 use native.Mathlib.Omega.{arith}
-use Rattle.std.specs.Prelude.{Ok, Err, IsOk, IfOk}
-use Rattle.table.proofs.ReasonNumbers.{no-reason-0}
+use Rattle.std.specs.Prelude.{Ok, Err, IsOk, IfOk, IfErr, ◌≢◌}
+use Rattle.reasons.specs.Reasons.{number_of}
+use Rattle.reasons.specs.declared.reason.Reason.{Reason}
+use Rattle.reasons.proofs.ReasonNumbers.{no-reason-0, same-reason}
 use Rattle.ringkit.specs.Says.{Answer, Only}
 use Rattle.ringkit.specs.Answers.{Checked, yes}
 use Rattle.ringkit_c.specs.Replies.{reply_of, checked_reply, Told}
@@ -35,6 +37,12 @@ pub told-reason : (a : Answer) (r : Reply) → r ≡ reply_of a → IsOk a → r
 unfolding reply_of
 told-reason (Ok n) r is h = ap (λ (r : Reply). r.reason) is
 told-reason (Err x) r is h = absurd (cc)
+
+-- a refusal's number is that of its reason alone, and a success has none
+pub told-not : (reason : Reason) (a : Answer) (r : Reply) → r ≡ reply_of a → IfErr a (λ why. why.reason ≢ reason) → r.reason ≢ number_of reason
+unfolding reply_of
+told-not reason (Ok n) r is h e = absurd (omega (arith, e, ap (λ (r : Reply). r.reason) is, no-reason-0 reason))
+told-not reason (Err x) r is h e = h (same-reason x.reason reason (sym (ap (λ (r : Reply). r.reason) is) ∙ e))
 
 -- of checking, reason 0 is yes
 pub told-yes : (a : Checked) (r : Reply) → r ≡ checked_reply a → r.reason ≡ 0 → a ≡ yes

@@ -2,7 +2,7 @@
 use mathlib.Core.Path.{◌≡◌, ap}
 use native.Mathlib.Omega.{arith}
 use Rattle.std.specs.Prelude.{Ok, Err, IfOk}
-use Rattle.table.proofs.ReasonNumbers.{no-reason-0}
+use Rattle.reasons.proofs.ReasonNumbers.{no-reason-0}
 use Rattle.work.specs.Calls.{WorkAnswer}
 use Rattle.ringkit_c.specs.Working.{work_reply}
 use Rattle.ringkit_c.specs.declared.replies.WorkReply.{WorkReply}

@@ -5,7 +5,7 @@ use Rattle.ring.specs.Ring.{ring_of}
 use Rattle.ring.specs.Sheet.{Sheet}
 use Rattle.ring.specs.declared.types.Link.{Link}
 use Rattle.rows.specs.declared.sheet_row.SheetRow.{SheetRow}
-use Rattle.table.specs.Reasons.{number_of}
+use Rattle.reasons.specs.Reasons.{number_of}
 use Rattle.checker.specs.declared.pair.Pair.TheVariants.{Are, None}
 use Rattle.ringkit.specs.Says.{Answer}
 use Rattle.ringkit.specs.Answers.{Checked, Asked}
@@ -46,7 +46,7 @@ turn_reply (Err r) = record { reason = number_of r.reason; line = r.line; byte =
 -- the values that C lends to be judged, as a sheet: R n fibres, its rows, C g h across, its links, Z peak size
 abbrev pub sheet_lent : List SheetRow → ℕ → ℕ → ℕ → ℕ → ℕ → List Link → ℕ → ℕ → Sheet
 sheet_lent rows n fibres g h across links peak size =
-    sheet_given (record { ring = ring_of n fibres; cut = record { g = g; h = h; across = across }; peak = peak; size = size }) rows links
+    sheet_given (record { ring = ring_of n fibres; cut = record { g = g; h = h; across = across }; unsplit_peak = peak; size = size }) rows links
 
 -- C is told of an answer: there is one that keeps the promise, and this reply says it
 pub record Told {A R : Type 0} (reply : A → R) (Promise : A → Type 0) (r : R) : Type 0 where

@@ -2,8 +2,8 @@
 -- line is always 0.
 use Rattle.std.specs.Prelude.{Result, Ok, Err}
 use Rattle.ring.specs.declared.types.Demand.{Demand}
-use Rattle.table.specs.Reasons.{number_of}
-use Rattle.table.specs.declared.reason.Reason.{Reason}
+use Rattle.reasons.specs.Reasons.{number_of}
+use Rattle.reasons.specs.declared.reason.Reason.{Reason}
 use Rattle.work.specs.Calls.{Call, WorkAnswer}
 use Rattle.work.specs.Promises.{WorkPromise}
 use Rattle.work.specs.declared.Work.{Work}

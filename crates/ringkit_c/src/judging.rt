@@ -1,7 +1,7 @@
 // The call that judges a sheet by its values.
 ghost use Rattle.std.specs.Prelude.{◌≡◌};
 ghost use Rattle.ring.specs.Limits.{desk};
-ghost use Rattle.table.specs.Findings.{First};
+ghost use Rattle.reasons.specs.Findings.{First};
 ghost use Rattle.judge.specs.Findings.{findings};
 ghost use Rattle.ringkit.specs.Judging.{JudgePromise};
 ghost use Rattle.ringkit_c.specs.Replies.{sheet_lent, judge_reply, Told};
@@ -34,7 +34,7 @@ pub extern "C" fn ringkit_judge(
     let figures = Figures {
         ring: Ring { nodes: n, fibres },
         cut: Cut { g, h, across },
-        peak,
+        unsplit_peak: peak,
         size,
     };
     JudgeReply::of(ringkit::ringkit_judge(figures, rows, links))

@@ -5,9 +5,9 @@ ghost use Rattle.ringkit_c.specs.Replies.{reply_of, checked_reply, pair_reply, j
 ghost use Rattle.ringkit_c.specs.Working.{work_reply, row_reply};
 
 use checker::Pair;
+use reasons::{Finding, Reason, Refusal};
 use ring::Demand;
 use ringkit::TurnedTable;
-use table::{Finding, Reason, Refusal};
 use work::Placed;
 
 /// The answer of a call that fills a buffer, or that checks a sheet. Reason 0 is success. On a refusal every field but reason, line and byte is 0; line and

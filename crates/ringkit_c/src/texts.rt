@@ -1,18 +1,22 @@
 // The calls that read a text.
-ghost use Rattle.std.specs.Prelude.{◌≡◌, ◌≤◌, length, take};
+ghost use Rattle.std.specs.Prelude.{◌≡◌, ◌≢◌, ◌≤◌, length, take};
 ghost use Rattle.ring.specs.Limits.{desk};
 ghost use Rattle.ring.specs.LineSize.{IsFibres};
+ghost use Rattle.engines.specs.declared.Engine.TheVariants.{Level, Lowered};
 ghost use Rattle.table.specs.Table.{table_room};
 ghost use Rattle.table.specs.Says.{Accepted as AcceptedTable};
+ghost use Rattle.reasons.specs.Reasons.{number_of};
+ghost use Rattle.reasons.specs.declared.reason.Reason.TheVariants.{TooManySplit};
 ghost use Rattle.matrix.specs.Room.{matrix_room};
 ghost use Rattle.matrix.specs.Says.{Accepted as AcceptedMatrix};
 ghost use Rattle.sheet.specs.Range.{longest};
 ghost use Rattle.sheet.specs.Says.{WellFormed};
+ghost use Rattle.router.specs.Plans.{rule_D, best_choice};
 ghost use Rattle.ringkit.specs.Says.{Only};
-ghost use Rattle.ringkit.specs.Texts.{SumsFit};
-ghost use Rattle.ringkit.specs.Promises.{RoutePromise, RewriteTablePromise, RewriteSheetPromise, ReadMatrixPromise, WriteMatrixPromise};
+ghost use Rattle.ringkit.specs.Texts.{FewSplit, OnRingUpTo, SumsFit};
+ghost use Rattle.ringkit.specs.Promises.{PlanPromise, RewriteTablePromise, RewriteSheetPromise, ReadMatrixPromise, WriteMatrixPromise};
 ghost use Rattle.ringkit.specs.Answers.{CheckPromise, PairPromise};
-ghost use Rattle.ringkit.specs.Sheets.{FormedSheet, BestSheet, RoutedWell};
+ghost use Rattle.ringkit.specs.Sheets.{FormedSheet, BestSheet, RoutedWell, NothingBelowSheet};
 ghost use Rattle.ringkit.specs.Outcome.{Fills};
 ghost use Rattle.ringkit.specs.TableCalls.{table_afresh, table_routed};
 ghost use Rattle.ringkit.specs.MatrixCalls.{matrix_read, matrix_written};
@@ -71,16 +75,70 @@ pub extern "C" fn ringkit_write_matrix(table: &[u8], buffer: &mut [u8]) -> Reply
 /// of the buffer has changed.
 #[unsafe(no_mangle)]
 pub extern "C" fn ringkit_route(table: &[u8], buffer: &mut [u8]) -> Reply
-    ensures promise { Replies (RoutePromise table.now buffer.old) buffer.new result }
-    ensures only { Only (Replies (RoutePromise table.now buffer.old)) buffer.new result }
+    ensures promise { Replies (PlanPromise Level rule_D table.now buffer.old) buffer.new result }
+    ensures only { Only (Replies (PlanPromise Level rule_D table.now buffer.old)) buffer.new
+        result }
     ensures best { AcceptedTable desk table.now →
-        Replies (RoutedWell table.now buffer.old) buffer.new result }
+        Replies (RoutedWell Level rule_D table.now buffer.old) buffer.new result }
     ensures fits { result.length ≤ longest desk }
     ensures room { AcceptedTable desk table.now → longest desk ≤ length buffer.old →
         result.reason ≡ 0 }
-    ensures value { Replies (Fills (table_routed table.now) buffer.old) buffer.new result }
+    ensures value { Replies (Fills (table_routed Level table.now) buffer.old) buffer.new result }
 {
     Reply::from(ringkit::ringkit_route(table, buffer))
+}
+
+/// The same with lowered rooms.
+#[unsafe(no_mangle)]
+pub extern "C" fn ringkit_route_lowered(table: &[u8], buffer: &mut [u8]) -> Reply
+    ensures promise { Replies (PlanPromise Lowered rule_D table.now buffer.old) buffer.new result }
+    ensures only { Only (Replies (PlanPromise Lowered rule_D table.now buffer.old)) buffer.new
+        result }
+    ensures best { AcceptedTable desk table.now →
+        Replies (RoutedWell Lowered rule_D table.now buffer.old) buffer.new result }
+    ensures minimal { NothingBelowSheet rule_D table.now }
+    ensures fits { result.length ≤ longest desk }
+    ensures room { AcceptedTable desk table.now → longest desk ≤ length buffer.old →
+        result.reason ≡ 0 }
+    ensures value { Replies (Fills (table_routed Lowered table.now) buffer.old) buffer.new result }
+{
+    Reply::from(ringkit::ringkit_route_lowered(table, buffer))
+}
+
+/// Routes a table by the best choice among its split rows and writes its sheet. The reply has the sheet's length in bytes; or the table's first reason with its line
+/// and byte, or 23, where more than 16 rows are split, or 15, and then no byte of the buffer has changed.
+#[unsafe(no_mangle)]
+pub extern "C" fn ringkit_route_best(table: &[u8], buffer: &mut [u8]) -> Reply
+    ensures promise { Replies (PlanPromise Level best_choice table.now buffer.old) buffer.new
+        result }
+    ensures only { Only (Replies (PlanPromise Level best_choice table.now buffer.old)) buffer.new
+        result }
+    ensures best { FewSplit Level table.now →
+        Replies (RoutedWell Level best_choice table.now buffer.old) buffer.new result }
+    ensures fits { result.length ≤ longest desk }
+    ensures room { FewSplit Level table.now → longest desk ≤ length buffer.old →
+        result.reason ≡ 0 }
+    ensures few { OnRingUpTo 33 table.now → result.reason ≢ number_of TooManySplit }
+{
+    Reply::from(ringkit::ringkit_route_best(table, buffer))
+}
+
+/// The same with lowered rooms.
+#[unsafe(no_mangle)]
+pub extern "C" fn ringkit_route_lowered_best(table: &[u8], buffer: &mut [u8]) -> Reply
+    ensures promise { Replies (PlanPromise Lowered best_choice table.now buffer.old) buffer.new
+        result }
+    ensures only { Only (Replies (PlanPromise Lowered best_choice table.now buffer.old)) buffer.new
+        result }
+    ensures best { FewSplit Lowered table.now →
+        Replies (RoutedWell Lowered best_choice table.now buffer.old) buffer.new result }
+    ensures minimal { NothingBelowSheet best_choice table.now }
+    ensures fits { result.length ≤ longest desk }
+    ensures room { FewSplit Lowered table.now → longest desk ≤ length buffer.old →
+        result.reason ≡ 0 }
+    ensures few { OnRingUpTo 33 table.now → result.reason ≢ number_of TooManySplit }
+{
+    Reply::from(ringkit::ringkit_route_lowered_best(table, buffer))
 }
 
 /// Checks a sheet. The reply is 0 where it is accepted; or its first reason with its line and byte.

@@ -8,11 +8,11 @@ use Rattle.ring.specs.Lists.{listed}
 use Rattle.ring.proofs.Listed.{listed-length, listed-snoc, listed_same}
 use Rattle.rows.specs.declared.columns.Columns.TheInside.{Inside}
 use Rattle.rows.specs.declared.columns.Arrays.{Arrays}
-use Rattle.rows.specs.Columns.{row_of, rows_of, Sized, row_written}
+use Rattle.rows.specs.Columns.{row_of, rows_of_columns, Sized, row_written}
 use Rattle.ring.specs.Limits.{desk}
 use Rattle.ring.specs.declared.types.Way.TheVariants.{Front}
 
-pub length_rows : (c : Inside) → length (rows_of c) ≡ c.count
+pub length_rows : (c : Inside) → length (rows_of_columns c) ≡ c.count
 length_rows c = listed-length (row_of c) 0 c.count
 
 at-listed : (f : ℕ → Routed) (k m x : ℕ) (d : Routed) → x < m → get_or (listed f k m) x d ≡ f (k + x)
@@ -21,7 +21,7 @@ at-listed f k zero x d l = absurd (omega arith)
 at-listed f k (suc m) zero d l = let e : k + 0 ≡ k = omega arith in rw e
 at-listed f k (suc m) (suc x) d l = let e : k + suc x ≡ suc k + x = omega arith in rw e (at-listed f (suc k) m x d (omega arith))
 
-pub row-read : (c : Inside) (k : ℕ) (d : Routed) → k < c.count → get_or (rows_of c) k d ≡ row_of c k
+pub row-read : (c : Inside) (k : ℕ) (d : Routed) → k < c.count → get_or (rows_of_columns c) k d ≡ row_of c k
 row-read c k d l = at-listed (row_of c) 0 c.count k d l ∙ (let e : 0 + k ≡ k = omega arith in rw e)
 
 -- ---- another row at a place
@@ -64,22 +64,22 @@ module _ (c : Inside) (k : ℕ) (r : Routed) (s : Sized c) (l : k < desk.rows) w
         ways = length-set _ _ _ ∙ s.ways;
       }
 
-  pub row-put : k < c.count → rows_of (with_row c k r) ≡ set (rows_of c) k r
-  row-put m = same_lists (rows_of (with_row c k r)) (set (rows_of c) k r) (length_rows (with_row c k r) ∙ sym (length-set (rows_of c) k r ∙ length_rows c)) place
+  pub row-put : k < c.count → rows_of_columns (with_row c k r) ≡ set (rows_of_columns c) k r
+  row-put m = same_lists (rows_of_columns (with_row c k r)) (set (rows_of_columns c) k r) (length_rows (with_row c k r) ∙ sym (length-set (rows_of_columns c) k r ∙ length_rows c)) place
     where
-      place : (x : ℕ) (d : Routed) → x < length (rows_of (with_row c k r)) → get_or (rows_of (with_row c k r)) x d ≡ get_or (set (rows_of c) k r) x d
+      place : (x : ℕ) (d : Routed) → x < length (rows_of_columns (with_row c k r)) → get_or (rows_of_columns (with_row c k r)) x d ≡ get_or (set (rows_of_columns c) k r) x d
       place x d h =
           let n = length_rows (with_row c k r) in
           let o = length_rows c in
           let z : x < c.count = omega arith in
           row-read (with_row c k r) x d z ∙
           elim (ℕ_discrete x k) [
-            | yes e ↦ rw e (here ∙ sym (get_or-set_same (rows_of c) k r d (omega arith)))
-            | no e ↦ other x e ∙ sym (get_or-set_other (rows_of c) k x r d e ∙ row-read c x d z)
+            | yes e ↦ rw e (here ∙ sym (get_or-set_same (rows_of_columns c) k r d (omega arith)))
+            | no e ↦ other x e ∙ sym (get_or-set_other (rows_of_columns c) k x r d e ∙ row-read c x d z)
           ]
 
   -- one row more
-  pub row-more : k ≡ c.count → rows_of (record { count = k + 1; arrays = row_written c.arrays k r }) ≡ rows_of c ++ r ∷ []
+  pub row-more : k ≡ c.count → rows_of_columns (record { count = k + 1; arrays = row_written c.arrays k r }) ≡ rows_of_columns c ++ r ∷ []
   row-more e =
       let z : 0 + k ≡ k = omega arith in
       listed-snoc (row_of (with_row c k r)) 0 k ∙

@@ -14,8 +14,8 @@ abbrev pub row_of : Inside → ℕ → Routed
 row_of c k = routed (sent (get_or c.arrays.first k 0) (get_or c.arrays.second k 0) (get_or c.arrays.amount k 0) (get_or c.arrays.front k 0) (get_or c.arrays.back k 0)) (get_or c.arrays.way k Front)
 
 -- all rows
-abbrev pub rows_of : Inside → List Routed
-rows_of c = listed (row_of c) 0 c.count
+abbrev pub rows_of_columns : Inside → List Routed
+rows_of_columns c = listed (row_of c) 0 c.count
 
 -- as many rows as the columns have room for, or fewer
 pub record Sized (c : Inside) : Type 0 where

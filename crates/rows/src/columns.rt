@@ -59,9 +59,9 @@ impl Model for Columns {
 
     ghost Value = { List Routed };
 
-    ghost use Rattle.rows.specs.Columns.{rows_of, Sized};
+    ghost use Rattle.rows.specs.Columns.{rows_of_columns, Sized};
 
-    ghost view = { rows_of };
+    ghost view = { rows_of_columns };
 
     ghost invariant = { Sized };
 }

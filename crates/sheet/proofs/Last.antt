@@ -9,15 +9,15 @@ use Rattle.ring.specs.Sheet.{sents, demands}
 use Rattle.ring.specs.declared.types.Routed.{Routed}
 use Rattle.ring.specs.declared.types.Demand.{Demand}
 use Rattle.rows.proofs.Demands.{demands-more}
-use Rattle.table.specs.Faults.{last_of as last_demand}
-use Rattle.table.specs.Judge.{row_verdict}
-use Rattle.table.specs.Verdict.{Verdict}
-use Rattle.table.proofs.Faults.{last-more}
-use Rattle.sheet.specs.Read.{last_of}
+use Rattle.reasons.specs.Faults.{last_demand}
+use Rattle.reasons.specs.Judge.{row_verdict}
+use Rattle.reasons.specs.Verdict.{Verdict}
+use Rattle.reasons.proofs.Faults.{last-more}
+use Rattle.sheet.specs.Read.{last_demand_of}
 
-pub last_more : (rs : List Routed) (r : Routed) → last_of (rs ++ r ∷ []) ≡ Some r.sent.demand
+pub last_more : (rs : List Routed) (r : Routed) → last_demand_of (rs ++ r ∷ []) ≡ Some r.sent.demand
 last_more rs r = ap last_demand (demands-more rs r) ∙ last-more (demands (sents rs)) r.sent.demand
 
 -- 4 to 7 and 16 of a D line, behind the rows rs
 abbrev pub judge_next : Limits → ℕ → List Routed → Demand → Verdict
-judge_next limits n rs r = row_verdict limits n (length rs) (last_of rs) r
+judge_next limits n rs r = row_verdict limits n (length rs) (last_demand_of rs) r

@@ -8,7 +8,7 @@ use native.Mathlib.Omega.{arith}
 use native.Mathlib.Decide.{dec_lt}
 use lib.ListN.{length, length-append}
 use borrow.Author.Tests.{le-ltb}
-use Rattle.std.specs.Prelude.{Bool, true, false, cond, ltb, Option, Ok, Err}
+use Rattle.std.specs.Prelude.{Bool, true, false, cond, ltb, Option, Result, Ok, Err}
 use Rattle.std.specs.List.{flat_map}
 use Rattle.ring.specs.Limits.{Limits, desk, old}
 use Rattle.ring.specs.LineSize.{IsFibres}
@@ -25,57 +25,57 @@ use Rattle.ring.specs.True.{TrueSheet}
 use Rattle.ring.proofs.Small.{SmallRow, figures-small, demands-length}
 use Rattle.text.specs.declared.field.Field.{Field}
 use Rattle.text.specs.FieldByte.{field_byte}
-use Rattle.text.specs.WriteLine.{write_line}
+use Rattle.text.specs.WriteLine.{write_line, end_of}
 use Rattle.text.specs.Field.{spell}
-use Rattle.text.specs.WriteLine.{end_of}
 use Rattle.text.specs.ReadLine.{Reading, read_line}
 use Rattle.text.specs.Shapes.{ring_shape, sheet_row_shape, cut_shape, link_shape, last_shape, ring_line, cut_line}
 use Rattle.text.proofs.LineLaws.{line-wider}
-use Rattle.table.specs.Lines.{lines}
-use Rattle.table.specs.Faults.{verdict_found, ring_found, row_found}
-use Rattle.table.specs.ReadTable.{table_of, accepted as table-accepted, ring_in}
-use Rattle.table.specs.Verdict.{Verdict}
-use Rattle.table.specs.declared.reason.Reason.{Reason}
-use Rattle.table.specs.declared.reason.Reason.TheVariants.{TooLong, RingSize, TooMany}
-use Rattle.table.proofs.Against.{fine-ring-judged, big-ring-judged, fine-row-judged, full-row-judged}
-use Rattle.table.proofs.FineRows.{FineRows, fine_row, fine-rows}
-use Rattle.table.proofs.Judged.{InOrder}
+use Rattle.lines.specs.Lines.{lines}
+use Rattle.reasons.specs.Faults.{verdict_found, ring_found, row_found}
+use Rattle.reasons.specs.AndThen.{and_then}
+use Rattle.lines.specs.OnLine.{values_on, passed, line_judged}
+use Rattle.table.specs.ReadTable.{ring_in, ring_on, table_of}
+use Rattle.reasons.specs.Refusals.{refuse}
+use Rattle.reasons.specs.Verdict.{Verdict}
+use Rattle.reasons.specs.declared.reason.Reason.{Reason}
+use Rattle.reasons.specs.declared.reason.Refusal.{Refusal}
+use Rattle.reasons.specs.declared.reason.Reason.TheVariants.{TooLong, RingSize, TooMany}
+use Rattle.table.proofs.Accepted.{one-table}
+use Rattle.reasons.proofs.Against.{fine-ring-judged, big-ring-judged, fine-row-judged, full-row-judged}
+use Rattle.reasons.proofs.FineRows.{FineRows, fine_row, fine-rows}
+use Rattle.reasons.proofs.Judged.{InOrder}
 use Rattle.table.proofs.LineRead.{RingSpelled, ring-values}
-use Rattle.table.proofs.LinesOf.{ring-first}
-use Rattle.table.proofs.LowerLimits.{Lower, old-table-accepted, Lost, lost_shape, VerdictAlike, same_verdict, lost_verdict, ring-alike, row-alike, wider, low-spelled, high-spelled}
+use Rattle.table.proofs.TableLines.{ring-first}
+use Rattle.reasons.proofs.LowerLimits.{Lower, Lost, lost_shape, VerdictAlike, same_verdict, lost_verdict, ring-alike, row-alike}
+use Rattle.table.proofs.LowerTables.{old-table-accepted, wider, low-spelled, high-spelled}
 use Rattle.table.proofs.TableText.{fibres-spelled}
 use Rattle.sheet.specs.WriteSheet.{routed_line, end_text, write_sheet}
 use Rattle.sheet.specs.Range.{InRange}
-use Rattle.sheet.specs.Read.{SheetResult, accepted, refused, Step, on, stop, unless, routed_in, last_of, ring_step, row_step, cut_step, link_step, last_step, step, after, read_from, read_sheet}
+use Rattle.sheet.specs.Read.{routed_in, last_demand_of, row_by, cut_by, row_step, link_step, last_step, step, read_from, read_sheet}
 use Rattle.sheet.specs.Says.{State, start, rows, links, end}
 use Rattle.sheet.proofs.Last.{last_more}
 use Rattle.sheet.proofs.Rest.{sent-first, cut-not-sent}
-use Rattle.sheet.proofs.SheetLines.{way_small, way_back, SentSpelled, sent-in-range, line-back, sent-read, CutRead, is_cut, no_cut, cut-read}
+use Rattle.sheet.proofs.SheetLines.{ring_by, way_small, way_back, SentSpelled, sent-in-range, line-back, sent-read, CutRead, is_cut, no_cut, cut-read}
 use Rattle.sheet.proofs.SheetText.{sheet-text}
 use Rattle.sheet.proofs.Short.{Fitting, true-in-range}
 
 -- ---- what it answers of any text
 
--- the same step, or a refusal by 2, 3 or 16
-data StepAlike : Step → Step → Type 0 where
-  same_step : {x : Step} → StepAlike x x
-  lost_step : {r : Reason} {byte : ℕ} {x : Step} → Lost r → StepAlike (stop r byte) x
-
--- the same result, or a refusal by these
-pub data Alike : SheetResult → SheetResult → Type 0 where
-  same_result : {x : SheetResult} → Alike x x
-  lost_result : {r : Reason} {line byte : ℕ} {x : SheetResult} → Lost r → Alike (refused r line byte) x
+-- the same, or a refusal by 2, 3 or 16
+pub data Alike {A : Type 0} : Result A Refusal → Result A Refusal → Type 0 where
+  same_result : {x : Result A Refusal} → Alike x x
+  lost_result : {r : Refusal} {x : Result A Refusal} → Lost r.reason → Alike (Err r) x
 
 -- what is read is read alike
 data LineAlike : Reading → Reading → Type 0 where
   same_line : {vs : List ℕ} → LineAlike (Ok vs) (Ok vs)
   lost_line : {p : ℕ} {x : Reading} → LineAlike (Err p) x
 
-unless-alike : (shape : List Field) (vs : List ℕ) (field : Reason → ℕ) (next : State) {v u : Verdict} → VerdictAlike v u
-    → StepAlike (unless shape vs (verdict_found v field) next) (unless shape vs (verdict_found u field) next)
-unfolding unless verdict_found
-unless-alike shape vs field next same_verdict = same_step
-unless-alike shape vs field next (lost_verdict l) = lost_step l
+passed-alike : {A : Type 0} (line : ℕ) (shape : List Field) (vs : List ℕ) (field : Reason → ℕ) (a : A) (then : A → State) {v u : Verdict} → VerdictAlike v u
+    → Alike (and_then (passed line shape vs (verdict_found v field) a) λ a. Ok (then a)) (and_then (passed line shape vs (verdict_found u field) a) λ a. Ok (then a))
+unfolding passed verdict_found
+passed-alike line shape vs field a then same_verdict = same_result
+passed-alike line shape vs field a then (lost_verdict l) = lost_result l
 
 module _ {low high : Limits} (lower : Lower low high) where
   line-again : (shape : List Field) (l vs : List ℕ) → read_line low.digits shape l ≡ Ok vs → read_line high.digits shape l ≡ Ok vs
@@ -88,120 +88,121 @@ module _ {low high : Limits} (lower : Lower low high) where
       go (Ok vs) e = let f = line-again shape l vs e in rw f same_line
       go (Err p) e = lost_line
 
-  ring-step-alike : {x y : Reading} → LineAlike x y → StepAlike (ring_step low x) (ring_step high y)
-  unfolding ring_step ring_found
-  ring-step-alike (same_line {vs}) = unless-alike ring_shape vs _ (rows (ring_in vs) []) (ring-alike lower (ring_in vs))
-  ring-step-alike lost_line = lost_step lost_shape
+  ring-alike-by : {x y : Reading} → LineAlike x y → Alike (ring_by low x) (ring_by high y)
+  unfolding values_on ring_found
+  ring-alike-by (same_line {vs}) = passed-alike 1 ring_shape vs _ (ring_in vs) (λ ring. rows ring []) (ring-alike lower (ring_in vs))
+  ring-alike-by lost_line = lost_result lost_shape
 
-  row-step-alike : (ring : Ring) (rs : List Routed) (l : List ℕ) {x y z : Reading} → LineAlike x y → y ≡ read_line high.digits sheet_row_shape l → CutRead low l z → z ≡ read_line low.digits cut_shape l
-      → StepAlike (row_step low ring rs x z) (row_step high ring rs y (read_line high.digits cut_shape l))
-  unfolding row_step row_found cut_step
-  row-step-alike ring rs l (same_line {vs}) sent cut is = unless-alike sheet_row_shape vs _ (rows ring (rs ++ routed_in vs ∷ [])) (row-alike lower ring.nodes (length rs) (last_of rs) (routed_in vs).sent.demand)
-  row-step-alike ring rs l lost_line sent (no_cut misread fault) is = lost_step lost_shape
-  row-step-alike ring rs l lost_line sent (is_cut {g} {h} {m} e a b c) is =
+  row-step-alike : (ring : Ring) (rs : List Routed) (line : ℕ) (l : List ℕ) {x y z : Reading} → LineAlike x y → y ≡ read_line high.digits sheet_row_shape l → CutRead low l z → z ≡ read_line low.digits cut_shape l
+      → Alike (row_step low ring rs line x z) (row_step high ring rs line y (read_line high.digits cut_shape l))
+  unfolding row_step row_by row_found cut_by
+  row-step-alike ring rs line l (same_line {vs}) sent cut is =
+      passed-alike line sheet_row_shape vs _ (routed_in vs) (λ r. rows ring (rs ++ r ∷ [])) (row-alike lower ring.nodes (length rs) (last_demand_of rs) (routed_in vs).sent.demand)
+  row-step-alike ring rs line l lost_line sent (no_cut misread fault) is = lost_result lost_shape
+  row-step-alike ring rs line l lost_line sent (is_cut {g} {h} {m} e a b c) is =
       let again = line-again cut_shape l (0 ∷ g ∷ h ∷ m ∷ []) (sym is) in
-      let other = cut-not-sent high g h m (sent-read high (cut_line g h m)) ring rs (Ok (0 ∷ g ∷ h ∷ m ∷ [])) in
-      rw (again, sent, e, other.1) same_step
+      let other = cut-not-sent high g h m (sent-read high (cut_line g h m)) ring rs line (Ok (0 ∷ g ∷ h ∷ m ∷ [])) in
+      rw (again, sent, e, other.1) same_result
 
-  link-step-alike : (ring : Ring) (rs : List Routed) (c : Cut) (ks : List Link) {x y : Reading} → LineAlike x y → StepAlike (link_step ring rs c ks x) (link_step ring rs c ks y)
-  unfolding link_step
-  link-step-alike ring rs c ks same_line = same_step
-  link-step-alike ring rs c ks lost_line = lost_step lost_shape
+  link-step-alike : (ring : Ring) (rs : List Routed) (c : Cut) (ks : List Link) (line : ℕ) {x y : Reading} → LineAlike x y → Alike (link_step ring rs c ks line x) (link_step ring rs c ks line y)
+  unfolding link_step values_on
+  link-step-alike ring rs c ks line same_line = same_result
+  link-step-alike ring rs c ks line lost_line = lost_result lost_shape
 
-  last-step-alike : (ring : Ring) (rs : List Routed) (c : Cut) (ks : List Link) {x y : Reading} → LineAlike x y → StepAlike (last_step ring rs c ks x) (last_step ring rs c ks y)
-  unfolding last_step
-  last-step-alike ring rs c ks same_line = same_step
-  last-step-alike ring rs c ks lost_line = lost_step lost_shape
+  last-step-alike : (ring : Ring) (rs : List Routed) (c : Cut) (ks : List Link) (line : ℕ) {x y : Reading} → LineAlike x y → Alike (last_step ring rs c ks line x) (last_step ring rs c ks line y)
+  unfolding last_step values_on
+  last-step-alike ring rs c ks line same_line = same_result
+  last-step-alike ring rs c ks line lost_line = lost_result lost_shape
 
-  step-alike : (state : State) (l : List ℕ) → StepAlike (step low state l) (step high state l)
-  unfolding step
-  step-alike start l = ring-step-alike (line-alike ring_shape l)
-  step-alike (rows ring rs) l = row-step-alike ring rs l (line-alike sheet_row_shape l) refl (cut-read low l) refl
-  step-alike (links ring rs c ks) l = go (ltb (length ks) ring.nodes)
+  step-alike : (state : State) (line : ℕ) (l : List ℕ) → Alike (step low state line l) (step high state line l)
+  unfolding step ring_on line_judged
+  step-alike start line l = ring-alike-by (line-alike ring_shape l)
+  step-alike (rows ring rs) line l = row-step-alike ring rs line l (line-alike sheet_row_shape l) refl (cut-read low l) refl
+  step-alike (links ring rs c ks) line l = go (ltb (length ks) ring.nodes)
     where
-      go : (t : Bool) → StepAlike (cond t (link_step ring rs c ks (read_line low.digits link_shape l)) (last_step ring rs c ks (read_line low.digits last_shape l)))
-          (cond t (link_step ring rs c ks (read_line high.digits link_shape l)) (last_step ring rs c ks (read_line high.digits last_shape l)))
-      go true = link-step-alike ring rs c ks (line-alike link_shape l)
-      go false = last-step-alike ring rs c ks (line-alike last_shape l)
-  step-alike (end x) l = same_step
+      go : (t : Bool) → Alike (cond t (link_step ring rs c ks line (read_line low.digits link_shape l)) (last_step ring rs c ks line (read_line low.digits last_shape l)))
+          (cond t (link_step ring rs c ks line (read_line high.digits link_shape l)) (last_step ring rs c ks line (read_line high.digits last_shape l)))
+      go true = link-step-alike ring rs c ks line (line-alike link_shape l)
+      go false = last-step-alike ring rs c ks line (line-alike last_shape l)
+  step-alike (end x) line l = same_result
 
   read-alike : (ls : List (List ℕ)) (state : State) (line : ℕ) → Alike (read_from low state line ls) (read_from high state line ls)
-  unfolding read_from after
+  unfolding read_from
   read-alike [] state line = same_result
-  read-alike (l ∷ ls) state line = go (step-alike state l) (λ next. read-alike ls next (line + 1))
+  read-alike (l ∷ ls) state line = go (step-alike state line l) (λ next. read-alike ls next (line + 1))
     where
-      go : {x y : Step} → StepAlike x y → ((next : State) → Alike (read_from low next (line + 1) ls) (read_from high next (line + 1) ls))
-          → Alike (after x line (λ next. read_from low next (line + 1) ls)) (after y line (λ next. read_from high next (line + 1) ls))
-      go (same_step {x = on next}) rest = rest next
-      go (same_step {x = stop r byte}) rest = same_result
-      go (lost_step l) rest = lost_result l
+      go : {x y : Result State Refusal} → Alike x y → ((next : State) → Alike (read_from low next (line + 1) ls) (read_from high next (line + 1) ls))
+          → Alike (and_then x (λ next. read_from low next (line + 1) ls)) (and_then y (λ next. read_from high next (line + 1) ls))
+      go (same_result {x = Ok next}) rest = rest next
+      go (same_result {x = Err r}) rest = same_result
+      go (lost_result l) rest = lost_result l
 
   -- what the lower answer the higher answer too, but for 2, 3 and 16
   pub sheet-alike : (t : List ℕ) → Alike (read_sheet low t) (read_sheet high t)
   unfolding read_sheet
-  sheet-alike t = subst (λ b. Alike (read_sheet low t) (cond b (refused TooLong 0 0) (read_from high start 1 (lines t)))) (ap (λ b. ltb b (length t)) lower.bytes) (go (ltb low.bytes (length t)))
+  sheet-alike t = subst (λ b. Alike (read_sheet low t) (cond b (refuse TooLong 0 0) (read_from high start 1 (lines t)))) (ap (λ b. ltb b (length t)) lower.bytes) (go (ltb low.bytes (length t)))
     where
-      go : (b : Bool) → Alike (cond b (refused TooLong 0 0) (read_from low start 1 (lines t))) (cond b (refused TooLong 0 0) (read_from high start 1 (lines t)))
+      go : (b : Bool) → Alike (cond b (refuse TooLong 0 0) (read_from low start 1 (lines t))) (cond b (refuse TooLong 0 0) (read_from high start 1 (lines t)))
       go true = same_result
       go false = read-alike (lines t) start 1
 
 -- ---- what it answers of a true sheet
 
 -- what a desk of these limits answers to this sheet, which one of higher limits accepts
-pub data LowerSheet (low : Limits) (x : Sheet) : SheetResult → Type 0 where
-  more-nodes : low.nodes < x.ring.nodes → LowerSheet low x (refused RingSize 1 3)
-  more-rows : x.ring.nodes ≤ low.nodes → low.rows < length x.rows → LowerSheet low x (refused TooMany (low.rows + 2) 1)
-  same : x.ring.nodes ≤ low.nodes → length x.rows ≤ low.rows → LowerSheet low x (accepted x)
+pub data LowerSheet (low : Limits) (x : Sheet) : Result Sheet Refusal → Type 0 where
+  more-nodes : low.nodes < x.ring.nodes → LowerSheet low x (refuse RingSize 1 3)
+  more-rows : x.ring.nodes ≤ low.nodes → low.rows < length x.rows → LowerSheet low x (refuse TooMany (low.rows + 2) 1)
+  same : x.ring.nodes ≤ low.nodes → length x.rows ≤ low.rows → LowerSheet low x (Ok x)
 
 -- ---- each line
 
 module _ (low : Limits) where
-  ring-stepped : (ring : Ring) → RingSpelled low ring.nodes ring.fibres → low.fewest ≤ ring.nodes → ring.nodes ≤ low.nodes → IsFibres ring.fibres
-      → step low start (ring_line ring.nodes ring.fibres) ≡ on (rows ring [])
-  unfolding step ring_step unless ring_found verdict_found
-  ring-stepped ring w few many fibres = rw (ring-values low ring.nodes ring.fibres w, fine-ring-judged low ring few many fibres)
+  ring-stepped : (ring : Ring) (line : ℕ) → RingSpelled low ring.nodes ring.fibres → low.fewest ≤ ring.nodes → ring.nodes ≤ low.nodes → IsFibres ring.fibres
+      → step low start line (ring_line ring.nodes ring.fibres) ≡ Ok (rows ring [])
+  unfolding step ring_on line_judged values_on passed ring_found verdict_found
+  ring-stepped ring line w few many fibres = rw (ring-values low ring.nodes ring.fibres w, fine-ring-judged low ring few many fibres)
 
   -- too many nodes: n is at byte 3
-  ring-refused : (ring : Ring) → RingSpelled low ring.nodes ring.fibres → low.nodes < ring.nodes → step low start (ring_line ring.nodes ring.fibres) ≡ stop RingSize 3
-  unfolding step ring_step unless ring_found verdict_found field_byte write_line spell end_of
-  ring-refused ring w big = rw (ring-values low ring.nodes ring.fibres w, big-ring-judged low ring big)
+  ring-refused : (ring : Ring) (line : ℕ) → RingSpelled low ring.nodes ring.fibres → low.nodes < ring.nodes → step low start line (ring_line ring.nodes ring.fibres) ≡ refuse RingSize 1 3
+  unfolding step ring_on line_judged values_on passed ring_found verdict_found field_byte write_line spell end_of
+  ring-refused ring line w big = rw (ring-values low ring.nodes ring.fibres w, big-ring-judged low ring big)
 
   -- a row is spelled
   abbrev Spells : Routed → Type 0
   Spells r = SentSpelled low r.sent.demand.first r.sent.demand.second r.sent.demand.amount r.sent.front r.sent.back (way_number r.way)
 
-  row-stepped : (ring : Ring) (rs : List Routed) (r : Routed) → Spells r → OnRing ring.nodes r.sent.demand → InOrder (last_of rs) r.sent.demand → length rs < low.rows → r.sent.demand.amount ≤ low.amount
-      → step low (rows ring rs) (routed_line r) ≡ on (rows ring (rs ++ r ∷ []))
-  unfolding step row_step unless row_found verdict_found
-  row-stepped ring rs r s o up room most =
+  row-stepped : (ring : Ring) (rs : List Routed) (line : ℕ) (r : Routed) → Spells r → OnRing ring.nodes r.sent.demand → InOrder (last_demand_of rs) r.sent.demand → length rs < low.rows → r.sent.demand.amount ≤ low.amount
+      → step low (rows ring rs) line (routed_line r) ≡ Ok (rows ring (rs ++ r ∷ []))
+  unfolding step row_step row_by passed row_found verdict_found
+  row-stepped ring rs line r s o up room most =
       let w = way_back r.way in
-      rw (line-back low sheet_row_shape _ (sent-in-range low _ _ _ _ _ _ s), fine-row-judged low ring.nodes (length rs) (last_of rs) r.sent.demand o up room most, w)
+      rw (line-back low sheet_row_shape _ (sent-in-range low _ _ _ _ _ _ s), fine-row-judged low ring.nodes (length rs) (last_demand_of rs) r.sent.demand o up room most, w)
 
   -- no room for it: it is refused as a whole
-  row-refused : (ring : Ring) (rs : List Routed) (r : Routed) → Spells r → OnRing ring.nodes r.sent.demand → InOrder (last_of rs) r.sent.demand → low.rows ≤ length rs
-      → step low (rows ring rs) (routed_line r) ≡ stop TooMany 1
-  unfolding step row_step unless row_found verdict_found field_byte write_line
-  row-refused ring rs r s o up full =
-      rw (line-back low sheet_row_shape _ (sent-in-range low _ _ _ _ _ _ s), full-row-judged low ring.nodes (length rs) (last_of rs) r.sent.demand o up full)
+  row-refused : (ring : Ring) (rs : List Routed) (line : ℕ) (r : Routed) → Spells r → OnRing ring.nodes r.sent.demand → InOrder (last_demand_of rs) r.sent.demand → low.rows ≤ length rs
+      → step low (rows ring rs) line (routed_line r) ≡ refuse TooMany line 1
+  unfolding step row_step row_by passed row_found verdict_found field_byte write_line
+  row-refused ring rs line r s o up full =
+      rw (line-back low sheet_row_shape _ (sent-in-range low _ _ _ _ _ _ s), full-row-judged low ring.nodes (length rs) (last_demand_of rs) r.sent.demand o up full)
 
 module _ {low high : Limits} (lower : Lower low high) (fits : Fitting low) where
   -- ---- rows beyond the lower limits
 
   module _ (ring : Ring) (many : ring.nodes ≤ high.nodes) (rest : List ℕ) where
-    many-rows : (rs later : List Routed) {k : ℕ} {above : Option Demand} → length rs ≡ k → last_of rs ≡ above → k ≤ low.rows → low.rows < k + length later
+    many-rows : (rs later : List Routed) {k : ℕ} {above : Option Demand} → length rs ≡ k → last_demand_of rs ≡ above → k ≤ low.rows → low.rows < k + length later
         → FineRows high ring.nodes k above (demands (sents later)) → Each (SmallRow low.amount) later
-        → read_from low (rows ring rs) (length rs + 2) (lines (flat_map routed_line later ++ rest)) ≡ refused TooMany (low.rows + 2) 1
-    unfolding read_from after lines
+        → read_from low (rows ring rs) (length rs + 2) (lines (flat_map routed_line later ++ rest)) ≡ refuse TooMany (low.rows + 2) 1
+    unfolding read_from lines
     many-rows rs [] e f l m fine none = absurd (omega arith)
     many-rows rs (r ∷ later) {k} {above} e f l m (fine_row o up c d fine) (more h hs) =
         elim (dec_lt k low.rows) [
           | yes room ↦
               let count : length rs + 2 + 1 ≡ length (rs ++ r ∷ []) + 2 = omega (arith, length-append rs (r ∷ [])) in
-              rw (text, row-stepped low ring rs r s o (rw f up) (omega arith) (omega (arith, d, lower.amount)), count)
+              rw (text, row-stepped low ring rs (length rs + 2) r s o (rw f up) (omega arith) (omega (arith, d, lower.amount)), count)
               (many-rows (rs ++ r ∷ []) later (omega (arith, length-append rs (r ∷ []))) (last_more rs r) (omega arith) (omega arith) fine hs)
           | no full ↦
               let q : length rs ≡ low.rows = omega arith in
-              rw (text, row-refused low ring rs r s o (rw f up) (omega arith), q) refl
+              rw (text, row-refused low ring rs (length rs + 2) r s o (rw f up) (omega arith), q) refl
         ]
       where
         s : Spells low r
@@ -237,15 +238,15 @@ module _ {low high : Limits} (lower : Lower low high) (fits : Fitting low) where
       })
 
   -- a true sheet that the higher read, the lower refuse by 3 or 16, or read too
-  pub lower-sheet : (t : List ℕ) (x : Sheet) → read_sheet high t ≡ accepted x → TrueSheet x → LowerSheet low x (read_sheet low t)
-  unfolding read_sheet read_from after write_sheet
+  pub lower-sheet : (t : List ℕ) (x : Sheet) → read_sheet high t ≡ Ok x → TrueSheet x → LowerSheet low x (read_sheet low t)
+  unfolding read_sheet read_from write_sheet
   lower-sheet t x e true_sheet =
       elim (dec_lt low.nodes x.ring.nodes) [
-        | yes big ↦ rw (is, le-ltb low.bytes (length (write_sheet x)) short, first, ring-refused low x.ring w big) (more-nodes big)
+        | yes big ↦ rw (is, le-ltb low.bytes (length (write_sheet x)) short, first, ring-refused low x.ring 1 w big) (more-nodes big)
         | no small ↦ elim (dec_lt low.rows (length x.rows)) [
           | yes over ↦
               let n : x.ring.nodes ≤ low.nodes = omega arith in
-              let fine = ring-stepped low x.ring w (omega (arith, range.within.few, lower.fewest)) n range.within.fibres in
+              let fine = ring-stepped low x.ring 1 w (omega (arith, range.within.few, lower.fewest)) n range.within.fibres in
               let refusal =
               many-rows x.ring range.within.many (end_text (figures_of x) x.links) [] x.rows refl refl (omega arith) (omega arith)
               (fine-rows range.within.rows (omega (arith, range.within.count)) range.within.amounts) (figures-small low.amount x true_sheet amounts).rows in
@@ -253,7 +254,7 @@ module _ {low high : Limits} (lower : Lower low high) (fits : Fitting low) where
           | no few ↦
               let n : x.ring.nodes ≤ low.nodes = omega arith in
               let r : length x.rows ≤ low.rows = omega arith in
-              let a : read_sheet low t ≡ accepted x = (sheet-text low (low-spelled lower) t x).1 (is, narrow range true_sheet n r) in
+              let a : read_sheet low t ≡ Ok x = (sheet-text low (low-spelled lower) t x).1 (is, narrow range true_sheet n r) in
               rw a (same n r)
         ]
       ]
@@ -279,10 +280,10 @@ module _ {low high : Limits} (lower : Lower low high) (fits : Fitting low) where
 
 -- ---- a table that the old desk accepts is routed to the same bytes: the rules and the writer take no limits, and both desks read the same ring and rows
 
-pub same-bytes : (t : List ℕ) (ring other : Ring) (rs ss : List Demand) → table_of old t ≡ table-accepted ring rs → table_of desk t ≡ table-accepted other ss
+pub same-bytes : (t : List ℕ) (ring other : Ring) (rs ss : List Demand) → table_of old t ≡ Ok (ring, rs) → table_of desk t ≡ Ok (other, ss)
     → write_sheet (plan ring rs) ≡ write_sheet (plan other ss)
 same-bytes t ring other rs ss e f =
-    let g : table-accepted ring rs ≡ table-accepted other ss = sym (old-table-accepted t ring rs e) ∙ f in
-    let a : ring ≡ other = cc in
-    let b : rs ≡ ss = cc in
+    let same = one-table (sym (old-table-accepted t ring rs e) ∙ f) in
+    let a = same.0 in
+    let b = same.1 in
     rw (a, b) refl

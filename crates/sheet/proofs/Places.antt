@@ -16,9 +16,10 @@ use Rattle.text.specs.Field.{spell}
 use Rattle.text.specs.WriteLine.{write_line}
 use Rattle.text.specs.Shapes.{sheet_row_shape, cut_shape, link_shape, last_shape}
 use Rattle.text.proofs.LineLaws.{one-line}
-use Rattle.table.specs.Lines.{lines, LineIs}
+use Rattle.lines.specs.Lines.{lines, LineIs}
 use Rattle.table.specs.RowReasons.{RingIs}
-use Rattle.table.proofs.LineNumbers.{line-one, ring-one}
+use Rattle.lines.proofs.LineNumbers.{line-one}
+use Rattle.table.proofs.TableLines.{ring-one}
 use Rattle.sheet.specs.Read.{routed_in, cut_in, link_in}
 use Rattle.sheet.specs.Says.{State, start, rows, links, end, RoutedIs, CutIs, LinkIs, LastIs, At, at_start, behind_ring, behind_row, behind_cut, behind_link, behind_last}
 use Rattle.sheet.proofs.SheetLines.{way_small, way_back, SentSpelled, sent-in-range, cut-in-range, link-in-range, last-in-range}
@@ -66,7 +67,7 @@ data Leads (limits : Limits) (t : List ℕ) (line : ℕ) : State → State → T
   by_link : {ring : Ring} {rs : List Routed} {c : Cut} {ks : List Link} {l : Link} → length ks < ring.nodes → LinkIs limits t line l
       → Leads limits t line (links ring rs c ks) (links ring rs c (ks ++ l ∷ []))
   by_last : {ring : Ring} {rs : List Routed} {c : Cut} {ks : List Link} {p z : ℕ} → ring.nodes ≤ length ks → LastIs limits t line p z
-      → Leads limits t line (links ring rs c ks) (end (record { ring = ring; rows = rs; cut = c; links = ks; peak = p; size = z }))
+      → Leads limits t line (links ring rs c ks) (end (record { ring = ring; rows = rs; cut = c; links = ks; unsplit_peak = p; size = z }))
 
 leads_one : {limits : Limits} {t : List ℕ} {line : ℕ} {q x y : State} → Leads limits t line q x → Leads limits t line q y → x ≡ y
 leads_one (by_ring a) (by_ring b) = ap (λ ring. rows ring []) (ring-one a b)
@@ -79,7 +80,7 @@ leads_one (by_link few a) (by_last all b) = absurd (omega arith)
 leads_one (by_last all a) (by_link few b) = absurd (omega arith)
 leads_one (by_last {ring} {rs} {c} {ks} all a) (by_last all' b) =
     let e = last_one a b in
-    ap₂ (λ p z. end (record { ring = ring; rows = rs; cut = c; links = ks; peak = p; size = z })) e.0 e.1
+    ap₂ (λ p z. end (record { ring = ring; rows = rs; cut = c; links = ks; unsplit_peak = p; size = z })) e.0 e.1
 
 -- ---- one place
 

@@ -17,11 +17,11 @@ use Rattle.text.specs.Number.{limit}
 use Rattle.text.specs.Shapes.{ring_line, sheet_row_line, cut_line, link_line, last_line}
 use Rattle.std.specs.Prelude.{Ok, Some, None}
 use Rattle.std.specs.List.{flat_map}
-use Rattle.table.proofs.Judged.{RingJudged, right_ring, ring-judged, RowJudged, row_fine, row-judged}
-use Rattle.table.proofs.FineRows.{FineRows, no_row, fine_row}
+use Rattle.reasons.proofs.Judged.{RingJudged, right_ring, ring-judged, RowJudged, row_fine, row-judged}
+use Rattle.reasons.proofs.FineRows.{FineRows, no_row, fine_row}
 use Rattle.sheet.specs.WriteSheet.{routed_line, load_line, end_text, write_sheet}
 use Rattle.sheet.specs.Range.{RowSpelled, LinkSpelled, Spelled}
-use Rattle.sheet.specs.Read.{last_of}
+use Rattle.sheet.specs.Read.{last_demand_of}
 use Rattle.sheet.specs.Says.{start, rows, links, end}
 use Rattle.sheet.proofs.SheetLines.{way-spelled, SentSpelled}
 use Rattle.sheet.proofs.Last.{judge_next, last_more}
@@ -40,16 +40,16 @@ module _ (x : Sheet) where
   -- the links ks are read, and those of `later` follow
   record FromLinks (limits : Limits) (ring : Ring) (rs : List Routed) (c : Cut) (ks : List Link) (text : List ℕ) : Type 0 where
     later : List Link
-    same : x ≡ record { ring = ring; rows = rs; cut = c; links = ks ++ later; peak = x.peak; size = x.size }
-    is_text : text ≡ flat_map load_line later ++ last_line x.peak x.size
+    same : x ≡ record { ring = ring; rows = rs; cut = c; links = ks ++ later; unsplit_peak = x.unsplit_peak; size = x.size }
+    is_text : text ≡ flat_map load_line later ++ last_line x.unsplit_peak x.size
     many : length ks + length later ≡ ring.nodes
     spelled : Each (LinkSpelled limits) later
-    last : (x.peak < limit limits.digits) × (x.size < limit limits.digits)
+    last : (x.unsplit_peak < limit limits.digits) × (x.size < limit limits.digits)
 
   last-from : {limits : Limits} {ring : Ring} {rs : List Routed} {c : Cut} {ks : List Link} {p z : ℕ} {text : List ℕ} → length ks ≤ ring.nodes → ring.nodes ≤ length ks → p < limit limits.digits → z < limit limits.digits
-      → AtEnd (record { ring = ring; rows = rs; cut = c; links = ks; peak = p; size = z }) text → FromLinks limits ring rs c ks (last_line p z ++ text)
+      → AtEnd (record { ring = ring; rows = rs; cut = c; links = ks; unsplit_peak = p; size = z }) text → FromLinks limits ring rs c ks (last_line p z ++ text)
   last-from {ks = ks} {p = p} {z = z} within all a b e =
-      let ep : p ≡ x.peak = ap (λ (y : Sheet). y.peak) e.same in
+      let ep : p ≡ x.unsplit_peak = ap (λ (y : Sheet). y.unsplit_peak) e.same in
       let ez : z ≡ x.size = ap (λ (y : Sheet). y.size) e.same in
       let q = e.nothing in
       record {
@@ -67,7 +67,7 @@ module _ (x : Sheet) where
       record {
         later = link_of k s u ∷ f.later;
         same = rw (append_assoc ks (link_of k s u ∷ []) f.later) at f.same;
-        is_text = ap (λ (t : List ℕ). link_line k s u ++ t) f.is_text ∙ sym (append_assoc (link_line k s u) (flat_map load_line f.later) (last_line x.peak x.size));
+        is_text = ap (λ (t : List ℕ). link_line k s u ++ t) f.is_text ∙ sym (append_assoc (link_line k s u) (flat_map load_line f.later) (last_line x.unsplit_peak x.size));
         many = omega (arith, f.many, length-append ks (link_of k s u ∷ []));
         spelled = more (record { link = a; split = b; unsplit = d }) f.spelled;
         last = f.last;
@@ -86,10 +86,10 @@ module _ (x : Sheet) where
     later : List Routed
     same : x.rows ≡ rs ++ later
     is_text : text ≡ flat_map routed_line later ++ end_text (figures_of x) x.links
-    fine : FineRows limits ring.nodes (length rs) (last_of rs) (demands (sents later))
+    fine : FineRows limits ring.nodes (length rs) (last_demand_of rs) (demands (sents later))
     halves : Each (RowSpelled limits) later
     cut : (x.cut.g < limit limits.digits) × ((x.cut.h < limit limits.digits) × (x.cut.across < limit limits.digits))
-    behind : FromLinks limits ring x.rows x.cut [] (flat_map load_line x.links ++ last_line x.peak x.size)
+    behind : FromLinks limits ring x.rows x.cut [] (flat_map load_line x.links ++ last_line x.unsplit_peak x.size)
 
   cut-from : {limits : Limits} {ring : Ring} {rs : List Routed} {g h m : ℕ} {text : List ℕ} → g < limit limits.digits → h < limit limits.digits → m < limit limits.digits
       → FromLinks limits ring rs (cut_of g h m) [] text → FromRows limits ring rs (cut_line g h m ++ text)
@@ -98,7 +98,7 @@ module _ (x : Sheet) where
       let er : x.rows ≡ rs = ap (λ (y : Sheet). y.rows) f.same in
       let ec : x.cut ≡ cut_of g h m = ap (λ (y : Sheet). y.cut) f.same in
       let el : x.links ≡ f.later = ap (λ (y : Sheet). y.links) f.same in
-      let et : text ≡ flat_map load_line x.links ++ last_line x.peak x.size = rw el f.is_text in
+      let et : text ≡ flat_map load_line x.links ++ last_line x.unsplit_peak x.size = rw el f.is_text in
       record {
         later = [];
         same = er ∙ sym (append-nil rs);
@@ -121,7 +121,7 @@ module _ (x : Sheet) where
         is_text =
             ap (λ (t : List ℕ). sheet_row_line i j d f k w ++ t) from.is_text ∙ ap (λ (t : List ℕ). t ++ (flat_map routed_line from.later ++ end_text (figures_of x) x.links)) (sym (way-spelled i j d f k w))
             ∙ sym (append_assoc (routed_line r) (flat_map routed_line from.later) (end_text (figures_of x) x.links));
-        fine = fine (rw v at (row-judged limits ring.nodes (length rs) (last_of rs) (demand i j d)));
+        fine = fine (rw v at (row-judged limits ring.nodes (length rs) (last_demand_of rs) (demand i j d)));
         halves = more (record { front = spelled.front; back = spelled.back }) from.halves;
         cut = from.cut;
         behind = from.behind;
@@ -130,7 +130,7 @@ module _ (x : Sheet) where
       r : Routed
       r = routed_of i j d f k w
 
-      fine : RowJudged limits ring.nodes (length rs) (last_of rs) (demand i j d) (Ok tt) → FineRows limits ring.nodes (length rs) (last_of rs) (demands (sents (r ∷ from.later)))
+      fine : RowJudged limits ring.nodes (length rs) (last_demand_of rs) (demand i j d) (Ok tt) → FineRows limits ring.nodes (length rs) (last_demand_of rs) (demands (sents (r ∷ from.later)))
       fine (row_fine on up room most) =
           fine_row on up room most (subst (λ m. FineRows limits ring.nodes m (Some (demand i j d)) (demands (sents from.later))) (length-append rs (r ∷ [])) (rw (last_more rs r) at from.fine))
 

@@ -10,8 +10,8 @@ use Rattle.ring.specs.Limits.{Limits}
 use Rattle.text.specs.FirstFault.{Agrees, FirstFault}
 use Rattle.text.specs.Shapes.{ring_shape, sheet_row_shape, cut_shape, link_shape, last_shape}
 use Rattle.text.proofs.LineLaws.{fewer}
-use Rattle.table.proofs.BytesGiven.{one-due, one-shape-byte}
-use Rattle.table.specs.RowReasons.{DueByte, ShapeByte}
+use Rattle.lines.proofs.DueBytes.{one-due, one-shape-byte}
+use Rattle.lines.specs.DueBytes.{DueByte, ShapeByte}
 use Rattle.sheet.specs.Says.{State, start, rows, links, end, At, NeitherGoesOn, LineByte, ring_due, row_or_cut_due, link_due, last_due, none_due}
 use Rattle.sheet.proofs.Places.{place-one}
 

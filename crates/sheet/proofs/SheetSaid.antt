@@ -12,13 +12,13 @@ use Rattle.ring.specs.declared.types.Ring.{Ring}
 use Rattle.ring.specs.declared.types.Demand.{Demand}
 use Rattle.ring.specs.declared.types.Routed.{Routed}
 use Rattle.ring.specs.declared.types.Link.{Link}
-use Rattle.table.specs.Lines.{lines, LineIs}
+use Rattle.lines.specs.Lines.{lines, LineIs}
 use Rattle.table.specs.RowReasons.{RingIs}
-use Rattle.table.specs.declared.reason.Reason.{Reason}
+use Rattle.reasons.specs.declared.reason.Reason.{Reason}
 use Rattle.table.proofs.FirstOnLine.{RowBefore, no_row_before, row_before}
 use Rattle.table.proofs.Said.{RowLaws, none-said}
 use Rattle.sheet.specs.Says.{State, start, rows, links, end, RoutedIs, CutIs, LinkIs, LastIs, At, behind_ring, behind_row, RowIs, row_is, WrongLine, no_ring, no_row_no_cut, no_link, no_last, left_over, Says}
-use Rattle.sheet.specs.Read.{last_of}
+use Rattle.sheet.specs.Read.{last_demand_of}
 use Rattle.sheet.proofs.Last.{last_more}
 use Rattle.sheet.proofs.Places.{sent-one, sent-or-cut, place-low, place-one, rows-above, links-later}
 
@@ -80,7 +80,7 @@ module _ {limits : Limits} {t : List ℕ} where
   row-laws = record { later = λ x. row-later x; one = λ x y. row-one x y; low = λ w. place-low (wrong-place w).1 }
 
   -- the row before is the last of those that were read
-  pub row-above : {line : ℕ} {ring : Ring} {rs : List Routed} → At limits t line (rows ring rs) → RowBefore (RowIs limits t) line (last_of rs)
+  pub row-above : {line : ℕ} {ring : Ring} {rs : List Routed} → At limits t line (rows ring rs) → RowBefore (RowIs limits t) line (last_demand_of rs)
   row-above (behind_ring is) = no_row_before
   row-above (behind_row {rs} {r} at is) = let e = last_more rs r in rw e (row_before (row_is at is))
 

@@ -14,14 +14,13 @@ use Rattle.ring.specs.Lists.{Each, none, more}
 use Rattle.ring.specs.Demand.{OnRing}
 use Rattle.ring.specs.declared.types.Demand.{Demand}
 use Rattle.ring.specs.Routing.{way_number}
-use Rattle.ring.specs.declared.types.Sent.{Sent}
 use Rattle.ring.specs.declared.types.Routed.{Routed}
 use Rattle.ring.specs.Sheet.{Sheet, sents, demands, numbers_from, plan, figures_of}
 use Rattle.ring.specs.declared.types.Link.{Link}
 use Rattle.ring.specs.True.{TrueSheet}
 use Rattle.ring.specs.WithinLimits.{WithinLimits}
 use Rattle.ring.proofs.Lists.{each, each_both, each-of-map}
-use Rattle.ring.proofs.Small.{SmallRow, SmallFigures, figures-small, demands-length}
+use Rattle.ring.proofs.Small.{SmallRow, SmallFigures, figures-small, demands-length, each-of-demands}
 use Rattle.ring.proofs.OurPlan.{plan-true, plan-demands}
 use Rattle.text.specs.declared.field.Field.TheVariants.{Number}
 use Rattle.text.specs.Bytes.{letter_d, letter_c, letter_l, letter_z}
@@ -92,7 +91,7 @@ module _ (limits : Limits) (fits : Fitting limits) (x : Sheet) (t : TrueSheet x)
         halves = each (λ r h. record { front = omega (arith, h.halves, fits.narrow.amount, fits.small); back = omega (arith, h.halves, fits.narrow.amount, fits.small) }) small.rows;
         cut = (omega (arith, t.cut.order, t.cut.high, fits.narrow.nodes, fits.small), (omega (arith, t.cut.high, fits.narrow.nodes, fits.small), omega (arith, small.across, figures)));
         loads = each_both (λ l k h. record { link = omega (arith, fits.small); split = omega (arith, h.split, figures); unsplit = omega (arith, h.unsplit, figures) }) numbers small.links;
-        last = (omega (arith, small.peak, figures), omega (arith, small.size, sizes-small, fits.small));
+        last = (omega (arith, small.unsplit_peak, figures), omega (arith, small.size, sizes-small, fits.small));
       }
 
   pub true-links : length x.links ≡ x.ring.nodes
@@ -133,16 +132,13 @@ module _ (limits : Limits) (fits : Fitting limits) (x : Sheet) (t : TrueSheet x)
       (wide-field (figure l.split h.split)
       (wide-field (figure l.unsplit h.unsplit) no-field))))
 
-  last-short : length (last_line x.peak x.size) ≤ 20
+  last-short : length (last_line x.unsplit_peak x.size) ≤ 20
   last-short =
       line-wide {ws = 1 ∷ 8 ∷ 8 ∷ []}
-      (wide-field (letter-wide letter_z 0) (wide-field (figure x.peak true-spelled.last.0) (wide-field (figure x.size true-spelled.last.1) no-field)))
-
-  of-demands : {P : Demand → Type 0} → Each P (demands (sents x.rows)) → Each (λ (r : Routed). P r.sent.demand) x.rows
-  of-demands {P} e = each-of-map (λ (r : Routed). r.sent) {P = λ s. P s.demand} x.rows (each-of-map (λ (s : Sent). s.demand) {P = P} (sents x.rows) e)
+      (wide-field (letter-wide letter_z 0) (wide-field (figure x.unsplit_peak true-spelled.last.0) (wide-field (figure x.size true-spelled.last.1) no-field)))
 
   rows-short : length (flat_map routed_line x.rows) ≤ 27 * length x.rows
-  rows-short = lines-most routed_line 27 (each_both row-short (of-demands {P = OnRing x.ring.nodes} w.rows.nodes) small.rows)
+  rows-short = lines-most routed_line 27 (each_both row-short (each-of-demands {P = OnRing x.ring.nodes} x.rows w.rows.nodes) small.rows)
 
   links-short : length (flat_map load_line x.links) ≤ 23 * length x.links
   links-short = lines-most load_line 23 (each_both link-short numbers true-spelled.loads)
@@ -157,8 +153,8 @@ module _ (limits : Limits) (fits : Fitting limits) (x : Sheet) (t : TrueSheet x)
         true-links,
         length-append (ring_line x.ring.nodes x.ring.fibres) (flat_map routed_line x.rows ++ end_text (figures_of x) x.links),
         length-append (flat_map routed_line x.rows) (end_text (figures_of x) x.links),
-        length-append (cut_line x.cut.g x.cut.h x.cut.across) (flat_map load_line x.links ++ last_line x.peak x.size),
-        length-append (flat_map load_line x.links) (last_line x.peak x.size),
+        length-append (cut_line x.cut.g x.cut.h x.cut.across) (flat_map load_line x.links ++ last_line x.unsplit_peak x.size),
+        length-append (flat_map load_line x.links) (last_line x.unsplit_peak x.size),
         ring-short limits fits.narrow x.ring w.many w.fibres,
         cut-short,
         last-short,
@@ -186,16 +182,10 @@ module _ (limits : Limits) (fits : Fitting limits) (two : 2 ≤ limits.fewest) (
   keeps : WithinLimits limits (plan ring rs).ring (demands (sents (plan ring rs).rows))
   keeps = let e = plan-demands ring rs few h.within.rows in rw (ring-is, e) h.within
 
-  pub plan-fits : length (write_sheet (plan ring rs)) ≤ longest limits
-  plan-fits = true-short limits fits (plan ring rs) true-plan keeps
-
   pub plan-within : InRange limits (plan ring rs)
   plan-within = true-in-range limits fits (plan ring rs) true-plan keeps
 
 -- ---- for the desk's limits
-
-pub plan-short : (ring : Ring) (rs : List Demand) → table.InRange desk ring rs → length (write_sheet (plan ring rs)) ≤ longest desk
-plan-short = plan-fits desk desk-fits (omega arith)
 
 pub plan-in-range : (ring : Ring) (rs : List Demand) → table.InRange desk ring rs → InRange desk (plan ring rs)
 plan-in-range = plan-within desk desk-fits (omega arith)

@@ -42,7 +42,7 @@ module _ (x : Figures) (rs : List Routed) (ls : List Link) where
   cut = cut_line x.cut.g x.cut.h x.cut.across
 
   abbrev last : List ℕ
-  last = last_line x.peak x.size
+  last = last_line x.unsplit_peak x.size
 
   abbrev rows : List ℕ
   rows = flat_map routed_line rs
@@ -71,7 +71,7 @@ module _ (x : Figures) (rs : List Routed) (ls : List Link) where
         length-append links last,
         line-short ring_shape (0 ∷ x.ring.nodes ∷ x.ring.fibres ∷ []),
         line-short cut_shape (0 ∷ x.cut.g ∷ x.cut.h ∷ x.cut.across ∷ []),
-        line-short last_shape (0 ∷ x.peak ∷ x.size ∷ []),
+        line-short last_shape (0 ∷ x.unsplit_peak ∷ x.size ∷ []),
         lines-short routed_line row-short rs,
         lines-short load_line link-short ls,
       )
@@ -110,5 +110,5 @@ module _ (x : Figures) (rs : List Routed) (ls : List Link) where
           links-placed = piece-fits pass at-links links _ refl
 
           -- the last line alone is to come
-          pub at-last : {d : List ℕ} {s : ℕ} → Passed after c r (flat_map load_line ls) d s → Going room after old 0 (write_sheet (sheet_in x rs ls)) d s (last_line x.peak x.size)
+          pub at-last : {d : List ℕ} {s : ℕ} → Passed after c r (flat_map load_line ls) d s → Going room after old 0 (write_sheet (sheet_in x rs ls)) d s (last_line x.unsplit_peak x.size)
           at-last {d} {s} z = going-on pass at-links links _ refl d s z

@@ -26,7 +26,7 @@ pub record Spelled (limits : Limits) (x : Sheet) : Type 0 where
   pub halves : Each (RowSpelled limits) x.rows
   pub cut : (x.cut.g < limit limits.digits) × ((x.cut.h < limit limits.digits) × (x.cut.across < limit limits.digits))
   pub loads : Each (LinkSpelled limits) x.links
-  pub last : (x.peak < limit limits.digits) × (x.size < limit limits.digits)
+  pub last : (x.unsplit_peak < limit limits.digits) × (x.size < limit limits.digits)
 
 -- what a sheet can hold, within limits
 pub record InRange (limits : Limits) (x : Sheet) : Type 0 where

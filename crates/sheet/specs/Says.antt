@@ -10,10 +10,11 @@ use Rattle.ring.specs.declared.types.Link.{Link}
 use Rattle.text.specs.Number.{limit}
 use Rattle.text.specs.FirstFault.{Agrees}
 use Rattle.text.specs.Shapes.{ring_shape, sheet_row_shape, cut_shape, link_shape, last_shape, cut_line, last_line}
-use Rattle.table.specs.Lines.{lines, LineIs}
-use Rattle.table.specs.Reasons.{FirstReason, NoReason}
-use Rattle.table.specs.RowReasons.{RingIs, RowsSay, RowsByte, DueByte, ShapeByte, Earlier}
-use Rattle.table.specs.declared.reason.Reason.{Reason}
+use Rattle.lines.specs.Lines.{lines, LineIs}
+use Rattle.reasons.specs.Reasons.{FirstReason, NoReason, Earlier}
+use Rattle.table.specs.RowReasons.{RingIs, RowsSay, RowsByte}
+use Rattle.lines.specs.DueBytes.{DueByte, ShapeByte}
+use Rattle.reasons.specs.declared.reason.Reason.{Reason}
 use Rattle.sheet.specs.WriteSheet.{routed_line, load_line}
 
 -- ---- lines
@@ -61,7 +62,7 @@ pub data At (limits : Limits) (t : List ℕ) : ℕ → State → Type 0 where
   behind_link : {line : ℕ} {ring : Ring} {rs : List Routed} {c : Cut} {ks : List Link} {l : Link} → At limits t line (links ring rs c ks) → length ks < ring.nodes → LinkIs limits t line l
       → At limits t (line + 1) (links ring rs c (ks ++ l ∷ []))
   behind_last : {line : ℕ} {ring : Ring} {rs : List Routed} {c : Cut} {ks : List Link} {p z : ℕ} → At limits t line (links ring rs c ks) → ring.nodes ≤ length ks → LastIs limits t line p z
-      → At limits t (line + 1) (end (record { ring = ring; rows = rs; cut = c; links = ks; peak = p; size = z }))
+      → At limits t (line + 1) (end (record { ring = ring; rows = rs; cut = c; links = ks; unsplit_peak = p; size = z }))
 
 -- the D line that is due here has this demand
 pub data RowIs (limits : Limits) (t : List ℕ) (line : ℕ) : Demand → Type 0 where

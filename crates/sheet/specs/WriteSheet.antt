@@ -18,7 +18,7 @@ load_line l = link_line l.link l.split l.unsplit
 
 -- C g h across; L lines; Z unsplit-peak size
 unfoldable pub end_text : Figures → List Link → List ℕ
-end_text x links = cut_line x.cut.g x.cut.h x.cut.across ++ (flat_map load_line links ++ last_line x.peak x.size)
+end_text x links = cut_line x.cut.g x.cut.h x.cut.across ++ (flat_map load_line links ++ last_line x.unsplit_peak x.size)
 
 -- R n fibres; D lines; then these
 unfoldable pub write_sheet : Sheet → List ℕ

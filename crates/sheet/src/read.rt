@@ -8,23 +8,23 @@ ghost use Rattle.ring.specs.declared.types.Cut.{Cut as CutOf};
 ghost use Rattle.ring.specs.declared.types.Link.{Link as LinkOf};
 ghost use Rattle.text.specs.ReadLine.{read_line, Reading};
 ghost use Rattle.text.specs.Shapes.{cut_shape};
-ghost use Rattle.sheet.specs.Says.{State, rows as behind_rows, links as behind_links};
-ghost use Rattle.sheet.specs.Read.{SheetResult, accepted, cut_step, row_step, after, read_from, read_sheet};
+ghost use Rattle.reasons.specs.AndThen.{and_then};
+ghost use Rattle.sheet.specs.Says.{rows as behind_rows, links as behind_links};
+ghost use Rattle.sheet.specs.Read.{row_by, cut_by, read_from, read_sheet};
 ghost use Rattle.sheet.specs.ReadInto.{with_values};
-ghost use Rattle.sheet.specs.Parts.{read_by};
 
 use arrayvec::ArrayVec;
+use lines::{Line, Lines, refusal_on};
+use reasons::{Refusal, check_next};
 use ring::{Cut, Demand, Figures, LINKS, Link, Ring, Routed, Sent, Way};
 use rows::{Columns, Rows};
-use table::{Line, Lines, Refusal, check_next, ring_on};
+use table::ring_on;
 use text::{CUT, LAST, LINK, SHEET_ROW};
 
 // The row of a D line by its values, behind the rows before it. Apart from `read_rows` for its proof: what is found against the row is known here alone.
-#[tactic(auto, using(crate::proofs::ReadSteps::has_room), unfolding(crate::specs::Read::row_step, crate::specs::Read::unless, crate::specs::Read::after))]
+#[tactic(auto, using(crate::proofs::ReadSteps::has_room), unfolding(crate::specs::Read::row_by, lines::specs::OnLine::passed))]
 fn routed_on(number: u32, values: &[u32; 7], ring: Ring, rows: &Columns) -> Result<Routed, Refusal>
-    ensures leads { (other : Reading) (next : State → SheetResult) →
-        read_by result (λ row. next (behind_rows ring (rows.now ++ row ∷ [])))
-        ≡ after (row_step desk ring rows.now (Ok values.now) other) number next }
+    ensures value { result ≡ row_by desk ring rows.now number values.now }
     ensures room { IfOk result (λ row. length rows.now < desk.rows) }
 {
     let [_, first, second, amount, front, back, way] = *values;
@@ -33,7 +33,9 @@ fn routed_on(number: u32, values: &[u32; 7], ring: Ring, rows: &Columns) -> Resu
         second,
         amount,
     };
-    check_next(ring.nodes, rows, row).map_err(|fault| fault.on(number, &SHEET_ROW, values))?;
+    check_next(ring.nodes, rows, row).map_err(|fault| refusal_on(
+        number, &SHEET_ROW, values, fault,
+    ))?;
     Ok(Routed {
         sent: Sent {
             demand: row,
@@ -45,12 +47,10 @@ fn routed_on(number: u32, values: &[u32; 7], ring: Ring, rows: &Columns) -> Resu
 }
 
 // The cut of a C line. It is no D line: at the place `no_row` of it no D line goes on, and its fault is the later of the two.
-#[tactic(auto, unfolding(crate::specs::Read::cut_step, crate::specs::Read::after))]
+#[tactic(auto, unfolding(crate::specs::Read::cut_by))]
 fn cut_on(number: u32, line: &Line, no_row: usize) -> Result<Cut, Refusal>
     requires byte_fits { no_row ≤ desk.bytes }
-    ensures { (ring : RingOf) (rs : List RoutedOf) (next : State → SheetResult) →
-        read_by result (λ cut. next (behind_links ring rs cut []))
-        ≡ after (cut_step ring rs no_row (read_line desk.digits cut_shape line.now)) number next }
+    ensures { result ≡ cut_by number no_row (read_line desk.digits cut_shape line.now) }
 {
     let [_, g, h, across] = line
         .read(&CUT)
@@ -60,7 +60,7 @@ fn cut_on(number: u32, line: &Line, no_row: usize) -> Result<Cut, Refusal>
 
 // The D lines, from line 2 on, and the C line that ends them.
 fn read_rows(lines: &mut Lines, ring: Ring, rows: &mut Columns) -> Result<Cut, Refusal>
-    ensures { read_by result (λ cut.
+    ensures { and_then result (λ cut.
         read_from desk (behind_links ring rows.new cut []) (length rows.new + 3) lines.new)
         ≡ read_from desk (behind_rows ring []) 2 lines.old }
 {
@@ -88,7 +88,7 @@ fn read_links(
     requires links_fit { ring.nodes ≤ desk.nodes }
     requires line_fits { number ≤ desk.rows + 3 }
     ensures leads { (rs : List RoutedOf) (c : CutOf) →
-        read_by result (λ _. read_from desk (behind_links ring rs c links.new.items)
+        and_then result (λ _. read_from desk (behind_links ring rs c links.new.items)
         (number + ring.nodes) lines.new)
         ≡ read_from desk (behind_links ring rs c []) number lines.old }
     ensures all { IfOk result (λ _. ring.nodes ≤ length links.new.items) }
@@ -109,15 +109,15 @@ fn read_links(
 fn read_last(lines: &mut Lines, number: u32, ring: Ring, cut: Cut) -> Result<Figures, Refusal>
     requires line_fits { number ≤ desk.bytes }
     ensures { (rs : List RoutedOf) (ls : List LinkOf) → ring.nodes ≤ length ls →
-        read_by result (λ x. accepted (sheet_in x rs ls))
+        and_then result (λ x. Ok (sheet_in x rs ls))
         ≡ read_from desk (behind_links ring rs cut ls) number lines.old }
 {
-    let [_, peak, size] = lines.due(number)?.values(number, &LAST)?;
+    let [_, unsplit_peak, size] = lines.due(number)?.values(number, &LAST)?;
     lines.end(number + 1)?;
     Ok(Figures {
         ring,
         cut,
-        peak,
+        unsplit_peak,
         size,
     })
 }

@@ -1,25 +1,25 @@
 -- The byte that the reader gives with a reason is that of the reason's own sentence, and a reason on a line has one byte: by the cases of the judging, since a
 -- line has one reading and one first faulty byte.
-use Prim.Native.Nat.{ℕ, ◌+◌}
+use Prim.Native.Nat.{ℕ}
 use mathlib.Core.List.{List}
 use mathlib.Core.Logic.{◌⊎◌, inl, inr}
-use mathlib.Core.Path.{◌≡◌, refl, ap, sym, ◌∙◌, subst}
+use mathlib.Core.Path.{◌≡◌, refl, ap, sym, ◌∙◌}
 use Rattle.ring.specs.Limits.{Limits}
 use Rattle.ring.specs.declared.types.Ring.{Ring}
 use Rattle.ring.specs.declared.types.Demand.{Demand}
-use Rattle.text.specs.declared.field.Field.{Field}
 use Rattle.text.specs.FieldByte.{ring_byte, row_byte}
-use Rattle.text.proofs.LineLaws.{one-fault}
-use Rattle.table.specs.Fields.{field_of, node_field, ring_reason_byte}
-use Rattle.table.specs.RowReasons.{RingIs, NoNode, ShapeByte, DueByte, line_missing, line_faulty, RowsByte, at_none, at_fault, at_size, at_fibres, at_first_node, at_second_node, at_amount, at_pair, at_order, at_count}
-use Rattle.table.specs.declared.reason.Reason.{Reason}
-use Rattle.table.specs.declared.reason.Reason.TheVariants.{NoSuchNode}
-use Rattle.table.specs.Verdict.{Verdict}
+use Rattle.reasons.specs.Fields.{field_of, node_field}
+use Rattle.table.specs.RingByte.{ring_reason_byte}
+use Rattle.table.specs.RowReasons.{RingIs, RowsByte, at_none, at_fault, at_size, at_fibres, at_first_node, at_second_node, at_amount, at_pair, at_order, at_count}
+use Rattle.reasons.specs.Findings.{NoNode}
+use Rattle.reasons.specs.declared.reason.Reason.{Reason}
+use Rattle.reasons.specs.declared.reason.Reason.TheVariants.{NoSuchNode}
+use Rattle.reasons.specs.Verdict.{Verdict}
 use Rattle.std.specs.Prelude.{Option}
-use Rattle.table.proofs.Judged.{RingJudged, size_wrong, wrong_fibres, right_ring, Node, no_node, has_node, node, RowJudged, no_such_node, not_below, out_of_order, too_many, too_much, row_fine}
-use Rattle.table.proofs.Against.{no-node-there}
+use Rattle.reasons.proofs.Judged.{RingJudged, size_wrong, wrong_fibres, right_ring, Node, no_node, has_node, node, RowJudged, no_such_node, not_below, out_of_order, too_many, too_much, row_fine}
+use Rattle.reasons.proofs.Against.{no-node-there}
 use Rattle.table.proofs.FirstOnLine.{HoldsAs}
-use Rattle.table.proofs.LineNumbers.{line-one, ring-one}
+use Rattle.table.proofs.TableLines.{ring-one}
 
 module _ {limits : Limits} {t : List ℕ} (Row : ℕ → Demand → Type 0) (LineByte : ℕ → ℕ → Type 0) where
   -- the byte that goes with the reason of a verdict is that reason's
@@ -46,16 +46,6 @@ module _ {limits : Limits} {t : List ℕ} (Row : ℕ → Demand → Type 0) (Lin
     row-byte (row_fine r o c m) = tt
 
 -- ---- one byte
-
-pub one-due : {t : List ℕ} {line b c : ℕ} {Fault : List ℕ → ℕ → Type 0} → ((l : List ℕ) (p q : ℕ) → Fault l p → Fault l q → p ≡ q) → DueByte t line Fault b → DueByte t line Fault c → b ≡ c
-one-due one (line_missing none) (line_missing gone) = refl
-one-due one (line_missing none) (line_faulty is f) = absurd (none _ is)
-one-due one (line_faulty is f) (line_missing none) = absurd (none _ is)
-one-due {Fault = P} one (line_faulty {l} {p} is f) (line_faulty {l = m} {p = q} it g) =
-    ap (λ p. p + 1) (one m p q (subst (λ s. P s p) (line-one is it refl) f) g)
-
-pub one-shape-byte : (limits : Limits) {t : List ℕ} {shape : List Field} {line b c : ℕ} → ShapeByte limits t shape line b → ShapeByte limits t shape line c → b ≡ c
-one-shape-byte limits x y = one-due (λ l p q f g. one-fault limits.digits limits.countable f g) x y
 
 pub one_byte : {limits : Limits} {t : List ℕ} {Row : ℕ → Demand → Type 0} {LineByte : ℕ → ℕ → Type 0} {line b c : ℕ} {s : Reason}
     → ((r q : Demand) → Row line r → Row line q → r ≡ q) → (LineByte line b → LineByte line c → b ≡ c)

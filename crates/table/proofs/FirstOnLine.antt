@@ -8,15 +8,15 @@ use Rattle.ring.specs.Limits.{Limits}
 use Rattle.ring.specs.TableRows.{PairBefore}
 use Rattle.ring.specs.declared.types.Ring.{Ring}
 use Rattle.ring.specs.declared.types.Demand.{Demand}
-use Rattle.table.specs.Findings.{Falls}
+use Rattle.reasons.specs.Findings.{Falls}
 use Rattle.table.specs.RowReasons.{RingIs, RowsSay, says_too_long, says_misshapen, says_ring_size, says_fibres, says_no_such_node, says_not_below, says_out_of_order, says_too_many, says_too_much}
-use Rattle.table.specs.declared.reason.Reason.{Reason}
-use Rattle.table.specs.declared.reason.Reason.TheVariants.{Misshapen, OutOfOrder}
-use Rattle.table.specs.Verdict.{Verdict}
+use Rattle.reasons.specs.declared.reason.Reason.{Reason}
+use Rattle.reasons.specs.declared.reason.Reason.TheVariants.{Misshapen, OutOfOrder}
+use Rattle.reasons.specs.Verdict.{Verdict}
 use Rattle.std.specs.Prelude.{Option, Some, None, Ok, Err}
-use Rattle.table.proofs.Judged.{RingJudged, size_wrong, wrong_fibres, right_ring, RowJudged, no_such_node, not_below, out_of_order, too_many, too_much, row_fine}
-use Rattle.table.proofs.Against.{NoLater, AgainstRow, by_nodes, by_pair, by_order, by_count, by_amount, row-least, AgainstRing, by_size, by_fibres, ring-least}
-use Rattle.table.proofs.LineNumbers.{ring-one}
+use Rattle.reasons.proofs.Judged.{RingJudged, size_wrong, wrong_fibres, right_ring, RowJudged, no_such_node, not_below, out_of_order, too_many, too_much, row_fine}
+use Rattle.reasons.proofs.Against.{NoLater, AgainstRow, by_nodes, by_pair, by_order, by_count, by_amount, row-least, AgainstRing, by_size, by_fibres, ring-least}
+use Rattle.table.proofs.TableLines.{ring-one}
 use Rattle.table.proofs.Said.{RowLaws, Stands, on_none, on_line, stands}
 
 -- the reason of a verdict holds

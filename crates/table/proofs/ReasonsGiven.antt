@@ -3,7 +3,7 @@
 use Prim.Native.Nat.{ℕ, ◌+◌, ◌≤◌}
 use mathlib.Core.List.{List, [], ◌∷◌, ◌++◌}
 use mathlib.Core.Logic.{◌↔◌}
-use mathlib.Core.Path.{◌≡◌, refl, subst}
+use mathlib.Core.Path.{◌≡◌, refl, ap, subst}
 use native.Mathlib.Omega.{arith}
 use lib.ListN.{length, length-append}
 use borrow.Author.Tests.{ltb-true, ltb-false}
@@ -13,30 +13,38 @@ use Rattle.ring.proofs.Side.{cond-elim}
 use Rattle.ring.specs.Limits.{Limits}
 use Rattle.ring.specs.Ring.{ring_of}
 use Rattle.ring.specs.declared.types.Ring.{Ring}
-use Rattle.table.specs.Lines.{lines}
-use Rattle.table.specs.Fields.{field_of, node_field, ring_reason_byte}
-use Rattle.table.specs.Faults.{verdict_found, ring_found, row_found, last_of}
-use Rattle.table.specs.OnLine.{and_then, values_on, passed, line_judged}
+use Rattle.lines.specs.Lines.{lines}
+use Rattle.reasons.specs.Fields.{field_of, node_field}
+use Rattle.table.specs.RingByte.{ring_reason_byte}
+use Rattle.reasons.specs.Faults.{verdict_found, ring_found, row_found, last_demand}
+use Rattle.reasons.specs.AndThen.{and_then}
+use Rattle.lines.specs.OnLine.{values_on, passed, line_judged}
 use Rattle.text.specs.FieldByte.{field_byte}
 use Rattle.text.specs.WriteLine.{write_line}
 use Rattle.text.specs.ReadLine.{Reading}
 use Rattle.text.specs.Shapes.{ring_shape, row_shape}
 use Rattle.text.specs.declared.field.Field.{Field}
-use Rattle.table.proofs.Faults.{last-more}
-use Rattle.table.specs.ReadTable.{TableResult, accepted, refused, ring_in, demand_in, ring_on, row_on, unless_refused, rows_of, table_lines, table_of}
-use Rattle.table.specs.RowReasons.{RingIs, line_missing, line_faulty, at_fault}
+use Rattle.reasons.proofs.Faults.{last-more}
+use Rattle.table.specs.ReadTable.{Table, ring_in, demand_in, ring_on, row_on, rows_on_lines, table_lines, table_of}
+use Rattle.table.specs.RowReasons.{RingIs, at_fault}
+use Rattle.lines.specs.DueBytes.{line_missing, line_faulty}
 use Rattle.table.specs.Says.{RowIs, WrongLine, no_ring, no_row, Says, LineByte, ring_due, row_due, ByteIs, Given, Accepted}
-use Rattle.table.specs.declared.reason.Reason.{Reason}
-use Rattle.table.specs.declared.reason.Reason.TheVariants.{Misshapen}
-use Rattle.table.specs.Verdict.{Verdict}
-use Rattle.std.specs.Prelude.{Ok, Err}
-use Rattle.table.proofs.Judged.{ring-judged, row-judged}
+use Rattle.reasons.specs.declared.reason.Reason.{Reason}
+use Rattle.reasons.specs.declared.reason.Refusal.{Refusal}
+use Rattle.reasons.specs.Refusals.{refuse}
+use Rattle.reasons.specs.declared.reason.Reason.TheVariants.{Misshapen}
+use Rattle.reasons.specs.Verdict.{Verdict}
+use Rattle.std.specs.Prelude.{Result, Ok, Err}
+use Rattle.reasons.proofs.Judged.{ring-judged, row-judged}
 use Rattle.table.proofs.LineRead.{RingLine, ring_line_is, no_ring_line, as-ring, RowLine, row_line_is, no_row_line, as-row}
-use Rattle.table.proofs.LineNumbers.{line-one, row-one, LinesFrom, from_first, from_next, line-here, no-line-left}
+use Rattle.lines.proofs.LineNumbers.{line-one, LinesFrom, from_first, from_next, line-here, no-line-left}
+use Rattle.table.proofs.TableLines.{row-one}
 use Rattle.table.proofs.Said.{RowLaws}
-use Rattle.table.proofs.BytesGiven.{ring-byte, row-byte, one-shape-byte, one_byte}
+use Rattle.table.proofs.BytesGiven.{ring-byte, row-byte, one_byte}
+use Rattle.lines.proofs.DueBytes.{one-shape-byte}
 use Rattle.table.proofs.FirstOnLine.{HoldsAs, First, wrong-first, ring-judged-first, RowBefore, no_row_before, row_before, row-judged-first}
-use Rattle.table.proofs.Walked.{one-first, same-place, Clean, given-here, clean-next, clean-start, clean-end, too-long-given}
+use Rattle.reasons.proofs.FirstGiven.{one-first, same-place}
+use Rattle.table.proofs.Walked.{Clean, given-here, clean-next, clean-start, clean-end, too-long-given}
 
 -- ---- lines
 
@@ -65,19 +73,19 @@ module _ {limits : Limits} {t : List ℕ} where
 -- ---- line by line
 
 -- a result that is right by what the reasons say
-data Right (limits : Limits) (t : List ℕ) : TableResult → Type 0 where
-  none_holds : {ring : Ring} {rs : List Demand} → Accepted limits t → Right limits t (accepted ring rs)
-  first_holds : {r : Reason} {line byte : ℕ} → Given limits t r line byte → Right limits t (refused r line byte)
+data Right (limits : Limits) (t : List ℕ) : Result Table Refusal → Type 0 where
+  none_holds : {x : Table} → Accepted limits t → Right limits t (Ok x)
+  first_holds : {r : Refusal} → Given limits t r.reason r.line r.byte → Right limits t (Err r)
 
 module _ {limits : Limits} {t : List ℕ} where
-  judged-right : {A : Type 0} {line : ℕ} (shape : List Field) (vs : List ℕ) (field : Reason → ℕ) (y : A) (next : A → TableResult) (v : Verdict) → Clean (Says limits t) line → First (λ s. Says limits t s line) v
-      → HoldsAs (λ s. ByteIs limits t s line (field_byte shape vs (field s))) v → (Clean (Says limits t) (line + 1) → Right limits t (next y)) → Right limits t (unless_refused (passed line shape vs (verdict_found v field) y) next)
-  unfolding unless_refused passed verdict_found
+  judged-right : {A : Type 0} {line : ℕ} (shape : List Field) (vs : List ℕ) (field : Reason → ℕ) (y : A) (next : A → Result Table Refusal) (v : Verdict) → Clean (Says limits t) line → First (λ s. Says limits t s line) v
+      → HoldsAs (λ s. ByteIs limits t s line (field_byte shape vs (field s))) v → (Clean (Says limits t) (line + 1) → Right limits t (next y)) → Right limits t (and_then (passed line shape vs (verdict_found v field) y) next)
+  unfolding passed verdict_found
   judged-right shape vs field y next (Ok tt) clean f b rest = rest (clean-next clean f.least)
   judged-right shape vs field y next (Err r) clean f b rest = first_holds (given-here clean f b)
 
   -- a line of the wrong shape
-  wrong-given : {line byte : ℕ} → Clean (Says limits t) line → WrongLine limits t line → LineByte limits t line byte → Right limits t (refused Misshapen line byte)
+  wrong-given : {line byte : ℕ} → Clean (Says limits t) line → WrongLine limits t line → LineByte limits t line byte → Right limits t (refuse Misshapen line byte)
   wrong-given clean w b = first_holds (given-here clean (wrong-first (row-laws limits t) w) (at_fault b))
 
   rows-end : {line : ℕ} → 2 ≤ line → LinesFrom (lines t) line [] → Clean (Says limits t) line → Accepted limits t
@@ -88,28 +96,28 @@ module _ {limits : Limits} {t : List ℕ} where
       wrong other l (no_row m is none) = omega (arith, no-line-left from is)
 
   rows_right : {ring : Ring} → RingIs limits t ring → (ls : List (List ℕ)) (rs : List Demand) → LinesFrom (lines t) (length rs + 2) ls → Clean (Says limits t) (length rs + 2)
-      → RowBefore (RowIs limits t) (length rs + 2) (last_of rs) → Right limits t (rows_of limits ring rs ls)
-  unfolding rows_of row_on line_judged and_then values_on unless_refused row_found field_byte write_line
+      → RowBefore (RowIs limits t) (length rs + 2) (last_demand rs) → Right limits t (rows_on_lines limits ring rs ls)
+  unfolding rows_on_lines row_on line_judged values_on row_found field_byte write_line
   rows_right here [] rs from clean before = none_holds (rows-end (omega arith) from clean)
   rows_right {ring} here (l ∷ ls) rs from clean before = go (as-row limits l) (λ r. rows_right here ls (rs ++ r ∷ []))
     where
       line : ℕ
       line = length rs + 2
 
-      next : Demand → TableResult
-      next r = rows_of limits ring (rs ++ r ∷ []) ls
+      next : Demand → Result Table Refusal
+      next r = rows_on_lines limits ring (rs ++ r ∷ []) ls
 
       on-next : (r : Demand) → length (rs ++ r ∷ []) + 2 ≡ line + 1
       on-next r = omega (arith, length-append rs (r ∷ []))
 
       go : {x : Reading} → RowLine limits l x
           → ((r : Demand) → LinesFrom (lines t) (length (rs ++ r ∷ []) + 2) ls → Clean (Says limits t) (length (rs ++ r ∷ []) + 2)
-          → RowBefore (RowIs limits t) (length (rs ++ r ∷ []) + 2) (last_of (rs ++ r ∷ [])) → Right limits t (next r))
-          → Right limits t (unless_refused (and_then (values_on line x) λ vs. passed line row_shape vs (row_found limits ring.nodes (length rs) (last_of rs) (demand_in vs)) (demand_in vs)) next)
+          → RowBefore (RowIs limits t) (length (rs ++ r ∷ []) + 2) (last_demand (rs ++ r ∷ [])) → Right limits t (next r))
+          → Right limits t (and_then (and_then (values_on line x) λ vs. passed line row_shape vs (row_found limits ring.nodes (length rs) (last_demand rs) (demand_in vs)) (demand_in vs)) next)
       go (row_line_is {i} {j} {d} e w) rest =
           let r = demand i j d in
           let now : RowIs limits t line r = record { later = omega arith; text = rw e at (line-here from); spelled = w } in
-          let judged = row-judged limits ring.nodes (length rs) (last_of rs) r in
+          let judged = row-judged limits ring.nodes (length rs) (last_demand rs) r in
           let at = on-next r in
           let last = last-more rs r in
           judged-right row_shape (0 ∷ i ∷ j ∷ d ∷ []) (λ reason. field_of reason (node_field ring.nodes i)) r next _ clean (row-judged-first (row-laws limits t) here now (row-right now) refl before judged) (row-byte (RowIs limits t) (LineByte limits t) r here now (field_byte row_shape (0 ∷ i ∷ j ∷ d ∷ [])) refl refl refl refl judged)
@@ -118,14 +126,14 @@ module _ {limits : Limits} {t : List ℕ} where
           wrong-given clean (no_row (omega arith) (line-here from) (λ r x. none r.first r.second r.amount (line-one (line-here from) x.text refl) x.spelled)) (row_due (omega arith) (line_faulty (line-here from) fault))
 
   lines-right : length t ≤ limits.bytes → (ls : List (List ℕ)) → LinesFrom (lines t) 1 ls → Right limits t (table_lines limits ls)
-  unfolding table_lines ring_on line_judged and_then values_on unless_refused ring_found ring_reason_byte
+  unfolding table_lines ring_on line_judged values_on ring_found ring_reason_byte
   lines-right short [] from = wrong-given (clean-start (row-laws limits t) short) (no_ring refl (λ ring x. omega (arith, no-line-left from x.text))) (ring_due refl (line_missing (λ l is. omega (arith, no-line-left from is))))
   lines-right short (l ∷ ls) from = go (as-ring limits l)
     where
-      next : Ring → TableResult
-      next ring = rows_of limits ring [] ls
+      next : Ring → Result Table Refusal
+      next ring = rows_on_lines limits ring [] ls
 
-      go : {x : Reading} → RingLine limits l x → Right limits t (unless_refused (and_then (values_on 1 x) λ vs. passed 1 ring_shape vs (ring_found limits (ring_in vs)) (ring_in vs)) next)
+      go : {x : Reading} → RingLine limits l x → Right limits t (and_then (and_then (values_on 1 x) λ vs. passed 1 ring_shape vs (ring_found limits (ring_in vs)) (ring_in vs)) next)
       go (ring_line_is {n} {fibres} e w) =
           let here : RingIs limits t (ring_of n fibres) = record { text = rw e at (line-here from); spelled = w } in
           let judged = ring-judged limits (ring_of n fibres) in
@@ -147,28 +155,28 @@ right limits t =
 pub one-given : {limits : Limits} {t : List ℕ} {r s : Reason} {line other byte on : ℕ} → Given limits t r line byte → Given limits t s other on → (r ≡ s) × (line ≡ other) × (byte ≡ on)
 one-given {limits} {t} f g = one-first same-place (λ line b c r x y. one_byte (λ q p. row-one) one-line-byte x y) f g
 
-pub given : (limits : Limits) (t : List ℕ) (r : Reason) (line byte : ℕ) → (table_of limits t ≡ refused r line byte) ↔ Given limits t r line byte
-given limits t r line byte = (λ e. there (subst (Right limits t) e (right limits t)), λ g. back g (right limits t))
+pub given : (limits : Limits) (t : List ℕ) (r : Refusal) → (table_of limits t ≡ Err r) ↔ Given limits t r.reason r.line r.byte
+given limits t r = (λ e. there (subst (Right limits t) e (right limits t)), λ g. back g (right limits t))
   where
-    there : Right limits t (refused r line byte) → Given limits t r line byte
+    there : Right limits t (Err r) → Given limits t r.reason r.line r.byte
     there (first_holds g) = g
 
-    back : Given limits t r line byte → {x : TableResult} → Right limits t x → x ≡ refused r line byte
-    back g (none_holds none) = absurd (none r line g.holds)
-    back g (first_holds f) = let o = one-given f g in rw (o.0, o.1, o.2)
+    back : Given limits t r.reason r.line r.byte → {x : Result Table Refusal} → Right limits t x → x ≡ Err r
+    back g (none_holds none) = absurd (none r.reason r.line g.holds)
+    back g (first_holds f) = let o = one-given f g in let a = o.0 in let b = o.1 in let c = o.2 in ap Err (λ i. record { reason = a i; line = b i; byte = c i })
 
 -- the text is read to a table
 pub record Reads (limits : Limits) (t : List ℕ) : Type 0 where
   pub ring : Ring
   pub rs : List Demand
-  pub is : table_of limits t ≡ accepted ring rs
+  pub is : table_of limits t ≡ Ok (ring, rs)
 
 pub accepted-is : (limits : Limits) (t : List ℕ) → Reads limits t ↔ Accepted limits t
 accepted-is limits t = (λ h. there (subst (Right limits t) h.is (right limits t)), λ none. back none (table_of limits t) refl)
   where
-    there : {ring : Ring} {rs : List Demand} → Right limits t (accepted ring rs) → Accepted limits t
+    there : {x : Table} → Right limits t (Ok x) → Accepted limits t
     there (none_holds none) = none
 
-    back : Accepted limits t → (x : TableResult) → table_of limits t ≡ x → Reads limits t
-    back none (accepted ring rs) e = record { ring = ring; rs = rs; is = e }
-    back none (refused r line byte) e = absurd (none r line ((given limits t r line byte).0 e).holds)
+    back : Accepted limits t → (x : Result Table Refusal) → table_of limits t ≡ x → Reads limits t
+    back none (Ok x) e = record { ring = x.0; rs = x.1; is = e }
+    back none (Err r) e = absurd (none r.reason r.line ((given limits t r).0 e).holds)

@@ -1,46 +1,22 @@
 -- Which reason is given of a text of rows, line by line: a reason of a line is given where nothing is said of the lines before it and it is the first of its line; none
--- holds where nothing is said of any line. A text has one first reason, with one byte.
+-- holds where nothing is said of any line.
 use Prim.Native.Nat.{ℕ, ◌+◌, ◌≤◌, ◌<◌}
 use mathlib.Core.List.{List}
 use mathlib.Core.Logic.{inl, inr}
-use mathlib.Core.Path.{◌≡◌, refl, sym, subst}
+use mathlib.Core.Path.{◌≡◌, refl, subst}
 use native.Mathlib.Omega.{arith}
 use native.Mathlib.Decide.{dec_lt}
 use lib.ListN.{length}
 use Rattle.ring.specs.Limits.{Limits}
 use Rattle.ring.specs.declared.types.Demand.{Demand}
-use Rattle.table.specs.Reasons.{rank_of, FirstReason, NoReason}
-use Rattle.table.specs.RowReasons.{RowsSay, says_too_long, RowsByte, at_none, Earlier}
-use Rattle.table.specs.declared.reason.Reason.{Reason}
-use Rattle.table.specs.declared.reason.Reason.TheVariants.{TooLong}
+use Rattle.reasons.specs.Reasons.{FirstReason, NoReason, Earlier}
+use Rattle.table.specs.RowReasons.{RowsSay, says_too_long, RowsByte, at_none}
+use Rattle.reasons.specs.declared.reason.Reason.{Reason}
+use Rattle.reasons.specs.declared.reason.Reason.TheVariants.{TooLong}
 use Rattle.std.specs.Prelude.{Err}
 use Rattle.table.proofs.FirstOnLine.{First}
-use Rattle.table.proofs.ReasonNumbers.{same_rank, no-rank-0}
+use Rattle.reasons.proofs.ReasonNumbers.{no-rank-0}
 use Rattle.table.proofs.Said.{RowLaws, Stands, on_none, on_line, stands, none-said}
-
--- ---- one first reason
-
--- in an order in which of two reasons on their lines one comes before, where they are not the same
-pub one-first : {Says : Reason → ℕ → Type 0} {Before : Reason → ℕ → Reason → ℕ → Type 0} {ByteIs : Reason → ℕ → ℕ → Type 0}
-    → ((r s : Reason) (line other : ℕ) → (Before r line s other → ⊥) → (Before s other r line → ⊥) → (r ≡ s) × (line ≡ other))
-    → ((line b c : ℕ) (r : Reason) → ByteIs r line b → ByteIs r line c → b ≡ c)
-    → {r s : Reason} {line other byte on : ℕ} → FirstReason Says Before ByteIs r line byte → FirstReason Says Before ByteIs s other on → (r ≡ s) × (line ≡ other) × (byte ≡ on)
-one-first same one {r} {s} {line} {other} {byte} {on} f g =
-    let e = same r s line other (λ e. g.first r line e f.holds) (λ e. f.first s other e g.holds) in
-    let k : r ≡ s = e.0 in
-    let l : line ≡ other = e.1 in
-    (k, l, one other byte on s (rw (k, l) at f.byte_is) g.byte_is)
-
-pub same-place : (r s : Reason) (line other : ℕ) → (Earlier r line s other → ⊥) → (Earlier s other r line → ⊥) → (r ≡ s) × (line ≡ other)
-same-place r s line other up down =
-    let a : line < other → ⊥ = λ l. up (inl l) in
-    let b : other < line → ⊥ = λ l. down (inl l) in
-    let e : line ≡ other = omega arith in
-    let c : rank_of r < rank_of s → ⊥ = λ l. up (inr (e, l)) in
-    let d : rank_of s < rank_of r → ⊥ = λ l. down (inr (sym e, l)) in
-    (same_rank r s (omega arith), e)
-
--- ---- line by line
 
 -- nothing is said of the lines before this one
 pub record Clean (Says : Reason → ℕ → Type 0) (line : ℕ) : Type 0 where

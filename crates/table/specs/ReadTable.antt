@@ -1,22 +1,22 @@
 -- Internal: reading a table: reason 1 first, then lines in order, and in a line the reasons in their order.
-use Rattle.std.specs.Prelude.{ℕ, ◌+◌, cond, List, [], ◌∷◌, ◌++◌, length, ltb, get_or, Result, Ok, Err}
+use Rattle.std.specs.Prelude.{ℕ, ◌+◌, cond, List, [], ◌∷◌, ◌++◌, length, ltb, get_or, Result, Ok}
 use Rattle.ring.specs.Demand.{demand}
 use Rattle.ring.specs.declared.types.Demand.{Demand}
 use Rattle.text.specs.Shapes.{ring_shape, row_shape}
 use Rattle.ring.specs.Limits.{Limits}
 use Rattle.ring.specs.Ring.{ring_of}
 use Rattle.ring.specs.declared.types.Ring.{Ring}
-use Rattle.table.specs.Lines.{lines}
-use Rattle.table.specs.Faults.{ring_found, row_found, last_of}
-use Rattle.table.specs.OnLine.{line_judged}
-use Rattle.table.specs.declared.reason.Reason.{Reason}
-use Rattle.table.specs.declared.reason.Reason.TheVariants.{TooLong, Misshapen}
-use Rattle.table.specs.declared.reason.Refusal.{Refusal}
+use Rattle.lines.specs.Lines.{lines}
+use Rattle.reasons.specs.Faults.{ring_found, row_found, last_demand}
+use Rattle.reasons.specs.AndThen.{and_then}
+use Rattle.lines.specs.OnLine.{line_judged}
+use Rattle.reasons.specs.declared.reason.Reason.TheVariants.{TooLong, Misshapen}
+use Rattle.reasons.specs.declared.reason.Refusal.{Refusal}
+use Rattle.reasons.specs.Refusals.{refuse}
 
--- a ring and its rows; or a reason, a line and a byte of it
-pub data TableResult : Type 0 where
-  accepted : Ring → List Demand → TableResult
-  refused : Reason → ℕ → ℕ → TableResult
+-- a ring and its rows
+abbrev pub Table : Type 0
+Table = Ring × List Demand
 
 -- ---- one line, by its values; that of the letter is the first
 
@@ -34,27 +34,22 @@ ring_on limits l = line_judged limits.digits 1 ring_shape ring_in (ring_found li
 -- D i j amount, behind the rows rs, of which the first stands on line 2
 unfoldable pub row_on : Limits → Ring → List Demand → List ℕ → Result Demand Refusal
 unfolding line_judged row_found
-row_on limits ring rs l = line_judged limits.digits (length rs + 2) row_shape demand_in (row_found limits ring.nodes (length rs) (last_of rs)) l
+row_on limits ring rs l = line_judged limits.digits (length rs + 2) row_shape demand_in (row_found limits ring.nodes (length rs) (last_demand rs)) l
 
 -- ---- the lines in order
 
--- what a line is read to, then what `next` makes of it
-unfoldable pub unless_refused : {A : Type 0} → Result A Refusal → (A → TableResult) → TableResult
-unless_refused (Ok x) next = next x
-unless_refused (Err r) next = refused r.reason r.line r.byte
-
 -- the rows of the lines ls, behind the rows rs
-unfoldable pub rows_of : Limits → Ring → List Demand → List (List ℕ) → TableResult
-unfolding row_on unless_refused
-rows_of limits ring rs [] = accepted ring rs
-rows_of limits ring rs (l ∷ ls) = unless_refused (row_on limits ring rs l) λ r. rows_of limits ring (rs ++ r ∷ []) ls
+unfoldable pub rows_on_lines : Limits → Ring → List Demand → List (List ℕ) → Result Table Refusal
+unfolding row_on
+rows_on_lines limits ring rs [] = Ok (ring, rs)
+rows_on_lines limits ring rs (l ∷ ls) = and_then (row_on limits ring rs l) λ r. rows_on_lines limits ring (rs ++ r ∷ []) ls
 
 -- R n fibres, then rows; a missing first line is line 1
-unfoldable pub table_lines : Limits → List (List ℕ) → TableResult
-unfolding ring_on rows_of unless_refused
-table_lines limits [] = refused Misshapen 1 1
-table_lines limits (l ∷ ls) = unless_refused (ring_on limits l) λ ring. rows_of limits ring [] ls
+unfoldable pub table_lines : Limits → List (List ℕ) → Result Table Refusal
+unfolding ring_on rows_on_lines
+table_lines limits [] = refuse Misshapen 1 1
+table_lines limits (l ∷ ls) = and_then (ring_on limits l) λ ring. rows_on_lines limits ring [] ls
 
-unfoldable pub table_of : Limits → List ℕ → TableResult
+unfoldable pub table_of : Limits → List ℕ → Result Table Refusal
 unfolding table_lines
-table_of limits t = cond (ltb limits.bytes (length t)) (refused TooLong 0 0) (table_lines limits (lines t))
+table_of limits t = cond (ltb limits.bytes (length t)) (refuse TooLong 0 0) (table_lines limits (lines t))

@@ -1,28 +1,22 @@
--- To believe: what each reason says of a text whose first line is a ring and whose rows each stand on a line behind it, as in a table and in a sheet (Rules, reasons), by its lines and the writer alone; which byte of the line goes with it; and what is tried earlier.
+-- To believe: what each reason says of a text whose first line is a ring and whose rows each stand on a line behind it, as in a table and in a sheet (Rules, reasons), by its lines and the writer alone; and which byte of the line goes with it.
 use Rattle.std.specs.Prelude.{ℕ, ◌+◌, ◌≤◌, ◌<◌, List, ◌⊎◌, ◌≡◌, length}
 use Rattle.text.specs.Number.{limit}
 use Rattle.text.specs.FieldByte.{ring_byte, row_byte}
-use Rattle.text.specs.FirstFault.{FirstFault}
-use Rattle.text.specs.declared.field.Field.{Field}
 use Rattle.text.specs.Shapes.{ring_line}
 use Rattle.ring.specs.Limits.{Limits}
 use Rattle.ring.specs.declared.types.Ring.{Ring}
 use Rattle.ring.specs.declared.types.Demand.{Demand}
 use Rattle.ring.specs.LineSize.{IsFibres}
 use Rattle.ring.specs.TableRows.{PairBefore}
-use Rattle.table.specs.Lines.{lines, LineIs}
-use Rattle.table.specs.Reasons.{rank_of}
-use Rattle.table.specs.declared.reason.Reason.{Reason}
-use Rattle.table.specs.declared.reason.Reason.TheVariants.{TooLong, Misshapen, RingSize, Fibres, NoSuchNode, NotBelow, OutOfOrder, TooMany, TooMuch}
+use Rattle.lines.specs.Lines.{lines, LineIs}
+use Rattle.reasons.specs.declared.reason.Reason.{Reason}
+use Rattle.reasons.specs.declared.reason.Reason.TheVariants.{TooLong, Misshapen, RingSize, Fibres, NoSuchNode, NotBelow, OutOfOrder, TooMany, TooMuch}
+use Rattle.reasons.specs.Findings.{NoNode}
 
 -- the first line is R n fibres
 pub record RingIs (limits : Limits) (t : List ℕ) (ring : Ring) : Type 0 where
   pub text : LineIs (lines t) 1 (ring_line ring.nodes ring.fibres)
   pub spelled : (ring.nodes < limit limits.digits) × (ring.fibres < limit limits.digits)
-
--- a node outside 1..n
-abbrev pub NoNode : ℕ → ℕ → Type 0
-NoNode n i = (i < 1) ⊎ (n < i)
 
 -- by what it is for a line to hold a row of this demand, and what 2 says of a line
 module _ (limits : Limits) (t : List ℕ) (Row : ℕ → Demand → Type 0) (WrongLine : ℕ → Type 0) where
@@ -67,16 +61,3 @@ module _ (limits : Limits) (t : List ℕ) (Row : ℕ → Demand → Type 0) (Lin
     at_pair : byte ≡ 1 → RowsByte line byte NotBelow
     at_order : byte ≡ 1 → RowsByte line byte OutOfOrder
     at_count : byte ≡ 1 → RowsByte line byte TooMany
-
--- where a line is due: 1 where it is missing; else the byte at which its first fault is, by what a fault is there
-pub data DueByte (t : List ℕ) (line : ℕ) (Fault : List ℕ → ℕ → Type 0) : ℕ → Type 0 where
-  line_missing : ((l : List ℕ) → LineIs (lines t) line l → ⊥) → DueByte t line Fault 1
-  line_faulty : {l : List ℕ} {p : ℕ} → LineIs (lines t) line l → Fault l p → DueByte t line Fault (p + 1)
-
--- where a line of this shape is due it is the first byte at which no line of the shape goes on like this
-abbrev pub ShapeByte : Limits → List ℕ → List Field → ℕ → ℕ → Type 0
-ShapeByte limits t shape line = DueByte t line (FirstFault limits.digits shape)
-
--- what is tried earlier: the line before, which is 0 for reason 1, and on the same line the reason before (Rules, the order of reasons)
-abbrev pub Earlier : Reason → ℕ → Reason → ℕ → Type 0
-Earlier r line s other = (line < other) ⊎ ((line ≡ other) × (rank_of r < rank_of s))

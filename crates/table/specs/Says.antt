@@ -5,10 +5,11 @@ use Rattle.text.specs.Shapes.{ring_shape, row_shape, row_line}
 use Rattle.ring.specs.Limits.{Limits}
 use Rattle.ring.specs.declared.types.Ring.{Ring}
 use Rattle.ring.specs.declared.types.Demand.{Demand}
-use Rattle.table.specs.Lines.{lines, LineIs}
-use Rattle.table.specs.Reasons.{FirstReason, NoReason}
-use Rattle.table.specs.RowReasons.{RingIs, RowsSay, RowsByte, ShapeByte, Earlier}
-use Rattle.table.specs.declared.reason.Reason.{Reason}
+use Rattle.lines.specs.Lines.{lines, LineIs}
+use Rattle.reasons.specs.Reasons.{FirstReason, NoReason, Earlier}
+use Rattle.table.specs.RowReasons.{RingIs, RowsSay, RowsByte}
+use Rattle.lines.specs.DueBytes.{ShapeByte}
+use Rattle.reasons.specs.declared.reason.Reason.{Reason}
 
 -- a later line is D i j amount
 pub record RowIs (limits : Limits) (t : List ℕ) (line : ℕ) (r : Demand) : Type 0 where

@@ -7,7 +7,8 @@ use Rattle.ring.specs.declared.types.Routed.{Routed}
 use Rattle.ring.specs.Lists.{Each}
 use Rattle.ring.specs.Routing.{unsplit_load}
 use Rattle.ring.specs.Sheet.{sents, demands}
-use Rattle.ring.proofs.Lists.{each, each-of-map, each-at}
+use Rattle.ring.proofs.Lists.{each, each-at}
+use Rattle.ring.proofs.Small.{each-of-demands}
 use Rattle.ring.proofs.Peaks.{peak-least}
 use Rattle.ring.proofs.Totals.{total-most, unsplit-total, whole-small}
 use Rattle.ring.specs.Limits.{desk}
@@ -17,7 +18,7 @@ use Rattle.turns.specs.Turns.{peak_of}
 
 module _ (n : ℕ) (rs : List Routed) (fit : DemandsFit n (demands (sents rs))) where
   pub each-fits : Each (λ (r : Routed). DemandFits n r.sent.demand) rs
-  each-fits = each-of-map (λ (r : Routed). r.sent) rs (each-of-map (λ (s : Sent). s.demand) (sents rs) fit.each)
+  each-fits = each-of-demands {P = DemandFits n} rs fit.each
 
   pub row-fits : (k : ℕ) (r : Routed) → slice_get rs k ≡ Some r → DemandFits n r.sent.demand
   row-fits k r at = rw (get_or_from_slice_get rs k r r at) at (each-at each-fits k r (slice_get_within rs k r at))

@@ -8,7 +8,6 @@ use Rattle.std.specs.Int.{div_ceil}
 use Rattle.std.proofs.lemmas.Grind.{div_ceil_times}
 use Rattle.ring.specs.declared.types.Cut.{Cut}
 use Rattle.ring.specs.declared.types.Demand.{Demand}
-use Rattle.ring.specs.declared.types.Sent.{Sent}
 use Rattle.ring.specs.declared.types.Routed.{Routed}
 use Rattle.ring.specs.declared.types.Way.{Way}
 use Rattle.ring.specs.declared.types.Way.TheVariants.{Front, Back}
@@ -17,7 +16,8 @@ use Rattle.ring.specs.Cut.{across}
 use Rattle.ring.specs.RuleA.{largest_cut, rule_a, largest_across}
 use Rattle.ring.specs.Routing.{unsplit_load, peak}
 use Rattle.ring.specs.Sheet.{sents, demands}
-use Rattle.ring.proofs.Lists.{each, each-of-map, each-at}
+use Rattle.ring.proofs.Lists.{each, each-at}
+use Rattle.ring.proofs.Small.{each-of-demands}
 use Rattle.rows.proofs.Demands.{demands-more}
 use Rattle.ring.proofs.Across.{either_order, one_link}
 use Rattle.ring.proofs.Side.{cond-elim}
@@ -66,7 +66,7 @@ module _ (link : ℕ) (old : List Routed) where
 
     pub avoid_small : SmallAmounts (demands (sents old)) → r.sent.demand.amount ≤ desk.amount
     avoid_small small =
-        rw old-here at (each-at (each-of-map (λ (r : Routed). r.sent) old (each-of-map (λ (s : Sent). s.demand) (sents old) small.each)) t r few)
+        rw old-here at (each-at (each-of-demands {P = λ q. q.amount ≤ desk.amount} old small.each) t r few)
 
     pub avoid_turn : (w : Way) (q : Routed) (new : List Routed) → w ≡ cond (in_front r.sent.demand link) Back Front → q ≡ whole r.sent.demand w → new ≡ set now t q → Avoiding link old new (t + 1)
     unfolding avoiding
@@ -113,8 +113,8 @@ module _ (n : ℕ) (rs : List Demand) (triangle : List ℕ) (s : TriangleOf n rs
         ]
       ]
 
-  pub start_carries : (rows : List Routed) (at : ℕ) (loads : List ℕ) → length loads ≡ n → rows ≡ start link rs → at ≡ link → Carries (λ h. across_between triangle at h) loads → Carries (unsplit_load rows) loads
-  start_carries rows at loads size e q c = record { is = λ k a b. (rw q at (c.is k a b)) ∙ (number-is k a (omega arith) ∙ (sym (start-loads link k rs) ∙ (rw e))) }
+  pub start_carries : (rows : List Routed) (loads : List ℕ) → length loads ≡ n → rows ≡ start link rs → Carries (λ h. across_between triangle link h) loads → Carries (unsplit_load rows) loads
+  start_carries rows loads size e c = record { is = λ k a b. c.is k a b ∙ (number-is k a (omega arith) ∙ (sym (start-loads link k rs) ∙ (rw e))) }
 
 -- ---- where it leads
 

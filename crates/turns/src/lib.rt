@@ -28,7 +28,7 @@ ghost use Rattle.turns.specs.Starts.{lower_of};
 use across::{PAIRS, fill, largest_cut};
 use keys::fill_keys;
 use loads::{Loads, MARKS};
-use ring::{LINKS, wide};
+use ring::LINKS;
 use rows::RowsMut;
 use settle::settle;
 use start::{loads_avoiding, meets, route_avoiding};
@@ -52,7 +52,7 @@ fn from_start<R: RowsMut>(triangle: &[u32; PAIRS], n: usize, link: u32, rows: &m
     ensures figures { result ≡ (from_start n (demands_of (R.rows rows.old)) link).figures }
 {
     route_avoiding(rows, link);
-    let avoiding = loads_avoiding(triangle, n, wide(link));
+    let avoiding = loads_avoiding(triangle, n, link as usize);
     let mut loads = Loads {
         links: 0,
         loads: avoiding,
@@ -149,7 +149,7 @@ pub fn turn_rows<R: RowsMut>(nodes: u32, rows: &mut R) -> Turned
     ensures most { result.peak ≤ largest_across nodes (demands_of (R.rows rows.old)) }
     ensures floor { WaysFloor nodes (demands_of (R.rows rows.old)) }
 {
-    let n = wide(nodes);
+    let n = nodes as usize;
     let mut triangle: [u32; PAIRS] = [0; PAIRS];
     fill(&mut triangle, n, rows);
     best_start(&triangle, n, rows)

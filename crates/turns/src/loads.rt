@@ -8,7 +8,7 @@ ghost use Rattle.turns.specs.Choosing.{off_top, span_top, path_key, rank_weight}
 ghost use Rattle.turns.specs.TurnedLoads.{RoomFor, PathCarries, LoadsTurned};
 
 use crate::keys::{fill_keys, rank_weight};
-use ring::{LINKS, Routed, Way, wide};
+use ring::{LINKS, Routed, Way};
 use std::marker::Model;
 use weight::step_over;
 
@@ -105,8 +105,8 @@ impl Loads {
         requires { OnRing (length self.now) row.sent.demand }
         ensures { result ≡ off_top (length self.now) (link_at self.now) row }
     {
-        let from = wide(row.sent.demand.first) - 1;
-        let to = wide(row.sent.demand.second) - 1;
+        let from = row.sent.demand.first as usize - 1;
+        let to = row.sent.demand.second as usize - 1;
         let loads = self.seen();
         match row.way {
             Way::Front => top(loads, 0, from).max(top(loads, to, self.links)),
@@ -120,8 +120,8 @@ impl Loads {
         requires { OnRing (length self.now) row.sent.demand }
         ensures { result ≡ path_key (length self.now) (link_at self.now) row }
     {
-        let from = wide(row.sent.demand.first) - 1;
-        let to = wide(row.sent.demand.second) - 1;
+        let from = row.sent.demand.first as usize - 1;
+        let to = row.sent.demand.second as usize - 1;
         let front = self.keys[to] - self.keys[from];
         match row.way {
             Way::Front => front,

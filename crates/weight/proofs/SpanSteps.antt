@@ -68,9 +68,9 @@ module _ {T : Type 0} (a k : ℕ) (xs : List T) (fits : a + k ≤ length xs) whe
 
 -- ---- a demand's three runs: before its front, over it and behind it
 
-module _ {T : Type 0} (front back : T → T → Type 0) (r : Demand) (i j : ℕ) (ei : i ≡ r.first) (ej : j ≡ r.second) (old : List T) (on : OnRing (length old) r) where
-  module _ {one two new : List T} (first : Span back 0 (0 + (i - 1)) old one) (second : Span front (i - 1) ((i - 1) + ((j - 1) - (i - 1))) one two)
-      (third : Span back (j - 1) ((j - 1) + (length old - (j - 1))) two new) where
+module _ {T : Type 0} (front back : T → T → Type 0) (r : Demand) (old : List T) (on : OnRing (length old) r) where
+  module _ {one two new : List T} (first : Span back 0 (0 + (r.first - 1)) old one) (second : Span front (r.first - 1) ((r.first - 1) + ((r.second - 1) - (r.first - 1))) one two)
+      (third : Span back (r.second - 1) ((r.second - 1) + (length old - (r.second - 1))) two new) where
     runs : OverStep front back r old new
     runs =
         record {
@@ -91,14 +91,14 @@ module _ {T : Type 0} (front back : T → T → Type 0) (r : Demand) (i j : ℕ)
 
   module _ (a b c : List T) where
     abbrev pub one : List T
-    one = a ++ drop (i - 1) old
+    one = a ++ drop (r.first - 1) old
 
     abbrev pub two : List T
-    two = put_mid (i - 1) ((j - 1) - (i - 1)) one b
+    two = put_mid (r.first - 1) ((r.second - 1) - (r.first - 1)) one b
 
-    pub over_step : EachStep back (take (i - 1) old) a → EachStep front (mid_of (i - 1) ((j - 1) - (i - 1)) one) b → EachStep back (mid_of (j - 1) (length old - (j - 1)) two) c →
-        OverStep front back r old (put_mid (j - 1) (length old - (j - 1)) two c)
+    pub over_step : EachStep back (take (r.first - 1) old) a → EachStep front (mid_of (r.first - 1) ((r.second - 1) - (r.first - 1)) one) b → EachStep back (mid_of (r.second - 1) (length old - (r.second - 1)) two) c →
+        OverStep front back r old (put_mid (r.second - 1) (length old - (r.second - 1)) two c)
     over_step p q s =
-        let first : Span back 0 (0 + (i - 1)) old one = part-step 0 (i - 1) old (omega arith) a p in
-        let second = part-step (i - 1) ((j - 1) - (i - 1)) one (omega (arith, first.size)) b q in
-        runs first second (part-step (j - 1) (length old - (j - 1)) two (omega (arith, first.size, second.size)) c s)
+        let first : Span back 0 (0 + (r.first - 1)) old one = part-step 0 (r.first - 1) old (omega arith) a p in
+        let second = part-step (r.first - 1) ((r.second - 1) - (r.first - 1)) one (omega (arith, first.size)) b q in
+        runs first second (part-step (r.second - 1) (length old - (r.second - 1)) two (omega (arith, first.size, second.size)) c s)

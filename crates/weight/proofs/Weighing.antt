@@ -131,7 +131,7 @@ split-sum k = record { none = refl; more = λ r rs. refl }
 split-small : (n : ℕ) (rs : List Routed) → Fit n rs → (k : ℕ) → split_load (sents rs) k ≤ halves_bound * length rs
 split-small n rs fit k = total-most {sum = λ rs. split_load (sents rs) k} (split-sum k) halves_bound (each (λ r f. omega (arith, sent-small r.sent k, f.halves)) fit.each)
 
-module _ (n : ℕ) (rs : List Routed) (fit : Fit n rs) (nodes : ℕ) (is : nodes ≡ n) where
+module _ (n : ℕ) (rs : List Routed) (fit : Fit n rs) where
   module _ (old : List Link) (none : old ≡ replicate {A = Link} desk.nodes no_link) where
     old-at : (x : ℕ) (d : Link) → x < desk.nodes → get_or old x d ≡ no_link
     old-at x d l = rw none (get_or-replicate {A = Link} desk.nodes x no_link d l)
@@ -139,33 +139,33 @@ module _ (n : ℕ) (rs : List Routed) (fit : Fit n rs) (nodes : ℕ) (is : nodes
     old-size : length old ≡ desk.nodes
     old-size = rw none (length-replicate {A = Link} desk.nodes no_link)
 
-    pub number_start : Numbering nodes (take nodes old) 0
+    pub number_start : Numbering n (take n old) 0
     number_start =
         record {
-          size = omega (arith, length-take nodes old, old-size, fit.links);
+          size = omega (arith, length-take n old, old-size, fit.links);
           passed = λ x d l. absurd (omega arith);
-          left = λ x d l m. get_or-take nodes old x d m ∙ old-at x d (omega (arith, fit.links));
+          left = λ x d l m. get_or-take n old x d m ∙ old-at x d (omega (arith, fit.links));
         }
 
-    pub weigh_start : (part : List Link) (k : ℕ) → Numbering nodes part k → nodes ≤ k → (new : List Link) → new ≡ part ++ drop nodes old → (left : List Routed) → left ≡ rs → Weighing nodes rs left new
+    pub weigh_start : (part : List Link) (k : ℕ) → Numbering n part k → n ≤ k → (new : List Link) → new ≡ part ++ drop n old → (left : List Routed) → left ≡ rs → Weighing n rs left new
     unfolding split_load unsplit_load
     weigh_start part k done passed new e left all =
         rw (e, all) record {
-          each = rw is fit.each;
-          size = omega (arith, length-append part (drop nodes old), length-drop nodes old, done.size, old-size, fit.links);
+          each = fit.each;
+          size = omega (arith, length-append part (drop n old), length-drop n old, done.size, old-size, fit.links);
           loads =
               λ x d l.
               let p : 0 + split_load (sents rs) (x + 1) ≡ split_load (sents rs) (x + 1) = omega arith in
               let q : 0 + unsplit_load rs (x + 1) ≡ unsplit_load rs (x + 1) = omega arith in
-              rw (get_or-append part (drop nodes old) d x (omega (arith, done.size)), done.passed x d (omega arith)) (λ i. record { link = x + 1; split = p i; unsplit = q i });
+              rw (get_or-append part (drop n old) d x (omega (arith, done.size)), done.passed x d (omega arith)) (λ i. record { link = x + 1; split = p i; unsplit = q i });
           behind =
               λ x d l m.
-              let e : nodes + (x - nodes) ≡ x = omega arith in
-              get_or-append_right part (drop nodes old) nodes x d done.size l ∙ get_or-drop nodes old (x - nodes) d ∙ ap (λ y. get_or old y d) e ∙ old-at x d m;
+              let e : n + (x - n) ≡ x = omega arith in
+              get_or-append_right part (drop n old) n x d done.size l ∙ get_or-drop n old (x - n) d ∙ ap (λ y. get_or old y d) e ∙ old-at x d m;
         }
 
-  pub number_turn : (links : List Link) (k : ℕ) → Numbering nodes links k → k < nodes → (d : Link) →
-      Numbering nodes (set links k (record { link = k + 1; split = (get_or links k d).split; unsplit = (get_or links k d).unsplit })) (k + 1)
+  pub number_turn : (links : List Link) (k : ℕ) → Numbering n links k → k < n → (d : Link) →
+      Numbering n (set links k (record { link = k + 1; split = (get_or links k d).split; unsplit = (get_or links k d).unsplit })) (k + 1)
   unfolding split_load unsplit_load
   number_turn links k s l empty =
       let e = s.left k empty (omega arith) l in
@@ -181,22 +181,22 @@ module _ (n : ℕ) (rs : List Routed) (fit : Fit n rs) (nodes : ℕ) (is : nodes
       }
 
   -- one row more of those that are left
-  module _ (links : List Link) (left rest : List Routed) (r : Routed) (next : left ≡ r ∷ rest) (before : Weighing nodes rs left links)
+  module _ (links : List Link) (left rest : List Routed) (r : Routed) (next : left ≡ r ∷ rest) (before : Weighing n rs left links)
       (front back : ℕ) (ahead : front ≡ by_way r.way r.sent.demand.amount 0) (behind : back ≡ by_way r.way 0 r.sent.demand.amount) where
-    w : Weighing nodes rs (r ∷ rest) links
+    w : Weighing n rs (r ∷ rest) links
     w = rw next at before
 
-    here : RowFits nodes r
+    here : RowFits n r
     here = each-at w.each 0 r (omega arith)
 
-    long : length (take nodes links) ≡ nodes
-    long = omega (arith, length-take nodes links, w.size, fit.links)
+    long : length (take n links) ≡ n
+    long = omega (arith, length-take n links, w.size, fit.links)
 
-    part-is : (x : ℕ) (d : Link) → x < nodes → get_or (take nodes links) x d ≡ get_or links x d
-    part-is x d l = get_or-take nodes links x d l
+    part-is : (x : ℕ) (d : Link) → x < n → get_or (take n links) x d ≡ get_or links x d
+    part-is x d l = get_or-take n links x d l
 
     -- a link with so much of this row and with the rows behind it
-    module _ (x : ℕ) (d : Link) (l : x < nodes) (a b : ℕ) (ea : sent_over r.sent (x + 1) ≡ a) (eb : whole_over r (x + 1) ≡ b) where
+    module _ (x : ℕ) (d : Link) (l : x < n) (a b : ℕ) (ea : sent_over r.sent (x + 1) ≡ a) (eb : whole_over r (x + 1) ≡ b) where
       with_row : loaded (loaded (get_or links x d) a b) (split_load (sents rest) (x + 1)) (unsplit_load rest (x + 1)) ≡ true_link rs (x + 1)
       unfolding split_load unsplit_load
       with_row =
@@ -212,7 +212,7 @@ module _ (n : ℕ) (rs : List Routed) (fit : Fit n rs) (nodes : ℕ) (is : nodes
       unsplit-fits = omega (arith, ap (λ (k : Link). k.unsplit) with_row, load-small n rs fit (x + 1), fit.few)
 
     pub weigh_fits : {ahead_can behind_can : Link → Type 0} → ((x : Link) → x.split + r.sent.front ≤ load_bound → x.unsplit + front ≤ load_bound → ahead_can x) →
-        ((x : Link) → x.split + r.sent.back ≤ load_bound → x.unsplit + back ≤ load_bound → behind_can x) → OverFits ahead_can behind_can r.sent.demand (take nodes links)
+        ((x : Link) → x.split + r.sent.back ≤ load_bound → x.unsplit + back ≤ load_bound → behind_can x) → OverFits ahead_can behind_can r.sent.demand (take n links)
     weigh_fits p q =
         record {
           on = rw long here.on;
@@ -220,29 +220,29 @@ module _ (n : ℕ) (rs : List Routed) (fit : Fit n rs) (nodes : ℕ) (is : nodes
           behind = λ x d l f. can q x d l (over-back r.sent (x + 1) f) (whole-back r (x + 1) f ∙ sym behind);
         }
       where
-        can : {P : Link → Type 0} {a b : ℕ} → ((x : Link) → x.split + a ≤ load_bound → x.unsplit + b ≤ load_bound → P x) → (x : ℕ) (d : Link) → x < length (take nodes links) →
-            sent_over r.sent (x + 1) ≡ a → whole_over r (x + 1) ≡ b → P (get_or (take nodes links) x d)
+        can : {P : Link → Type 0} {a b : ℕ} → ((x : Link) → x.split + a ≤ load_bound → x.unsplit + b ≤ load_bound → P x) → (x : ℕ) (d : Link) → x < length (take n links) →
+            sent_over r.sent (x + 1) ≡ a → whole_over r (x + 1) ≡ b → P (get_or (take n links) x d)
         can {P} {a} {b} h x d l ea eb =
-            let m : x < nodes = omega (arith, long) in
+            let m : x < n = omega (arith, long) in
             subst P (sym (part-is x d m)) (h (get_or links x d) (split-fits x d m a b ea eb) (unsplit-fits x d m a b ea eb))
 
     pub weigh_more : {ahead_step behind_step : Link → Link → Type 0} → ((x y : Link) → ahead_step x y → y ≡ loaded x r.sent.front front) → ((x y : Link) → behind_step x y → y ≡ loaded x r.sent.back back) →
-        (part : List Link) → OverStep ahead_step behind_step r.sent.demand (take nodes links) part → (new : List Link) → new ≡ part ++ drop nodes links →
-        Weighing nodes rs rest new
+        (part : List Link) → OverStep ahead_step behind_step r.sent.demand (take n links) part → (new : List Link) → new ≡ part ++ drop n links →
+        Weighing n rs rest new
     weigh_more p q part o new is-new =
         rw is-new record {
           each = rest-of w.each;
-          size = omega (arith, length-append part (drop nodes links), length-drop nodes links, o.size, long, w.size);
+          size = omega (arith, length-append part (drop n links), length-drop n links, o.size, long, w.size);
           loads =
               λ x d l.
-              rw (get_or-append part (drop nodes links) d x (omega (arith, o.size, long))) (go x d l (in_front r.sent.demand (x + 1)) refl);
+              rw (get_or-append part (drop n links) d x (omega (arith, o.size, long))) (go x d l (in_front r.sent.demand (x + 1)) refl);
           behind =
               λ x d l m.
-              let e : nodes + (x - nodes) ≡ x = omega arith in
-              get_or-append_right part (drop nodes links) nodes x d (omega (arith, o.size, long)) l ∙ get_or-drop nodes links (x - nodes) d ∙ ap (λ y. get_or links y d) e ∙ w.behind x d l m;
+              let e : n + (x - n) ≡ x = omega arith in
+              get_or-append_right part (drop n links) n x d (omega (arith, o.size, long)) l ∙ get_or-drop n links (x - n) d ∙ ap (λ y. get_or links y d) e ∙ w.behind x d l m;
         }
       where
-        go : (x : ℕ) (d : Link) → x < nodes → (b : Bool) → in_front r.sent.demand (x + 1) ≡ b →
+        go : (x : ℕ) (d : Link) → x < n → (b : Bool) → in_front r.sent.demand (x + 1) ≡ b →
             loaded (get_or part x d) (split_load (sents rest) (x + 1)) (unsplit_load rest (x + 1)) ≡ true_link rs (x + 1)
         go x d l true f =
             rw (p _ _ (o.ahead x d (omega (arith, long)) f) ∙ ap (λ y. loaded y r.sent.front front) (part-is x d l))
@@ -251,8 +251,8 @@ module _ (n : ℕ) (rs : List Routed) (fit : Fit n rs) (nodes : ℕ) (is : nodes
             rw (q _ _ (o.behind x d (omega (arith, long)) f) ∙ ap (λ y. loaded y r.sent.back back) (part-is x d l))
             (with_row x d l r.sent.back back (over-back r.sent (x + 1) f) (whole-back r (x + 1) f ∙ sym behind))
 
-  module _ (links : List Link) (left : List Routed) (e : left ≡ []) (before : Weighing nodes rs left links) where
-    end : Weighing nodes rs [] links
+  module _ (links : List Link) (left : List Routed) (e : left ≡ []) (before : Weighing n rs left links) where
+    end : Weighing n rs [] links
     end = rw e at before
 
     pub links-done : links ≡ links_in n rs
@@ -271,18 +271,18 @@ module _ (n : ℕ) (rs : List Routed) (fit : Fit n rs) (nodes : ℕ) (is : nodes
 
   -- the peaks of the links passed
   module _ (links : List Link) (are : links ≡ links_in n rs) (k split top : ℕ) (split_is : split ≡ peak (split_load (sents rs)) k) (top_is : top ≡ peak (unsplit_load rs) k) where
-    passing : length (take nodes links) ≡ n
-    passing = omega (arith, length-take nodes links, ap length are, in-length n rs fit.links, fit.links)
+    passing : length (take n links) ≡ n
+    passing = omega (arith, length-take n links, ap length are, in-length n rs fit.links, fit.links)
 
-    pub peaks_turn : k < length (take nodes links) → (d : Link) →
-        (max split (get_or (take nodes links) k d).split ≡ peak (split_load (sents rs)) (k + 1)) × (max top (get_or (take nodes links) k d).unsplit ≡ peak (unsplit_load rs) (k + 1))
+    pub peaks_turn : k < length (take n links) → (d : Link) →
+        (max split (get_or (take n links) k d).split ≡ peak (split_load (sents rs)) (k + 1)) × (max top (get_or (take n links) k d).unsplit ≡ peak (unsplit_load rs) (k + 1))
     unfolding peak
     peaks_turn l d =
         let after : k + 1 ≡ suc k = omega arith in
-        let here : get_or (take nodes links) k d ≡ true_link rs (k + 1) = get_or-take nodes links k d (omega (arith, passing)) ∙ (rw are (in-at n rs k d (omega (arith, passing)))) in
+        let here : get_or (take n links) k d ≡ true_link rs (k + 1) = get_or-take n links k d (omega (arith, passing)) ∙ (rw are (in-at n rs k d (omega (arith, passing)))) in
         (rw (here, split_is, after) refl, rw (here, top_is, after) refl)
 
-    pub peaks_done : k ≤ length (take nodes links) → length (take nodes links) ≤ k →
+    pub peaks_done : k ≤ length (take n links) → length (take n links) ≤ k →
         record { links = links; split_peak = split; unsplit_peak = top } ≡ weight_in n rs
     unfolding weight_in
     peaks_done l m =

@@ -11,7 +11,7 @@ ghost use Rattle.weight.specs.LinkSteps.{loaded};
 ghost use Rattle.weight.specs.Rows.{Fit};
 ghost use Rattle.weight.specs.Weighed.{no_link, links_in, weight_in};
 
-use ring::{LINKS, Link, is_split, wide};
+use ring::{LINKS, Link, is_split};
 use rows::{Rows, each};
 pub use spans::step_over;
 
@@ -58,7 +58,7 @@ fn carry<R: Rows>(nodes: u32, rows: &R, links: &mut [Link; LINKS])
     requires none { links.old ≡ replicate desk.nodes no_link }
     ensures { links.new ≡ links_in nodes (R.rows rows.now) }
 {
-    let n = wide(nodes);
+    let n = nodes as usize;
     for (k, link) in links[..n].iter_mut().enumerate() {
         link.link = k as u32 + 1;
     }
@@ -85,7 +85,7 @@ pub fn weigh<R: Rows>(nodes: u32, rows: &R) -> Weight
         unsplit_peak: 0,
     };
     carry(nodes, rows, &mut weight.links);
-    for link in &weight.links[..wide(nodes)] {
+    for link in &weight.links[..nodes as usize] {
         weight.split_peak = weight.split_peak.max(link.split);
         weight.unsplit_peak = weight.unsplit_peak.max(link.unsplit);
     }

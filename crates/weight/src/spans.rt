@@ -1,7 +1,7 @@
 //! Links that a demand tells apart: those of its front change alike, and all others do.
 ghost use Rattle.weight.specs.LinkSteps.{EachStep, EachFits, OverStep, OverFits};
 
-use ring::{Demand, wide};
+use ring::Demand;
 
 // Each figure of a run of links is changed.
 fn step_span<T: Copy, F: Fn(T) -> T>(span: &mut [T], step: F)
@@ -24,8 +24,8 @@ pub fn step_over<T: Copy, F: Fn(T) -> T, B: Fn(T) -> T>(
     requires { OverFits (F.pre front) (B.pre back) demand line.old }
     ensures { OverStep (F.post front) (B.post back) demand line.old line.new }
 {
-    let i = wide(demand.first);
-    let j = wide(demand.second);
+    let i = demand.first as usize;
+    let j = demand.second as usize;
     let n = line.len();
     step_span(&mut line[..i - 1], &back);
     step_span(&mut line[i - 1..j - 1], front);

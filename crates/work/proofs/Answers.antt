@@ -7,14 +7,15 @@ use Rattle.std.specs.Prelude.{Option, Some, None, Result, Ok, Err}
 use Rattle.ring.specs.Limits.{desk}
 use Rattle.ring.specs.Lists.{Some as Member, here, there}
 use Rattle.ring.specs.declared.types.Demand.{Demand}
-use Rattle.table.specs.declared.reason.Reason.{Reason}
-use Rattle.table.specs.declared.reason.Reason.TheVariants.{NoRow, NoSuchNode, NotBelow, TooMuch}
-use Rattle.table.specs.Judge.{ring_verdict}
-use Rattle.table.specs.Verdict.{Verdict}
-use Rattle.table.proofs.Judged.{RingJudged, size_wrong, wrong_fibres, right_ring, ring-judged, RowJudged, no_such_node, not_below, out_of_order, too_many, too_much, row_fine, row-judged}
+use Rattle.reasons.specs.AndThen.{and_then}
+use Rattle.reasons.specs.declared.reason.Reason.{Reason}
+use Rattle.reasons.specs.declared.reason.Reason.TheVariants.{NoRow, NoSuchNode, NotBelow, TooMuch}
+use Rattle.reasons.specs.Judge.{ring_verdict}
+use Rattle.reasons.specs.Verdict.{Verdict}
+use Rattle.reasons.proofs.Judged.{RingJudged, size_wrong, wrong_fibres, right_ring, ring-judged, RowJudged, no_such_node, not_below, out_of_order, too_many, too_much, row_fine, row-judged}
 use Rattle.work.specs.Calls.{Call, start, add, change, remove, WorkAnswer}
 use Rattle.work.specs.Answered.{reasons_of, Answered, refused, accepted}
-use Rattle.work.specs.Changes.{ring_size, placed_of, work_after, recut_in, free_in, holds_in, index_in, from_row, unless_fault, fresh_in, started_in, verdict_in, put_free, added_in, changed_in, removed_in, called_in}
+use Rattle.work.specs.Changes.{ring_size, placed_of, work_after, recut_in, free_in, holds_in, index_in, fresh_in, started_in, verdict_in, put_free, added_in, changed_in, removed_in, called_in}
 use Rattle.work.specs.declared.Work.{Work}
 use Rattle.work.specs.declared.answer.Changed.{Changed}
 
@@ -28,11 +29,10 @@ data Ends (c : Call) : Result Changed Reason → Type 0 where
 
 module _ (w : Work) (c : Call) where
   -- a row is judged, and then goes on
-  judged_row : Gives c NoSuchNode → Gives c NotBelow → Gives c TooMuch → (r : Demand) {next : Result Changed Reason} → Ends c next → Ends c (unless_fault (verdict_in w r) next)
-  unfolding unless_fault
+  judged_row : Gives c NoSuchNode → Gives c NotBelow → Gives c TooMuch → (r : Demand) {next : Result Changed Reason} → Ends c next → Ends c (and_then (verdict_in w r) λ u. next)
   judged_row node order much r {next} f = go (verdict_in w r) (row-judged desk (ring_size w.ring.nodes) 0 None r)
     where
-      go : (v : Verdict) → RowJudged desk (ring_size w.ring.nodes) 0 None r v → Ends c (unless_fault v next)
+      go : (v : Verdict) → RowJudged desk (ring_size w.ring.nodes) 0 None r v → Ends c (and_then v λ u. next)
       go v (no_such_node u) = gives node
       go v (not_below a b l) = gives order
       go v (out_of_order a b l o) = absurd o
@@ -41,19 +41,19 @@ module _ (w : Work) (c : Call) where
       go v (row_fine on o m q) = f
 
   -- a place is looked up
-  at_place : Gives c NoRow → (p : ℕ) (next : ℕ → Result Changed Reason) → ((k : ℕ) → Ends c (next k)) → Ends c (from_row (index_in w.first p) next)
-  unfolding index_in from_row
+  at_place : Gives c NoRow → (p : ℕ) (next : ℕ → Result Changed Reason) → ((k : ℕ) → Ends c (next k)) → Ends c (and_then (index_in w.first p) next)
+  unfolding index_in
   at_place g p next f = go (holds_in w.first p)
     where
-      go : (b : Bool) → Ends c (from_row (cond b (Ok (p - 1)) (Err NoRow)) next)
+      go : (b : Bool) → Ends c (and_then (cond b (Ok (p - 1)) (Err NoRow)) next)
       go true = f (p - 1)
       go false = gives g
 
 ends : (w : Work) (c : Call) → Ends c (called_in w c)
-unfolding started_in unless_fault added_in put_free changed_in removed_in
+unfolding started_in added_in put_free changed_in removed_in
 ends w (start ring) = go (ring_verdict desk ring) (ring-judged desk ring)
   where
-    go : (v : Verdict) → RingJudged desk ring v → Ends (start ring) (unless_fault v (Ok (recut_in (fresh_in ring) 0)))
+    go : (v : Verdict) → RingJudged desk ring v → Ends (start ring) (and_then v λ u. Ok (recut_in (fresh_in ring) 0))
     go v (size_wrong o) = gives (here refl)
     go v (wrong_fibres l h o) = gives (there (here refl))
     go v (right_ring l h o) = makes _ 0

@@ -5,33 +5,32 @@ use mathlib.Core.List.{List}
 use mathlib.Core.Logic.{◌⊎◌, inl, inr}
 use mathlib.Core.Path.{◌≡◌, refl, ◌∙◌, ap}
 use native.Mathlib.Omega.{arith}
-use lib.ListN.{get_or, set, length}
+use lib.ListN.{get_or, set}
 use lib.Seq.{set-set, get_or-set_same}
 use Rattle.std.specs.Prelude.{Option, None, Result, Ok, Err}
-use Rattle.text.proofs.Apart.{clash}
 use Rattle.ring.specs.Limits.{desk}
 use Rattle.ring.specs.declared.types.Ring.{Ring}
 use Rattle.ring.specs.declared.types.Demand.{Demand}
 use Rattle.ring.specs.RuleA.{rule_a}
-use Rattle.table.specs.Findings.{Findings, nothing, finding, found, Given, NoneHolds, demand_findings}
-use Rattle.table.specs.Judge.{ring_verdict, row_verdict}
-use Rattle.table.specs.Verdict.{Verdict}
-use Rattle.table.specs.declared.reason.Reason.{Reason}
-use Rattle.table.specs.declared.reason.Reason.TheVariants.{RingSize, Fibres, NoRow, Full}
-use Rattle.table.specs.Table.{InRange, write_table, table_room}
-use Rattle.table.proofs.Findings.{fine, then-on, then-stop}
-use Rattle.table.proofs.Judged.{RingJudged, size_wrong, wrong_fibres, right_ring, ring-judged}
+use Rattle.ring.specs.WithinLimits.{WithinLimits}
+use Rattle.reasons.specs.Findings.{Findings, nothing, finding, found, Given, NoneHolds, demand_findings}
+use Rattle.reasons.specs.Judge.{ring_verdict, row_verdict}
+use Rattle.reasons.specs.Verdict.{Verdict}
+use Rattle.reasons.specs.declared.reason.Reason.{Reason}
+use Rattle.reasons.specs.declared.reason.Reason.TheVariants.{RingSize, Fibres, NoRow, Full}
+use Rattle.reasons.proofs.Findings.{fine, then-on, then-stop}
+use Rattle.reasons.proofs.Judged.{RingJudged, size_wrong, wrong_fibres, right_ring, ring-judged}
 use Rattle.work.specs.Places.{empty, holds, PlaceTable, AllTaken, table_held}
 use Rattle.work.specs.Calls.{Call, start, add, change, remove, WorkAnswer, findings, with_place, Makes, starts, adds, changes, removes, Does, refused, accepted}
 use Rattle.work.specs.Made.{Made, begun, called}
 use Rattle.work.specs.True.{held, TrueTable}
-use Rattle.work.specs.Changes.{recut_in, free_in, index_in, from_row, put_in, cleared_in, unless_fault, fresh_in, started_in, verdict_in, put_free, added_in, changed_in, removed_in, called_in}
+use Rattle.work.specs.Changes.{recut_in, free_in, index_in, put_in, cleared_in, fresh_in, started_in, verdict_in, put_free, added_in, changed_in, removed_in, called_in}
 use Rattle.work.specs.Keys.{sorted_rows}
 use Rattle.work.specs.declared.Work.{Work}
 use Rattle.work.specs.Sorted.{Sorted}
 use Rattle.work.proofs.Right.{Good, Right, Sized, HasBytes, sized, right-bytes, size_is, count, put-places, put_right, clear-places, clear-right, fresh-places, fresh-right, cut-is}
 use Rattle.work.proofs.Fits.{Fits, begun-fits, made-fits}
-use Rattle.work.proofs.SortedRows.{rows-sorted, rows-range, rows_cut, rows-room}
+use Rattle.work.proofs.SortedRows.{rows-sorted, rows-within, rows_cut}
 use Rattle.work.proofs.Views.{Judged, bad, good, judged_demand, Indexed, none_there, row_there, indexed, taken-at, Freed, all_taken, lowest_free, freed}
 
 -- a table that is right, with its largest cut
@@ -64,7 +63,7 @@ module _ (w : Work) (ring : Ring) where
   start-made = rw (fresh-places ring) starts
 
   pub start-step : Step w (start ring)
-  unfolding started_in unless_fault findings
+  unfolding started_in findings
   start-step = go (ring_verdict desk ring) refl (ring-judged desk ring)
     where
       go : (v : Verdict) → ring_verdict desk ring ≡ v → RingJudged desk ring v → Step w (start ring)
@@ -94,7 +93,7 @@ module _ (w : Work) (s : Right w) where
 
   module _ (r : Demand) where
     add_step : Step w (add r)
-    unfolding added_in unless_fault put_free findings
+    unfolding added_in put_free findings
     add_step = go (row_verdict desk w.ring.nodes 0 None r) refl (judged_demand w.ring.nodes r) (free_in w.first) refl (freed w (sized s))
       where
         go : (v : Verdict) → row_verdict desk w.ring.nodes 0 None r ≡ v → Judged w.ring.nodes r v → (o : Option ℕ) → free_in w.first ≡ o → Freed w (sized s) o → Step w (add r)
@@ -135,7 +134,7 @@ module _ (w : Work) (s : Right w) where
 
   module _ (p : ℕ) where
     change-step : (r : Demand) → Step w (change p r)
-    unfolding changed_in from_row unless_fault findings
+    unfolding changed_in findings
     change-step r = go (index_in w.first p) refl (indexed w (sized s) p) (row_verdict desk w.ring.nodes 0 None r) refl (judged_demand w.ring.nodes r)
       where
         go : (i : Result ℕ Reason) → index_in w.first p ≡ i → Indexed w (sized s) p i → (v : Verdict) → row_verdict desk w.ring.nodes 0 None r ≡ v → Judged w.ring.nodes r v → Step w (change p r)
@@ -147,7 +146,7 @@ module _ (w : Work) (s : Right w) where
             (rw (changed-plain (p - 1) l taken r g) changes)
 
     remove-step : Step w (remove p)
-    unfolding removed_in from_row findings
+    unfolding removed_in findings
     remove-step = go (index_in w.first p) refl (indexed w (sized s) p)
       where
         go : (i : Result ℕ Reason) → index_in w.first p ≡ i → Indexed w (sized s) p i → Step w (remove p)
@@ -181,7 +180,7 @@ made-keeps (begun p k) = k
 made-keeps (called m p k) = k
 
 begun-is-fit : {t u : PlaceTable} {ring : Ring} {a : WorkAnswer} {p : _} → Does t (start ring) a u → a ≡ Ok p → Fits u
-begun-is-fit (refused reason g e eu) a = clash (cc)
+begun-is-fit (refused reason g e eu) a = absurd (cc)
 begun-is-fit (accepted n m e) a = begun-fits n m
 
 called-is-fit : {t u : PlaceTable} {c : Call} {a : WorkAnswer} → Fits t → Does t c a u → Fits u
@@ -201,18 +200,17 @@ made-sound m =
       largest = k.largest;
     }
 
--- what is written of a table: the rows held, sorted; a table in range; with the cut of the rows held
+-- what is written of a table: the rows held, sorted; within the limits of a table; with the cut of the rows held
 pub record WritesOut (w : Work) (rs : List Demand) : Type 0 where
   pub sorted : Sorted (table_held w).places rs
-  pub range : InRange desk w.ring rs
+  pub within : WithinLimits desk w.ring rs
   pub cut : rule_a w.ring.nodes rs ≡ rule_a w.ring.nodes (held w)
-  pub short : length (write_table w.ring rs) ≤ table_room desk
 
--- what is written out: the rows held, by nodes, then by place, an accepted table with the cut of the rows held
+-- what is written out: the rows held, by nodes, then by place, as many and such as a table may have, with the cut of the rows held
 pub made-writes-out : {cs : List Call} {w : Work} → Made cs w → WritesOut w (sorted_rows w)
 made-writes-out {w} m =
     let s = (made-sound m).right in
-    record { sorted = rows-sorted w (sized s) (right-bytes w s); range = rows-range w s; cut = rows_cut w s; short = rows-room w s }
+    record { sorted = rows-sorted w (sized s) (right-bytes w s); within = rows-within w s; cut = rows_cut w s }
 
 pub made-sized : {cs : List Call} {w : Work} → Made cs w → Sized w
 made-sized m = sized (made-sound m).right

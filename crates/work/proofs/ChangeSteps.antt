@@ -2,18 +2,17 @@
 use Prim.Native.Nat.{ℕ, ◌<◌}
 use mathlib.Core.Path.{◌≡◌, sym}
 use native.Mathlib.Omega.{arith}
-use Rattle.text.proofs.Apart.{clash}
 use Rattle.ring.specs.Limits.{desk}
 use Rattle.ring.specs.declared.types.Demand.{Demand}
-use Rattle.table.specs.declared.reason.Reason.{Reason}
-use Rattle.table.specs.Verdict.{Verdict}
+use Rattle.reasons.specs.declared.reason.Reason.{Reason}
+use Rattle.reasons.specs.Verdict.{Verdict}
 use Rattle.std.specs.Prelude.{Ok, Err, None}
-use Rattle.table.proofs.Judged.{RowJudged, no_such_node, not_below, out_of_order, too_many, too_much, row_fine, row-judged}
+use Rattle.reasons.proofs.Judged.{RowJudged, no_such_node, not_below, out_of_order, too_many, too_much, row_fine, row-judged}
 use Rattle.work.specs.Changes.{Fitting, ring_size, verdict_in}
 use Rattle.work.specs.declared.Work.{Work}
 
 never : {reason : Reason} → ◌≡◌ {A = Verdict} (Err reason) (Ok tt) → ⊥
-never q = clash (cc)
+never q = absurd (cc)
 
 pub fitting : (w : Work) (r : Demand) (k : ℕ) → Ok tt ≡ verdict_in w r → k < desk.rows → Fitting k r
 fitting w r k f l = go (verdict_in w r) (sym f) (row-judged desk (ring_size w.ring.nodes) 0 None r)

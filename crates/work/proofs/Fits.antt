@@ -9,9 +9,9 @@ use Rattle.ring.specs.Limits.{desk}
 use Rattle.ring.specs.Lists.{Each, none}
 use Rattle.ring.specs.declared.types.Ring.{Ring}
 use Rattle.ring.specs.declared.types.Demand.{Demand}
-use Rattle.table.specs.Findings.{nothing, finding, NoneHolds, demand_findings}
-use Rattle.table.specs.declared.reason.Reason.TheVariants.{Full}
-use Rattle.table.proofs.Findings.{none-of, both-of, fibres-of}
+use Rattle.reasons.specs.Findings.{nothing, finding, NoneHolds, demand_findings}
+use Rattle.reasons.specs.declared.reason.Reason.TheVariants.{Full}
+use Rattle.reasons.proofs.Findings.{none-of, both-of, fibres-of}
 use Rattle.work.specs.Places.{empty, holds, PlaceTable, rows_held, AllTaken}
 use Rattle.work.specs.Calls.{Call, start, findings, fresh_table, with_place, Makes, starts, adds, changes, removes}
 use Rattle.work.proofs.RowsHeld.{each_set, held-fresh}

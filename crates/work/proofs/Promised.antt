@@ -4,17 +4,17 @@ use Prim.Native.Nat.{ℕ, ◌-◌}
 use mathlib.Core.List.{List, [], ◌∷◌}
 use mathlib.Core.Path.{◌≡◌, refl, sym, ◌∙◌, ap}
 use Rattle.std.specs.Prelude.{Result, Ok, Err, IfOk}
-use Rattle.text.proofs.Apart.{clash}
 use Rattle.ring.specs.Cut.{across}
 use Rattle.ring.specs.declared.types.Cut.{Cut}
 use Rattle.ring.specs.declared.types.Ring.{Ring}
 use Rattle.ring.specs.declared.types.Demand.{Demand}
 use Rattle.ring.specs.Columns.{row_at}
-use Rattle.table.specs.Findings.{Given, NoneHolds}
-use Rattle.table.specs.declared.reason.Reason.{Reason}
+use Rattle.reasons.specs.AndThen.{and_then}
+use Rattle.reasons.specs.Findings.{Given, NoneHolds}
+use Rattle.reasons.specs.declared.reason.Reason.{Reason}
 use Rattle.work.specs.Places.{PlaceTable, rows_held, PlaceHolds, table_held}
 use Rattle.work.specs.Calls.{Call, start, WorkAnswer, findings, Makes, starts, acceptance, Does, refused, accepted}
-use Rattle.work.specs.Changes.{placed_of, work_after, recut_in, index_in, from_row, row_in, started_in, called_in}
+use Rattle.work.specs.Changes.{placed_of, work_after, recut_in, index_in, row_in, started_in, called_in}
 use Rattle.work.specs.True.{held, TrueTable}
 use Rattle.work.specs.Promises.{WorkPromise, SameNumbers, OnlyThis, none_there, row_there, RowPromise}
 use Rattle.work.specs.Made.{Made, begun, called}
@@ -57,13 +57,13 @@ module _ (w : Work) (c : Call) (a : WorkAnswer) (x : Work) where
         cases = refused k g ea (ap table_held ex);
         refuses = λ reason. ((λ e. let q : k ≡ reason = cc in rw (← q) g), (λ h. let q = one-given (findings (table_held w) c) h g in rw q ea));
         unchanged = λ reason e. ex;
-        accepts = λ p u. ((λ h. clash (cc (ea, h.0))), (λ h. absurd (none-given (findings (table_held w) c) k g h.0)));
+        accepts = λ p u. ((λ h. absurd (cc (ea, h.0))), (λ h. absurd (none-given (findings (table_held w) c) k g h.0)));
       }
   promise (is_accepted {p = q} n m ea) =
       record {
         cases = accepted n m ea;
-        refuses = λ reason. ((λ e. clash (cc)), (λ h. absurd (none-given (findings (table_held w) c) reason h n)));
-        unchanged = λ reason e. clash (cc);
+        refuses = λ reason. ((λ e. absurd (cc)), (λ h. absurd (none-given (findings (table_held w) c) reason h n)));
+        unchanged = λ reason e. absurd (cc);
         accepts = λ p u. (
           (λ h. let e : q ≡ p = ap (λ (x : Placed). x.place) (same-placed (sym ea ∙ h.0)) in rw (← e, ← h.1) (n, m)),
           (λ h. let e = one-made h.1 m in rw (e.0, e.1) (ea, refl)),
@@ -74,7 +74,7 @@ module _ (w : Work) (c : Call) (a : WorkAnswer) (x : Work) where
 module _ {w : Work} {c : Call} {a : WorkAnswer} {x : Work} where
   accepted-keeps : Step w c → Left w c a x → (p : Placed) → a ≡ Ok p → TrueTable x
   unfolding placed_of work_after
-  accepted-keeps (both_refuse reason e g) l p is = let no : a ≡ Err reason = rw e at l.answer in clash (cc)
+  accepted-keeps (both_refuse reason e g) l p is = let no : a ≡ Err reason = rw e at l.answer in absurd (cc)
   accepted-keeps (both_make p y s e n m) l _ is = rw (rw e at l.table) (keeps-of (recut-sound p y s))
 
   stays-keeping : Step w c → Left w c a x → TrueTable w → TrueTable x
@@ -112,21 +112,21 @@ only-this p k = record { answer = λ b y q. same-answer p q; table = λ b y q. s
 
 -- on every struct
 pub row-promise : (w : Work) → Sized w → (p : ℕ) {a : Result Demand Reason} → a ≡ row_in w p → RowPromise w p a
-unfolding row_in from_row
+unfolding row_in
 row-promise w z p {a} is = go (index_in w.first p) (indexed w z p) is
   where
-    go : (i : Result ℕ Reason) → Indexed w z p i → a ≡ from_row i (λ k. Ok (row_at w.first w.second w.amount k)) → RowPromise w p a
+    go : (i : Result ℕ Reason) → Indexed w z p i → a ≡ and_then i (λ k. Ok (row_at w.first w.second w.amount k)) → RowPromise w p a
     go i (is_none n) e =
         record {
           cases = none_there n e;
           refuses = ((λ _. n), (λ _. e));
-          says = λ r. ((λ f. clash (cc)), (λ at. absurd (n (record { r = r; there = at }))));
+          says = λ r. ((λ f. absurd (cc)), (λ at. absurd (n (record { r = r; there = at }))));
         }
     go i (is_row l _ m) e =
         let there : PlaceHolds (table_held w).places p (row_at w.first w.second w.amount (p - 1)) = record { from_1 = l; is = held-at w z (p - 1) m } in
         record {
           cases = row_there _ there e;
-          refuses = ((λ f. clash (cc)), (λ n. absurd (n (record { r = _; there = there }))));
+          refuses = ((λ f. absurd (cc)), (λ n. absurd (n (record { r = _; there = there }))));
           says = λ r. (
             (λ f. let same : row_at w.first w.second w.amount (p - 1) ≡ r = cc in rw same at there),
             (λ at. let same : row_at w.first w.second w.amount (p - 1) ≡ r = cc (there.is, at.is) in rw (← same) e),
@@ -154,7 +154,7 @@ cut-named {w} {c} {a} {x} q k = go q.cases
 -- a start that is accepted does the same on every table
 start-does : {t s u : PlaceTable} {ring : Ring} {p : Placed} → Does t (start ring) (Ok p) u → Does s (start ring) (Ok p) u
 unfolding findings
-start-does (refused reason g e eu) = clash (cc)
+start-does (refused reason g e eu) = absurd (cc)
 start-does (accepted n starts e) = accepted n starts e
 
 behind : {cs : List Call} {w : Work} → Made cs w → Played cs (table_held w) w.cut

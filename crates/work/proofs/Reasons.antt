@@ -5,11 +5,10 @@ use mathlib.Core.Path.{◌≡◌, refl, sym, ◌∙◌, ap}
 use native.Mathlib.Omega.{arith}
 use native.Mathlib.Decide.{dec_lt}
 use Rattle.std.specs.Prelude.{Err}
-use Rattle.text.proofs.Apart.{clash}
-use Rattle.table.specs.Findings.{Findings, found, Given, NoneHolds}
-use Rattle.table.specs.declared.finding.Finding.{Finding}
-use Rattle.table.specs.declared.reason.Reason.{Reason}
-use Rattle.table.proofs.Findings.{fine, one-answer}
+use Rattle.reasons.specs.Findings.{Findings, found, Given, NoneHolds}
+use Rattle.reasons.specs.declared.finding.Finding.{Finding}
+use Rattle.reasons.specs.declared.reason.Reason.{Reason}
+use Rattle.reasons.proofs.Findings.{fine, one-answer}
 use Rattle.work.specs.Places.{Place, PlaceTable, LowestFree}
 use Rattle.work.specs.Calls.{Call, WorkAnswer, acceptance, Makes, starts, adds, changes, removes, Does, refused, accepted, findings}
 
@@ -19,7 +18,7 @@ one-given fs {a} {b} g h =
     ap (λ (f : Finding). f.reason) same
 
 pub none-given : (fs : Findings) (a : Reason) → Given fs a 0 → NoneHolds fs → ⊥
-none-given fs a g n = clash (cc (one-answer fs (Err (found a 0)) fine g n))
+none-given fs a g n = absurd (cc (one-answer fs (Err (found a 0)) fine g n))
 
 one-lowest : (ps : List Place) (p q : ℕ) → LowestFree ps p → LowestFree ps q → p ≡ q
 one-lowest ps p q a b =

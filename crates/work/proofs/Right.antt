@@ -4,7 +4,6 @@ use mathlib.Core.List.{[]}
 use mathlib.Core.Path.{◌≡◌, refl, sym, ◌∙◌, ap}
 use native.Mathlib.Omega.{arith}
 use lib.ListN.{length, get_or, set, replicate, length-set, length-replicate}
-use Rattle.text.proofs.Apart.{clash}
 use Rattle.ring.specs.Limits.{desk}
 use Rattle.ring.specs.LineSize.{IsFibres}
 use Rattle.ring.specs.Lists.{Each, none}
@@ -70,7 +69,7 @@ module _ (w : Work) (s : Sized w) where
   place_is k = places-at w.first w.second w.amount k same-firsts same-seconds
 
   second_of : (i j d : ℕ) (r : Demand) → place_in i j d ≡ holds r → r.second ≡ j
-  second_of zero j d r e = clash (cc)
+  second_of zero j d r e = absurd (cc)
   second_of (suc i) j d r e = let f : demand (suc i) j d ≡ r = cc in ap (λ (x : Demand). x.second) (sym f)
 
   pub bytes-of : ((k : ℕ) → get_or w.second k 0 < 256) → HasBytes w

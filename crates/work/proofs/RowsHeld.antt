@@ -4,7 +4,6 @@ use mathlib.Core.List.{List, [], ◌∷◌}
 use mathlib.Core.Path.{◌≡◌, refl, ap}
 use native.Mathlib.Omega.{arith}
 use lib.ListN.{length, get_or, set, replicate}
-use Rattle.text.proofs.Apart.{clash}
 use Rattle.ring.specs.Lists.{Each, more}
 use Rattle.ring.specs.declared.types.Demand.{Demand}
 use Rattle.ring.specs.Cut.{part, across}
@@ -48,8 +47,8 @@ each_set (holds r ∷ ps) (suc k) x (more q e) o = more q (each_set ps k x e o)
 
 pub each_at : {P : Demand → Type 0} (ps : List Place) (k : ℕ) (r : Demand) → Each P (rows_held ps) → get_or ps k empty ≡ holds r → P r
 unfolding rows_held
-each_at [] k r e q = clash (cc)
-each_at {P} (empty ∷ ps) zero r e q = clash (cc)
+each_at [] k r e q = absurd (cc)
+each_at {P} (empty ∷ ps) zero r e q = absurd (cc)
 each_at {P} (holds s ∷ ps) zero r (more p e) q = let same : s ≡ r = cc in rw same at p
 each_at {P} (empty ∷ ps) (suc k) r e q = each_at {P = P} ps k r e q
 each_at {P} (holds s ∷ ps) (suc k) r (more p e) q = each_at {P = P} ps k r e q

@@ -12,17 +12,15 @@ use borrow.Author.Tests.{lt-ltb, le-ltb, eqb-true, eq-eqb}
 use Rattle.std.specs.Prelude.{Option, Some, None, Result, Ok, Err}
 use Rattle.std.specs.List.{position_or_len}
 use Rattle.std.proofs.lemmas.List.Sums.{prefix_len_passes, prefix_len_stops}
-use Rattle.text.proofs.Apart.{clash}
 use Rattle.ring.specs.Limits.{desk}
 use Rattle.ring.specs.Demand.{demand}
 use Rattle.ring.specs.declared.types.Demand.{Demand}
-use Rattle.table.specs.Findings.{Given, NoneHolds, demand_findings}
-use Rattle.table.specs.Judge.{row_verdict}
-use Rattle.table.specs.RowReasons.{NoNode}
-use Rattle.table.specs.declared.reason.Reason.{Reason}
-use Rattle.table.specs.declared.reason.Reason.TheVariants.{NoRow}
-use Rattle.table.specs.Verdict.{Verdict}
-use Rattle.table.proofs.Judged.{RowJudged, no_such_node, not_below, out_of_order, too_many, too_much, row_fine, row-judged}
+use Rattle.reasons.specs.Findings.{Given, NoneHolds, demand_findings, NoNode}
+use Rattle.reasons.specs.Judge.{row_verdict}
+use Rattle.reasons.specs.declared.reason.Reason.{Reason}
+use Rattle.reasons.specs.declared.reason.Reason.TheVariants.{NoRow}
+use Rattle.reasons.specs.Verdict.{Verdict}
+use Rattle.reasons.proofs.Judged.{RowJudged, no_such_node, not_below, out_of_order, too_many, too_much, row_fine, row-judged}
 use Rattle.work.specs.Places.{Place, empty, HoldsAt, Taken, HoldsNone, AllTaken, LowestFree, table_held}
 use Rattle.work.specs.Changes.{free_in, holds_in, index_in}
 use Rattle.work.specs.declared.Work.{Work}
@@ -65,7 +63,7 @@ module _ (w : Work) (s : Sized w) where
   held-at k l = place_is w s k ∙ place-holds _ _ _ l
 
   pub none-at : (k : ℕ) (r : Demand) → get_or w.first k 0 ≡ 0 → HoldsAt ps k r → ⊥
-  none-at k r e h = let is : get_or ps k empty ≡ empty = place_is w s k ∙ (rw e) in clash (cc)
+  none-at k r e h = let is : get_or ps k empty ≡ empty = place_is w s k ∙ (rw e) in absurd (cc)
 
   pub in-table : (k : ℕ) → 1 ≤ get_or w.first k 0 → k < desk.rows
   in-table k l =
@@ -109,7 +107,7 @@ module _ (w : Work) (s : Sized w) where
         | no m ↦
             let e : not (eqb (get_or w.first k 0) 0) ≡ true = prefix_len_passes (λ node. not (eqb node 0)) w.first k 0 l in
             let f : eqb (get_or w.first k 0) 0 ≡ true = eq-eqb (get_or w.first k 0) 0 (omega arith) in
-            clash (cc (rw f at e))
+            absurd (cc (rw f at e))
       ]
 
   pub data Freed : Option ℕ → Type 0 where
@@ -123,7 +121,7 @@ module _ (w : Work) (s : Sized w) where
     where
       go : (b : _) → eqb (get_or w.first lowest 0) 0 ≡ b → not b ≡ false → get_or w.first lowest 0 ≡ 0
       go true q e = eqb-true (get_or w.first lowest 0) 0 q
-      go false q e = clash (cc)
+      go false q e = absurd (cc)
 
   pub freed : Freed (free_in w.first)
   freed =

@@ -1,8 +1,8 @@
 -- To believe: what a call answers of every struct, whatever its bytes, and which struct is behind it.
 use Rattle.std.specs.Prelude.{ℕ, Ok, Err, List, [], ◌∷◌, ◌≡◌}
 use Rattle.ring.specs.Lists.{Some}
-use Rattle.table.specs.declared.reason.Reason.{Reason}
-use Rattle.table.specs.declared.reason.Reason.TheVariants.{RingSize, Fibres, NoRow, NoSuchNode, NotBelow, TooMuch, Full}
+use Rattle.reasons.specs.declared.reason.Reason.{Reason}
+use Rattle.reasons.specs.declared.reason.Reason.TheVariants.{RingSize, Fibres, NoRow, NoSuchNode, NotBelow, TooMuch, Full}
 use Rattle.work.specs.Calls.{Call, start, add, change, remove, WorkAnswer}
 use Rattle.work.specs.declared.Work.{Work}
 

@@ -5,9 +5,9 @@ use Rattle.ring.specs.Limits.{desk}
 use Rattle.ring.specs.declared.types.Ring.{Ring}
 use Rattle.ring.specs.declared.types.Demand.{Demand}
 use Rattle.ring.specs.RuleA.{rule_a}
-use Rattle.table.specs.Findings.{Findings, nothing, finding, then, Given, NoneHolds, ring_findings, demand_findings}
-use Rattle.table.specs.declared.reason.Reason.{Reason}
-use Rattle.table.specs.declared.reason.Reason.TheVariants.{NoRow, Full}
+use Rattle.reasons.specs.Findings.{Findings, nothing, finding, then, Given, NoneHolds, ring_findings, demand_findings}
+use Rattle.reasons.specs.declared.reason.Reason.{Reason}
+use Rattle.reasons.specs.declared.reason.Reason.TheVariants.{NoRow, Full}
 use Rattle.work.specs.Places.{Place, empty, holds, PlaceTable, rows_held, HoldsNone, AllTaken, LowestFree}
 use Rattle.work.specs.declared.answer.Placed.{Placed}
 

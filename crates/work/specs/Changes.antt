@@ -11,10 +11,11 @@ use Rattle.ring.specs.Columns.{row_at}
 use Rattle.across.specs.Triangle.{at}
 use Rattle.across.specs.Lines.{most_pairs}
 use Rattle.across.specs.Step.{raised, lowered, step_row}
-use Rattle.table.specs.Judge.{ring_verdict, row_verdict}
-use Rattle.table.specs.declared.reason.Reason.{Reason}
-use Rattle.table.specs.declared.reason.Reason.TheVariants.{NoRow, Full}
-use Rattle.table.specs.Verdict.{Verdict}
+use Rattle.reasons.specs.AndThen.{and_then}
+use Rattle.reasons.specs.Judge.{ring_verdict, row_verdict}
+use Rattle.reasons.specs.declared.reason.Reason.{Reason}
+use Rattle.reasons.specs.declared.reason.Reason.TheVariants.{NoRow, Full}
+use Rattle.reasons.specs.Verdict.{Verdict}
 use Rattle.work.specs.Calls.{Call, start, add, change, remove, WorkAnswer}
 use Rattle.work.specs.declared.Work.{Work}
 use Rattle.work.specs.declared.answer.Changed.{Changed}
@@ -27,8 +28,7 @@ ring_size n = max desk.fewest (min n desk.nodes)
 
 -- the answer of a change, and the struct behind it: a refused one leaves it as it was
 unfoldable pub placed_of : Result Changed Reason → WorkAnswer
-placed_of (Ok done) = Ok done.placed
-placed_of (Err reason) = Err reason
+placed_of x = and_then x λ done. Ok done.placed
 
 unfoldable pub work_after : Work → Result Changed Reason → Work
 work_after w (Ok done) = done.work
@@ -58,13 +58,8 @@ holds_in first place = ltb 0 place && (ltb (place - 1) desk.rows && ltb 0 (get_o
 unfoldable pub index_in : List ℕ → ℕ → Result ℕ Reason
 index_in first place = cond (holds_in first place) (Ok (place - 1)) (Err NoRow)
 
--- and what becomes of it there
-unfoldable pub from_row : {A : Type 0} → Result ℕ Reason → (ℕ → Result A Reason) → Result A Reason
-from_row (Ok k) next = next k
-from_row (Err reason) next = Err reason
-
 unfoldable pub row_in : Work → ℕ → Result Demand Reason
-row_in w p = from_row (index_in w.first p) (λ k. Ok (row_at w.first w.second w.amount k))
+row_in w p = and_then (index_in w.first p) (λ k. Ok (row_at w.first w.second w.amount k))
 
 -- ---- a row put at place k+1, and taken off it: its share of every number, and the three columns
 
@@ -80,10 +75,6 @@ cleared_in w k = with_row w (step_row lowered (ring_size w.ring.nodes) (row_at w
 
 -- ---- the calls
 
-unfoldable pub unless_fault : Verdict → Result Changed Reason → Result Changed Reason
-unless_fault (Ok tt) next = next
-unless_fault (Err reason) next = Err reason
-
 unfoldable pub fresh_in : Ring → Work
 fresh_in ring =
     record {
@@ -97,7 +88,7 @@ fresh_in ring =
 
 -- a ring is judged as a table's is: 3, 20
 unfoldable pub started_in : Ring → Result Changed Reason
-started_in ring = unless_fault (ring_verdict desk ring) (Ok (recut_in (fresh_in ring) 0))
+started_in ring = and_then (ring_verdict desk ring) (λ u. Ok (recut_in (fresh_in ring) 0))
 
 -- a row is judged as the first of a table is: 4, 5, 7
 abbrev pub verdict_in : Work → Demand → Verdict
@@ -108,14 +99,14 @@ put_free w r (Some k) = Ok (recut_in (put_in w k r) (k + 1))
 put_free w r None = Err Full
 
 unfoldable pub added_in : Work → Demand → Result Changed Reason
-added_in w r = unless_fault (verdict_in w r) (put_free w r (free_in w.first))
+added_in w r = and_then (verdict_in w r) (λ u. put_free w r (free_in w.first))
 
 -- a change's place first: 22; then its row
 unfoldable pub changed_in : Work → ℕ → Demand → Result Changed Reason
-changed_in w p r = from_row (index_in w.first p) (λ k. unless_fault (verdict_in w r) (Ok (recut_in (put_in (cleared_in w k) k r) p)))
+changed_in w p r = and_then (index_in w.first p) (λ k. and_then (verdict_in w r) (λ u. Ok (recut_in (put_in (cleared_in w k) k r) p)))
 
 unfoldable pub removed_in : Work → ℕ → Result Changed Reason
-removed_in w p = from_row (index_in w.first p) (λ k. Ok (recut_in (cleared_in w k) p))
+removed_in w p = and_then (index_in w.first p) (λ k. Ok (recut_in (cleared_in w k) p))
 
 abbrev pub called_in : Work → Call → Result Changed Reason
 called_in w (start ring) = started_in ring

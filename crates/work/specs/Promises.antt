@@ -3,9 +3,9 @@
 use Rattle.std.specs.Prelude.{ℕ, ◌≤◌, ◌<◌, Result, Ok, Err, List, ◌↔◌, ◌≡◌}
 use Rattle.ring.specs.declared.types.Demand.{Demand}
 use Rattle.across.specs.Triangle.{at}
-use Rattle.table.specs.Findings.{Given, NoneHolds}
-use Rattle.table.specs.declared.reason.Reason.{Reason}
-use Rattle.table.specs.declared.reason.Reason.TheVariants.{NoRow}
+use Rattle.reasons.specs.Findings.{Given, NoneHolds}
+use Rattle.reasons.specs.declared.reason.Reason.{Reason}
+use Rattle.reasons.specs.declared.reason.Reason.TheVariants.{NoRow}
 use Rattle.work.specs.Places.{Place, PlaceTable, PlaceHolds, HoldsNone, table_held}
 use Rattle.work.specs.Calls.{Call, WorkAnswer, findings, Makes, acceptance, Does}
 use Rattle.work.specs.True.{TrueTable}

@@ -4,7 +4,7 @@ ghost use Rattle.work.specs.Changes.{ring_size, recut_in};
 
 use crate::Work;
 use across::largest_cut;
-use ring::{Cut, FEWEST, NODES, wide};
+use ring::{Cut, FEWEST, NODES};
 
 /// The place that a change names, counted from 1 (0 of a start, which names none), and the largest cut from then on, its across number in units.
 #[derive(Clone, Copy)]
@@ -31,7 +31,7 @@ pub(crate) fn ring_size(nodes: u32) -> u32
 pub(crate) fn nodes(work: &Work) -> usize
     ensures { result ≡ ring_size work.now.ring.nodes }
 {
-    wide(ring_size(work.ring.nodes))
+    ring_size(work.ring.nodes) as usize
 }
 
 /// The rows have changed: the largest cut is looked for among the kept numbers.

@@ -7,8 +7,8 @@ use crate::answer::{nodes, recut, ring_size};
 use crate::place::{free_place, index_of, row_at};
 use crate::{Changed, Work};
 use across::{put_row, take_row};
+use reasons::{Reason, check_row};
 use ring::Demand;
-use table::{Reason, check_row};
 
 // What the columns hold at a free place.
 const NO_DEMAND: Demand = Demand {
@@ -59,7 +59,7 @@ fn cleared(work: Work, k: usize) -> Work
 }
 
 // What is found against a row, which is judged as the first row of a table is.
-#[tactic(auto, unfolding(table::specs::Faults::row_found, table::specs::Faults::verdict_found))]
+#[tactic(auto, unfolding(reasons::specs::Faults::row_found, reasons::specs::Faults::verdict_found))]
 fn judge_alone(work: &Work, demand: Demand) -> Result<(), Reason>
     ensures { result ≡ verdict_in work.now demand }
 {
@@ -67,7 +67,7 @@ fn judge_alone(work: &Work, demand: Demand) -> Result<(), Reason>
 }
 
 /// A row at the lowest free place; the amount is in units. Refused with the first that holds of 4, 5 and 7 against the row, and 21 where all places are taken.
-#[tactic(auto, unfolding(crate::specs::Changes::added_in, crate::specs::Changes::unless_fault, crate::specs::Changes::put_free))]
+#[tactic(auto, unfolding(crate::specs::Changes::added_in, crate::specs::Changes::put_free))]
 pub fn added(work: Work, demand: Demand) -> Result<Changed, Reason>
     ensures { result ≡ added_in work demand }
 {
@@ -78,7 +78,7 @@ pub fn added(work: Work, demand: Demand) -> Result<Changed, Reason>
 }
 
 /// Another row in place of the one at a place, counted from 1. Refused with 22 where the place holds none, then with the first that holds of 4, 5 and 7.
-#[tactic(auto, unfolding(crate::specs::Changes::changed_in, crate::specs::Changes::unless_fault, crate::specs::Changes::from_row))]
+#[tactic(auto, unfolding(crate::specs::Changes::changed_in))]
 pub fn changed(work: Work, place: u32, demand: Demand) -> Result<Changed, Reason>
     ensures { result ≡ changed_in work place demand }
 {
@@ -90,7 +90,7 @@ pub fn changed(work: Work, place: u32, demand: Demand) -> Result<Changed, Reason
 }
 
 /// The row at a place, counted from 1, leaves it. Refused with 22 where the place holds none.
-#[tactic(auto, unfolding(crate::specs::Changes::removed_in, crate::specs::Changes::from_row))]
+#[tactic(auto, unfolding(crate::specs::Changes::removed_in))]
 pub fn removed(work: Work, place: u32) -> Result<Changed, Reason>
     ensures { result ≡ removed_in work place }
 {

@@ -6,8 +6,8 @@ ghost use Rattle.work.specs.Changes.{free_in, index_in, Occupied, row_in};
 ghost use Rattle.work.specs.Promises.{RowPromise};
 
 use crate::Work;
-use ring::{Demand, ROWS, wide};
-use table::Reason;
+use reasons::Reason;
+use ring::{Demand, ROWS};
 
 /// How many places stand before the lowest that is free.
 pub(crate) fn free_place(first: &[u8; ROWS]) -> Option<usize>
@@ -23,7 +23,7 @@ pub(crate) fn index_of(work: &Work, place: u32) -> Result<usize, Reason>
     ensures value { result ≡ index_in work.now.first place }
     ensures held { IfOk result (λ k. Occupied work.now k) }
 {
-    let k = wide(place.checked_sub(1).ok_or(Reason::NoRow)?);
+    let k = place.checked_sub(1).ok_or(Reason::NoRow)? as usize;
     match work.first.get(k) {
         None | Some(0) => Err(Reason::NoRow),
         Some(_) => Ok(k),

@@ -5,8 +5,8 @@ ghost use Rattle.work.specs.Changes.{fresh_in, started_in};
 use crate::answer::recut;
 use crate::{Changed, Work};
 use across::PAIRS;
+use reasons::{Reason, check_ring};
 use ring::{Cut, ROWS, Ring};
-use table::{Reason, check_ring};
 
 #[tactic(auto, unfolding(crate::specs::Changes::fresh_in))]
 fn fresh(ring: Ring) -> Work
@@ -27,7 +27,7 @@ fn fresh(ring: Ring) -> Work
 }
 
 /// A table of a ring with no row. Refused with 3 where the nodes are outside 2 to 64, then with 20 where the fibres are neither 2 nor 4.
-#[tactic(auto, unfolding(table::specs::Faults::ring_found, table::specs::Faults::verdict_found, crate::specs::Changes::started_in, crate::specs::Changes::unless_fault))]
+#[tactic(auto, unfolding(reasons::specs::Faults::ring_found, reasons::specs::Faults::verdict_found, crate::specs::Changes::started_in))]
 pub fn started(ring: Ring) -> Result<Changed, Reason>
     ensures { result ≡ started_in ring }
 {

@@ -31,7 +31,12 @@ pub fn due(call: Call, lines: &[Line], at: usize) -> Due {
     match call {
         Call::ReadMatrix(_) => due_in_matrix(lines, at),
         _ if at == 1 => Due::Ring,
-        Call::Route | Call::Rewrite | Call::WriteMatrix => Due::Row,
+        Call::Route
+        | Call::RouteBest
+        | Call::RouteLowered
+        | Call::RouteLoweredBest
+        | Call::Rewrite
+        | Call::WriteMatrix => Due::Row,
         _ => due_in_sheet(lines, at),
     }
 }
@@ -103,7 +108,12 @@ fn name(due: Due, line: &Line, byte: u32) -> &'static str {
 fn text_of(call: Call) -> &'static str {
     match call {
         Call::ReadMatrix(_) => "matrix",
-        Call::Route | Call::Rewrite | Call::WriteMatrix => "table",
+        Call::Route
+        | Call::RouteBest
+        | Call::RouteLowered
+        | Call::RouteLoweredBest
+        | Call::Rewrite
+        | Call::WriteMatrix => "table",
         _ => "sheet",
     }
 }

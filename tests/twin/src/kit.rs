@@ -78,6 +78,24 @@ extern "C" {
         buffer_ptr: *mut u8,
         buffer_len: usize,
     ) -> Reply;
+    fn ringkit_route_best(
+        table_ptr: *const u8,
+        table_len: usize,
+        buffer_ptr: *mut u8,
+        buffer_len: usize,
+    ) -> Reply;
+    fn ringkit_route_lowered(
+        table_ptr: *const u8,
+        table_len: usize,
+        buffer_ptr: *mut u8,
+        buffer_len: usize,
+    ) -> Reply;
+    fn ringkit_route_lowered_best(
+        table_ptr: *const u8,
+        table_len: usize,
+        buffer_ptr: *mut u8,
+        buffer_len: usize,
+    ) -> Reply;
     fn ringkit_rewrite_table(
         table_ptr: *const u8,
         table_len: usize,
@@ -139,6 +157,9 @@ fn library(call: Call, text: &mut [u8], area: &mut [u8], lent: Range<usize>) -> 
     let (text_ptr, text_len) = (text.as_mut_ptr().cast_const(), text.len());
     let write: Writing = match call {
         Call::Route => ringkit_route,
+        Call::RouteBest => ringkit_route_best,
+        Call::RouteLowered => ringkit_route_lowered,
+        Call::RouteLoweredBest => ringkit_route_lowered_best,
         Call::Rewrite => ringkit_rewrite_table,
         Call::RewriteSheet => ringkit_rewrite_sheet,
         Call::WriteMatrix => ringkit_write_matrix,

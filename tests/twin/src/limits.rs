@@ -10,3 +10,5 @@ pub const DIGITS: usize = 8;
 pub const AMOUNT: i64 = 9_999;
 /// A text has so many bytes at most.
 pub const TEXT: usize = 32_768;
+/// The best choice is sought for so many split rows at most.
+pub const SPLIT: usize = 16;

@@ -17,7 +17,9 @@
 //!
 //! `twin --judging [SEED [COUNT]]` compares the judging of values alone, and `twin
 //! --judging-mutants [SEED [COUNT]]` lists which of its faults are caught; `twin
-//! --turning` and `twin --turning-mutants` do so of sending circuits one turn at a time.
+//! --turning` and `twin --turning-mutants` do so of sending circuits one turn at a time,
+//! `twin --choosing` and `twin --choosing-mutants` of the best choice, and `twin
+//! --lowering` and `twin --lowering-mutants` of lowered rooms.
 //!
 //! `twin --cases` answers the stored cases given on standard input by itself,
 //! without the library, so that its reading is compared with the one that wrote
@@ -31,6 +33,11 @@ mod byte_selfcheck;
 mod byte_tally;
 mod check;
 mod checking_faults;
+mod choice;
+mod choice_faults;
+mod choice_groups;
+mod choice_run;
+mod choice_selfcheck;
 mod compare;
 mod count;
 mod foreign;
@@ -42,6 +49,11 @@ mod judging_run;
 mod judging_selfcheck;
 mod kit;
 mod limits;
+mod lowered;
+mod lowered_faults;
+mod lowered_groups;
+mod lowered_run;
+mod lowered_selfcheck;
 mod matrices;
 mod matrix;
 mod matrix_faults;
@@ -78,9 +90,11 @@ mod working_run;
 mod working_selfcheck;
 mod working_stand_in;
 
+use choice_run::ChoiceTally;
 use count::{outcomes, Count};
 use judging_run::JudgingTally;
 use kit::Kit;
+use lowered_run::LoweredTally;
 use mutant::{faults, same, Mutant};
 use part::{part, Run};
 use std::process::ExitCode;
@@ -122,6 +136,16 @@ fn self_checks(seed: u64) -> Count {
             "self-check: theorems of one turn at a time",
             turning_selfcheck::random_theorems(seed),
         ),
+        ("self-check: the best choice", choice_selfcheck::by_hand()),
+        (
+            "self-check: theorems of the best choice",
+            choice_selfcheck::random_theorems(seed),
+        ),
+        ("self-check: lowered rooms", lowered_selfcheck::by_hand()),
+        (
+            "self-check: theorems of lowered rooms",
+            lowered_selfcheck::random_theorems(seed),
+        ),
     ])
 }
 
@@ -156,6 +180,10 @@ fn places(mutant: &'static Mutant, seed: u64, count: u64) -> (usize, usize) {
         part::places::<JudgingTally>(run)
     } else if mutant.of_turning() {
         part::places::<TurningTally>(run)
+    } else if mutant.of_choosing() {
+        part::places::<ChoiceTally>(run)
+    } else if mutant.of_lowering() {
+        part::places::<LoweredTally>(run)
     } else {
         part::places::<TextTally>(run)
     }
@@ -214,17 +242,21 @@ struct Asked {
     count: Option<u64>,
 }
 
-const MODES: [&str; 11] = [
+const MODES: [&str; 15] = [
     "--cases",
     "--judged",
     "--turned",
     "--working",
     "--judging",
     "--turning",
+    "--choosing",
+    "--lowering",
     "--mutants",
     "--working-mutants",
     "--judging-mutants",
     "--turning-mutants",
+    "--choosing-mutants",
+    "--lowering-mutants",
     "--byte-mutants",
 ];
 
@@ -260,6 +292,8 @@ fn compared(run: Run) -> Count {
         part::<JudgingTally>(run),
         part::<WorkTally>(run),
         part::<TurningTally>(run),
+        part::<ChoiceTally>(run),
+        part::<LoweredTally>(run),
     ];
     counts.into_iter().sum()
 }
@@ -270,7 +304,7 @@ fn status(good: bool) -> ExitCode {
 
 fn main() -> ExitCode {
     let Some(asked) = asked() else {
-        eprintln!("usage: twin --cases | twin --judged | twin --turned | twin [--working | --judging | --turning | --mutants | --working-mutants | --judging-mutants | --turning-mutants | --byte-mutants | --mutant K] [SEED [COUNT]]");
+        eprintln!("usage: twin --cases | twin --judged | twin --turned | twin [--working | --judging | --turning | --choosing | --lowering | --mutants | --working-mutants | --judging-mutants | --turning-mutants | --choosing-mutants | --lowering-mutants | --byte-mutants | --mutant K] [SEED [COUNT]]");
         return ExitCode::from(2);
     };
     let (kit, seed) = (asked.kit, asked.seed);
@@ -290,10 +324,14 @@ fn main() -> ExitCode {
         "--working-mutants" => caught(" of the working table", Mutant::of_working),
         "--judging-mutants" => caught(" of the judging of values", Mutant::of_judging),
         "--turning-mutants" => caught(" of the turning of circuits", Mutant::of_turning),
+        "--choosing-mutants" => caught(" of the best choice", Mutant::of_choosing),
+        "--lowering-mutants" => caught(" of lowered rooms", Mutant::of_lowering),
         "--byte-mutants" => caught(" of the byte", Mutant::of_bytes),
         "--working" => part::<WorkTally>(run).end(),
         "--judging" => part::<JudgingTally>(run).end(),
         "--turning" => part::<TurningTally>(run).end(),
+        "--choosing" => part::<ChoiceTally>(run).end(),
+        "--lowering" => part::<LoweredTally>(run).end(),
         _ => compared(run).end(),
     }
 }

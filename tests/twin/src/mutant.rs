@@ -4,9 +4,13 @@
 use crate::byte_faults::{Pointed, BYTE_FAULTS};
 use crate::check::{self, Finding, Question, Questions, Sheet, QUESTIONS};
 use crate::checking_faults::*;
+use crate::choice;
+use crate::choice_faults::{CHOICE_FAULTS, CHOICE_SAME};
 use crate::foreign::cuts;
 use crate::judging_faults::JUDGING_FAULTS;
 use crate::limits::{ROWS, TEXT};
+use crate::lowered;
+use crate::lowered_faults::{LOWERED_FAULTS, LOWERED_SAME};
 use crate::matrix::{self, Matrix};
 use crate::matrix_faults::{self, MATRIX_FAULTS};
 use crate::row_faults::*;
@@ -56,12 +60,20 @@ enum How {
     Turn(Sentences),
     /// Another reply to it, or other ways.
     Ways(fn(TurnReply, &mut [u8]) -> TurnReply),
+    /// Another reading of a sentence of the best choice.
+    Choose(choice::Sentences),
+    /// Another reading of a sentence of lowered rooms.
+    Lower(lowered::Sentences),
+    /// Another reply to the best choice, which may look at the text.
+    Reply(fn(&[u8], &Answer, &mut [u8]) -> Reply),
 }
 
 impl Mutant {
     pub fn call(&self, call: Call, text: &[u8], area: &mut [u8], lent: Range<usize>) -> Said {
         let answer = match call {
             Call::Route | Call::Rewrite => self.answer_table(call, text),
+            Call::RouteBest => self.answer_best(text),
+            Call::RouteLowered | Call::RouteLoweredBest => self.answer_lowered(call, text),
             Call::ReadMatrix(fibres) => self.answer_matrix(text, fibres),
             Call::WriteMatrix => self.answer_sums(text),
             _ => self.answer_sheet(call, text),
@@ -69,6 +81,9 @@ impl Mutant {
         let answer = answer.map_err(|refusal| self.point(call, text, refusal));
         match self.how {
             How::Write(write) if call.writes() => Said::Reply(write(&answer, area, lent)),
+            How::Reply(reply) if call == Call::RouteBest => {
+                Said::Reply(reply(text, &answer, &mut area[lent]))
+            }
             How::Say(change) if !call.writes() => {
                 change(text, twin::say(call, &answer, &mut area[lent]))
             }
@@ -136,6 +151,16 @@ impl Mutant {
         matches!(self.how, How::Turn(_) | How::Ways(_))
     }
 
+    /// Whether the fault lies in the best choice.
+    pub fn of_choosing(&self) -> bool {
+        matches!(self.how, How::Choose(_) | How::Reply(_))
+    }
+
+    /// Whether the fault lies in lowered rooms.
+    pub fn of_lowering(&self) -> bool {
+        matches!(self.how, How::Lower(_))
+    }
+
     /// Whether the fault lies in the working table.
     pub fn of_working(&self) -> bool {
         matches!(self.how, How::Working(_))
@@ -157,6 +182,28 @@ impl Mutant {
             (_, How::Rewrite(change)) => sheet::table_text(&change(table)),
             _ => sheet::table_text(&table),
         }))
+    }
+
+    fn answer_best(&self, text: &[u8]) -> Answer {
+        let table = self.read_table(text)?;
+        let plan = match &self.how {
+            How::Choose(sentences) => choice::plan_read(&table, sentences)?,
+            _ => choice::plan(&table)?,
+        };
+        Ok(twin::written(sheet::sheet_text(&table, &plan)))
+    }
+
+    fn answer_lowered(&self, call: Call, text: &[u8]) -> Answer {
+        let table = self.read_table(text)?;
+        let how = match &self.how {
+            How::Lower(sentences) => sentences,
+            _ => &lowered::SENTENCES,
+        };
+        let plan = match call {
+            Call::RouteLowered => lowered::plan_read(&table, how),
+            _ => lowered::best_plan_read(&table, how)?,
+        };
+        Ok(twin::written(sheet::sheet_text(&table, &plan)))
     }
 
     fn answer_sheet(&self, call: Call, text: &[u8]) -> Answer {
@@ -208,19 +255,24 @@ impl Mutant {
 }
 
 /// All faults, those of a matrix behind the others, then those of the byte, those of
-/// judging values, those of one turn at a time, and those of the working table last.
+/// judging values, those of one turn at a time, those of the best choice, those of lowered
+/// rooms, and those of the working table last.
 pub fn faults() -> Vec<&'static Mutant> {
     let texts = FAULTS.iter().chain(&MATRIX_FAULTS).chain(&BYTE_FAULTS);
     texts
         .chain(&JUDGING_FAULTS)
         .chain(&TURNING_FAULTS)
+        .chain(&CHOICE_FAULTS)
+        .chain(&LOWERED_FAULTS)
         .chain(&WORKING_FAULTS)
         .collect()
 }
 
-/// All changes that come to the same, those of one turn at a time last.
+/// All changes that come to the same, those of one turn at a time, of the best choice and
+/// of lowered rooms last.
 pub fn same() -> Vec<&'static Mutant> {
-    SAME.iter().chain(&TURNING_SAME).collect()
+    let same = SAME.iter().chain(&TURNING_SAME);
+    same.chain(&CHOICE_SAME).chain(&LOWERED_SAME).collect()
 }
 
 pub const fn judging(name: &'static str, judge: fn(&Values) -> Finding) -> Mutant {
@@ -238,6 +290,21 @@ pub const fn answering(
     change: fn(TurnReply, &mut [u8]) -> TurnReply,
 ) -> Mutant {
     let how = How::Ways(change);
+    Mutant { name, how }
+}
+
+pub const fn choosing(name: &'static str, sentences: choice::Sentences) -> Mutant {
+    let how = How::Choose(sentences);
+    Mutant { name, how }
+}
+
+pub const fn replying(name: &'static str, reply: fn(&[u8], &Answer, &mut [u8]) -> Reply) -> Mutant {
+    let how = How::Reply(reply);
+    Mutant { name, how }
+}
+
+pub const fn lowering(name: &'static str, sentences: lowered::Sentences) -> Mutant {
+    let how = How::Lower(sentences);
     Mutant { name, how }
 }
 
@@ -375,7 +442,7 @@ pub const fn square(name: &'static str, square: fn(&Matrix) -> Vec<u8>) -> Mutan
 }
 
 /// Faults that change some sheet or reply: each must be caught.
-static FAULTS: [Mutant; 153] = [
+static FAULTS: [Mutant; 154] = [
     write("one byte after the text changed", after_text),
     write("one byte after the buffer changed", after_buffer),
     write("one byte before the buffer changed", before_buffer),
@@ -410,6 +477,7 @@ static FAULTS: [Mutant; 153] = [
     plan("D: S + back < D", d_strict),
     plan("D: twice D", d_twice),
     plan("D: amount 0 goes B", d_zero),
+    plan("D: the best choice in its place", d_best),
     plan("Z: size above the peak", z_above),
     plan("Z: 768 for every larger peak", z_largest),
     plan("Z: once the peak on two fibres", z_once),
@@ -595,6 +663,15 @@ pub static SAME: [Mutant; 10] = [
         matrix_faults::lower_half,
     ),
 ];
+
+/// The plan of the best choice, wherever few rows are split, so that it is soon found.
+fn d_best(table: &Table) -> Plan {
+    let left = choice::left(table);
+    if choice::split_count(&left) > 8 {
+        return rules::plan(table);
+    }
+    choice::plan(table).unwrap_or_else(|_| rules::plan(table))
+}
 
 // Faults of replying.
 

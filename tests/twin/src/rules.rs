@@ -68,10 +68,15 @@ pub fn rule_a(table: &Table) -> Cut {
     best.expect("a ring of 2 nodes or more has a cut")
 }
 
-/// Rule B: each link starts with room M. Front is the smaller of 2d and s/2,
-/// back is 2d less front. Then each link's room falls by what was sent over it.
+/// Rule B: each link starts with room M.
 pub fn rule_b(table: &Table, m: i64) -> Vec<Sent> {
-    let mut room = vec![m; table.n as usize + 1];
+    send(table, vec![m; table.n as usize + 1])
+}
+
+/// Sending by the rooms that links start with, of which that of link 0 is of no use.
+/// Front is the smaller of 2d and s/2, back is 2d less front. Then each link's room
+/// falls by what was sent over it.
+pub fn send(table: &Table, mut room: Vec<i64>) -> Vec<Sent> {
     let mut sent = Vec::new();
     for (at, row) in table.rows.iter().enumerate() {
         let s = least(row, &table.rows[at + 1..], &room);

@@ -37,6 +37,9 @@ fn next_case(cases: &[u8]) -> Option<(Call, &[u8], usize, &[u8])> {
     let (header, rest) = cases.split_at_checked(12)?;
     let call = match header[0] {
         b'R' => Call::Route,
+        b'B' => Call::RouteBest,
+        b'l' => Call::RouteLowered,
+        b'm' => Call::RouteLoweredBest,
         b'T' => Call::Rewrite,
         b'C' => Call::Check,
         b'S' => Call::RewriteSheet,

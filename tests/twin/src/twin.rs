@@ -1,6 +1,8 @@
 //! What the twin says of a call: the reply and the content of the lent buffer.
 
 use crate::check;
+use crate::choice;
+use crate::lowered;
 use crate::matrix;
 use crate::rules;
 use crate::sheet;
@@ -11,6 +13,11 @@ use crate::table::{self, Refusal};
 pub enum Call {
     /// Table text in, sheet text out.
     Route,
+    /// The same by the best choice.
+    RouteBest,
+    /// By lowered rooms, with rule D and with the best choice.
+    RouteLowered,
+    RouteLoweredBest,
     /// The table's own values written afresh.
     Rewrite,
     /// Sheet text in, no more than the reply out.
@@ -25,7 +32,7 @@ pub enum Call {
     WriteMatrix,
 }
 
-/// All calls, each at its place.
+/// All calls that the groups of texts make, each at its place.
 pub const CALLS: [Call; 7] = [
     Call::Route,
     Call::Rewrite,
@@ -37,7 +44,7 @@ pub const CALLS: [Call; 7] = [
 ];
 
 impl Call {
-    /// Where the call stands among all calls, whatever it is told.
+    /// Where the call stands among these, whatever it is told.
     pub fn place(self) -> usize {
         let same = |call: &Call| std::mem::discriminant(call) == std::mem::discriminant(&self);
         CALLS.iter().position(same).expect("a call")
@@ -153,6 +160,19 @@ pub fn answer(call: Call, text: &[u8]) -> Answer {
         Call::Route => {
             let table = table::read(text)?;
             Ok(written(sheet::sheet_text(&table, &rules::plan(&table))))
+        }
+        Call::RouteBest => {
+            let table = table::read(text)?;
+            Ok(written(sheet::sheet_text(&table, &choice::plan(&table)?)))
+        }
+        Call::RouteLowered => {
+            let table = table::read(text)?;
+            Ok(written(sheet::sheet_text(&table, &lowered::plan(&table))))
+        }
+        Call::RouteLoweredBest => {
+            let table = table::read(text)?;
+            let plan = lowered::best_plan(&table)?;
+            Ok(written(sheet::sheet_text(&table, &plan)))
         }
         Call::Rewrite => Ok(written(sheet::table_text(&table::read(text)?))),
         Call::Check => check::read(text).map(|_| Granted::default()),

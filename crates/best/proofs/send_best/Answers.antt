@@ -12,7 +12,7 @@ weigh-weight-requires g c = choice_fits _ _ c.requires _ _ c.send_by.ensures
 pub try_all-best-requires-clause-loads : goal.try_all-best-requires-clause-loads
 try_all-best-requires-clause-loads g c =
     let seen : c.as_slice.result.now ≡ c.in_ok-split.split.items = search rules in
-    rw (c.wide.ensures, seen) (first_held _ _ _ c.requires c.send_by.ensures _ c.weigh-weight.ensures _ c.unsplit_loads-loads.ensures _ c.in_ok-split.ensures.few)
+    rw seen (first_held _ _ _ c.requires c.send_by.ensures _ c.weigh-weight.ensures _ c.unsplit_loads-loads.ensures _ c.in_ok-split.ensures.few)
 
 pub send_by-requires-2-clause-split : goal.send_by-requires-2-clause-split
 send_by-requires-2-clause-split g c = split_still _ _ _ c.requires c.send_by.ensures _ (split_count _ _ _ c.in_ok-split.ensures.few c.len-2.ensures.value)
@@ -23,4 +23,4 @@ returns-clause-few g c = omega (arith, split_count _ _ _ c.in_ok-split.ensures.f
 pub returns-clause-best : goal.returns-clause-best
 returns-clause-best g c =
     let seen : c.as_slice.result.now ≡ c.in_ok-split.split.items = search rules in
-    best_sent _ _ _ c.requires c.send_by.ensures _ c.weigh-weight.ensures _ c.unsplit_loads-loads.ensures _ _ _ c.in_ok-split.ensures.few (rw (c.wide.ensures, seen) at c.try_all-best.ensures) c.send_by-2.ensures
+    best_sent _ _ _ c.requires c.send_by.ensures _ c.weigh-weight.ensures _ c.unsplit_loads-loads.ensures _ _ _ c.in_ok-split.ensures.few (rw seen at c.try_all-best.ensures) c.send_by-2.ensures

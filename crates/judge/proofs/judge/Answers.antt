@@ -2,7 +2,7 @@
 use Rattle.ring.specs.Limits.{desk}
 use Rattle.ring.specs.Sheet.{sheet_in}
 use Rattle.judge.specs.Findings.{findings}
-use Rattle.table.proofs.Findings.{one-answer}
+use Rattle.reasons.proofs.Findings.{one-answer}
 use Rattle.judge.proofs.Accepted.{accepts}
 use Rattle.judge.proofs.Places.{near}
 use Rattle.judge.proofs.judge.Goals as goal

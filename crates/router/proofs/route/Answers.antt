@@ -1,12 +1,13 @@
 -- `route` answers the plan of rules A to D.
+use Rattle.std.proofs.Common.{refl}
 use Rattle.router.proofs.FourRules.{turned-fit, rows-are, plan-is}
 use Rattle.router.proofs.route.Goals as goal
 
 pub figured-requires : goal.figured-requires
-figured-requires g c = turned-fit c.args.ring _ _ _ _ _ c.wide-n.ensures c.rules_a_to_c-cut.ensures c.send_whole.ensures
+figured-requires g c = turned-fit _ c.args.ring _ _ _ _ _ refl c.rules_a_to_c-cut.ensures c.send_whole.ensures
 
 pub returns-clause-rows : goal.returns-clause-rows
-returns-clause-rows g c = rows-are c.args.ring _ _ _ _ _ c.wide-n.ensures c.rules_a_to_c-cut.ensures c.send_whole.ensures
+returns-clause-rows g c = rows-are _ c.args.ring _ _ _ _ _ refl c.rules_a_to_c-cut.ensures c.send_whole.ensures
 
 pub returns-clause-plan : goal.returns-clause-plan
-returns-clause-plan g c = plan-is c.args.ring _ _ _ _ _ c.wide-n.ensures c.rules_a_to_c-cut.ensures c.send_whole.ensures _ c.figured.ensures
+returns-clause-plan g c = plan-is _ c.args.ring _ _ _ _ _ refl c.rules_a_to_c-cut.ensures c.send_whole.ensures _ c.figured.ensures

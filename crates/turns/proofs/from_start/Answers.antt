@@ -11,7 +11,7 @@ settle-turns-requires-clause-fit g c = start_fits _ _ _ _ _ (seen_long _ c.loads
 
 pub settle-turns-requires-clause-carries : goal.settle-turns-requires-clause-carries
 settle-turns-requires-clause-carries g c =
-    start_carries _ _ _ c.requires.triangle _ c.requires.low c.requires.high _ _ _ (seen_long _ c.loads_avoiding-avoiding.result c.requires.fit.links (search rules)) c.route_avoiding.ensures c.wide.ensures c.loads_avoiding-avoiding.ensures
+    start_carries _ _ _ c.requires.triangle _ c.requires.low c.requires.high _ _ (seen_long _ c.loads_avoiding-avoiding.result c.requires.fit.links (search rules)) c.route_avoiding.ensures c.loads_avoiding-avoiding.ensures
 
 pub returns-clause-demands : goal.returns-clause-demands
 returns-clause-demands g c = start_keeps _ _ _ _ (start_rows _ _ _ _ _ c.route_avoiding.ensures _ _ (seen_long _ c.loads_avoiding-avoiding.result c.requires.fit.links (search rules)) _ c.settle-turns.ensures)

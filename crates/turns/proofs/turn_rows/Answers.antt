@@ -9,7 +9,7 @@ pub fill-requires-clause-triangle : goal.fill-requires-clause-triangle
 fill-requires-clause-triangle g c = no-triangle _
 
 promised : (g : given.Over) (c : goal.After-best_start g) → Promised c.args.nodes (demands (sents (g.R.Rows.rows c.args.rows.now))) (g.R.Rows.rows c.best_start.new.rows) c.best_start.result
-promised g c = rw (← c.wide-n.ensures) (all_promised _ _ (rw c.wide-n.ensures c.requires.two) _ _ c.best_start.ensures.rows c.best_start.ensures.figures)
+promised g c = all_promised _ _ c.requires.two _ _ c.best_start.ensures.rows c.best_start.ensures.figures
 
 pub returns-clause-demands : goal.returns-clause-demands
 returns-clause-demands g c = (promised g c).demands

@@ -1,10 +1,10 @@
 -- Rule D (`Directions`, `OurPlan`, `OneResult`).
 use Rattle.ring.proofs.Directions.{largest-split}
-use Rattle.laws.proofs.OfTables.{rows-rise, rows-directed, directions-one, directed-peak}
+use Rattle.laws.proofs.OfTables.{split-rise, rows-directed, directions-one, directed-peak}
 use Rattle.laws.proofs.rules.directions_rule.Goals as goal
 
 pub returns-clause-rise : goal.returns-clause-rise
-returns-clause-rise c = rows-rise
+returns-clause-rise c = split-rise
 
 pub returns-clause-largest : goal.returns-clause-largest
 returns-clause-largest c = largest-split

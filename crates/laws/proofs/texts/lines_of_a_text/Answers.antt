@@ -1,5 +1,5 @@
 -- The lines of a text (`lines-are`).
-use Rattle.table.proofs.LinesAre.{lines-are}
+use Rattle.lines.proofs.LinesAre.{lines-are}
 use Rattle.laws.proofs.texts.lines_of_a_text.Goals as goal
 
 pub returns : goal.returns

@@ -6,7 +6,7 @@ use Rattle.matrix.proofs.line.amounts_on.Goals as goal
 pub returns-in_err-numbers_on : goal.returns-in_err-numbers_on
 returns-in_err-numbers_on c =
     let p = err_from_is_err_and c.from_residual.result c.from_residual.ensures.1 in
-    rw (p.1, p.2) (not-numbers _ _ _ _ c.numbers_on.ensures _ (read-not _ _ _ c.in_err-numbers_on.was) _)
+    rw (p.1, p.2) (not-numbers _ _ _ _ c.numbers_on.ensures _ (read-not _ _ _ c.in_err-numbers_on.was))
 
 pub returns-in-Some : goal.returns-in-Some
 returns-in-Some c =

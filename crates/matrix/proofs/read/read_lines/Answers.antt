@@ -15,17 +15,17 @@ pub returns-in_err-amounts_on : goal.returns-in_err-amounts_on
 returns-in_err-amounts_on c =
     let p = err_from_is_err_and c.from_residual-in_err-amounts_on.result c.from_residual-in_err-amounts_on.ensures.1 in
     rw (p.1, p.2)
-    (rw c.nodes-nodes.ensures.is at (line-refused _ _ _ _ _ c.loop-number.invariant (omega arith) c.loop-number-test.true _ _ c.in_ok-line.ensures.read _ (rw c.wide.ensures at c.amounts_on.ensures) _ (read-not _ _ _ c.in_err-amounts_on.was)))
+    (rw c.nodes-nodes.ensures.is at (line-refused _ _ _ _ _ c.loop-number.invariant (omega arith) c.loop-number-test.true _ _ c.in_ok-line.ensures.read _ c.amounts_on.ensures _ (read-not _ _ _ c.in_err-amounts_on.was)))
 
 pub put-requires-clause-width : goal.put-requires-clause-width
-put-requires-clause-width c = amounts-wide _ _ _ _ c.amounts_on.ensures _ (read-all _ _ c.in_ok-amounts_on.was) ∙ c.wide.ensures ∙ sym c.loop-number.invariant.tall
+put-requires-clause-width c = amounts-wide _ _ _ _ c.amounts_on.ensures _ (read-all _ _ c.in_ok-amounts_on.was) ∙ sym c.loop-number.invariant.tall
 
 pub put-requires-clause-amounts : goal.put-requires-clause-amounts
 put-requires-clause-amounts c = amounts-within _ _ _ _ c.amounts_on.ensures _ (read-all _ _ c.in_ok-amounts_on.was)
 
 pub loop-number-preserved : goal.loop-number-preserved
 loop-number-preserved c =
-    line-kept _ _ _ _ _ c.loop-number.invariant (omega arith) c.loop-number-test.true _ _ c.in_ok-line.ensures.read _ (rw c.wide.ensures at c.amounts_on.ensures) _ (read-all _ _ c.in_ok-amounts_on.was) _ c.put.ensures
+    line-kept _ _ _ _ _ c.loop-number.invariant (omega arith) c.loop-number-test.true _ _ c.in_ok-line.ensures.read _ c.amounts_on.ensures _ (read-all _ _ c.in_ok-amounts_on.was) _ c.put.ensures
 
 pub returns : goal.returns
 returns c = rw c.nodes-nodes.ensures.is at (lines-over _ _ _ _ _ c.loop-number.invariant (omega arith) (omega arith) (omega arith) _ c.end.ensures.read c.end.ensures.left_over)

@@ -7,11 +7,11 @@ pub returns-in_err-row-in-Ok : goal.returns-in_err-row-in-Ok
 returns-in_err-row-in-Ok c =
     let p = err_from_is_err_and c.from_residual.result c.from_residual.ensures.1 in
     rw (p.1, p.2)
-    (row-refused _ _ _ _ c.loop-line.invariant _ c.count.ensures.is _ _ c.in-Some.ensures _ c.in-Ok.ensures.is _ c.routed_on.ensures.leads _ c.in_err-row-in-Ok.was)
+    (row-refused _ _ _ _ c.loop-line.invariant _ c.count.ensures.is _ _ c.in-Some.ensures _ c.in-Ok.ensures.is _ c.routed_on.ensures.value _ c.in_err-row-in-Ok.was)
 
 pub loop-line-preserved : goal.loop-line-preserved
 loop-line-preserved c =
-    row-read _ _ _ _ c.loop-line.invariant _ c.count.ensures.is _ _ c.in-Some.ensures _ c.in-Ok.ensures.is _ c.routed_on.ensures.leads _ _ c.in_ok-row-in-Ok.was c.push.ensures
+    row-read _ _ _ _ c.loop-line.invariant _ c.count.ensures.is _ _ c.in-Some.ensures _ c.in-Ok.ensures.is _ c.routed_on.ensures.value _ _ c.in_ok-row-in-Ok.was c.push.ensures
 
 pub returns-in-Err : goal.returns-in-Err
 returns-in-Err c = cut-read _ _ _ _ c.loop-line.invariant _ c.count.ensures.is _ _ c.in-Some.ensures _ c.in-Err.ensures.is _ c.cut_on.ensures

@@ -7,4 +7,4 @@ pub returns : goal.returns
 returns c =
     let n = lines-long c.self.inside c.self.invariant in
     let e = ap length c.self.view_is in
-    rw (c.wide.ensures, ← c.self.view_is) (line-put c.self.inside c.self.invariant c.args.i (omega arith) (omega arith) _ _ c.entries_of.ensures (omega arith))
+    rw (← c.self.view_is) (line-put c.self.inside c.self.invariant c.args.i (omega arith) (omega arith) _ _ c.entries_of.ensures (omega arith))

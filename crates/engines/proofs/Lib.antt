@@ -1,0 +1,7 @@
+pub mod Turns
+pub mod Lowered
+pub mod TightCuts
+pub mod OnlySame
+pub mod Engines
+pub mod LoweredLoads
+pub mod CasesHold

@@ -1,0 +1,12 @@
+pub mod PieceLaws
+pub mod PieceSteps
+pub mod CheckSteps
+pub mod CheckedLaws
+pub mod Short
+pub mod SheetPieces
+pub mod WalkSteps
+pub mod WorstLaws
+pub mod TotalsLaws
+pub mod Damage
+pub mod Anywhere
+pub mod ReportLaws

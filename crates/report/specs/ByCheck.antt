@@ -1,0 +1,15 @@
+-- Internal: what a piece gives, by the checker's answer.
+use Rattle.std.specs.Prelude.{ℕ, List, Result, Ok, Err}
+use Rattle.ring.specs.Limits.{desk}
+use Rattle.ring.specs.Sheet.{Sheet}
+use Rattle.reasons.specs.declared.reason.Refusal.{Refusal}
+use Rattle.checker.specs.Check.{check}
+use Rattle.report.specs.declared.outcome.Outcome.{Outcome}
+use Rattle.report.specs.declared.outcome.Outcome.TheVariants.{Refused, Accepted}
+
+unfoldable pub outcome_of : Result Sheet Refusal → Outcome
+outcome_of (Ok x) = Accepted x.unsplit_peak x.cut.across
+outcome_of (Err r) = Refused
+
+abbrev pub checked : List ℕ → Outcome
+checked p = outcome_of (check desk p)

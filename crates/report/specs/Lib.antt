@@ -1,0 +1,10 @@
+pub mod Pieces
+pub mod PiecesAre
+pub mod Totals
+pub mod Worst
+pub mod Report
+pub mod Damage
+pub mod Anywhere
+pub mod Fold
+pub mod Checked
+pub mod ByCheck

@@ -1,0 +1,31 @@
+-- Internal: the rooms that links start with, by any across number of pairs of links, and what lowering them is given and makes of them.
+use Rattle.std.specs.Prelude.{ℕ, ◌≤◌, List, ◌≡◌, length}
+use Rattle.ring.specs.Limits.{desk}
+use Rattle.ring.specs.RuleB.{Room}
+use Rattle.across.specs.Triangle.{at}
+use Rattle.across.specs.Lines.{Pairwise}
+use Rattle.weight.specs.Limits.{across_bound}
+use Rattle.weight.specs.LinkSteps.{link_at}
+use Rattle.engines.specs.declared.Engine.{Engine}
+use Rattle.engines.specs.declared.Engine.TheVariants.{Level, Lowered}
+use Rattle.engines.specs.Lowering.{lower_to}
+
+-- rooms of m, or lowered from m; of the across numbers of rows these are `rooms_by` (engines/Engine)
+abbrev pub rooms_from : Engine → (ℕ → ℕ → ℕ) → ℕ → ℕ → Room
+rooms_from Level number m n = λ k. m
+rooms_from Lowered number m n = lower_to number m n n
+
+-- twice a pair's number can be taken
+pub record PairsFit (n : ℕ) (triangle : List ℕ) : Type 0 where
+  pub few : n ≤ desk.nodes
+  pub pairs : Pairwise n (λ g h. at triangle g h ≤ across_bound)
+
+-- a link of the ring
+pub record LinkOf (n g : ℕ) : Type 0 where
+  pub low : 1 ≤ g
+  pub high : g ≤ n
+
+-- the list holds these rooms of the ring's links
+pub record RoomsFrom (engine : Engine) (number : ℕ → ℕ → ℕ) (m n : ℕ) (room : List ℕ) : Type 0 where
+  pub size : length room ≡ desk.nodes
+  pub is : (k : ℕ) → 1 ≤ k → k ≤ n → link_at room k ≡ rooms_from engine number m n k

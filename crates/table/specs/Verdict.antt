@@ -1,6 +1,0 @@
--- Internal: what is found against a ring, a row or a part of a sheet: nothing, or the first reason that holds.
-use Rattle.std.specs.Prelude.{Result}
-use Rattle.table.specs.declared.reason.Reason.{Reason}
-
-abbrev pub Verdict : Type 0
-Verdict = Result Unit Reason
