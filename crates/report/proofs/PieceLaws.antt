@@ -128,10 +128,6 @@ pieces-append a b (line-between e s) = let (front, i) = e in rw i (line-then fro
 
 -- ---- what is put together starts as its first part does
 
-starts-append : (b : ℕ) (p t : List ℕ) → starts_r ((b ∷ p) ++ t) ≡ starts_r (b ∷ p)
-unfolding starts_r
-starts-append b p t = refl
-
 pub starts-as : (p : List ℕ) (ps : List (List ℕ)) → (IsEmpty p → ⊥) → starts_r (flatten (p ∷ ps)) ≡ starts_r p
 unfolding flatten IsEmpty starts_r
 starts-as [] ps h = absurd (h refl)

@@ -26,9 +26,6 @@ pub record Passed (s : List ℕ) (end : ℕ) : Type 0 where
   pub within : end ≤ length s
   pub none : (j : ℕ) → suc j ≤ end → Begins s j → ⊥
 
-pub passed-nothing : (s : List ℕ) → Passed s 0
-passed-nothing s = record { within = omega arith; none = λ j h. absurd (omega arith) }
-
 -- no piece is left of an empty text
 pub none-left : (s : List ℕ) → length s ≡ 0 → pieces s ≡ []
 unfolding pieces
