@@ -1,6 +1,8 @@
 /* What the library does once, to be counted from outside: it is all that the function `counted` does.
  *   once route|best|lowered|lowered_best TABLE   the sheet goes to standard output
  *   once check SHEET                             nothing does
+ *   once report PLANS                            the report over a text of many plans
+ *   once pieces PLANS                            how many of its plans are accepted, each of which is checked by itself
  *   once turn TABLE                              peak, link and turns, and the ways as letters, go there
  *   once judge SHEET                             the values that the sheet says
  *   once add|change|remove|write [FIRST SECOND]  of a full working table of 64 offices, at its last place, a row of these nodes or else the dearest
@@ -15,7 +17,7 @@
 
 enum { N = RINGKIT_MAX_OFFICES, ROWS = RINGKIT_MAX_ROWS, MOST = RINGKIT_MAX_AMOUNT };
 
-static uint8_t text[RINGKIT_MAX_TEXT_BYTES], buffer[RINGKIT_SHEET_BYTES];
+static uint8_t text[RINGKIT_MAX_PLANS_BYTES], buffer[RINGKIT_SHEET_BYTES];
 static size_t length, written;
 static uint8_t ways[ROWS];
 static ringkit_turn_reply turned;
@@ -65,6 +67,39 @@ static uint32_t check(void)
     return ringkit_check(text, length).reason;
 }
 
+/* ---- many plans, which are found before anything is counted */
+
+static size_t starts[RINGKIT_MAX_PLANS_BYTES + 1];
+static size_t pieces;
+
+static void take_apart(void)
+{
+    for (size_t k = 0; k < length; k++) {
+        if (k == 0 || (text[k - 1] == '\n' && text[k] == 'R')) {
+            starts[pieces++] = k;
+        }
+    }
+    starts[pieces] = length;
+}
+
+/* How many are accepted is told. */
+static uint32_t check_pieces(void)
+{
+    for (size_t k = 0; k < pieces; k++) {
+        told += ringkit_check(text + starts[k], starts[k + 1] - starts[k]).reason == RINGKIT_OK;
+    }
+    return RINGKIT_OK;
+}
+
+static uint32_t report(void)
+{
+    ringkit_reply reply = ringkit_report(text, length, buffer, sizeof buffer);
+    written = reply.length;
+    return reply.reason;
+}
+
+/* ---- a sheet as values */
+
 static void take_down(void)
 {
     hold(text, length);
@@ -102,7 +137,7 @@ static uint32_t writes(void)
 static void all_but_one(void)
 {
     unsigned rows = 0;
-    ringkit_work_start(&work, N, RINGKIT_FOUR_FIBRES);
+    ringkit_work_start(&work, N, RINGKIT_FOUR_FIBRES, RINGKIT_SONET);
     for (uint32_t i = N - 1; i >= 1; i--) {
         for (uint32_t j = N; j > i && rows < ROWS - 1; j--, rows++) {
             ringkit_work_add(&work, i, j, MOST - 7 * rows);
@@ -128,7 +163,7 @@ static void draw(void)
         uint32_t i = 1 + k * 7 % (N - 1);
         list[k] = (struct row){i, i + 1 + k / 5 % (N - i), k * 7919 % (MOST + 1)};
     }
-    ringkit_work_start(&work, N, RINGKIT_FOUR_FIBRES);
+    ringkit_work_start(&work, N, RINGKIT_FOUR_FIBRES, RINGKIT_SONET);
 }
 
 static void tell(uint32_t g, uint32_t h, uint32_t across)
@@ -190,7 +225,7 @@ static const struct job {
     void (*prepare)(void);
     uint32_t (*call)(void);
 } JOBS[] = {
-    {"route", nothing, route}, {"best", nothing, best}, {"lowered", nothing, lowered}, {"lowered_best", nothing, lowered_best}, {"turn", nothing, turn}, {"check", nothing, check}, {"judge", take_down, judge}, {"add", all_but_one, add}, {"change", all, change}, {"remove", all, removes}, {"write", all, writes},
+    {"route", nothing, route}, {"best", nothing, best}, {"lowered", nothing, lowered}, {"lowered_best", nothing, lowered_best}, {"turn", nothing, turn}, {"check", nothing, check}, {"report", nothing, report}, {"pieces", take_apart, check_pieces}, {"judge", take_down, judge}, {"add", all_but_one, add}, {"change", all, change}, {"remove", all, removes}, {"write", all, writes},
     {"kept", draw, kept}, {"afresh", draw, afresh},
 };
 

@@ -12,6 +12,8 @@
 mod check;
 #[path = "../tests/twin/src/choice.rs"]
 mod choice;
+#[path = "../tests/twin/src/family.rs"]
+mod family;
 #[path = "../tests/twin/src/gen.rs"]
 mod gen;
 #[path = "../tests/twin/src/limits.rs"]
@@ -20,6 +22,8 @@ mod limits;
 mod lowered;
 #[path = "../tests/twin/src/matrix.rs"]
 mod matrix;
+#[path = "../tests/twin/src/report.rs"]
+mod report;
 #[path = "../tests/twin/src/rng.rs"]
 mod rng;
 #[path = "../tests/twin/src/rules.rs"]

@@ -95,7 +95,7 @@ static void draw_line_in_words(const struct picture *picture)
     const struct plan *plan = &picture->plan;
     struct units carried = in_units(picture->carried);
     struct point at = {BARS_LEFT, COLUMN_TOP};
-    draw_words(at, HEADING, "The load of each link, in %s", RINGKIT_UNIT);
+    draw_words(at, HEADING, "The load of each link, in %s", unit_of(picture->plan.family));
     at.y += 170;
     if (plan->size == 0) {
         draw_words(at, REMARK, "No line is large enough. The bars end at the unsplit peak, %u.", plan->peak);

@@ -97,7 +97,7 @@ static void draw_rule(int height)
 void draw_heading(const struct picture *picture)
 {
     const struct plan *plan = &picture->plan;
-    draw_words((struct point){MARGIN, TITLE}, FIGURE, "Ring of %u offices and %u fibres, %u circuit%s", plan->offices, plan->fibres, plan->circuits, plan->circuits == 1 ? "" : "s");
+    draw_words((struct point){MARGIN, TITLE}, FIGURE, "%s of %u offices and %u fibres, %u circuit%s", ring_of_family(plan->family), plan->offices, plan->fibres, plan->circuits, plan->circuits == 1 ? "" : "s");
     draw_rule(RULE_ABOVE);
     for (unsigned k = 0; k < sizeof ROW_OF_FIGURES / sizeof *ROW_OF_FIGURES; k++) {
         printf("<g data-figure=\"%s\">\n", ROW_OF_FIGURES[k].name);

@@ -59,13 +59,18 @@ void put_truth(struct json *json, const char *key, bool truth)
     fputs(truth ? "true" : "false", json->out);
 }
 
+void put_none(struct json *json, const char *key)
+{
+    begin(json, key);
+    fputs("null", json->out);
+}
+
 void put_number_or_none(struct json *json, const char *key, unsigned number)
 {
     if (number > 0) {
         put_number(json, key, number);
     } else {
-        begin(json, key);
-        fputs("null", json->out);
+        put_none(json, key);
     }
 }
 

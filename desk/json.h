@@ -19,6 +19,9 @@ void close_list(struct json *json);
 void put_number(struct json *json, const char *key, unsigned number);
 void put_truth(struct json *json, const char *key, bool truth);
 
+/* Null, which says that there is none. */
+void put_none(struct json *json, const char *key);
+
 /* A number that is never 0: a 0 says that there is none, and null is written. */
 void put_number_or_none(struct json *json, const char *key, unsigned number);
 

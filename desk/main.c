@@ -6,11 +6,13 @@
  *   desk check [--json] [SHEET ...]   whether the sheet is accepted
  *   desk picture [--turn | [--lowered] [--best]] [TABLE or SHEET]     the plan, or the accepted sheet, as an SVG picture; --turn with whole circuits sent one turn at a time, --lowered and --best as
  *                                 plan does with these
+ *   desk report [--text | --json] [PLANS ...]     how many sheets of a text of many are accepted and how many refused, the sum of their unsplit peaks, and the worst of them,
+ *                                 by family; --text the report's own lines
  *   desk parallel [SHEET]         its first two split rows that are parallel
- *   desk table --fibres 2 [MATRIX]    the table of a matrix of demands, on a ring of two fibres; --fibres 4 of four
+ *   desk table --fibres 2 [--sdh] [MATRIX]    the table of a matrix of demands, on a ring of two fibres; --fibres 4 of four; --sdh of SDH, where it is of SONET otherwise
  *   desk matrix [TABLE]           the matrix of a table, circuits of the same two offices added up
  *   desk work TABLE               a dialogue in which circuits are added, changed and removed one by one
- *   desk work --ring N --fibres F     the same, beginning with no circuit
+ *   desk work --ring N --fibres F [--sdh]     the same, beginning with no circuit
  *   desk --help, and --help behind a command   these words
  *   desk --version                the number of the library's header
  *
@@ -27,6 +29,7 @@
 #include "picture.h"
 #include "plan.h"
 #include "refusal.h"
+#include "report.h"
 #include "turn.h"
 #include "work.h"
 
@@ -53,11 +56,16 @@ static enum status sheet_of(const struct text *table, struct method method)
     return pass_on(table, routing_by(method), sheet, sizeof sheet);
 }
 
-/* The table of a matrix on a ring of so many fibres. */
-static enum status table_for(const struct text *matrix, uint32_t fibres)
+/* What a matrix does not say of its ring. */
+struct ring {
+    uint32_t fibres;
+    enum family family;
+};
+
+static enum status table_for(const struct text *matrix, struct ring ring)
 {
     uint8_t table[RINGKIT_TABLE_BYTES];
-    ringkit_reply reply = ringkit_read_matrix(matrix->bytes, matrix->length, fibres, table, sizeof table);
+    ringkit_reply reply = ringkit_read_matrix(matrix->bytes, matrix->length, ring.fibres, ring.family, table, sizeof table);
     if (reply.reason != RINGKIT_OK) {
         tell_refusal(matrix, REFUSAL_OF(reply), false);
         return REFUSED;
@@ -66,20 +74,16 @@ static enum status table_for(const struct text *matrix, uint32_t fibres)
     return FINE;
 }
 
-static enum status table_for_two(const struct text *matrix)
-{
-    return table_for(matrix, RINGKIT_TWO_FIBRES);
-}
-
-static enum status table_for_four(const struct text *matrix)
-{
-    return table_for(matrix, RINGKIT_FOUR_FIBRES);
-}
-
 static enum status matrix_of(const struct text *table)
 {
     uint8_t matrix[RINGKIT_MATRIX_BYTES];
     return pass_on(table, ringkit_write_matrix, matrix, sizeof matrix);
+}
+
+static enum status report_of(const struct text *plans)
+{
+    uint8_t report[RINGKIT_REPORT_BYTES];
+    return pass_on(plans, ringkit_report, report, sizeof report);
 }
 
 static enum status check_sheet(const struct text *sheet)
@@ -123,13 +127,14 @@ static enum status ask_parallel(const struct text *sheet)
 /* ---- what the words ask for */
 
 /* The options, each a bit of its own. */
-enum { SHEET = 1, JSON = 2, TURN = 4, RING = 8, FIBRES = 16, HELP = 32, BEST = 64, LOWERED = 128 };
+enum { SHEET = 1, JSON = 2, TURN = 4, RING = 8, FIBRES = 16, HELP = 32, BEST = 64, LOWERED = 128, TEXT = 256, OF_SDH = 512 };
 
 static const struct option {
     const char *name;
     unsigned bit;
 } OPTIONS[] = {
     {"--sheet", SHEET}, {"--json", JSON}, {"--turn", TURN}, {"--ring", RING}, {"--fibres", FIBRES}, {"--help", HELP}, {"--best", BEST}, {"--lowered", LOWERED},
+    {"--text", TEXT}, {"--sdh", OF_SDH},
 };
 
 struct order {
@@ -146,18 +151,24 @@ typedef enum status telling(const struct text *);
 typedef enum status putting(const char *file);
 typedef enum status telling_plan(const struct text *, struct method);
 typedef enum status putting_plan(const char *file, struct method);
+typedef enum status telling_table(const struct text *, struct ring);
 
-/* What is done with a file: it is told, or put as an object where --json is asked for; of a plan that is made by a method the latter two. */
+/* What is done with a file: it is told, or put as an object where --json is asked for; of a plan that is made by a method the next two, and the last of a matrix, with what it does not say. */
 struct task {
     telling *tell;
     putting *put;
     telling_plan *tell_plan;
     putting_plan *put_plan;
     struct method method;
+    telling_table *tell_table;
+    struct ring ring;
 };
 
 static enum status tell_text(const struct task *task, const struct text *text)
 {
+    if (task->tell_table != NULL) {
+        return task->tell_table(text, task->ring);
+    }
     return task->tell_plan != NULL ? task->tell_plan(text, task->method) : task->tell(text);
 }
 
@@ -166,11 +177,11 @@ static enum status put_file(const struct task *task, const char *file)
     return task->put_plan != NULL ? task->put_plan(file, task->method) : task->put(file);
 }
 
-/* Where there are several files, each has a heading, as head and tail write it. */
+/* Where there are several files, each has a heading, as head and tail write it, but among lines that are the library's own. */
 static enum status tell_file(const struct order *order, int k, const char *file, const struct task *task)
 {
     struct text text;
-    if (order->count > 1) {
+    if (order->count > 1 && !(order->said & TEXT)) {
         fputs(k > 0 ? "\n==> " : "==> ", stdout);
         show_name(stdout, name_of(file));
         fputs(" <==\n", stdout);
@@ -195,14 +206,28 @@ static struct method method_of(const struct order *order)
     return (struct method){order->said & LOWERED ? LOWERED_ROOMS : FULL_ROOMS, order->said & BEST ? BEST_CHOICE : RULE_D};
 }
 
-/* Several sheets behind each other would be no sheet. */
+/* Whether a sheet is asked for, and something beside it that it has no place for: several sheets behind each other would be none. */
+static bool asks_too_much(const struct order *order)
+{
+    return order->said & SHEET && (order->said & JSON || order->count > 1);
+}
+
 static bool order_plan(const struct order *order, enum status *status)
 {
-    if (order->said & SHEET && (order->said & JSON || order->count > 1)) {
+    if (asks_too_much(order)) {
         return false;
     }
     struct task task = {.tell_plan = order->said & SHEET ? sheet_of : plan_table, .put_plan = plan_object, .method = method_of(order)};
     *status = each_file(order, task);
+    return true;
+}
+
+static bool order_report(const struct order *order, enum status *status)
+{
+    if (order->said & TEXT && order->said & JSON) {
+        return false;
+    }
+    *status = each_file(order, (struct task){.tell = order->said & TEXT ? report_of : tell_report, .put = report_object});
     return true;
 }
 
@@ -241,13 +266,20 @@ static bool is(const char *word, const char *other)
     return word != NULL && strcmp(word, other) == 0;
 }
 
+/* SONET where nothing is said, as a table has it. */
+static enum family family_of(const struct order *order)
+{
+    return order->said & OF_SDH ? SDH : SONET;
+}
+
 /* A matrix does not say its fibres, and a silent 4 would buy too small a line. */
 static bool order_table(const struct order *order, enum status *status)
 {
     if (!is(order->fibres, "2") && !is(order->fibres, "4")) {
         return false;
     }
-    *status = each_file(order, (struct task){.tell = is(order->fibres, "2") ? table_for_two : table_for_four});
+    struct ring ring = {is(order->fibres, "2") ? RINGKIT_TWO_FIBRES : RINGKIT_FOUR_FIBRES, family_of(order)};
+    *status = each_file(order, (struct task){.tell_table = table_for, .ring = ring});
     return true;
 }
 
@@ -262,7 +294,7 @@ static bool order_work(const struct order *order, enum status *status)
 {
     uint32_t offices, fibres;
     if (order->count == 0 && read_typed(&offices, order->ring) && read_typed(&fibres, order->fibres)) {
-        *status = work_afresh(offices, fibres);
+        *status = work_afresh(offices, fibres, family_of(order));
         return true;
     }
     if (order->count == 1 && !is_standard(order->files[0]) && order->said == 0) {
@@ -282,10 +314,11 @@ static const struct command {
     {"turn", JSON, INT_MAX, order_turn},
     {"check", JSON, INT_MAX, order_check},
     {"picture", TURN | LOWERED | BEST, 1, order_picture},
+    {"report", TEXT | JSON, INT_MAX, order_report},
     {"parallel", 0, 1, order_parallel},
-    {"table", FIBRES, 1, order_table},
+    {"table", FIBRES | OF_SDH, 1, order_table},
     {"matrix", 0, 1, order_matrix},
-    {"work", RING | FIBRES, 1, order_work},
+    {"work", RING | FIBRES | OF_SDH, 1, order_work},
 };
 
 /* ---- reading the words */
@@ -367,11 +400,12 @@ static const char USAGE[] = "usage: desk plan [--lowered] [--best] [--sheet | --
                             "       desk turn [--json] [TABLE ...]\n"
                             "       desk check [--json] [SHEET ...]\n"
                             "       desk picture [--turn | [--lowered] [--best]] [TABLE or SHEET]\n"
+                            "       desk report [--text | --json] [PLANS ...]\n"
                             "       desk parallel [SHEET]\n"
-                            "       desk table --fibres 2|4 [MATRIX]\n"
+                            "       desk table --fibres 2|4 [--sdh] [MATRIX]\n"
                             "       desk matrix [TABLE]\n"
                             "       desk work TABLE\n"
-                            "       desk work --ring N --fibres 2|4\n"
+                            "       desk work --ring N --fibres 2|4 [--sdh]\n"
                             "       desk --help\n"
                             "       desk --version\n";
 

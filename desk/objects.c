@@ -6,6 +6,7 @@
 #include "json.h"
 #include "plan.h"
 #include "refusal.h"
+#include "report.h"
 #include "turn.h"
 
 /* Puts all that an object has behind its file's name. */
@@ -64,12 +65,18 @@ static enum status put_object(const char *command, const char *file, answering *
 
 /* ---- a plan */
 
+static void put_family(struct json *json, enum family family)
+{
+    put_text(json, "family", name_of_family(family));
+    put_text(json, "unit", unit_of(family));
+}
+
 static void put_ring(struct json *json, const struct plan *plan)
 {
     put_text(json, "status", "fine");
     put_number(json, "offices", plan->offices);
     put_number(json, "fibres", plan->fibres);
-    put_text(json, "unit", RINGKIT_UNIT);
+    put_family(json, plan->family);
 }
 
 static void put_demand(struct json *json, const struct circuit *circuit)
@@ -235,7 +242,7 @@ static enum status put_turned(struct json *json, const struct text *table)
     put_number(json, "turns", reply.turns);
     put_number(json, "peak", reply.peak);
     put_floor(json, &plan, reply.peak);
-    put_number_or_none(json, "size", line_size(reply.peak, plan.fibres));
+    put_number_or_none(json, "size", line_size(&plan, reply.peak));
     put_plan_beside(json, &plan);
     return FINE;
 }
@@ -263,4 +270,50 @@ static enum status put_check(struct json *json, const struct text *sheet)
 enum status check_object(const char *file)
 {
     return put_object("check", file, put_check);
+}
+
+/* ---- a report */
+
+static void put_worst(struct json *json, const struct sums *sums)
+{
+    if (sums->across == 0) {
+        put_none(json, "worst");
+        return;
+    }
+    open_object(json, "worst");
+    put_number(json, "twice_peak", sums->twice);
+    put_number(json, "across", sums->across);
+    close_object(json);
+}
+
+static void put_sums(struct json *json, enum family family, const struct sums *sums)
+{
+    open_object(json, NULL);
+    put_family(json, family);
+    put_number(json, "accepted_plans", sums->accepted);
+    put_number(json, "sum_of_peaks", sums->peaks);
+    put_worst(json, sums);
+    close_object(json);
+}
+
+static enum status put_report(struct json *json, const struct text *plans)
+{
+    struct report report;
+    struct refusal refusal;
+    enum status status = find_report(&report, &refusal, plans);
+    if (status != FINE) {
+        return status == REFUSED ? put_refused(json, refusal) : put_trouble(json, STRANGE_REPORT);
+    }
+    put_text(json, "status", "fine");
+    open_list(json, "families");
+    put_sums(json, SONET, &report.of[SONET]);
+    put_sums(json, SDH, &report.of[SDH]);
+    close_list(json);
+    put_number(json, "refused_plans", report.refused);
+    return FINE;
+}
+
+enum status report_object(const char *file)
+{
+    return put_object("report", file, put_report);
 }

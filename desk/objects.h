@@ -16,4 +16,7 @@ enum status turn_object(const char *file);
 /* Whether the sheet is accepted. */
 enum status check_object(const char *file);
 
+/* The report over a text of many plans. */
+enum status report_object(const char *file);
+
 #endif

@@ -33,7 +33,7 @@ static enum status accept_sheet(struct plan *plan, const struct text *sheet)
 static void write_table(struct text *table, const struct plan *plan)
 {
     char *at = (char *)table->bytes;
-    at += sprintf(at, "R\t%u\t%u\n", plan->offices, plan->fibres);
+    at += sprintf(at, "R\t%u\t%u%s\n", plan->offices, plan->fibres, mark_of(plan->family));
     for (unsigned k = 0; k < plan->circuits; k++) {
         at += sprintf(at, "D\t%u\t%u\t%u\n", plan->circuit[k].first, plan->circuit[k].second, plan->circuit[k].amount);
     }
@@ -59,7 +59,7 @@ static enum status turn_circuits(struct plan *plan)
         plan->load[k - 1].unsplit = load_of(plan, ways, k);
     }
     plan->peak = reply.peak;
-    plan->size = line_size(plan->peak, plan->fibres);
+    plan->size = line_size(plan, plan->peak);
     return FINE;
 }
 
@@ -107,7 +107,7 @@ static void describe(const struct picture *picture)
 {
     const struct plan *plan = &picture->plan;
     struct units split = in_units(plan->across);
-    printf("<title id=\"title\">Ring of %u offices and %u fibres, %u circuit%s</title>\n", plan->offices, plan->fibres, plan->circuits, plan->circuits == 1 ? "" : "s");
+    printf("<title id=\"title\">%s of %u offices and %u fibres, %u circuit%s</title>\n", ring_of_family(plan->family), plan->offices, plan->fibres, plan->circuits, plan->circuits == 1 ? "" : "s");
     printf("<desc id=\"desc\">Each circuit sent whole, %s: unsplit peak %u, floor %u, ", how_sent(picture), plan->peak, floor_of(plan));
     if (plan->size > 0) {
         printf("line size %u. ", plan->size);
@@ -119,7 +119,7 @@ static void describe(const struct picture *picture)
     if (plan->method.rooms == LOWERED_ROOMS) {
         printf("Circuits are divided by lowered rooms. ");
     }
-    printf("Office 1 stands at the top of a circle, and the others clockwise from it; link k joins office k and the next. Loads and amounts are in %s.</desc>\n", RINGKIT_UNIT);
+    printf("Office 1 stands at the top of a circle, and the others clockwise from it; link k joins office k and the next. Loads and amounts are in %s.</desc>\n", unit_of(plan->family));
 }
 
 static void draw(struct picture *picture)

@@ -43,6 +43,7 @@ static bool read_plan(struct plan *plan, const uint8_t *sheet, size_t length)
         return false;
     }
     plan->fibres = number(&rest);
+    plan->family = read_family(&rest);
     for (plan->circuits = 0; plan->circuits < RINGKIT_MAX_ROWS && begins(&rest, 'D'); plan->circuits++) {
         plan->circuit[plan->circuits] = read_circuit(&rest);
     }
@@ -67,7 +68,8 @@ struct units in_units(unsigned halves)
 
 void tell_ring(FILE *out, const struct plan *plan)
 {
-    fprintf(out, "Ring of %u offices and %u fibres, %u circuit%s; amounts and loads in %s.\n", plan->offices, plan->fibres, plan->circuits, plan->circuits == 1 ? "" : "s", RINGKIT_UNIT);
+    fprintf(out, "%s of %u offices and %u fibres, %u circuit%s; amounts and loads in %s.\n", ring_of_family(plan->family), plan->offices, plan->fibres, plan->circuits, plan->circuits == 1 ? "" : "s",
+            unit_of(plan->family));
 }
 
 void tell_way(FILE *out, const struct circuit *circuit, bool goes_back)
@@ -128,26 +130,28 @@ static void tell_links(FILE *out, const struct plan *plan)
 static void tell_size(FILE *out, const struct plan *plan)
 {
     bool two = plan->fibres == RINGKIT_TWO_FIBRES;
+    unsigned carried = two ? 2 * plan->peak : plan->peak;
+    const char *what = two ? "" : "the unsplit peak of ", *family = name_of_family(plan->family);
     fputc('\n', out);
     if (two) {
         fprintf(out, "On a ring of two fibres half of each line is kept for protection, so the line must have room for\n");
         fprintf(out, "at least twice the unsplit peak of %u.\n", plan->peak);
     }
     if (plan->size > 0) {
-        fprintf(out, "Line size to buy: %u, the smallest SONET size that carries %s%u.\n", plan->size, two ? "" : "the unsplit peak of ", two ? 2 * plan->peak : plan->peak);
+        fprintf(out, "Line size to buy: %u, the smallest %s size that carries %s%u.\n", plan->size, family, what, carried);
     } else {
-        fprintf(out, "No line to buy: no SONET size is large enough for %s%u.\n", two ? "" : "the unsplit peak of ", two ? 2 * plan->peak : plan->peak);
+        fprintf(out, "No line to buy: no %s size is large enough for %s%u.\n", family, what, carried);
     }
 }
 
-/* The library owns the list of sizes, and is asked for the plan of one circuit of so much, which has that peak. A larger amount than a circuit may have is beyond all sizes, as that is. */
-unsigned line_size(unsigned peak, unsigned fibres)
+/* The library owns the lists of sizes, and is asked for the plan of one circuit of so much, which has that peak. A larger amount than a circuit may have is beyond all sizes, as that is. */
+unsigned line_size(const struct plan *plan, unsigned peak)
 {
     struct text table = {.name = "one circuit"};
-    struct plan plan;
+    struct plan of_one;
     unsigned amount = peak < RINGKIT_MAX_AMOUNT ? peak : RINGKIT_MAX_AMOUNT;
-    table.length = (size_t)sprintf((char *)table.bytes, "R\t%d\t%u\nD\t1\t2\t%u\n", RINGKIT_MIN_OFFICES, fibres, amount);
-    return make_plan(&plan, &table, FOUR_RULES) == FINE ? plan.size : 0;
+    table.length = (size_t)sprintf((char *)table.bytes, "R\t%d\t%u%s\nD\t1\t2\t%u\n", RINGKIT_MIN_OFFICES, plan->fibres, mark_of(plan->family), amount);
+    return make_plan(&of_one, &table, FOUR_RULES) == FINE ? of_one.size : 0;
 }
 
 unsigned floor_of(const struct plan *plan)
@@ -158,8 +162,8 @@ unsigned floor_of(const struct plan *plan)
 /* A lower peak is of no use where the line stays the same. */
 static void tell_size_at(FILE *out, const struct plan *plan, unsigned peak, unsigned least)
 {
-    unsigned size = line_size(least, plan->fibres);
-    if (size != line_size(peak, plan->fibres)) {
+    unsigned size = line_size(plan, least);
+    if (size != line_size(plan, peak)) {
         return;
     }
     if (size > 0) {

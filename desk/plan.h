@@ -2,6 +2,7 @@
 #ifndef DESK_PLAN_H
 #define DESK_PLAN_H
 
+#include "family.h"
 #include "refusal.h"
 #include "status.h"
 #include "text.h"
@@ -32,7 +33,9 @@ extern const struct method FOUR_RULES;
 
 struct plan {
     struct method method; /* of a sheet that was not planned here the four rules */
-    unsigned offices, fibres, circuits;
+    unsigned offices, fibres;
+    enum family family;
+    unsigned circuits;
     struct circuit circuit[RINGKIT_MAX_ROWS];
     unsigned g, h, across;
     struct load load[RINGKIT_MAX_OFFICES];
@@ -60,8 +63,8 @@ enum status take_apart(struct plan *plan, const uint8_t *sheet, size_t length);
 /* Routes the table and tells its plan: which way each circuit goes, the cut and what it means, the links' loads, the line size to buy, and how low a peak could be. */
 enum status plan_table(const struct text *table, struct method method);
 
-/* The line size to buy at a peak; 0 where none is large enough. */
-unsigned line_size(unsigned peak, unsigned fibres);
+/* The line size to buy for the plan's ring at a peak; 0 where none is large enough. */
+unsigned line_size(const struct plan *plan, unsigned peak);
 
 /* Halves as units: 13 is 6.5. */
 struct units {

@@ -28,6 +28,7 @@ static const char *const SENTENCES[] = {
     [RINGKIT_FULL] = "all " NUMBER(RINGKIT_MAX_ROWS) " places are taken",
     [RINGKIT_NO_ROW] = "the place named holds no row",
     [RINGKIT_TOO_MANY_SPLIT] = "more than " NUMBER(RINGKIT_MAX_SPLIT) " circuits are left divided, too many to try every way of sending them: plan without --best",
+    [RINGKIT_PLANS_TOO_LONG] = "the text of plans has more than " NUMBER(RINGKIT_MAX_PLANS_BYTES) " bytes: make a report over a part of it",
 };
 
 const char *sentence_of(uint32_t reason)
@@ -51,6 +52,26 @@ static bool lacks_fibres(struct line line)
     return line.length > 2 && line.bytes[0] == 'R' && line.bytes[1] == '\t' && k == line.length;
 }
 
+/* Whether that byte of an R line, counted from 1, lies behind the tab that is behind the fibres. */
+static bool behind_fibres(struct line line, size_t byte)
+{
+    unsigned tabs = 0;
+    for (size_t k = 0; k < line.length && k + 1 < byte; k++) {
+        tabs += line.bytes[k] == '\t';
+    }
+    return line.length > 0 && line.bytes[0] == 'R' && tabs >= 3;
+}
+
+/* What an R line that has not its shape may lack, or have too much of. */
+static void tell_ring_line(struct line line, size_t byte)
+{
+    if (lacks_fibres(line)) {
+        fputs("    The number of fibres, " NUMBER(RINGKIT_TWO_FIBRES) " or " NUMBER(RINGKIT_FOUR_FIBRES) ", is missing behind the number of offices.\n", stderr);
+    } else if (behind_fibres(line, byte)) {
+        fputs("    Behind the number of fibres only the letter M may stand, of a ring of SDH.\n", stderr);
+    }
+}
+
 void tell_refusal(const struct text *text, struct refusal refusal, bool has_ring_line)
 {
     fflush(stdout);
@@ -64,7 +85,7 @@ void tell_refusal(const struct text *text, struct refusal refusal, bool has_ring
     fprintf(stderr, "line %u, byte %u: ", (unsigned)refusal.line, (unsigned)refusal.byte);
     tell_reason(refusal.reason);
     mark_line(stderr, line, refusal.byte);
-    if (has_ring_line && refusal.reason == RINGKIT_MISSHAPEN && refusal.line == 1 && lacks_fibres(line)) {
-        fputs("    The number of fibres, " NUMBER(RINGKIT_TWO_FIBRES) " or " NUMBER(RINGKIT_FOUR_FIBRES) ", is missing behind the number of offices.\n", stderr);
+    if (has_ring_line && refusal.reason == RINGKIT_MISSHAPEN && refusal.line == 1) {
+        tell_ring_line(line, refusal.byte);
     }
 }

@@ -10,7 +10,7 @@
 struct text {
     const char *name; /* for messages */
     size_t length;
-    uint8_t bytes[RINGKIT_MAX_TEXT_BYTES + 1]; /* one more than is accepted, so that a longer text is seen to be longer */
+    uint8_t bytes[RINGKIT_MAX_PLANS_BYTES + 1]; /* one more than any call accepts, so that a longer text is seen to be longer */
 };
 
 /* Whether that file is standard input: NULL and "-" are. */

@@ -60,7 +60,7 @@ static void tell_turns(ringkit_turn_reply reply)
 static void tell_peaks(const struct plan *plan, ringkit_turn_reply reply)
 {
     printf("\n%-20s%7s%15s\n", "", "peak", "line to buy");
-    tell_beside("One turn at a time", reply.peak, line_size(reply.peak, plan->fibres));
+    tell_beside("One turn at a time", reply.peak, line_size(plan, reply.peak));
     tell_beside("By rule D (plan)", plan->peak, plan->size);
     if (plan->fibres == RINGKIT_TWO_FIBRES) {
         printf("On a ring of two fibres half of each line is kept for protection, so the line has room for twice the peak.\n");

@@ -15,6 +15,7 @@
 struct dialogue {
     ringkit_work work;
     unsigned offices, fibres;
+    enum family family;
     char *line;
     size_t room, length, number; /* the line's room in memory, its bytes, and its number, counted from 1 */
     bool at_terminal, unsaved, left;
@@ -316,15 +317,20 @@ static enum status begin(struct dialogue *d, ringkit_work_reply reply)
         return REFUSED;
     }
     unsigned held = rows_held(&d->work);
-    printf("Ring of %u offices and %u fibres, %u circuit%s.\n", d->offices, d->fibres, held, held == 1 ? "" : "s");
+    printf("%s of %u offices and %u fibres, %u circuit%s.\n", ring_of_family(d->family), d->offices, d->fibres, held, held == 1 ? "" : "s");
     tell_largest(reply.g, reply.h, reply.across);
     return talk(d);
 }
 
-enum status work_afresh(uint32_t offices, uint32_t fibres)
+static ringkit_work_reply start(struct dialogue *d)
 {
-    struct dialogue d = {.offices = offices, .fibres = fibres};
-    return begin(&d, ringkit_work_start(&d.work, offices, fibres));
+    return ringkit_work_start(&d->work, d->offices, d->fibres, d->family);
+}
+
+enum status work_afresh(uint32_t offices, uint32_t fibres, enum family family)
+{
+    struct dialogue d = {.offices = offices, .fibres = fibres, .family = family};
+    return begin(&d, start(&d));
 }
 
 /* Takes the rows of an accepted table to places 1 and up. */
@@ -334,7 +340,8 @@ static ringkit_work_reply take_rows(struct dialogue *d, const struct text *table
     begins(&rest, 'R');
     d->offices = number(&rest);
     d->fibres = number(&rest);
-    ringkit_work_reply reply = ringkit_work_start(&d->work, d->offices, d->fibres);
+    d->family = read_family(&rest);
+    ringkit_work_reply reply = start(d);
     while (reply.reason == RINGKIT_OK && begins(&rest, 'D')) {
         unsigned first = number(&rest);
         unsigned second = number(&rest);

@@ -4,12 +4,13 @@
 
 #include <stdint.h>
 
+#include "family.h"
 #include "status.h"
 
 /* Begins with the rows of a table, at places 1 and up in their order. */
 enum status work_on(const char *file);
 
 /* Begins with no row. */
-enum status work_afresh(uint32_t offices, uint32_t fibres);
+enum status work_afresh(uint32_t offices, uint32_t fibres, enum family family);
 
 #endif

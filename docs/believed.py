@@ -21,19 +21,22 @@ OFFICES = "sixty-four offices (`old` and `desk`)"
 BEST = "the best choice"
 LOWERED = "lowered rooms"
 REPORT = "a report over many plans"
+FAMILIES = "a second family of line sizes"
 
 # files, as crate/File; the first that fits counts
 FILES = [
     ("ring/LineSize", FIBRES),
     ("ring/*", RULES),
-    ("sonet/*", RULES),
+    ("family/*", RULES),
     ("laws/Rules", RULES),
     ("laws/Papers", RULES),
     ("matrix/*", MATRICES),
     ("across/*", WORKING),
+    ("work/HeldRing", FAMILIES),
     ("work/*", WORKING),
     ("ringkit/WorkCalls", WORKING),
     ("ringkit_c/Working", WORKING),
+    ("text/RingLine", FAMILIES),
     ("text/FieldByte", BYTE),
     ("text/FirstFault", BYTE),
     ("lines/DueBytes", BYTE),
@@ -77,7 +80,7 @@ NAMES = {
     },
     WORKING: {
         "reasons/Reasons": [f"{word} {reason}" for word in ("number_of", "rank_of") for reason in ("NoRow", "Full")],
-        "reasons/Findings": ["ring_findings", "Falls", "demand_findings"],
+        "reasons/RowFindings": ["ring_findings", "Falls", "demand_findings"],
     },
     BYTE: {
         "reasons/Reasons": ["byte_is :"],
@@ -104,9 +107,27 @@ NAMES = {
         "ringkit/Texts": ["PlanGiven", "FewSplit", "Takes", "OnRingUpTo"],
         "laws/Rules": ["SomeBest", "BestIsThere", "BestIsOne", "RuleDChooses", "FewAreSplit"],
     },
+    REPORT: {
+        "reasons/Reasons": ["number_of PlansTooLong", "rank_of PlansTooLong"],
+        "ringkit/Texts": ["ReportDue", "ReportGiven"],
+        "ringkit/Promises": ["ReportPromise"],
+        "ringkit/Sheets": ["Joined", "AllCounted"],
+        "laws/Calls": ["WroteSheet", "RoutedCounted"],
+    },
+    FAMILIES: {
+        "family/Sizes": ["sdh_sizes", "sizes_of", "family_of", "family_number", "Known"],
+        "text/Bytes": ["letter_m"],
+        "ring/LineSize": ["line_size_of"],
+        "ring/Limits": ["marks :"],
+        "ring/WithinLimits": ["family :"],
+        "table/RowReasons": ["known :"],
+        "laws/Old": ["byte_of_lf", "marked :"],
+        "laws/Texts": ["OneRingLine", "RingFaultyIs"],
+        "ringkit_c/Replies": ["ring_told"],
+    },
 }
 
-ROWS = [RULES, TEXTS, CIRCUITS, MATRICES, FIBRES, WORKING, BYTE, JUDGING, TURNING, OFFICES, BEST, LOWERED, REPORT]
+ROWS = [RULES, TEXTS, CIRCUITS, MATRICES, FIBRES, WORKING, BYTE, JUDGING, TURNING, OFFICES, BEST, LOWERED, REPORT, FAMILIES]
 
 
 def extent(lines, name):

@@ -8,7 +8,7 @@ static const ringkit_link links[] = {{1, 2, 2}, {2, 2, 1}, {3, 2, 0}, {4, 2, 1}}
 static ringkit_judge_reply judge(void)
 {
     /* four offices, four fibres; links 1 and 3 with 2 across; an unsplit peak of 2, and the size 3 */
-    return ringkit_judge(rows, sizeof rows / sizeof *rows, 4, RINGKIT_FOUR_FIBRES, 1, 3, 2, links, sizeof links / sizeof *links, 2, 3);
+    return ringkit_judge(rows, sizeof rows / sizeof *rows, 4, RINGKIT_FOUR_FIBRES, RINGKIT_SONET, 1, 3, 2, links, sizeof links / sizeof *links, 2, 3);
 }
 
 /* Why a row is at fault. */

@@ -1,21 +1,25 @@
-/* ringkit: plans a ring of offices, checks plans, as texts and as values, sends whole circuits with a low peak, and keeps a table at work. For C11 and C++11, x86-64 Linux.
+/* ringkit: plans a ring of offices, checks plans, as texts and as values, one by one and many at once, sends whole circuits with a low peak, and keeps a table at work.
+ * For C11 and C++11, x86-64 Linux.
  *
  * A text is read as a table, as a sheet or as a matrix. Fields are parted by one tab, every line ends with LF, numbers are 1 to 8 digits with no leading
  * zero but 0 itself.
  *
  *   table:  R n fibres      n offices, which are the nodes of the ring, 1 to n; link k joins k and k+1, link n joins n and 1. The fibres are 2 or 4:
- *                           with 2, half of a line is kept for protection
+ *                           with 2, half of a line is kept for protection. The ring is of SONET: its unit is the STS-1, its line sizes are 3, 12, 48, 192 and 768;
+ *        or R n fibres M    of SDH: its unit is the STM-1, its line sizes are 1, 4, 16, 64 and 256
  *           D i j amount    a row for each circuit, i < j; no row is below the one before, by i, then j, so circuits of the same
  *                           two offices stand next to each other. Its front is links i to j-1, its back the other links
- *   sheet:  R n fibres      then the rows with what goes each way, in halves, and where the whole circuit goes (F or B),
+ *   sheet:  R n fibres      or R n fibres M, then the rows with what goes each way, in halves, and where the whole circuit goes (F or B),
  *           D i j amount front back way
  *           C g h across    a cut: two links, and the demand between the offices that they part,
  *           L link split-load unsplit-load     the loads of links 1 to n, split ones in halves,
  *           Z unsplit-peak size                and the line size to buy: at least the unsplit peak with 4 fibres, at least twice the
- *                           unsplit peak with 2; 0 where no SONET size is large enough
+ *                           unsplit peak with 2, of the ring's family; 0 where none of its sizes is large enough
  *   matrix: n lines of n numbers, and no letters: field j of line i is the demand between offices i and j, so it equals field i of line j,
  *           and field i of line i is 0. The first line says how many offices there are;
- *           how many fibres, no line says
+ *           how many fibres, and which family, no line says
+ *   report: T accepted sum twice-peak across     over a text of many sheets, one behind the other (ringkit_report): a line of those of SONET, one of those of
+ *           X refused                            SDH, and how many are refused; numbers have as many digits as they need
  *
  * A sheet may also be held as values, rows and links as structs, and be judged without a text (ringkit_judge).
  *
@@ -50,7 +54,7 @@ extern "C" {
 #endif
 
 /* Grows by 1 whenever a call, an answer or a limit changes. */
-#define RINGKIT_VERSION 10
+#define RINGKIT_VERSION 12
 
 /* The limits of what is accepted. */
 #define RINGKIT_MAX_TEXT_BYTES 32768
@@ -61,6 +65,13 @@ extern "C" {
 #define RINGKIT_TWO_FIBRES 2
 #define RINGKIT_FOUR_FIBRES 4
 
+/* The family of a ring's line sizes. A call that is told it takes any number but RINGKIT_SONET for SDH. */
+#define RINGKIT_SONET 0
+#define RINGKIT_SDH 1
+
+/* The bytes of a text of many sheets that ringkit_report makes a report over, at most. */
+#define RINGKIT_MAX_PLANS_BYTES 65536
+
 /* The rows left split of which ringkit_route_best and ringkit_route_lowered_best try every way of sending them, at most. */
 #define RINGKIT_MAX_SPLIT 16
 
@@ -68,17 +79,21 @@ extern "C" {
 #define RINGKIT_F 0
 #define RINGKIT_B 1
 
-/* One unit of an amount, a load or a line size. */
-#define RINGKIT_UNIT "STS-1"
+/* One unit of an amount, a load or a line size, on a ring of either family. */
+#define RINGKIT_SONET_UNIT "STS-1"
+#define RINGKIT_SDH_UNIT "STM-1"
 
 /* A buffer of so many bytes suffices for every sheet that ringkit_route, ringkit_route_best, ringkit_route_lowered and ringkit_route_lowered_best write; this is
  * proved. For rewriting, the text's own length suffices. */
-#define RINGKIT_SHEET_BYTES 29164
+#define RINGKIT_SHEET_BYTES 29166
 
 /* The same for every table that ringkit_read_matrix writes, and ringkit_work_write of a working table that calls made; and for every matrix that
  * ringkit_write_matrix writes. */
-#define RINGKIT_TABLE_BYTES 13319
+#define RINGKIT_TABLE_BYTES 13321
 #define RINGKIT_MATRIX_BYTES 20480
+
+/* The same for every report that ringkit_report writes. */
+#define RINGKIT_REPORT_BYTES 82
 
 /* Enough stack for each call, with some to spare for binding memcpy and memset when they are first called: the deepest, turning, takes some 34,700 bytes, and the
  * best choice 34,000. */
@@ -90,6 +105,7 @@ extern "C" {
  * written as a matrix the first row that is 19, and of a table to be routed by the best choice RINGKIT_TOO_MANY_SPLIT, with no line; then 15. So a fault of form (2 to 7, 16)
  * is told before a false figure (8 to 14), on whichever lines the two are: 4 on line 3 before 8 on line 2.
  * Of values the order is 3, 20; then row by row 4, 5, 6, 16, 7, 8, 9; then 10; then 11, of the count of links and then link by link; then 12, 13, 14.
+ * Of a text of many sheets it is RINGKIT_PLANS_TOO_LONG, then 15, and no more.
  * The calls of a working table have no text. Starting one tries 3, then 20, and writing it 15; the others try 22 of the place that is named, then 4, 5 and 7 of the row that
  * is given, and for adding 21. */
 enum ringkit_reason {
@@ -116,14 +132,15 @@ enum ringkit_reason {
     RINGKIT_FIBRES = 20,        /* fibres neither 2 nor 4 */
     RINGKIT_FULL = 21,          /* all 1,024 places of a working table are taken */
     RINGKIT_NO_ROW = 22,        /* the place named holds no row of the working table, as 0 and 1,025 never do */
-    RINGKIT_TOO_MANY_SPLIT = 23 /* rules A to C, by the rooms that are asked for, leave more than 16 rows split, too many to try every way of sending them; never on a ring of 33 offices or fewer */
+    RINGKIT_TOO_MANY_SPLIT = 23, /* rules A to C, by the rooms that are asked for, leave more than 16 rows split, too many to try every way of sending them; never on a ring of 33 offices or fewer */
+    RINGKIT_PLANS_TOO_LONG = 24  /* text of many sheets over 65,536 bytes; that a sheet in it is too long is 1, and counted */
 };
 
-/* The answer of a call. The line counts from 1, a missing line being the one after the last; it is 0 for reasons 1, 13, 14, 15 and 23, and for 16 and 20 of a matrix.
+/* The answer of a call. The line counts from 1, a missing line being the one after the last; it is 0 for reasons 1, 13, 14, 15, 23 and 24, and for 16 and 20 of a matrix.
  *
  * The byte counts from 1 in that line. Of a line of the wrong shape (2) it is the first at which no line of the shape that is due goes on like this, and
  * so the place of a tab, a digit or LF that is missing, which may be one behind the line's last byte. Where a sheet may have a D line or the C line, it is the
- * first byte at which neither goes on; a line of a matrix below the first has as many fields as that. For reasons about one field it is where that field
+ * first byte at which neither goes on, and so behind the fibres, where LF or a tab and M may stand; a line of a matrix below the first has as many fields as that. For reasons about one field it is where that field
  * starts: n (3), the fibres (20), the first of the two nodes that is outside (4), the amount (7), and of a matrix the entry (17, 18, and 7, the first over
  * 9,999). For a line that is missing or left over, and for reasons that judge a line as a whole (5, 6, 8 to 12, 16, 19, and 3 of a matrix), it is 1; with
  * line 0, as 16 of a matrix has it, it is 0. */
@@ -182,7 +199,7 @@ typedef struct ringkit_turn_reply {
  * on bytes that no call made still ends, with an answer that the bytes alone decide. A pointer to it is to a whole struct, aligned as C aligns it. */
 typedef struct ringkit_work {
     uint32_t triangle[RINGKIT_MAX_OFFICES * (RINGKIT_MAX_OFFICES - 1) / 2];
-    uint32_t n, fibres;
+    uint32_t n, fibres, family;
     uint32_t g, h, across;
     uint16_t amount[RINGKIT_MAX_ROWS];
     uint8_t first[RINGKIT_MAX_ROWS];
@@ -249,11 +266,25 @@ ringkit_turn_reply ringkit_turn(const uint8_t *table, size_t table_length, uint8
  * peak than the split peak, and that the unsplit peak is within the bound of rule D. */
 ringkit_reply ringkit_check(const uint8_t *sheet, size_t sheet_length);
 
-/* Judges a sheet that is held as values: rows in the order of the table, the ring, the cut of links g and h with its across number, the loads with their links, 1 to n in order, the
+/* Judges a sheet that is held as values: rows in the order of the table, the ring and its family, the cut of links g and h with its across number, the loads with their links, 1 to n in order, the
  * unsplit peak and the size. It accepts what the checker accepts of the text that says these values, and names the row or the link where it refuses. What no text can say it
  * judges too: larger numbers, more rows than a text has room for, and another count of links than n. */
-ringkit_judge_reply ringkit_judge(const ringkit_row *rows, size_t row_count, uint32_t n, uint32_t fibres, uint32_t g, uint32_t h, uint32_t across, const ringkit_link *links,
-                                  size_t link_count, uint32_t peak, uint32_t size);
+ringkit_judge_reply ringkit_judge(const ringkit_row *rows, size_t row_count, uint32_t n, uint32_t fibres, uint32_t family, uint32_t g, uint32_t h, uint32_t across,
+                                  const ringkit_link *links, size_t link_count, uint32_t peak, uint32_t size);
+
+/* Makes a report over a text of many sheets, one behind the other, and writes it: a line T of those of SONET and one of those of SDH, whose units differ, each with how
+ * many are accepted, the sum of their unsplit peaks, and the worst ratio of twice the unsplit peak to the across number, as these two numbers; and a line X, how many are
+ * refused.
+ *
+ * The text is taken apart into pieces: one begins where the text does, if it has any bytes, and at each line behind that which starts with R; only LF ends a line. Each
+ * piece is checked as a sheet by itself, with its own length, as ringkit_check does, and one that is refused is counted and no more. Of two ratios the larger is the
+ * worse, compared without rounding, and of several that are alike the first stands. An accepted sheet with across number 0 does not enter; where none of the family
+ * enters both numbers are 0.
+ *
+ * Refused is only a text of more than RINGKIT_MAX_PLANS_BYTES, with RINGKIT_PLANS_TOO_LONG, however large the buffer is, and then a buffer that is too short, each with
+ * line 0 and byte 0. RINGKIT_REPORT_BYTES suffice. It takes about the time of checking the pieces. Damage in which no line that starts with R begins, before or after,
+ * and which leaves the line behind it as it was, changes what one piece gives at most. */
+ringkit_reply ringkit_report(const uint8_t *sheets, size_t sheets_length, uint8_t *buffer, size_t buffer_length);
 
 /* The first pair of split rows of a sheet that are parallel, by first and then by second; the sheet is checked before. */
 ringkit_pair_reply ringkit_parallel(const uint8_t *sheet, size_t sheet_length);
@@ -262,16 +293,16 @@ ringkit_pair_reply ringkit_parallel(const uint8_t *sheet, size_t sheet_length);
 ringkit_reply ringkit_rewrite_table(const uint8_t *table, size_t table_length, uint8_t *buffer, size_t buffer_length);
 ringkit_reply ringkit_rewrite_sheet(const uint8_t *sheet, size_t sheet_length, uint8_t *buffer, size_t buffer_length);
 
-/* Reads a matrix and writes its table, with the number of fibres that it is told: a row for each pair of offices whose entry is above 0. The table can be routed. */
-ringkit_reply ringkit_read_matrix(const uint8_t *matrix, size_t matrix_length, uint32_t fibres, uint8_t *buffer, size_t buffer_length);
+/* Reads a matrix and writes its table, with the number of fibres and the family that it is told: a row for each pair of offices whose entry is above 0. The table can be routed. */
+ringkit_reply ringkit_read_matrix(const uint8_t *matrix, size_t matrix_length, uint32_t fibres, uint32_t family, uint8_t *buffer, size_t buffer_length);
 
 /* Reads a table and writes its matrix: circuits of the same two offices are added up, so what tells them apart is lost. A matrix that is read
  * and then written has the same bytes; so has a table that is written and then read, where no pair has two rows and no row has amount 0, with the
- * fibres of its R line. */
+ * fibres and the family of its R line. */
 ringkit_reply ringkit_write_matrix(const uint8_t *table, size_t table_length, uint8_t *buffer, size_t buffer_length);
 
-/* Makes the working table one of n offices and so many fibres that holds no row, whatever it was. */
-ringkit_work_reply ringkit_work_start(ringkit_work *work, uint32_t n, uint32_t fibres);
+/* Makes the working table one of n offices, so many fibres and that family that holds no row, whatever it was. */
+ringkit_work_reply ringkit_work_start(ringkit_work *work, uint32_t n, uint32_t fibres, uint32_t family);
 
 /* Adds a row at the lowest free place. A row of amount 0 holds its place like any other. */
 ringkit_work_reply ringkit_work_add(ringkit_work *work, uint32_t first, uint32_t second, uint32_t amount);

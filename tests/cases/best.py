@@ -198,7 +198,7 @@ def ways(n, rows, rooms=rules.level_rooms):
 
 
 @functools.cache
-def sheet(n, rows, fibres=4, rooms=rules.level_rooms):
+def sheet(n, rows, fibres=4, family="", rooms=rules.level_rooms):
     """The text of the sheet of the best choice, of rows of which not too many are left split."""
     cut, sent = rules.sent_by(n, rows, rooms)
-    return rules.text_of(rules.figures(n, rows, cut, sent, ways(n, rows, rooms), fibres))
+    return rules.text_of(rules.figures(n, rows, cut, sent, ways(n, rows, rooms), fibres, family))

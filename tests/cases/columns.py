@@ -7,9 +7,11 @@ from sheets import good, pairs, places, t, write_table
 
 # spellings of a number, * being the number itself, and how far behind its start the fault is; None is its length
 NUMBERS = [("", 0), (" *", 0), ("* ", None), ("x", 0), ("-1", 0), ("+1", 0), ("*x", None), ("*\r", None), ("*.", None), ("00", 1), ("01", 1), ("007", 1), ("123456789", 8), ("999999999", 8), ("1234567890", 8)]
-# the same of a letter and of a way
+# the same of a letter, of a way and of the M of a ring of SDH
 LETTERS = [("", 0), (" *", 0), ("* ", 1), ("**", 1), ("*1", 1), ("X", 0), ("1", 0), ("\0", 0)]
 WAYS = [("", 0), (" *", 0), ("* ", 1), ("FB", 1), ("BF", 1), ("FF", 1), ("f", 0), ("b", 0), ("F\r", 1), ("X", 0), ("0", 0)]
+
+MARKS = [("", 0), (" *", 0), ("* ", 1), ("MM", 1), ("M\r", 1), ("m", 0), ("N", 0), ("F", 0), ("0", 0), ("\0", 0)]
 
 
 def start(parts, k):
@@ -19,7 +21,7 @@ def start(parts, k):
 def respelled(parts):
     """A line's fields with one of them in another spelling, and the byte that is then at fault."""
     for k, part in enumerate(parts):
-        kind = NUMBERS if part.isdigit() else WAYS if k else LETTERS
+        kind = NUMBERS if part.isdigit() else LETTERS if not k else MARKS if part == "M" else WAYS
         for spelling, behind in kind:
             new = spelling.replace("*", part)
             if new != part:
@@ -27,16 +29,18 @@ def respelled(parts):
 
 
 def cut(parts):
-    """A line that ends too early, with its LF and without it, behind a field or behind a tab; and one with a field too many."""
+    """A line that ends too early, with its LF and without it, behind a field or behind a tab; and one with a field too many. An R line may end behind the fibres, or go on with a tab and M."""
+    may_go_on = parts[0] == "R" and len(parts) == 3
     for k in range(1, len(parts) + 1):
         shorter = "|".join(parts[:k])
         yield shorter, len(shorter) + 1
         if k < len(parts):
-            yield shorter + "\n", len(shorter) + 1
+            if parts[0] != "R" or k != 3:
+                yield shorter + "\n", len(shorter) + 1
             yield shorter + "|\n", len(shorter) + 2
             yield shorter + "|", len(shorter) + 2
     whole = "|".join(parts)
-    yield from ((whole + more + "\n", len(whole) + 1) for more in ("|", "|0", "|F", " ", "\r"))
+    yield from ((whole + more + "\n", len(whole) + 1 + (may_go_on and more[0] == "|")) for more in ("|", "|0", "|F", "|m", " ", "\r", "M"))
 
 
 def misshapen(lines, at, counted=True):
@@ -62,6 +66,9 @@ def shapes():
     """2 on first, middle and last lines of each kind, in every field."""
     for at in (0, 1, 5, len(TABLE) - 1):
         yield from (("T", *one) for one in misshapen(TABLE, at))
+    for ring in ("R|12|4|M", "R|64|2|M"):
+        yield from (("T", *one) for one in misshapen([ring, *TABLE[1:]], 0))
+        yield from (("C", *one) for one in misshapen([ring, *good()[1:]], 0))
     for lines in (good(), large_sheet()):
         for at in places(lines):
             yield from (("C", *one) for one in misshapen(lines, at))
@@ -75,13 +82,14 @@ BEHIND_R = [
     ("D|1|2|1|1|1|FB\n", 8, 14), ("D|1|2|1|1|1|F \n", 8, 14), ("D|1|2|1|1|1|f\n", 8, 13), ("D|1|2|1|1|1|\n", 8, 13), ("D|1|2|1|1|1\n", 8, 12), ("D|1|2|1|1|1|F|\n", 8, 14), ("D|1|2|1|1|1|F", 8, 14),
     ("D|1|2|1\n", 0, 8), ("D|1|2|1", 8, 8), ("D|1|2|1 \n", 8, 8), ("d|1|2|1\n", 1, 1), ("D|123456789|2|1\n", 11, 11), ("D|007|2|1\n", 4, 4),
 ]
-R_LINES = [("R", 2), ("R\n", 2), ("R|\n", 3), ("R|123456789|4\n", 11), ("R|007|4\n", 4), ("R|00000000\n", 4), ("R|4\n", 4), ("R|4|4", 6), ("R|4|123456789\n", 13), ("R|4|007\n", 6), ("RR|4|4\n", 2), ("X\n", 1), ("\n", 1), ("r|4|4\n", 1)]
+R_LINES = [("R", 2), ("R\n", 2), ("R|\n", 3), ("R|123456789|4\n", 11), ("R|007|4\n", 4), ("R|00000000\n", 4), ("R|4\n", 4), ("R|4|4", 6), ("R|4|123456789\n", 13), ("R|4|007\n", 6), ("RR|4|4\n", 2), ("X\n", 1), ("\n", 1), ("r|4|4\n", 1),
+           ("R|4|4|\n", 7), ("R|4|4|m\n", 7), ("R|4|4|M", 8), ("R|4|4|M|\n", 8), ("R|4|4 M\n", 6), ("R|4|M|4\n", 5), ("R|65|3|M|M\n", 9)]
 # values on the second line of a table, with a sheet's end behind them
 VALUES = [
     ("D|0|2|1", 4, 3), ("D|1|5|1", 4, 5), ("D|5|1|1", 4, 3), ("D|5|6|1", 4, 3), ("D|0|0|10000", 4, 3), ("D|12345|0|1", 4, 3), ("D|9999999|9999999|1", 4, 3), ("D|12345678|2|1", 4, 3), ("D|1|12345678|1", 4, 5), ("D|3|9999999|10000", 4, 5),
     ("D|1|2|10000", 7, 7), ("D|3|4|9999999", 7, 7), ("D|3|4|99999999", 7, 7), ("D|2|2|10000", 5, 1), ("D|4|1|1", 5, 1),
 ]
-RINGS = [("R|1|4", 3, 3), ("R|65|2", 3, 3), ("R|9999999|3", 3, 3), ("R|12345678|4", 3, 3), ("R|2|3", 20, 5), ("R|64|0", 20, 6), ("R|64|9999999", 20, 6), ("R|2|12345678", 20, 5)]
+RINGS = [("R|1|4", 3, 3), ("R|65|2", 3, 3), ("R|9999999|3", 3, 3), ("R|12345678|4", 3, 3), ("R|2|3", 20, 5), ("R|64|0", 20, 6), ("R|64|9999999", 20, 6), ("R|2|12345678", 20, 5), ("R|65|3|M", 3, 3), ("R|64|9|M", 20, 6)]
 
 
 def by_hand():

@@ -9,11 +9,11 @@ FEWEST_OFFICES, MOST_OFFICES, MOST_ROWS, MOST_AMOUNT = 2, 64, 1024, 9999
 # by rising number, but 16 stands between 6 and 7 and 20 behind 3 (Rules, the order of reasons)
 ORDER = (1, 2, 3, 20, 4, 5, 6, 16, 7, 8, 9, 10, 11, 12, 13, 14)
 
-# a row is first, second, amount, front, back and its way, F or B; a link is its number, split load and unsplit load
-Values = collections.namedtuple("Values", "n fibres rows cut links last")
+# the family is what an R line says of it, M or nothing; a row is first, second, amount, front, back and its way, F or B; a link is its number, split load and unsplit load
+Values = collections.namedtuple("Values", "n fibres family rows cut links last")
 
 
-def of_ring(n, fibres):
+def of_ring(n, fibres, _=""):
     """3 and 20, which speak of the number of offices and of fibres."""
     return {3: not FEWEST_OFFICES <= n <= MOST_OFFICES, 20: fibres not in (2, 4)}
 
@@ -62,7 +62,7 @@ def peaks(values):
 
 def of_last(values):
     peak = peaks(values)[1]
-    return {12: tuple(values.last) != (peak, rules.size_for(peak, values.fibres))}
+    return {12: tuple(values.last) != (peak, rules.size_for(peak, values.fibres, values.family))}
 
 
 def of_all(values):

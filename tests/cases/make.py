@@ -1,7 +1,7 @@
 #!/usr/bin/env python3
 """Writes crates/cases/stdin and stdout: stored cases for the public calls, and the answers that the rules of docs/RULES.md give them.
 
-The answers come from the reading of these in reading.py, matrix.py, pointing.py, rules.py and best.py and from nothing else: no source of the project is used. Run it by hand after adding a
+The answers come from the reading of these in reading.py, matrix.py, pointing.py, rules.py, best.py and report.py and from nothing else: no source of the project is used. Run it by hand after adding a
 case and look at the difference; the tests only compare what the program writes with what is stored."""
 import functools
 import itertools
@@ -11,10 +11,13 @@ import best
 import chosen
 import circuits
 import columns
+import families
 import fibres
 import lowering
 import matrices
 import matrix
+import report
+import reported
 import rules
 import sheets
 from judging import MOST_OFFICES, MOST_ROWS
@@ -38,13 +41,14 @@ def sum_of(out):
 @functools.cache
 def written(letter, text):
     """The text that a call writes, by the call's letter."""
-    if letter == "S":
-        return rewritten(text)
-    values = (*matrix.rows_of(text), int(letter)) if letter.isdigit() else matrix.table_values(text)
+    if letter in OF_TEXT:
+        return OF_TEXT[letter](text)
+    values = (*matrix.rows_of(text), *matrix.told(letter)) if matrix.told(letter) else matrix.table_values(text)
     return WRITTEN.get(letter, write_table)(*values)
 
 
 LOWERED = rules.lowered_rooms
+OF_TEXT = {"S": rewritten, "M": report.lines}
 
 WRITTEN = {
     "R": rules.sheet,
@@ -68,13 +72,14 @@ REFUSALS = {
     "l": first_reason,
     "m": functools.partial(first_reason_of_best, rooms=LOWERED),
     "W": matrix.first_reason_of_sums,
+    "M": report.first_reason,
 }
 
 
 @functools.cache
 def refused(letter, text):
-    if letter.isdigit():
-        return matrix.first_reason_of_matrix(text, int(letter))
+    if matrix.told(letter):
+        return matrix.first_reason_of_matrix(text, matrix.told(letter)[0])
     return REFUSALS.get(letter, first_reason_of_sheet)(text)
 
 
@@ -301,17 +306,19 @@ def main():
     given, due = [], []
     calls = [("T", text, min(room, ROOM)) for text, room in all_cases()] + [("R", *case) for case in to_route()] + [*of_sheets(), *of_matrices()]
     calls += fibres.cases(lambda table: written("R", table), ROOM)
+    calls += families.cases(written, ROOM)
     calls += columns.cases(refused, ROOM)
     calls += [("B", *case) for case in chosen.cases(functools.partial(written, "B"), functools.partial(refused, "B"), ROOM)]
     calls += lowering.cases(written, refused, ROOM)
+    calls += [("M", *case) for case in reported.cases()]
     for letter, text, room in dict.fromkeys(calls):
-        # the program that runs the cases has no more memory
-        assert len(text) <= ROOM and room <= ROOM
+        # five digits say how long the text is, and the buffer of the program that runs the cases is no longer
+        assert len(text) < 100000 and room <= ROOM
         given.append(b"%c%05d%05d\n" % (ord(letter), len(text), room) + text)
         due.append(letter + " %s\n" % " ".join(map(str, answer(letter, text, room))))
     open("crates/cases/stdin", "wb").write(b"".join(given))
     open("crates/cases/stdout", "w").write("".join(line[2:] for line in due))
-    for letter in "TRBlmCPSW0123456789":
+    for letter in "TRBlmCPSWM0123456789abcdefghij":
         mine = [line.split() for line in due if line[0] == letter]
         print(letter, len(mine), "cases, reasons seen:", sorted({int(words[1]) for words in mine}))
     print("pairs seen:", len({line for line in due if line.startswith("P 0") and not line.endswith(" 0 0\n")}))

@@ -307,7 +307,7 @@ def there_and_back(accepted):
         n, rows = rows_of(matrix)
         assert write_matrix(n, rows) == matrix
         table = write_table(n, rows)
-        assert table_values(table) == (n, tuple(rows), 4) and first_reason_of_sums(table) is None
+        assert table_values(table) == (n, tuple(rows), 4, "") and first_reason_of_sums(table) is None
         yield table
 
 

@@ -1,6 +1,11 @@
 """A matrix, read from the rule alone (Rules, matrices): which refusal it gets, the table that it is read into, and the matrix that a table is written as."""
 import judging
-from reading import LONGEST, fields, first_of, first_reason, lines_of, number, those
+from reading import LONGEST, fields, first_of, first_reason, lines_of, number, ring_of, those
+
+
+def told(letter):
+    """The fibres and the family that a matrix is read with, by the letter of a stored case: a digit is so many fibres of SONET, a to j are 0 to 9 fibres of SDH; None of another letter."""
+    return (int(letter), "") if letter.isdigit() else ("abcdefghij".index(letter), "M") if letter in "abcdefghij" else None
 
 
 def entries(line):
@@ -62,10 +67,10 @@ def rows_of(text):
 
 
 def table_values(text):
-    """The ring, the rows and the fibres of an accepted table."""
+    """The ring, the rows, the fibres and the family of an accepted table."""
     ring, *rows = lines_of(text)
-    n, fibres = fields(ring, b"R", 2)
-    return n, tuple(tuple(fields(row, b"D", 3)) for row in rows), fibres
+    n, fibres, family = ring_of(ring)
+    return n, tuple(tuple(fields(row, b"D", 3)) for row in rows), fibres, family
 
 
 def first_reason_of_sums(text):
@@ -73,13 +78,13 @@ def first_reason_of_sums(text):
     reply = first_reason(text)
     if reply:
         return reply
-    _, rows, _ = table_values(text)
+    _, rows, *_ = table_values(text)
     sums = [sum(d for *pair, d in rows[:k + 1] if pair == [*rows[k][:2]]) for k in range(len(rows))]
     return next(((19, k + 2) for k, s in enumerate(sums) if s > judging.MOST_AMOUNT), None)
 
 
-def write_matrix(n, rows, _=4):
-    """The square of these rows: each entry is the sum of the rows between its two nodes. It does not say how many fibres there are."""
+def write_matrix(n, rows, *_):
+    """The square of these rows: each entry is the sum of the rows between its two nodes. It says neither how many fibres there are nor which family."""
     nodes = range(1, n + 1)
     sums = {}
     for i, j, d in rows:

@@ -3,8 +3,8 @@ pattern of its shape has, of a field by where it starts."""
 import re
 
 from judging import MOST_AMOUNT
-from matrix import Matrix
-from reading import DIGITS, SHEET, Sheet, fields, lines_of
+from matrix import Matrix, told
+from reading import DIGITS, SHEET, Sheet, lines_of, ring_of
 
 NUMBER = rb"(?:0|[1-9][0-9]{0,%d})" % (DIGITS - 1)
 
@@ -18,7 +18,9 @@ def beginnings(*parts):
     return re.compile(pattern)
 
 
-TABLE = {"R": beginnings(b"R", *[NUMBER] * 2), "D": beginnings(b"D", *[NUMBER] * 3)}
+# behind the fibres a line may end, or go on with a tab and M
+RING = [beginnings(b"R", NUMBER, NUMBER), beginnings(b"R", NUMBER, NUMBER, b"M")]
+ROW = beginnings(b"D", *[NUMBER] * 3)
 LINES = {letter: beginnings(letter.encode(), *[NUMBER] * count, *[b"[FB]"] * (letter == "D")) for letter, count in SHEET.items()}
 # the first line of a matrix may have any number of fields
 FIRST = re.compile(b"(?:" + NUMBER + rb"\t)*(?:" + NUMBER + rb"\n?)?")
@@ -27,6 +29,8 @@ FIRST = re.compile(b"(?:" + NUMBER + rb"\t)*(?:" + NUMBER + rb"\n?)?")
 def due_in_sheet(sheet, at):
     """The shapes that are due at a line; none where it is left over. A row may stand where the cut does."""
     letter = sheet.due(at)
+    if letter == "R":
+        return RING
     return [LINES[one] for one in ("DC" if letter in ("D", "C") else letter or "")]
 
 
@@ -35,9 +39,11 @@ def due_in_matrix(matrix, at):
 
 
 def due(letter, text, at):
-    if letter.isdigit():
+    if told(letter):
         return due_in_matrix(Matrix(text), at)
-    return [TABLE["R" if at == 1 else "D"]] if letter in "TRBlmW" else due_in_sheet(Sheet(text), at)
+    if letter in "TRBlmW":
+        return RING if at == 1 else [ROW]
+    return due_in_sheet(Sheet(text), at)
 
 
 def first_fault(line, shapes):
@@ -70,5 +76,5 @@ def byte_of(letter, text, reply):
     if reason == 2:
         return first_fault(line, shapes) if shapes else 1
     parts = line[:-1].split(b"\t")
-    field = field_of_matrix(text, at, reason) if letter.isdigit() else field_of_row(fields(lines[0], b"R", 2), parts, reason)
+    field = field_of_matrix(text, at, reason) if told(letter) else field_of_row(ring_of(lines[0]), parts, reason)
     return 1 + len(b"".join(part + b"\t" for part in parts[:field or 0]))

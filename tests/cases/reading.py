@@ -7,8 +7,8 @@ from judging import ORDER, Values
 LONGEST, DIGITS = 32768, 8
 # what reading gives; all else is found against what was read
 FORM = {1, 2, 3, 20, 4, 5, 6, 16, 7}
-# what follows the letter of a sheet's line: numbers, and for a row its way
-SHEET = {"R": 2, "D": 5, "C": 3, "L": 3, "Z": 2}
+# what follows the letter of a sheet's line below the first: numbers, and for a row its way
+SHEET = {"D": 5, "C": 3, "L": 3, "Z": 2}
 
 
 def number(field):
@@ -17,19 +17,25 @@ def number(field):
     return None if bad else int(field)
 
 
-def fields(line, letter, numbers, way=False):
-    """The numbers of a line, and its way as F or B; None where it has not this shape."""
+def fields(line, letter, numbers, ends=()):
+    """The numbers of a line, and where it ends with one of some letters that letter; None where it has not this shape."""
     if not line.endswith(b"\n"):
         return None
     parts = line[:-1].split(b"\t")
-    if len(parts) != 1 + numbers + way or parts[0] != letter:
+    if len(parts) != 1 + numbers + bool(ends) or parts[0] != letter:
         return None
-    if way and parts[-1] not in (b"F", b"B"):
+    if ends and parts[-1] not in ends:
         return None
     out = [number(p) for p in parts[1:1 + numbers]]
     if None in out:
         return None
-    return out + [parts[-1].decode()] if way else out
+    return out + [parts[-1].decode()] if ends else out
+
+
+def ring_of(line):
+    """Offices, fibres and family of an R line, which has M or nothing behind the fibres; None where it has not this shape."""
+    plain = fields(line, b"R", 2)
+    return plain + [""] if plain else fields(line, b"R", 2, (b"M",))
 
 
 def lines_of(text):
@@ -47,7 +53,7 @@ def those(tests):
 
 def holding(lines, at):
     """The reasons that hold of a table's line."""
-    ring = fields(lines[0], b"R", 2) if lines else None
+    ring = ring_of(lines[0]) if lines else None
     if at == 1:
         return {2} if ring is None else those(judging.of_ring(*ring))
     row = fields(lines[at - 1], b"D", 3)
@@ -78,7 +84,7 @@ def first_reason(text):
 
 def values(line, letter):
     """What a sheet's line says, None where it has not the shape of its letter."""
-    return fields(line, letter.encode(), SHEET[letter], letter == "D")
+    return ring_of(line) if letter == "R" else fields(line, letter.encode(), SHEET[letter], (b"F", b"B") if letter == "D" else ())
 
 
 class Sheet:
@@ -171,4 +177,4 @@ def line_by_line(text):
 def rewritten(text):
     """An accepted sheet's values written afresh."""
     sheet = Sheet(text)
-    return rules.text_of((sheet.due(at), *sheet.said(at)) for at in range(1, len(sheet.lines) + 1))
+    return rules.text_of((sheet.due(at), *filter(lambda said: said != "", sheet.said(at))) for at in range(1, len(sheet.lines) + 1))

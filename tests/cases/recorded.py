@@ -1,7 +1,7 @@
 #!/usr/bin/env python3
 """Writes tests/cases/judging.calls: stored sheets that are held as values, each with what the rules find against it (Rules, reading and judging), by judging.py.
 
-The file says how the values change from one case to the next: `ring N FIBRES` begins afresh with no rows, no links and 0 elsewhere; `row K TIMES` and six numbers, the last 0
+The file says how the values change from one case to the next: `ring N FIBRES` begins afresh with no rows, no links and 0 elsewhere; `family F` says the family; `row K TIMES` and six numbers, the last 0
 for F and any other for B, puts the same row at so many places from K on; `link K TIMES` and three numbers likewise; `counts ROWS LINKS` says how many of them there are; `cut` and
 `last` have three numbers and two. `judge = REASON PLACE` ends a case, and leaves the values for the next. No source of the project is used. Run it by hand after adding a case and
 look at the difference; tests/desk/judging.c makes the calls, and the twin judges the same values by itself."""
@@ -21,14 +21,14 @@ HIGH = (2**8, 2**16, 2**31)
 
 
 def held(lines):
-    """Values by the lines of a sheet, a row's way as a number."""
+    """Values by the lines of a sheet, family and ways as numbers."""
     by = {letter: [line[1:] for line in lines if line[0] == letter] for letter in "RDCLZ"}
     rows = tuple((*row[:5], 0 if row[5] == "F" else 1) for row in by["D"])
-    return Values(*by["R"][0], rows, tuple(by["C"][0]), tuple(map(tuple, by["L"])), tuple(by["Z"][0]))
+    return Values(*by["R"][0][:2], len(by["R"][0]) - 2, rows, tuple(by["C"][0]), tuple(map(tuple, by["L"])), tuple(by["Z"][0]))
 
 
 def lettered(values):
-    return values._replace(rows=[(*row[:5], "B" if row[5] else "F") for row in values.rows])
+    return values._replace(family="M" if values.family else "", rows=[(*row[:5], "B" if row[5] else "F") for row in values.rows])
 
 
 def found(values):
@@ -42,7 +42,7 @@ def of_text(text):
         return None
     read = sheet.read()
     rows = tuple((*row[:5], 0 if row[5] == "F" else 1) for row in read.rows)
-    values = Values(read.n, read.fibres, rows, tuple(read.cut), tuple(map(tuple, read.links)), tuple(read.last))
+    values = Values(read.n, read.fibres, int(read.family != ""), rows, tuple(read.cut), tuple(map(tuple, read.links)), tuple(read.last))
     # checking the text is reading and then judging, so where reading accepts the two find the same, by line and by place
     given, (reason, place) = first_reason_of_sheet(text), found(values)
     assert given and given[0] in FORM or (given or (0, 0)) == ((reason, sheet.line(reason, place)) if reason else (0, 0)), text
@@ -97,7 +97,7 @@ def stated():
         yield (11, place), with_link(x, place, link=0)
         yield (11, place), with_link(x, place, split=1)
         yield (11, place), with_link(x, place, unsplit=x.links[place - 1][2] + 1)
-    many = Values(2, 4, ((1, 2, 0, 0, 0, 0),) * (MOST_ROWS + 1), (1, 2, 0), ((1, 0, 0), (2, 0, 0)), (0, 3))
+    many = Values(2, 4, 0, ((1, 2, 0, 0, 0, 0),) * (MOST_ROWS + 1), (1, 2, 0), ((1, 0, 0), (2, 0, 0)), (0, 3))
     yield (16, MOST_ROWS + 1), many
     yield (0, 0), many._replace(rows=many.rows[:-1])
     # 13 and 14: the stated sheets
@@ -123,7 +123,7 @@ def wrapping():
                     yield with_row(x, place, front=b, back=f)
         yield with_row(x, place, amount=d + 2**31)
         yield with_row(x, place, front=(front + 2**31) % 2**32, back=(back + 2**31) % 2**32)
-    zero = Values(2, 4, ((1, 2, 0, 0, 0, 0),), (1, 2, 0), ((1, 0, 0), (2, 0, 0)), (0, 3))
+    zero = Values(2, 4, 0, ((1, 2, 0, 0, 0, 0),), (1, 2, 0), ((1, 0, 0), (2, 0, 0)), (0, 3))
     for f, b in ((2**32 - 1, 1), (1, 2**32 - 1), (2**31, 2**31), (2**16, 0), (0, 2**16), (2**32 - 2**16, 2**16)):
         yield with_row(zero, 1, front=f, back=b)
         yield with_row(zero, 1, front=f, back=b, way=1)
@@ -160,11 +160,11 @@ def huge():
                 yield with_link(x, place, **dict.fromkeys(names, much))
         for names in (("peak",), ("size",), ("peak", "size")):
             yield with_last(x, **dict.fromkeys(names, much))
-        yield Values(much, much, ((much,) * 6,) * 2, (much,) * 3, ((much,) * 3,) * 2, (much,) * 2)
-        yield Values(2, 4, ((much,) * 6,) * 2, (much,) * 3, ((much,) * 3,) * 2, (much,) * 2)
-        yield Values(2, 4, (), (much,) * 3, ((much,) * 3,) * 2, (much,) * 2)
-        yield Values(2, 4, (), (1, 2, 0), ((much,) * 3,) * 2, (much,) * 2)
-        yield Values(2, 4, (), (1, 2, 0), ((1, 0, 0), (2, 0, 0)), (much,) * 2)
+        yield Values(much, much, much, ((much,) * 6,) * 2, (much,) * 3, ((much,) * 3,) * 2, (much,) * 2)
+        yield Values(2, 4, 0, ((much,) * 6,) * 2, (much,) * 3, ((much,) * 3,) * 2, (much,) * 2)
+        yield Values(2, 4, 0, (), (much,) * 3, ((much,) * 3,) * 2, (much,) * 2)
+        yield Values(2, 4, 0, (), (1, 2, 0), ((much,) * 3,) * 2, (much,) * 2)
+        yield Values(2, 4, 0, (), (1, 2, 0), ((1, 0, 0), (2, 0, 0)), (much,) * 2)
 
 
 def counts():
@@ -179,7 +179,7 @@ def counts():
     for size in (2, 20, 32, 33, 64):
         empty = held(rules.figures(size, [], (1, 2), [], []))
         yield from (empty, empty._replace(links=()), empty._replace(links=empty.links[:-1]), empty._replace(links=empty.links + empty.links), with_cut(empty, h=size), with_cut(empty, across=1))
-    yield from (Values(2, 4, (), (1, 2, 0), (), (0, 3)), Values(0, 0, (), (0, 0, 0), (), (0, 0)), Values(2, 4, (), (0, 0, 0), (), (0, 0)))
+    yield from (Values(2, 4, 0, (), (1, 2, 0), (), (0, 3)), Values(0, 0, 0, (), (0, 0, 0), (), (0, 0)), Values(2, 4, 0, (), (0, 0, 0), (), (0, 0)))
 
 
 def many_rows():
@@ -215,7 +215,7 @@ def spoilt():
     for one, two in itertools.combinations(faults, 2):
         yield Values(*(b if a == of_x else a for a, b, of_x in zip(one, two, x)))
         # both in the rows, or both in the links
-        for name, which in (("rows", 2), ("links", 4)):
+        for name, which in (("rows", 3), ("links", 5)):
             if one[which] != x[which] and two[which] != x[which] and len(one[which]) == len(two[which]):
                 yield one._replace(**{name: tuple(b if a == of_x else a for a, b, of_x in zip(one[which], two[which], x[which]))})
     # every row is at fault for a reason that stands behind those of the rows below it
@@ -228,6 +228,28 @@ def spoilt():
     yield x._replace(rows=x.rows + x.rows)
 
 
+def of_families(x):
+    """The same values on a ring of SDH, by 1 and by other numbers, with SONET's size and with its own."""
+    own = of_text(rules.text_of([("R", x.n, x.fibres, "M"), *(("D", *row) for row in lettered(x).rows), ("C", *x.cut), *(("L", *link) for link in x.links), ("Z", x.last[0], rules.size_for(x.last[0], x.fibres, "M"))]))
+    assert found(own) == (0, 0) and found(own._replace(family=0))[0] == (12 if own.last != x.last else 0)
+    yield from (own._replace(family=family, last=last) for family in (1, 2, 256, 65536, 2**31, 2**32 - 1, 0) for last in (own.last, x.last))
+
+
+def families():
+    """Where the sizes of SDH end, with four fibres and with two: each side of each size, and the sizes of SONET, for which it is 12."""
+    for peak in (0, 1, 2, 3, 4, 5, 8, 9, 16, 17, 32, 33, 64, 65, 128, 129, 256, 257, 384, 768, 769):
+        for fibres in (4, 2):
+            x = of_text(rules.sheet(2, ((1, 2, peak),), fibres, "M"))
+            yield from (x._replace(family=family) for family in (1, 0, 3))
+            yield from (with_last(x, size=size) for size in sorted({0, *rules.SIZES[""], *rules.SIZES["M"]} - {x.last[1]}))
+    x = good()
+    yield from of_families(x)
+    # the family decides the size, and no other reason
+    for family in (1, 2**32 - 1):
+        yield from (one._replace(family=family) for one in (x._replace(n=1), x._replace(fibres=3), with_row(x, 1, first=0), with_row(x, 2, way=0), with_cut(x, across=1), with_link(x, 1, split=1)))
+        yield from (with_last(x, peak=1)._replace(family=family), of_text(sheets.stated()[9][1])._replace(family=family, last=(1, 1)), of_text(sheets.stated()[10][1])._replace(family=family, last=(4, 4)))
+
+
 def full_rings():
     """Our sheets of full rings of 20, 32 and 64 offices, with two fibres too, and each figure false in turn on first, middle and last rows and links."""
     rng = random.Random(32)
@@ -236,6 +258,7 @@ def full_rings():
         x = of_text(rules.sheet(n, rows, fibres))
         assert found(x) == (0, 0)
         yield x
+        yield from of_families(x)
         for place in (1, 2, len(rows) // 2, len(rows)):
             first, second, d, front, back, way = x.rows[place - 1]
             for new in (dict(first=0), dict(second=n + 1), dict(first=second), dict(amount=d + 10000), dict(front=front + 1), dict(back=back + 2**16), dict(front=2 * d + 1, back=2**32 - 1), dict(way=7 if way else 1)):
@@ -272,6 +295,8 @@ def runs(items):
 def whole(values):
     """The lines that say all values."""
     yield "ring", values.n, values.fibres
+    if values.family:
+        yield "family", values.family
     for word, items in (("row", values.rows), ("link", values.links)):
         yield from ((word, place, times, *item) for place, times, item in runs(items))
     yield "counts", len(values.rows), len(values.links)
@@ -283,7 +308,7 @@ def changed(values, before):
     """The lines that say what is other than before; all of them on another ring or where most of it is other."""
     if before is None or (values.n, values.fibres) != (before.n, before.fibres):
         return list(whole(values))
-    lines = []
+    lines = [("family", values.family)] * (values.family != before.family)
     for word, items, old in (("row", values.rows, before.rows), ("link", values.links, before.links)):
         lines += [(word, place, times, *item) for place, times, (item, was) in runs(itertools.zip_longest(items, old)) if item is not None and item != was]
     if (len(values.rows), len(values.links)) != (len(before.rows), len(before.links)):
@@ -294,7 +319,7 @@ def changed(values, before):
 
 GROUPS = (
     ("by hand", lambda: (values for _, values in stated())), ("sums that would wrap", wrapping), ("numbers that no text can spell", huge), ("counts of links and of rows", counts),
-    ("many rows", many_rows), ("one fault and two", spoilt), ("full rings", full_rings), ("sheets that are stored as texts", of_texts),
+    ("many rows", many_rows), ("one fault and two", spoilt), ("families", families), ("full rings", full_rings), ("sheets that are stored as texts", of_texts),
 )
 
 

@@ -3,7 +3,8 @@ a rule speaks of one."""
 
 import functools
 
-SIZES = (3, 12, 48, 192, 768)
+# of each family, by what an R line says of it behind the fibres: of SONET nothing
+SIZES = {"": (3, 12, 48, 192, 768), "M": (1, 4, 16, 64, 256)}
 
 
 def front_of(row):
@@ -99,10 +100,10 @@ def unsplit_load(rows, ways, k):
     return sum(row[2] for row, way in zip(rows, ways) if (k in front_of(row)) == (way == "F"))
 
 
-def size_for(peak, fibres):
+def size_for(peak, fibres, family=""):
     """With two fibres half of the line is kept for protection, so that twice the peak has to fit (Rules, fibres)."""
     due = 2 * peak if fibres == 2 else peak
-    return min((size for size in SIZES if size >= due), default=0)
+    return min((size for size in SIZES[family] if size >= due), default=0)
 
 
 def crossing(one, two):
@@ -117,15 +118,15 @@ def first_parallel(rows, sent):
     return next(((a + 1, b + 1) for a, b in pairs), (0, 0))
 
 
-def figures(n, rows, cut, sent, ways, fibres=4):
+def figures(n, rows, cut, sent, ways, fibres=4, family=""):
     """The lines of a sheet with this split, this cut and these ways, all other figures true. A cut given with its across number keeps it."""
     links = range(1, n + 1)
     unsplit = [unsplit_load(rows, ways, k) for k in links]
-    out = [("R", n, fibres)]
+    out = [("R", n, fibres, *family)]
     out += [("D", *row, f, b, way) for row, (f, b), way in zip(rows, sent, ways)]
     out += [("C", *cut) if len(cut) == 3 else ("C", *cut, across(rows, *cut))]
     out += [("L", k, split_load(rows, sent, k), unsplit[k - 1]) for k in links]
-    return out + [("Z", max(unsplit), size_for(max(unsplit), fibres))]
+    return out + [("Z", max(unsplit), size_for(max(unsplit), fibres, family))]
 
 
 def text_of(lines):
@@ -142,7 +143,7 @@ def sent_by(n, rows, rooms=level_rooms):
 
 
 @functools.cache
-def sheet(n, rows, fibres=4, rooms=level_rooms):
+def sheet(n, rows, fibres=4, family="", rooms=level_rooms):
     """The text of our sheet."""
     cut, sent = sent_by(n, rows, rooms)
-    return text_of(figures(n, rows, cut, sent, rule_d(rows, sent), fibres))
+    return text_of(figures(n, rows, cut, sent, rule_d(rows, sent), fibres, family))

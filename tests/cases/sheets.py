@@ -27,8 +27,8 @@ def spread(n):
     return [every[k * len(every) // count] for k in range(count)]
 
 
-def write_table(n, rows, fibres=4):
-    return b"".join([b"R\t%d\t%d\n" % (n, fibres)] + [b"D\t%d\t%d\t%d\n" % r for r in rows])
+def write_table(n, rows, fibres=4, family=""):
+    return b"".join([b"R\t%d\t%d%s\n" % (n, fibres, b"\tM" if family else b"")] + [b"D\t%d\t%d\t%d\n" % r for r in rows])
 
 
 def full(n, amount):

@@ -122,7 +122,7 @@ def answered(text):
     given = first_reason(text)
     if given:
         return (*given, byte_of("T", text, given), 0, 0, 0, 0, "-")
-    n, rows, _ = table_values(text)
+    n, rows, *_ = table_values(text)
     peak, link, turns, ways = turning.answer(n, rows)
     assert 2 * peak >= 2 * turning.floor(n, rows) - 1
     return 0, 0, 0, peak, link, turns, len(rows), ways or "-"

@@ -12,8 +12,8 @@ from judging import MOST_ROWS as PLACES
 
 # numbers that would pass if their high bits were lost
 WIDE = (256 + 2, 65536 + 2, 2**32 - 1)
-# room for every table: 13 bytes a row, 7 for the R line
-ROOM = 7 + 13 * PLACES
+# room for every table: 13 bytes a row, 9 for the R line
+ROOM = 9 + 13 * PLACES
 
 
 def across(rows, g, h):
@@ -82,11 +82,13 @@ class Sequence:
 
     # the calls
 
-    def start(self, n, fibres):
+    def start(self, n, fibres, family=0):
+        """0 is SONET, any other number SDH."""
+        given = (n, fibres, family)
         if not FEWEST_OFFICES <= n <= MOST_OFFICES or fibres not in (2, 4):
-            return self.refuse("start", (n, fibres), 20 if FEWEST_OFFICES <= n <= MOST_OFFICES else 3)
-        self.n, self.fibres, self.places = n, fibres, [None] * PLACES
-        return self.accept("start", (n, fibres), 0)
+            return self.refuse("start", given, 20 if FEWEST_OFFICES <= n <= MOST_OFFICES else 3)
+        self.n, self.fibres, self.letter, self.places = n, fibres, "M" if family else "", [None] * PLACES
+        return self.accept("start", given, 0)
 
     def add(self, *row):
         reason = self.fault(*row) or (0 if None in self.places else 21)
@@ -123,18 +125,18 @@ class Sequence:
 
     def text(self):
         # sorting keeps the places' order of rows with equal nodes
-        lines = [("R", self.n, self.fibres)] + [("D", *row) for row in sorted(self.rows(), key=lambda row: row[:2])]
+        lines = [("R", self.n, self.fibres, *self.letter)] + [("D", *row) for row in sorted(self.rows(), key=lambda row: row[:2])]
         return "".join("|".join(map(str, line)) + "/" for line in lines)
 
     def write_all_ways(self):
         need = len(self.text())
-        for room in (0, 1, need - 1, need, need + 1, ROOM):
+        for room in (0, 1, need - 1, need, min(need + 1, ROOM), ROOM):
             self.write(room)
 
 
-def begun(title, n=6, fibres=4, rows=()):
+def begun(title, n=6, fibres=4, rows=(), family=0):
     s = Sequence(title)
-    s.start(n, fibres)
+    s.start(n, fibres, family)
     for row in rows:
         s.add(*row)
     return s
@@ -181,6 +183,35 @@ def starts():
         s.write_all_ways()
         for first, second in itertools.islice(pairs(n), 5):
             s.add(first, second, first + 10 * second)
+    yield s
+
+
+def families():
+    s = begun("the family, by every kind of number: it is kept and written, and a later start takes another", family=1)
+    s.write_all_ways()
+    for row in ((1, 2, 3), (2, 6, 4)):
+        s.add(*row)
+    s.write_all_ways()
+    s.change(1, 3, 4, 5)
+    s.remove(2)
+    s.write_all_ways()
+    for family in (0, 1, 2, 0, 255, 256, 65536, 2**31, 2**32 - 1, 0):
+        s.start(6, 4, family)
+        s.write_all_ways()
+        s.add(1, 6, 9)
+        s.write(ROOM)
+    for ring in ((1, 4), (65, 2), (6, 3), (6, 0)):
+        for family in (0, 1, 2**32 - 1):
+            s.start(*ring, family)
+        s.write(ROOM)
+    for n, fibres in ((2, 2), (64, 2), (20, 4), (32, 4)):
+        s.start(n, fibres, 1)
+        s.write_all_ways()
+    yield s
+    s = begun("a full table of 64 offices of SDH, the longest that is written", MOST_OFFICES, family=1)
+    for _ in range(PLACES):
+        s.add(63, 64, MOST_AMOUNT)
+    s.write_all_ways()
     yield s
 
 
@@ -337,7 +368,7 @@ def test_acrosses():
 
 def main():
     test_acrosses()
-    sequences = [*by_hand(), *starts(), *refusals(), *places(), *ties(), *full_tables(), *written(), *by_chance()]
+    sequences = [*by_hand(), *starts(), *families(), *refusals(), *places(), *ties(), *full_tables(), *written(), *by_chance()]
     lines = [line for s in sequences for line in s.lines]
     open("tests/cases/working.calls", "w").write("".join(line + "\n" for line in lines))
     calls = [line.split(" = ") for line in lines if line[0] != "#"]

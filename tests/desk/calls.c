@@ -12,9 +12,10 @@
 
 _Static_assert(sizeof(ringkit_row) == 24 && sizeof(ringkit_link) == 12 && sizeof(ringkit_judge_reply) == 8, "numbers of 4 bytes, with no padding");
 _Static_assert(sizeof(ringkit_turn_reply) == 24 + sizeof(size_t), "six numbers of 4 bytes, and the rows");
-_Static_assert(RINGKIT_SHEET_BYTES == 27 * RINGKIT_MAX_ROWS + 23 * RINGKIT_MAX_OFFICES + 44,
+_Static_assert(RINGKIT_SHEET_BYTES == 27 * RINGKIT_MAX_ROWS + 23 * RINGKIT_MAX_OFFICES + 46,
                "so much for each row and each link of the longest sheet, and for the other lines, as in crates/ringkit");
-_Static_assert(RINGKIT_TABLE_BYTES == 13 * RINGKIT_MAX_ROWS + 7, "so much for each row of the longest table, and for its R line");
+_Static_assert(RINGKIT_TABLE_BYTES == 13 * RINGKIT_MAX_ROWS + 9, "so much for each row of the longest table, and for its R line");
+_Static_assert(RINGKIT_REPORT_BYTES == 2 * (1 + 5 + 2 * 9 + 8 + 5) + 1 + 5 + 2, "of either family the T, the count, the sum and the twice-peak, the across number, and the byte behind each; the X, and another count");
 _Static_assert(RINGKIT_MATRIX_BYTES == 5 * RINGKIT_MAX_OFFICES * RINGKIT_MAX_OFFICES, "4 digits and the byte behind them for each entry");
 
 static unsigned passed, failed;
@@ -38,11 +39,11 @@ static void expect(bool good, const char *what, ...)
 
 struct text {
     size_t length;
-    uint8_t bytes[RINGKIT_MAX_TEXT_BYTES + 1];
+    uint8_t bytes[RINGKIT_MAX_PLANS_BYTES + 1];
 };
 
 static const struct text NOTHING;
-static struct text table, sheet, matrix;
+static struct text table, sheet, matrix, plans, report;
 
 static void add(struct text *text, const char *line, ...)
 {
@@ -93,7 +94,7 @@ static void equal_rows(unsigned rows)
 
 /* ---- a text and a buffer, each with a page behind it that cannot be touched */
 
-enum { AREA = 64 * 1024, PATTERN = 0x55 };
+enum { AREA = 128 * 1024, PATTERN = 0x55 };
 
 static uint8_t *text_area, *buffer_area;
 
@@ -174,6 +175,111 @@ static void judges(const char *name, writing *call, const struct text *text, uin
     ringkit_reply reply = lend(call, text, RINGKIT_MAX_TEXT_BYTES);
     expect(says(reply, reason, line, byte, reason == RINGKIT_OK ? reply.length : 0), "%s: %u on line %u at byte %u", name, (unsigned)reply.reason, (unsigned)reply.line, (unsigned)reply.byte);
     expect(reason == RINGKIT_OK || holds(RINGKIT_MAX_TEXT_BYTES, &NOTHING), "%s: a refusal touches the buffer", name);
+}
+
+/* ---- reports */
+
+static void add_plan(const struct text *plan)
+{
+    memcpy(plans.bytes + plans.length, plan->bytes, plan->length);
+    plans.length += plan->length;
+}
+
+/* The report over the plans is the one that is expected, with just enough room and with as much as always suffices. */
+static void reported(const char *name)
+{
+    writes(name, ringkit_report, &plans, &report);
+    expect(says(lend(ringkit_report, &plans, RINGKIT_REPORT_BYTES), RINGKIT_OK, 0, 0, report.length), "%s: 82 bytes do not suffice", name);
+    expect(holds(RINGKIT_REPORT_BYTES, &report), "%s: what is written into 82 bytes", name);
+}
+
+/* It has these numbers, of plans of SONET alone. */
+static void reports(const char *name, unsigned accepted, unsigned refused, unsigned peaks, unsigned twice, unsigned across)
+{
+    report.length = 0;
+    add(&report, "T\t%u\t%u\t%u\t%u\nT\t0\t0\t0\t0\nX\t%u\n", accepted, peaks, twice, across, refused);
+    reported(name);
+}
+
+/* The plans given line by line have these lines. */
+static void reports_both(const char *lines, const char *due)
+{
+    plans.length = 0;
+    report.length = 0;
+    add(&plans, "%s", lines);
+    add(&report, "%s", due);
+    reported(lines);
+}
+
+/* The plans given line by line. */
+static void reports_of(const char *lines, unsigned accepted, unsigned refused, unsigned peaks, unsigned twice, unsigned across)
+{
+    plans.length = 0;
+    add(&plans, "%s", lines);
+    reports(lines, accepted, refused, peaks, twice, across);
+}
+
+#define NO_ROWS "R\t2\t4\nC\t1\t2\t0\nL\t1\t0\t0\nL\t2\t0\t0\nZ\t0\t3\n"
+#define OF_FIVE "R\t2\t4\nD\t1\t2\t5\t5\t5\tF\nC\t1\t2\t5\nL\t1\t5\t5\nL\t2\t5\t0\nZ\t5\t12\n"
+#define OF_ONE "R\t2\t4\nD\t1\t2\t1\t1\t1\tF\nC\t1\t2\t1\nL\t1\t1\t1\nL\t2\t1\t0\nZ\t1\t3\n"
+
+#define SDH_OF_SEVEN "R\t2\t4\tM\nD\t1\t2\t7\t7\t7\tF\nC\t1\t2\t7\nL\t1\t7\t7\nL\t2\t7\t0\nZ\t7\t16\n"
+
+/* No family's plans are added to the other's. */
+static void test_report_of_families(void)
+{
+    reports_both(SDH_OF_SEVEN, "T\t0\t0\t0\t0\nT\t1\t7\t14\t7\nX\t0\n");
+    reports_both(SDH_OF_SEVEN OF_FIVE SDH_OF_SEVEN "R\n" OF_ONE, "T\t2\t6\t10\t5\nT\t2\t14\t14\t7\nX\t1\n");
+    reports_both("R\t2\t4\tm\nC\t1\t2\t0\nL\t1\t0\t0\nL\t2\t0\t0\nZ\t0\t1\n" NO_ROWS, "T\t1\t0\t0\t0\nT\t0\t0\t0\t0\nX\t1\n");
+}
+
+static void test_reports(void)
+{
+    reports_of("", 0, 0, 0, 0, 0);
+    reports_of("R", 0, 1, 0, 0, 0);
+    reports_of("\n", 0, 1, 0, 0, 0);
+    reports_of("R\nR\nR", 0, 3, 0, 0, 0);
+    reports_of("R\rR\r\nR", 0, 2, 0, 0, 0);
+    reports_of("D\t1\t2\t5\nZ\t5\t12\n", 0, 1, 0, 0, 0);
+    reports_of(NO_ROWS, 1, 0, 0, 0, 0);
+    reports_of(NO_ROWS OF_FIVE OF_ONE, 3, 0, 6, 10, 5);
+    reports_of(OF_ONE "Z\t0\t3\n" OF_FIVE OF_ONE, 2, 1, 6, 10, 5);
+    reports_of("E\t2\t1\t1\n" OF_ONE OF_FIVE "R", 2, 2, 6, 2, 1);
+    expect(says(ringkit_report(NULL, 0, NULL, 0), RINGKIT_NO_ROOM, 0, 0, 0), "report: no text");
+}
+
+/* Pieces of two bytes up to the limit, and one more; and a piece as long as no sheet may be, between two sheets. */
+static void test_longest_plans(void)
+{
+    plans.length = 0;
+    while (plans.length < RINGKIT_MAX_PLANS_BYTES) {
+        add(&plans, "R\n");
+    }
+    reports("as many pieces as there may be", 0, RINGKIT_MAX_PLANS_BYTES / 2, 0, 0, 0);
+    plans.bytes[plans.length++] = 'R';
+    judges("too long a text of plans", ringkit_report, &plans, RINGKIT_PLANS_TOO_LONG, 0, 0);
+    expect(says(ringkit_report(fenced(&plans), plans.length, NULL, 0), RINGKIT_PLANS_TOO_LONG, 0, 0, 0), "too long a text of plans, before no buffer");
+    plans.length = 0;
+    add(&plans, OF_ONE OF_FIVE);
+    memset(plans.bytes + plans.length, '\n', RINGKIT_MAX_TEXT_BYTES);
+    plans.length += RINGKIT_MAX_TEXT_BYTES;
+    add(&plans, OF_FIVE);
+    reports("a piece that is too long for a sheet", 2, 1, 6, 2, 1);
+}
+
+/* Our sheet twice: what is held of it is counted twice, and is the worst. */
+static void test_report_of_two(const char *name)
+{
+    plans.length = 0;
+    add_plan(&sheet);
+    add_plan(&sheet);
+    if (held.family == RINGKIT_SONET) {
+        reports(name, 2, 0, 2 * held.peak, 2 * held.peak, held.across);
+        return;
+    }
+    report.length = 0;
+    add(&report, "T\t0\t0\t0\t0\nT\t2\t%u\t%u\t%u\nX\t0\n", 2 * (unsigned)held.peak, 2 * (unsigned)held.peak, (unsigned)held.across);
+    reported(name);
 }
 
 /* ---- the best choice */
@@ -385,7 +491,7 @@ static void finds_held(const char *name, uint32_t reason, uint32_t place)
 {
     const ringkit_row *rows = against_fence(text_area, AREA, held.rows, held.row_count * sizeof *rows);
     const ringkit_link *links = against_fence(buffer_area, AREA, held.links, held.link_count * sizeof *links);
-    ringkit_judge_reply reply = ringkit_judge(rows, held.row_count, held.n, held.fibres, held.g, held.h, held.across, links, held.link_count, held.peak, held.size);
+    ringkit_judge_reply reply = ringkit_judge(rows, held.row_count, held.n, held.fibres, held.family, held.g, held.h, held.across, links, held.link_count, held.peak, held.size);
     allow_writing(buffer_area, AREA, true);
     expect(judged(reply, reason, place), "%s: judging finds %u at place %u", name, (unsigned)reply.reason, (unsigned)reply.place);
 }
@@ -418,12 +524,16 @@ static void test_no_values(void)
 {
     static const ringkit_link links[] = {{1, 0, 0}, {2, 0, 0}};
     static const ringkit_row row = {1, 2, 0, 0, 0, RINGKIT_F};
-    expect(judged(ringkit_judge(NULL, 0, 2, 4, 1, 2, 0, links, 2, 0, 3), RINGKIT_OK, 0), "judge: no rows");
-    expect(judged(ringkit_judge(NULL, 0, 2, 4, 1, 2, 0, NULL, 0, 0, 3), RINGKIT_WRONG_LINK, 0), "judge: no rows and no links");
-    expect(judged(ringkit_judge(&row, 1, 2, 4, 1, 2, 0, NULL, 0, 0, 3), RINGKIT_WRONG_LINK, 0), "judge: no links");
-    expect(judged(ringkit_judge(NULL, 0, 0, 0, 0, 0, 0, NULL, 0, 0, 0), RINGKIT_RING_SIZE, 0), "judge: nothing");
-    expect(judged(ringkit_judge(NULL, 0, 2, 0, 0, 0, 0, NULL, 0, 0, 0), RINGKIT_FIBRES, 0), "judge: no fibres");
-    expect(judged(ringkit_judge(NULL, 0, 2, 2, 0, 0, 0, NULL, 0, 0, 0), RINGKIT_WRONG_CUT, 0), "judge: no cut");
+    expect(judged(ringkit_judge(NULL, 0, 2, 4, RINGKIT_SONET, 1, 2, 0, links, 2, 0, 3), RINGKIT_OK, 0), "judge: no rows");
+    expect(judged(ringkit_judge(NULL, 0, 2, 4, RINGKIT_SONET, 1, 2, 0, NULL, 0, 0, 3), RINGKIT_WRONG_LINK, 0), "judge: no rows and no links");
+    expect(judged(ringkit_judge(&row, 1, 2, 4, RINGKIT_SONET, 1, 2, 0, NULL, 0, 0, 3), RINGKIT_WRONG_LINK, 0), "judge: no links");
+    expect(judged(ringkit_judge(NULL, 0, 0, 0, RINGKIT_SONET, 0, 0, 0, NULL, 0, 0, 0), RINGKIT_RING_SIZE, 0), "judge: nothing");
+    expect(judged(ringkit_judge(NULL, 0, 2, 0, RINGKIT_SONET, 0, 0, 0, NULL, 0, 0, 0), RINGKIT_FIBRES, 0), "judge: no fibres");
+    expect(judged(ringkit_judge(NULL, 0, 2, 4, RINGKIT_SDH, 1, 2, 0, links, 2, 0, 1), RINGKIT_OK, 0), "judge: no rows, of SDH");
+    expect(judged(ringkit_judge(NULL, 0, 2, 4, UINT32_MAX, 1, 2, 0, links, 2, 0, 1), RINGKIT_OK, 0), "judge: SDH by another number");
+    expect(judged(ringkit_judge(NULL, 0, 2, 4, 256, 1, 2, 0, links, 2, 0, 3), RINGKIT_WRONG_LAST, 0), "judge: SONET's size for SDH");
+    expect(judged(ringkit_judge(NULL, 0, 2, 4, RINGKIT_SONET, 1, 2, 0, links, 2, 0, 1), RINGKIT_WRONG_LAST, 0), "judge: SDH's size for SONET");
+    expect(judged(ringkit_judge(NULL, 0, 2, 2, RINGKIT_SONET, 0, 0, 0, NULL, 0, 0, 0), RINGKIT_WRONG_CUT, 0), "judge: no cut");
 }
 
 static void test_table(const char *name)
@@ -436,6 +546,7 @@ static void test_table(const char *name)
     writes(name, ringkit_rewrite_table, &table, &table);
     writes(name, ringkit_rewrite_sheet, &sheet, &sheet);
     hold(sheet.bytes, sheet.length);
+    test_report_of_two(name);
     test_best(name, ringkit_route_best);
     test_lowered(name);
     test_ways(name);
@@ -462,12 +573,23 @@ static void test_pair(void)
 
 static ringkit_reply read_matrix(const uint8_t *text, size_t length, uint8_t *buffer, size_t room)
 {
-    return ringkit_read_matrix(text, length, 4, buffer, room);
+    return ringkit_read_matrix(text, length, 4, RINGKIT_SONET, buffer, room);
+}
+
+static ringkit_reply read_of_sdh(const uint8_t *text, size_t length, uint8_t *buffer, size_t room)
+{
+    return ringkit_read_matrix(text, length, 2, RINGKIT_SDH, buffer, room);
+}
+
+/* Any number but that of SONET is SDH. */
+static ringkit_reply read_of_others(const uint8_t *text, size_t length, uint8_t *buffer, size_t room)
+{
+    return ringkit_read_matrix(text, length, 2, 256, buffer, room);
 }
 
 static ringkit_reply read_untold(const uint8_t *text, size_t length, uint8_t *buffer, size_t room)
 {
-    return ringkit_read_matrix(text, length, 3, buffer, room);
+    return ringkit_read_matrix(text, length, 3, RINGKIT_SONET, buffer, room);
 }
 
 /* A square with 0 on its diagonal and a demand for every pair that has a row. */
@@ -509,6 +631,20 @@ static void test_matrix(const char *name)
     route(name);
 }
 
+/* The same matrix is read for SDH: the table has M behind its fibres, and is otherwise the one for SONET. */
+static void test_matrix_of_sdh(const char *name)
+{
+    static struct text of_sdh;
+    make(name, read_matrix, &matrix, &table, RINGKIT_TABLE_BYTES);
+    hold(table.bytes, table.length);
+    const uint8_t *rows = (uint8_t *)memchr(table.bytes, '\n', table.length) + 1;
+    of_sdh.length = 0;
+    add(&of_sdh, "R\t%u\t2\tM\n%.*s", (unsigned)held.n, (int)(table.bytes + table.length - rows), rows);
+    writes(name, read_of_sdh, &matrix, &of_sdh);
+    writes(name, read_of_others, &matrix, &of_sdh);
+    writes(name, ringkit_write_matrix, &of_sdh, &matrix);
+}
+
 /* A matrix of two offices, given by its bytes. */
 static void reads(const char *name, const char *bytes, uint32_t reason, uint32_t line, uint32_t byte)
 {
@@ -524,7 +660,7 @@ static void test_many_entries(void)
     judges("as many offices as may all have demands", read_matrix, &matrix, RINGKIT_OK, 0, 0);
     fill_matrix(46, one);
     judges("a matrix of too many rows", read_matrix, &matrix, RINGKIT_TOO_MANY_ROWS, 0, 0);
-    expect(says(ringkit_read_matrix(fenced(&matrix), matrix.length, 4, NULL, 0), RINGKIT_TOO_MANY_ROWS, 0, 0, 0), "too many rows, before no buffer");
+    expect(says(ringkit_read_matrix(fenced(&matrix), matrix.length, 4, RINGKIT_SDH, NULL, 0), RINGKIT_TOO_MANY_ROWS, 0, 0, 0), "too many rows, before no buffer");
     matrix.bytes[matrix.length - 2] = '1';
     judges("an office with itself, before too many rows", read_matrix, &matrix, RINGKIT_DIAGONAL, 46, 91);
     matrix.bytes[2] = '2';
@@ -568,11 +704,14 @@ static void test_matrices(void)
     test_matrix("a matrix of 64 offices");
     fill_matrix(RINGKIT_MAX_OFFICES, most);
     test_matrix("the largest demands of 64 offices");
+    test_matrix_of_sdh("the largest demands of 64 offices, of SDH");
+    fill_matrix(RINGKIT_MIN_OFFICES, none);
+    test_matrix_of_sdh("no demand between two offices, of SDH");
 }
 
 /* ---- a working table, the last bytes before its fence */
 
-_Static_assert(sizeof(ringkit_work) == 4 * (RINGKIT_MAX_OFFICES * (RINGKIT_MAX_OFFICES - 1) / 2 + 5) + 4 * RINGKIT_MAX_ROWS, "no padding");
+_Static_assert(sizeof(ringkit_work) == 4 * (RINGKIT_MAX_OFFICES * (RINGKIT_MAX_OFFICES - 1) / 2 + 6) + 4 * RINGKIT_MAX_ROWS, "no padding");
 
 enum { RING = 6 };
 
@@ -710,8 +849,8 @@ static void test_work_text(const char *name)
 static void test_work_refusals(void)
 {
     before = *work;
-    expect(refuses(ringkit_work_start(work, RINGKIT_MAX_OFFICES + 1, 3), RINGKIT_RING_SIZE), "work: 65 offices");
-    expect(refuses(ringkit_work_start(work, RINGKIT_MIN_OFFICES, 3), RINGKIT_FIBRES), "work: three fibres");
+    expect(refuses(ringkit_work_start(work, RINGKIT_MAX_OFFICES + 1, 3, RINGKIT_SDH), RINGKIT_RING_SIZE), "work: 65 offices");
+    expect(refuses(ringkit_work_start(work, RINGKIT_MIN_OFFICES, 3, UINT32_MAX), RINGKIT_FIBRES), "work: three fibres");
     expect(refuses(ringkit_work_change(work, 0, 9, 9, 10000), RINGKIT_NO_ROW), "work: place 0");
     expect(refuses(ringkit_work_change(work, RINGKIT_MAX_ROWS + 1, 9, 9, 10000), RINGKIT_NO_ROW), "work: place 1025");
     expect(refuses(ringkit_work_remove(work, UINT32_MAX), RINGKIT_NO_ROW), "work: the last place of all");
@@ -740,11 +879,24 @@ static void test_any_bytes(unsigned seed)
     expect(memcmp(work, &before, sizeof before) == 0, "work: writing alters the table");
 }
 
+/* A table that is started for SDH, by any number but that of SONET, says so, and a later start takes another family. */
+static void test_work_families(void)
+{
+    static const uint32_t families[] = {RINGKIT_SDH, RINGKIT_SONET, 2, 256, RINGKIT_SONET, UINT32_MAX};
+    for (size_t k = 0; k < sizeof families / sizeof *families; k++) {
+        expect(answers(ringkit_work_start(work, RING, RINGKIT_TWO_FIBRES, families[k]), 0), "work: starting with family %u", (unsigned)families[k]);
+        table.length = 0;
+        add(&table, "R\t%u\t2%s\n", (unsigned)RING, families[k] == RINGKIT_SONET ? "" : "\tM");
+        writes("a working table of either family", write_work, &NOTHING, &table);
+        route("a working table of either family");
+    }
+}
+
 static void test_work(void)
 {
     work = (ringkit_work *)(void *)(work_area + AREA - sizeof *work);
     memset(work_area, PATTERN, AREA);
-    expect(answers(ringkit_work_start(work, RING, RINGKIT_TWO_FIBRES), 0), "work: starting");
+    expect(answers(ringkit_work_start(work, RING, RINGKIT_TWO_FIBRES, RINGKIT_SONET), 0), "work: starting");
     test_work_text("an empty working table");
     for (unsigned k = 0; k < RINGKIT_MAX_ROWS; k++) {
         add_row(k * 31);
@@ -766,6 +918,7 @@ static void test_work(void)
     }
     test_work_text("a working table emptied");
     expect(untouched(work_area, (uint8_t *)work), "work: bytes before the table are touched");
+    test_work_families();
     for (unsigned seed = 0; seed < 20; seed++) {
         test_any_bytes(seed);
     }
@@ -809,6 +962,58 @@ static void test_limits(void)
     table_judged("longest text", RINGKIT_MISSHAPEN, 1, 1);
     table.length++;
     table_judged("too long a text", RINGKIT_TOO_LONG, 0, 0);
+}
+
+/* A table of one line, and a sheet that begins with it. */
+static void ring_judged(const char *ring, uint32_t reason, uint32_t byte)
+{
+    table.length = 0;
+    add(&table, "%s", ring);
+    table_judged(ring, reason, reason != RINGKIT_OK, byte);
+    expect(says(ringkit_check(fenced(&table), table.length), reason == RINGKIT_OK ? RINGKIT_MISSHAPEN : reason, reason == RINGKIT_OK ? 2 : 1, reason == RINGKIT_OK ? 1 : byte, 0), "check: %s", ring);
+}
+
+/* Behind the fibres LF or a tab may stand, behind that tab only M, and behind M only LF. */
+static void test_marks(void)
+{
+    ring_judged("R\t4\t4\tM\n", RINGKIT_OK, 0);
+    ring_judged("R\t64\t2\tM\n", RINGKIT_OK, 0);
+    ring_judged("R\t4\t4\tM", RINGKIT_MISSHAPEN, 8);
+    ring_judged("R\t4\t4\tMM\n", RINGKIT_MISSHAPEN, 8);
+    ring_judged("R\t4\t4\tM\t\n", RINGKIT_MISSHAPEN, 8);
+    ring_judged("R\t4\t4\t", RINGKIT_MISSHAPEN, 7);
+    ring_judged("R\t4\t4\t\n", RINGKIT_MISSHAPEN, 7);
+    ring_judged("R\t4\t4\tm\n", RINGKIT_MISSHAPEN, 7);
+    ring_judged("R\t4\t4\t4\n", RINGKIT_MISSHAPEN, 7);
+    ring_judged("R\t4\t4\t\tM\n", RINGKIT_MISSHAPEN, 7);
+    ring_judged("R\t4\t4M\n", RINGKIT_MISSHAPEN, 6);
+    ring_judged("R\t4\tM\t4\n", RINGKIT_MISSHAPEN, 5);
+    ring_judged("R\t4\tM\n", RINGKIT_MISSHAPEN, 5);
+    ring_judged("R\t65\t3\tm\n", RINGKIT_MISSHAPEN, 8);
+    ring_judged("R\t65\t3\tM\n", RINGKIT_RING_SIZE, 3);
+    ring_judged("R\t4\t3\tM\n", RINGKIT_FIBRES, 5);
+}
+
+/* The size for one circuit of so much on two offices, of SDH. */
+static void sizes(unsigned fibres, unsigned amount, unsigned size)
+{
+    table.length = 0;
+    add(&table, "R\t2\t%u\tM\nD\t1\t2\t%u\n", fibres, amount);
+    route("a size of SDH");
+    hold(sheet.bytes, sheet.length);
+    expect(held.family == RINGKIT_SDH && held.peak == amount && held.size == size, "SDH: size %u for %u on %u fibres", (unsigned)held.size, amount, fibres);
+}
+
+static void test_sizes(void)
+{
+    sizes(4, 0, 1);
+    sizes(4, 1, 1);
+    sizes(4, 2, 4);
+    sizes(4, 256, 256);
+    sizes(4, 257, 0);
+    sizes(2, 1, 4);
+    sizes(2, 128, 256);
+    sizes(2, 129, 0);
 }
 
 /* A row behind the R line of a table of four offices, in the table's own calls. */
@@ -879,7 +1084,7 @@ static void test_no_text(void)
     expect(says(ringkit_rewrite_table(NULL, 0, NULL, 0), RINGKIT_MISSHAPEN, 1, 1, 0), "rewrite a table: no text");
     expect(says(ringkit_rewrite_sheet(NULL, 0, NULL, 0), RINGKIT_MISSHAPEN, 1, 1, 0), "rewrite a sheet: no text");
     expect(turn_says(ringkit_turn(NULL, 0, lent_ways()), RINGKIT_MISSHAPEN, 1, 1), "turn: no text");
-    expect(says(ringkit_read_matrix(NULL, 0, 4, NULL, 0), RINGKIT_MISSHAPEN, 1, 1, 0), "read a matrix: no text");
+    expect(says(ringkit_read_matrix(NULL, 0, 4, RINGKIT_SONET, NULL, 0), RINGKIT_MISSHAPEN, 1, 1, 0), "read a matrix: no text");
     expect(says(ringkit_write_matrix(NULL, 0, NULL, 0), RINGKIT_MISSHAPEN, 1, 1, 0), "write a matrix: no text");
 }
 
@@ -887,21 +1092,37 @@ static void test_no_text(void)
 
 enum { SMALL_STACK = 128 * 1024, BESIDE = 4, TURNS = 25 };
 
+/* The table made one of SDH. */
+static void mark_table(void)
+{
+    uint8_t *end = memchr(table.bytes, '\n', table.length);
+    memmove(end + 2, end, table.length - (size_t)(end - table.bytes));
+    memcpy(end, "\tM", 2);
+    table.length += 2;
+}
+
 static void *test_texts(void *unused)
 {
     test_no_text();
     test_no_values();
     test_late_form();
     test_pair();
+    test_reports();
+    test_report_of_families();
+    test_longest_plans();
     test_most_split();
     test_limits();
     test_bytes();
+    test_marks();
+    test_sizes();
     test_matrices();
     test_work();
     all_pairs(20);
     test_table("all pairs of 20 offices");
     all_pairs(RINGKIT_MAX_OFFICES);
     test_table("as many pairs of 64 offices as there may be rows");
+    mark_table();
+    test_table("as many pairs of 64 offices as there may be rows, of SDH");
     equal_rows(RINGKIT_MAX_ROWS);
     test_table("1,024 equal rows");
     return unused;

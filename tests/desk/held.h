@@ -8,18 +8,19 @@
 enum { ROW_FIELDS = 6 };
 
 static struct held {
-    uint32_t n, fibres, g, h, across, peak, size;
+    uint32_t n, fibres, family, g, h, across, peak, size;
     size_t row_count, link_count;
     ringkit_row rows[RINGKIT_MAX_ROWS];
     ringkit_link links[RINGKIT_MAX_OFFICES];
 } held;
 
-/* Takes down a line by its letter and its numbers, of a row the way as the last of these. Rows and links for which there is no room are left out. */
-static void hold_line(uint8_t letter, const uint32_t *said)
+/* Takes down a line by its letter and the fields behind it, numbers but for a row's way and a ring's M. Rows and links for which there is no room are left out. */
+static void hold_line(uint8_t letter, const uint32_t *said, size_t fields)
 {
     if (letter == 'R') {
         held.n = said[0];
         held.fibres = said[1];
+        held.family = fields > 2 ? RINGKIT_SDH : RINGKIT_SONET;
     } else if (letter == 'D' && held.row_count < RINGKIT_MAX_ROWS) {
         held.rows[held.row_count++] = (ringkit_row){said[0], said[1], said[2], said[3], said[4], said[5]};
     } else if (letter == 'C') {
@@ -45,7 +46,7 @@ static void hold(const uint8_t *text, size_t length)
     for (size_t k = 0; k < length; k++) {
         uint8_t byte = text[k];
         if (byte == '\n') {
-            hold_line(letter, said);
+            hold_line(letter, said, field);
             field = 0;
         } else if (byte == '\t' && field < ROW_FIELDS) {
             said[field++] = 0;
@@ -62,7 +63,7 @@ static void hold(const uint8_t *text, size_t length)
 /* A program that judges them otherwise does without this. */
 static inline ringkit_judge_reply judge_held(void)
 {
-    return ringkit_judge(held.rows, held.row_count, held.n, held.fibres, held.g, held.h, held.across, held.links, held.link_count, held.peak, held.size);
+    return ringkit_judge(held.rows, held.row_count, held.n, held.fibres, held.family, held.g, held.h, held.across, held.links, held.link_count, held.peak, held.size);
 }
 
 #endif

@@ -17,14 +17,14 @@ _Static_assert(MOST * sizeof(ringkit_row) <= AREA, "room for the rows");
 
 static ringkit_row rows[MOST];
 static ringkit_link links[MOST];
-static uint32_t ring[2], counts[2], cut[3], last[2];
+static uint32_t ring[2], family[1], counts[2], cut[3], last[2];
 static uint8_t *row_area, *link_area;
 
 static ringkit_judge_reply judge(bool null)
 {
     const ringkit_row *lent_rows = counts[0] == 0 && null ? NULL : against_fence(row_area, AREA, rows, counts[0] * sizeof *rows);
     const ringkit_link *lent_links = counts[1] == 0 && null ? NULL : against_fence(link_area, AREA, links, counts[1] * sizeof *links);
-    return ringkit_judge(lent_rows, counts[0], ring[0], ring[1], cut[0], cut[1], cut[2], lent_links, counts[1], last[0], last[1]);
+    return ringkit_judge(lent_rows, counts[0], ring[0], ring[1], family[0], cut[0], cut[1], cut[2], lent_links, counts[1], last[0], last[1]);
 }
 
 /* ---- a stored line */
@@ -69,9 +69,16 @@ static bool put_links(const uint32_t *said)
 static bool begin(const uint32_t *said)
 {
     memcpy(ring, said, sizeof ring);
+    memset(family, 0, sizeof family);
     memset(counts, 0, sizeof counts);
     memset(cut, 0, sizeof cut);
     memset(last, 0, sizeof last);
+    return true;
+}
+
+static bool put_family(const uint32_t *said)
+{
+    memcpy(family, said, sizeof family);
     return true;
 }
 
@@ -98,7 +105,7 @@ static const struct word {
     size_t said;
     bool (*put)(const uint32_t *);
 } WORDS[] = {
-    {"ring ", 2, begin}, {"row ", 8, put_rows}, {"link ", 5, put_links}, {"counts ", 2, put_counts}, {"cut ", 3, put_cut}, {"last ", 2, put_last},
+    {"ring ", 2, begin}, {"family ", 1, put_family}, {"row ", 8, put_rows}, {"link ", 5, put_links}, {"counts ", 2, put_counts}, {"cut ", 3, put_cut}, {"last ", 2, put_last},
 };
 
 /* Whether a line changes the values. */

@@ -2,7 +2,7 @@
 """Holds what the desk writes with --json, and what it says of several files, to what it says without: `objects.py DESK`, from the tree's root.
 
 Each object is one line of ASCII that a parser of JSON reads, and has the shape that docs/desk.schema.json says. Figures of a plan, written as a sheet, are the bytes of
-`desk plan --sheet`, with --best and --lowered too; those of turning are worked out again from the ways, and held to the stored cases (tests/cases/turning.calls); a refusal is the sentence that is said on standard error. The module
+`desk plan --sheet`, with --best and --lowered too; those of turning are worked out again from the ways, and held to the stored cases (tests/cases/turning.calls); those of a report are what checking each plan by itself says; a refusal is the sentence that is said on standard error. The module
 jsonschema reads the schema where it is there; shape.py does in any case, and the first line says which of them did. The last line is 'N passed, M failed'."""
 import json
 import os
@@ -12,13 +12,14 @@ import re
 import subprocess
 import sys
 import tempfile
+from fractions import Fraction
 
 import shape
 
 root = pathlib.Path(__file__).resolve().parents[2]
 desk = pathlib.Path(sys.argv[1]).resolve()
-SIZES = (3, 12, 48, 192, 768)
-UNIT = re.search(r'^#define RINGKIT_UNIT "(.*)"$', (root / "include/ringkit.h").read_text(encoding="utf-8"), re.MULTILINE).group(1)
+SIZES = {"SONET": (3, 12, 48, 192, 768), "SDH": (1, 4, 16, 64, 256)}
+UNITS = dict(re.findall(r'^#define RINGKIT_(SONET|SDH)_UNIT "(.*)"$', (root / "include/ringkit.h").read_text(encoding="utf-8"), re.MULTILINE))
 SCHEMA = json.loads((root / "docs/desk.schema.json").read_text(encoding="utf-8"))
 # the module takes its time over circuits and links, which are all of one shape: it reads objects of at most so many
 MOST_FOR_MODULE = 12
@@ -118,9 +119,14 @@ def lines_of(rows):
     return "".join("\t".join(map(str, row)) + "\n" for row in rows)
 
 
+def mark_of(family):
+    """What an R line says of it behind the fibres."""
+    return ("M",) if family == "SDH" else ()
+
+
 def sheet_of(one):
     """The sheet that says what the object of a plan does."""
-    rows = [("R", one["offices"], one["fibres"])]
+    rows = [("R", one["offices"], one["fibres"], *mark_of(one["family"]))]
     rows += [("D", c["first"], c["second"], c["amount"], c["front_halves"], c["back_halves"], c["way"]) for c in one["circuits"]]
     rows += [("C", one["cut"]["g"], one["cut"]["h"], one["cut"]["across"])]
     rows += [("L", k["link"], k["split_halves"], k["unsplit"]) for k in one["links"]]
@@ -130,7 +136,7 @@ def sheet_of(one):
 def ends_true(one, peak, across):
     """What both objects say of unit, floor and proof."""
     floor = (across + 1) // 2
-    return one["unit"] == UNIT and one["floor"] == floor and one["proved_best"] is (peak == floor)
+    return one["unit"] == UNITS[one["family"]] and one["floor"] == floor and one["proved_best"] is (peak == floor)
 
 
 def hold_plan(one, sheet, what):
@@ -151,11 +157,11 @@ def hold_turned(one, sheet, what):
     demands = [tuple(map(int, row[1:4])) for row in rows if row[0] == "D"]
     loads = [sum(c["amount"] for c in one["circuits"] if goes_over(c, link)) for link in range(1, int(ring[1]) + 1)]
     wanted = one["peak"] * (2 if one["fibres"] == 2 else 1)
-    check([one["offices"], one["fibres"]] == list(map(int, ring[1:])), f"turning {what}: another ring")
+    check(lines_of([("R", one["offices"], one["fibres"], *mark_of(one["family"]))]) == "\t".join(ring) + "\n", f"turning {what}: another ring")
     check([(c["first"], c["second"], c["amount"]) for c in one["circuits"]] == demands, f"turning {what}: other circuits")
     check([(k["link"], k["load"]) for k in one["links"]] == list(enumerate(loads, 1)), f"turning {what}: the loads are not those of the ways")
     check(one["peak"] == max(loads), f"turning {what}: the peak is not the largest load")
-    check(one["size"] == next((size for size in SIZES if size >= wanted), None), f"turning {what}: size {one['size']} for {wanted}")
+    check(one["size"] == next((size for size in SIZES[one["family"]] if size >= wanted), None), f"turning {what}: size {one['size']} for {wanted}")
     check((one["plan"]["peak"], one["plan"]["size"] or 0) == (int(last[1]), int(last[2])), f"turning {what}: the plan beside it is another")
     check(ends_true(one, one["peak"], int(cut[3])), f"turning {what}: unit, floor or proof is false")
 
@@ -226,7 +232,7 @@ def made(folder):
         offices, count, most = 2 + k % 63, 1024 if k % 31 == 0 else draw.choice(COUNTS), MOST[k % len(MOST)]
         rows = sorted((sorted(draw.sample(range(1, offices + 1), 2)) for _ in range(count)))
         names.append(os.path.join(folder, b"made-%d.table" % k))
-        pathlib.Path(os.fsdecode(names[-1])).write_text(lines_of([("R", offices, draw.choice((2, 4)))] + [("D", *row, draw.randint(0, most)) for row in rows]), encoding="ascii")
+        pathlib.Path(os.fsdecode(names[-1])).write_text(lines_of([("R", offices, draw.choice((2, 4)), *draw.choice(((), ("M",))))] + [("D", *row, draw.randint(0, most)) for row in rows]), encoding="ascii")
     return names
 
 
@@ -244,7 +250,7 @@ def crossing(folder):
 def covered(planned, turned):
     """All that an object may say of a plan is said of one of these."""
     for one in (planned, turned):
-        check({o["size"] for o in one} == {*SIZES, None}, "not each size is met")
+        check({o["size"] for o in one} == {*SIZES["SONET"], *SIZES["SDH"], None}, "not each size is met")
         check({o["proved_best"] for o in one} == {True, False}, "not both answers of proof are met")
         check({c["way"] for o in one for c in o["circuits"]} == {"F", "B"}, "not both ways are met")
         check({o["offices"] for o in one} == set(range(2, 65)) and {o["fibres"] for o in one} == {2, 4}, "not each ring is met")
@@ -342,6 +348,66 @@ def hold_refused(folder):
         check(status == 1 and [one.get("reason") for one in found] == [due[0] for _, *due in texts], f"{command}: refused one after the other they are others")
 
 
+# ---- reports
+
+
+def plans_of(text):
+    """The text parted before each line that starts with R."""
+    return [plan for plan in re.split(rb"(?<=\n)(?=R)", text) if plan]
+
+
+def totals_of(text, folder):
+    """What a report should say, by asking the desk about each plan alone."""
+    plans = plans_of(text)
+    names = [os.path.join(folder, b"plan-%d" % k) for k in range(len(plans))]
+    for name, plan in zip(names, plans):
+        pathlib.Path(os.fsdecode(name)).write_bytes(plan)
+    accepted = [plan for plan, one in zip(plans, ask("check", names)[0] if plans else []) if one["accepted"]]
+    of = {family: sums_of([plan for plan in accepted if plan.splitlines()[0].endswith(b"M") == (family == "SDH")]) for family in UNITS}
+    return of, len(plans) - len(accepted)
+
+
+def sums_of(accepted):
+    """How many there are, the sum of their peaks, and the worst ratio or None."""
+    figures = [[int(re.search(mark, plan, re.M)[1]) for mark in (rb"^Z\t(\d+)", rb"^C\t\d+\t\d+\t(\d+)")] for plan in accepted]
+    entering = [(2 * peak, across) for peak, across in figures if across]
+    return len(accepted), sum(peak for peak, _ in figures), max(entering, key=lambda ratio: Fraction(*ratio), default=None)
+
+
+def texts_of_plans():
+    """The examples one behind the other, in any order, damaged and with other things between them."""
+    sheets = [path.read_bytes() for path in sorted(root.glob("examples/*.sheet"))]
+    smallest = t("R|2|4", "C|1|2|0", "L|1|0|0", "L|2|0|0", "Z|0|3")
+    of_sdh = t("R|2|4|M", "C|1|2|0", "L|1|0|0", "L|2|0|0", "Z|0|1")
+    yield from (b"", b"R", b"\n", b"R\rR\r\n", SQUARE, SQUARE[6:] + SQUARE, SQUARE.replace(b"\n", b"\r\n"), smallest * 3, smallest + b"R", of_sdh, of_sdh + b"R")
+    draw = random.Random(12)
+    for _ in range(40):
+        text = b"".join(draw.choice(sheets) for _ in range(draw.randint(1, 9)))
+        at = draw.randrange(len(text))
+        yield draw.choice((text, text[:at] + draw.choice((b"R", b"\nR", b"1", b"\r", b"")) + text[at + 1:]))
+
+
+def hold_reports(folder):
+    """The object has the numbers of the lines, and these are what the plans give one by one."""
+    name = os.path.join(folder, b"many.plans")
+    met = set()
+    for text in texts_of_plans():
+        pathlib.Path(os.fsdecode(name)).write_bytes(text)
+        one = ask("report", [name])[0][0]
+        of, refused = totals_of(text, folder)
+        found = {sums["family"]: (sums["accepted_plans"], sums["sum_of_peaks"], sums["worst"] and (sums["worst"]["twice_peak"], sums["worst"]["across"])) for sums in one["families"]}
+        check(list(found) == list(UNITS) and found == of and one["refused_plans"] == refused, f"report {text[:60]}: {one}")
+        check(all(sums["unit"] == UNITS[sums["family"]] for sums in one["families"]), "report: another unit")
+        lines = lines_of([("T", accepted, peaks, *(worst or (0, 0))) for accepted, peaks, worst in of.values()] + [("X", refused)])
+        check(said("report", "--text", name) == (lines.encode("ascii"), b"", 0), f"report --text {text[:60]}: it is not {lines}")
+        met.add((of["SONET"][0] > 0, of["SDH"][0] > 0, refused > 0))
+    check(len(met) == 8, f"reports: only {met} are met")
+    pathlib.Path(os.fsdecode(name)).write_bytes(b"R\n" * 32768 + b"R")
+    found, status = ask("report", [name])
+    check(status == 1 and [found[0].get(key) for key in ("reason", "line", "byte")] == [24, None, None], f"report of too long a text: {found}")
+    check(found[0]["sentence"] in said("report", name)[1].decode("ascii"), "report of too long a text: it is not told as in words")
+
+
 # ---- names
 
 
@@ -359,7 +425,7 @@ def hold_names(folder):
     os.mkdir(home)
     # a name has no slash and no NUL in it
     names = [os.path.join(home, name.replace(b"/", b"|")) for name in ODD] + [os.path.join(home, bytes([byte])) for byte in range(1, 256) if byte not in b"/."]
-    for command, text in (("plan", table), ("turn", table), ("check", sheet)):
+    for command, text in (("plan", table), ("turn", table), ("check", sheet), ("report", sheet)):
         for name in names:
             pathlib.Path(os.fsdecode(name)).write_bytes(text)
         found, status = ask(command, names)
@@ -385,17 +451,17 @@ def together(command, names, typed=b""):
 def hold_several(folder):
     table, sheet = b"examples/square.table", b"examples/square.sheet"
     refused, missing, other = os.path.join(folder, b"refused-plan-2"), os.path.join(folder, b"missing"), b"examples/five-offices.table"
-    for command, good, also, piped in (("plan", table, other, table), ("turn", table, other, table), ("check", sheet, b"examples/circuits.sheet", sheet)):
+    for command, good, also, piped in (("plan", table, other, table), ("turn", table, other, table), ("check", sheet, b"examples/circuits.sheet", sheet), ("report", b"examples/region.plans", sheet, b"examples/region.plans")):
         typed = (root / os.fsdecode(piped)).read_bytes()
         for names in ([good, also], [good, refused, also], [missing, good], [refused, missing, good], [good, b"-", also], [b"-", refused], [b"examples", good, good]):
             written, _, status = said(command, *names, typed=typed, together=True)
             check((written, status) == together(command, names, typed), f"{command} {names}: together they are not what each is alone")
             check(status == ask(command, names, typed)[1], f"{command} {names}: another exit status with --json")
-        check(said(command, good) == said(command, typed=typed) or command == "check", f"{command}: a file and standard input differ")
+        check(said(command, good) == said(command, typed=typed) or command in ("check", "report"), f"{command}: a file and standard input differ")
         check(b"==>" not in said(command, good)[0] + said(command, typed=typed)[0], f"{command}: a heading of one file")
         one = ask(command, [], typed)
         check(one == ask(command, [b"-"], typed) and one[1] == 0, f"{command}: no name and - differ")
-        for words in (["-", "-"], ["--json", "-", table, "-"], ["--json", "--sheet"], ["--json=1"]):
+        for words in (["-", "-"], ["--json", "-", table, "-"], ["--json", "--sheet"], ["--json", "--text"], ["--json=1"]):
             written, complained, status = said(command, *words)
             check(written == b"" and complained.startswith(b"usage: ") and status == 2, f"{command} {words}: these words make no order")
     check(said("plan", "--json", table, b"--json")[2] == 0, "an option said twice is one")
@@ -427,9 +493,9 @@ def damaged(found):
 
 def hold_schema(folder):
     """The schema takes no object that is damaged."""
-    texts = ("plan", "refused-plan-2", "missing"), ("turn", "refused-turn-2", "missing\udcff"), ("check", "refused-check-5", "missing")
+    texts = ("plan", "refused-plan-2", "missing"), ("turn", "refused-turn-2", "missing\udcff"), ("check", "refused-check-5", "missing"), ("report", "many.plans", "missing")
     for command, *rest in texts:
-        names = [b"examples/square.sheet" if command == "check" else b"examples/square.table", *(os.path.join(folder, os.fsencode(name)) for name in rest)]
+        names = [{"check": b"examples/square.sheet", "report": b"examples/region.plans"}.get(command, b"examples/square.table"), *(os.path.join(folder, os.fsencode(name)) for name in rest)]
         for one in ask(command, names)[0]:
             for changed in damaged(one):
                 fault = wrong_shape(changed)
@@ -459,6 +525,7 @@ with tempfile.TemporaryDirectory() as scratch:
     check(lighter > 0 and lower > 0 and refused >= 2, "by lowered rooms no link is lighter, no peak of the best choice lower, or no table is refused for it")
     hold_stored(here)
     hold_refused(here)
+    hold_reports(here)
     hold_names(here)
     hold_several(here)
     hold_schema(here)

@@ -16,7 +16,9 @@ import xml.etree.ElementTree
 
 root = pathlib.Path(__file__).resolve().parents[2]
 SVG = "{http://www.w3.org/2000/svg}"
-SIZES = (3, 12, 48, 192, 768)
+# by what an R line says behind the fibres
+SIZES = {(): (3, 12, 48, 192, 768), ("M",): (1, 4, 16, 64, 256)}
+UNITS = {(): "STS-1", ("M",): "STM-1"}
 FIGURES = ("Offices", "Fibres", "Circuits", "Split peak", "Unsplit peak", "Floor", "Line size")
 LARGEST = 10
 
@@ -38,7 +40,8 @@ class Due:
     def __init__(self, sheet, ways=None):
         lines = [line.split("\t") for line in sheet.decode().splitlines()]
         rows = {letter: [fields[1:] for fields in lines if fields[0] == letter] for letter in "RDCLZ"}
-        self.offices, self.fibres = map(int, rows["R"][0])
+        self.offices, self.fibres = map(int, rows["R"][0][:2])
+        self.mark = tuple(rows["R"][0][2:])
         self.circuits = [(*map(int, row[:5]), row[5]) for row in rows["D"]]
         self.g, self.h, self.across = map(int, rows["C"][0])
         self.split = [int(row[1]) for row in rows["L"]]
@@ -51,7 +54,7 @@ class Due:
         self.circuits = [(*circuit[:5], way) for circuit, way in zip(self.circuits, ways, strict=True)]
         self.unsplit = [sum(c[2] for c in self.circuits if (c[0] <= link < c[1]) == (c[5] == "F")) for link in self.links()]
         self.peak = max(self.unsplit)
-        self.size = next((size for size in SIZES if size >= self.peak * 4 // self.fibres), 0)
+        self.size = next((size for size in SIZES[self.mark] if size >= self.peak * 4 // self.fibres), 0)
 
     def links(self):
         return range(1, self.offices + 1)
@@ -73,7 +76,7 @@ class Due:
 
     def write(self):
         """As a sheet."""
-        lines = [["R", self.offices, self.fibres], *(["D", *circuit] for circuit in self.circuits), ["C", self.g, self.h, self.across]]
+        lines = [["R", self.offices, self.fibres, *self.mark], *(["D", *circuit] for circuit in self.circuits), ["C", self.g, self.h, self.across]]
         lines += [["L", link, self.split[link - 1], self.unsplit[link - 1]] for link in self.links()]
         return "".join("\t".join(map(str, line)) + "\n" for line in [*lines, ["Z", self.peak, self.size]]).encode()
 
@@ -157,7 +160,7 @@ def heading(picture, due, words):
 def in_words(picture, due):
     """The sentences on the cut and on the line, and the description."""
     plural = "" if len(due.circuits) == 1 else "s"
-    ring = f"Ring of {due.offices} offices and {due.fibres} fibres, {len(due.circuits)} circuit{plural}"
+    ring = f"{'SDH ring' if due.mark else 'Ring'} of {due.offices} offices and {due.fibres} fibres, {len(due.circuits)} circuit{plural}"
     part = f"offices {due.g + 1} to {due.h}" if due.g + 1 < due.h else f"office {due.h}"
     cut = f"Cut: links {due.g} and {due.h}, across {due.across}. They part {part} from the rest of the ring."
     end = f"A line of {due.size} carries {due.size}, where the bars end."
@@ -165,13 +168,13 @@ def in_words(picture, due):
         end = f"No line is large enough. The bars end at the unsplit peak, {due.peak}."
     elif due.fibres == 2:
         end = f"A line of {due.size} carries {units(due.size)}, where the bars end: half of it protects."
-    for sentence in (ring, cut, end, f"floor {due.floor()}"):
+    for sentence in (ring, cut, end, f"floor {due.floor()}", f"The load of each link, in {UNITS[due.mark]}"):
         if not says(picture, sentence):
             yield f"it does not say {sentence!r}"
     told = "".join(picture.find(SVG + "desc").itertext())
     line = f"line size {due.size}. " if due.size else "and no line is large enough. "
     wanted = f"unsplit peak {due.peak}, floor {due.floor()}, {line}With circuits divided the peak is {units(due.across)}. The cut of links {due.g} and {due.h}, across {due.across}, parts {part} from"
-    if picture.find(SVG + "title").text != ring or wanted not in told:
+    if picture.find(SVG + "title").text != ring or wanted not in told or not told.endswith(f" are in {UNITS[due.mark]}."):
         yield f"the description does not say {wanted!r}"
 
 
@@ -354,8 +357,8 @@ def apart(picture):
 # ---- tables
 
 
-def table(offices, fibres, rows):
-    return (f"R\t{offices}\t{fibres}\n" + "".join(f"D\t{i}\t{j}\t{amount}\n" for i, j, amount in sorted(rows, key=lambda row: row[:2]))).encode()
+def table(offices, fibres, rows, mark=""):
+    return (f"R\t{offices}\t{fibres}{mark}\n" + "".join(f"D\t{i}\t{j}\t{amount}\n" for i, j, amount in sorted(rows, key=lambda row: row[:2]))).encode()
 
 
 def made():
@@ -365,11 +368,13 @@ def made():
     yield "from one office to the opposite one", table(16, 2, [(1, 9, 9999)] * 1024)
     yield "circuits of nothing", table(5, 4, [(1, 2, 0), (2, 4, 0)])
     yield "next offices of 64", table(64, 4, [(k, k + 1, 3) for k in range(1, 64)] + [(1, 64, 5)])
+    yield "beyond all sizes of SDH", table(4, 4, [(1, 3, 300), (2, 4, 40)], "\tM")
+    yield "no circuit, of SDH", table(3, 2, [], "\tM")
     yield "parallel", table(64, 2, [(1, 2, 5)] * 5 + [(2, 3, 5)] * 5 + [(63, 64, 5)])
     for offices in (2, 3, 4, 5, 6, 9, 12, 16, 20, 21, 24, 27, 32, 33, 45, 64):
         for count, most in ((0, 0), (1, 9999), (offices, 9), (7 * offices, 99), (1024, 3), (1024, 9999)):
             pairs = [sorted(chance.sample(range(1, offices + 1), 2)) for _ in range(count)]
-            yield f"{count} of at most {most} on {offices} offices", table(offices, chance.choice((2, 4)), [(i, j, chance.randint(0, most)) for i, j in pairs])
+            yield f"{count} of at most {most} on {offices} offices", table(offices, chance.choice((2, 4)), [(i, j, chance.randint(0, most)) for i, j in pairs], chance.choice(("", "\tM")))
 
 
 def ways_of(text):

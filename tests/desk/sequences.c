@@ -22,7 +22,7 @@ static void say(ringkit_work_reply reply)
 
 static void start(const uint32_t *given)
 {
-    say(ringkit_work_start(&work, given[0], given[1]));
+    say(ringkit_work_start(&work, given[0], given[1], given[2]));
 }
 
 static void add(const uint32_t *given)
@@ -58,7 +58,7 @@ static const struct call {
     size_t given, answered;
     bool reads; /* and alters nothing */
 } CALLS[] = {
-    {"start", start, 2, 6, false}, {"add", add, 3, 6, false}, {"change", change, 4, 6, false}, {"remove", removes, 1, 6, false}, {"row", row, 1, 5, true}, {"write", writes, 1, 4, true},
+    {"start", start, 3, 6, false}, {"add", add, 3, 6, false}, {"change", change, 4, 6, false}, {"remove", removes, 1, 6, false}, {"row", row, 1, 5, true}, {"write", writes, 1, 4, true},
 };
 
 static const struct call *call_of(const char *line)

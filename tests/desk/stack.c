@@ -9,7 +9,7 @@
 
 #include "held.h"
 
-enum { PAGE = 4096, PAINT = 0xa5, MOST = RINGKIT_MAX_TEXT_BYTES + 1 };
+enum { PAGE = 4096, PAINT = 0xa5, MOST = RINGKIT_MAX_PLANS_BYTES + 1 };
 
 _Static_assert(RINGKIT_STACK_BYTES % PAGE == 0, "whole pages, so that the one below the stack can be closed");
 
@@ -62,6 +62,11 @@ static uint32_t check(void)
     return ringkit_check(text, length).reason;
 }
 
+static uint32_t report(void)
+{
+    return ringkit_report(text, length, buffer, sizeof buffer).reason;
+}
+
 static uint32_t judge(void)
 {
     return judge_held().reason;
@@ -74,7 +79,7 @@ static uint32_t parallel(void)
 
 static uint32_t read_matrix(void)
 {
-    return ringkit_read_matrix(text, length, 4, buffer, sizeof buffer).reason;
+    return ringkit_read_matrix(text, length, 4, RINGKIT_SONET, buffer, sizeof buffer).reason;
 }
 
 static uint32_t write_matrix(void)
@@ -84,7 +89,7 @@ static uint32_t write_matrix(void)
 
 static uint32_t work_start(void)
 {
-    return ringkit_work_start(&work, 2, 4).reason;
+    return ringkit_work_start(&work, 2, 4, RINGKIT_SDH).reason;
 }
 
 static uint32_t work_add(void)
@@ -125,6 +130,7 @@ static const struct named {
     {"ringkit_rewrite_table", rewrite_table, TABLE},
     {"ringkit_rewrite_sheet", rewrite_sheet, SHEET},
     {"ringkit_check", check, SHEET},
+    {"ringkit_report", report, SHEET},
     {"ringkit_judge", judge, SHEET},
     {"ringkit_parallel", parallel, SHEET},
     {"ringkit_read_matrix", read_matrix, MATRIX},

@@ -18,7 +18,7 @@ struct answer {
 
 /* A call has one of four forms, those of the working table a fifth, judging values a sixth, and turning circuits a seventh. */
 typedef ringkit_reply writing(const uint8_t *, size_t, uint8_t *, size_t);
-typedef ringkit_reply telling(const uint8_t *, size_t, uint32_t, uint8_t *, size_t);
+typedef ringkit_reply telling(const uint8_t *, size_t, uint32_t, uint32_t, uint8_t *, size_t);
 typedef ringkit_reply judging(const uint8_t *, size_t);
 typedef ringkit_pair_reply finding(const uint8_t *, size_t);
 typedef struct answer working(ringkit_work *, const uint64_t told[4], uint8_t *, size_t);
@@ -49,6 +49,7 @@ static const struct call {
     {.name = "Parallel", .find = ringkit_parallel},
     {.name = "ReadMatrix", .tell = ringkit_read_matrix},
     {.name = "WriteMatrix", .write = ringkit_write_matrix},
+    {.name = "Report", .write = ringkit_report},
     {.name = "Judge", .hold = judge_values},
     {.name = "Turn", .turn = turn_circuits},
     {.name = "WorkStart", .work = work_start},
@@ -93,7 +94,7 @@ static struct answer cut(ringkit_work_reply reply)
 static struct answer work_start(ringkit_work *work, const uint64_t told[4], uint8_t *buffer, size_t length)
 {
     (void)buffer, (void)length;
-    return cut(ringkit_work_start(work, (uint32_t)told[0], (uint32_t)told[1]));
+    return cut(ringkit_work_start(work, (uint32_t)told[0], (uint32_t)told[1], (uint32_t)told[2]));
 }
 
 static struct answer work_add(ringkit_work *work, const uint64_t told[4], uint8_t *buffer, size_t length)
@@ -131,11 +132,11 @@ static struct answer judge_values(const struct request *r, const uint8_t *text)
 {
     const ringkit_row *rows = (const ringkit_row *)(const void *)text;
     const ringkit_link *links = (const ringkit_link *)(const void *)(rows + r->told[0]);
-    const uint32_t *last = (const uint32_t *)(const void *)(links + r->told[1]); /* g, h, across, peak, size, offices, fibres */
-    if (r->text_length != sizeof *rows * r->told[0] + sizeof *links * r->told[1] + 7 * sizeof *last) {
+    const uint32_t *last = (const uint32_t *)(const void *)(links + r->told[1]); /* g, h, across, peak, size, offices, fibres, family */
+    if (r->text_length != sizeof *rows * r->told[0] + sizeof *links * r->told[1] + 8 * sizeof *last) {
         fail("the twin's values have another size than the library's");
     }
-    ringkit_judge_reply judged = ringkit_judge(rows, r->told[0], last[5], last[6], last[0], last[1], last[2], links, r->told[1], last[3], last[4]);
+    ringkit_judge_reply judged = ringkit_judge(rows, r->told[0], last[5], last[6], last[7], last[0], last[1], last[2], links, r->told[1], last[3], last[4]);
     return (struct answer){judged.reason, 0, 0, {judged.place}};
 }
 
@@ -172,7 +173,7 @@ static struct answer make(const struct call *call, const struct request *r, uint
         return reply(call->write(text, r->text_length, area + r->begin, r->end - r->begin));
     }
     if (call->tell != NULL) {
-        return reply(call->tell(text, r->text_length, (uint32_t)r->told[0], area + r->begin, r->end - r->begin));
+        return reply(call->tell(text, r->text_length, (uint32_t)r->told[0], (uint32_t)r->told[1], area + r->begin, r->end - r->begin));
     }
     return call->judge != NULL ? reply(call->judge(text, r->text_length)) : pair(call->find(text, r->text_length));
 }

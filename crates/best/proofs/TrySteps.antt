@@ -1,5 +1,5 @@
 -- A row is turned back in the loads of the ring's links; and what is held for the rows behind it.
-use Rattle.std.proofs.Common.{◌≡◌, ℕ, zero, suc, ◌+◌, ◌-◌, ◌*◌, ◌^◌, ◌≤◌, ◌<◌, Bool, true, false, cond, max, List, [], ◌∷◌, ◌++◌, length, take, get_or, refl, sym, ap, ap₂, subst, ◌∙◌, arith}
+use Rattle.std.proofs.Common.{◌≡◌, ℕ, suc, ◌+◌, ◌-◌, ◌*◌, ◌^◌, ◌≤◌, ◌<◌, Bool, true, false, cond, max, List, [], ◌∷◌, ◌++◌, length, take, get_or, refl, sym, ap, subst, ◌∙◌, arith}
 use native.Mathlib.Nat.{pow-suc}
 use Rattle.std.proofs.lemmas.List.{get_or_default, get_or-take, length-take, take-append-le, take_all}
 use Rattle.ring.specs.declared.types.Demand.{Demand}

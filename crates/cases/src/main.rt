@@ -2,12 +2,14 @@
 // Runs stored cases: each is a header of 12 bytes (the letter of the call, the text's length and the buffer's in five digits each, LF) and
 // the text. Each is answered by a line: the reply's numbers, and a sum over every byte of the buffer, which is filled with a pattern before the call.
 // The letter T is `ringkit_rewrite_table`, R is `ringkit_route`, B is `ringkit_route_best`, l is `ringkit_route_lowered`, m is `ringkit_route_lowered_best`,
-// S is `ringkit_rewrite_sheet`, W is `ringkit_write_matrix`, and a digit is `ringkit_read_matrix` with so many fibres. C is `ringkit_check` and P is
-// `ringkit_parallel`: these lend no buffer, so their lines have reason, line and byte,
+// S is `ringkit_rewrite_sheet`, W is `ringkit_write_matrix`, M is `ringkit_report`, of many plans, and a digit is `ringkit_read_matrix` with so many fibres,
+// of a SONET ring; a to j are the same with 0 to 9 fibres, of an SDH ring.
+// C is `ringkit_check` and P is `ringkit_parallel`: these lend no buffer, so their lines have reason, line and byte,
 // and for P the two places. Any other letter ends the run.
-ghost use Rattle.std.specs.Prelude.{◌≤◌, ◌<◌};
+ghost use Rattle.std.specs.Prelude.{◌<◌};
 
 use checker::Pair;
+use family::Family;
 use reasons::Refusal;
 use std::alloc::Global;
 use std::io::{self, BufReader, BufWriter, Read, Write};
@@ -29,15 +31,15 @@ fn digit(b: u8) -> usize
     }
 }
 
-// The number that digits spell, of which the last five count; at most ROOM.
+// The number that digits spell, of which the last five count.
 fn number(digits: &[u8]) -> usize
-    ensures { result ≤ 40000 }
+    ensures { result < 100000 }
 {
     let mut n = 0;
     for b in digits {
         n = (n * 10 + digit(*b)) % 100000;
     }
-    if n <= ROOM { n } else { ROOM }
+    n
 }
 
 fn sum_of(s: &[u8]) -> u64 {
@@ -65,7 +67,12 @@ enum Filling {
     RouteLoweredBest,
     RewriteSheet,
     WriteMatrix,
-    ReadMatrix(u32),
+    Report,
+    ReadMatrix(u32, Family),
+}
+
+fn read_matrix(fibres: u8, family: Family) -> Call {
+    Call::Filling(Filling::ReadMatrix(u32::from(fibres), family))
 }
 
 fn call_of(letter: u8) -> Option<Call> {
@@ -77,7 +84,9 @@ fn call_of(letter: u8) -> Option<Call> {
         b'm' => Some(Call::Filling(Filling::RouteLoweredBest)),
         b'S' => Some(Call::Filling(Filling::RewriteSheet)),
         b'W' => Some(Call::Filling(Filling::WriteMatrix)),
-        b'0'..=b'9' => Some(Call::Filling(Filling::ReadMatrix(u32::from(letter - b'0')))),
+        b'M' => Some(Call::Filling(Filling::Report)),
+        b'0'..=b'9' => Some(read_matrix(letter - b'0', Family::Sonet)),
+        b'a'..=b'j' => Some(read_matrix(letter - b'a', Family::Sdh)),
         b'C' => Some(Call::Check),
         b'P' => Some(Call::Parallel),
         _ => None,
@@ -101,7 +110,10 @@ fn filled(call: Filling, text: &[u8], buffer: &mut [u8]) -> Result<usize, Refusa
         Filling::RouteLoweredBest => ringkit::ringkit_route_lowered_best(text, buffer),
         Filling::RewriteSheet => ringkit::ringkit_rewrite_sheet(text, buffer),
         Filling::WriteMatrix => ringkit::ringkit_write_matrix(text, buffer),
-        Filling::ReadMatrix(fibres) => ringkit::ringkit_read_matrix(text, fibres, buffer),
+        Filling::Report => ringkit::ringkit_report(text, buffer),
+        Filling::ReadMatrix(fibres, family) => {
+            ringkit::ringkit_read_matrix(text, fibres, family, buffer)
+        }
     }
 }
 

@@ -14,7 +14,8 @@ use Rattle.ring.specs.Lists.{Each, none, more}
 use Rattle.ring.specs.Demand.{OnRing}
 use Rattle.ring.specs.Sheet.{Sheet, true_link}
 use Rattle.ring.proofs.Small.{demands-length, each-of-demands}
-use Rattle.reasons.specs.Findings.{Findings, nothing, finding, then, found, First, ring_findings, demand_findings}
+use Rattle.reasons.specs.Findings.{Findings, nothing, finding, then, found, First}
+use Rattle.reasons.specs.RowFindings.{ring_findings, demand_findings}
 use Rattle.reasons.specs.declared.finding.Finding.{Finding}
 use Rattle.reasons.specs.declared.reason.Reason.{Reason}
 use Rattle.reasons.specs.declared.reason.Reason.TheVariants.{WrongSum, WrongWay, WrongCut, WrongLink, WrongLast, NotTight, OverBound}

@@ -1,12 +1,17 @@
 -- A desk of lower limits, asked to check a text: what it accepts, one of higher limits accepts, and what it refuses but by 2, 3 or 16, the other refuses alike; and of
--- a sheet that the desk accepts, the old desk refuses one of more than 32 nodes by 3, else one of more than 496 rows by 16, and accepts any other. By what each
--- reads (`LowerSheets`) and finds (`LowerJudged`).
+-- a sheet that the desk accepts, the old desk refuses one with an M by 2, else one of more than 32 nodes by 3, else one of more than 496 rows by 16, and accepts any
+-- other. By what each reads (`LowerSheets`) and finds (`LowerJudged`).
 use Prim.Native.Nat.{ℕ, ◌+◌, ◌≤◌, ◌<◌}
 use mathlib.Core.List.{List}
-use mathlib.Core.Path.{◌≡◌, refl, sym, subst}
+use mathlib.Core.Path.{◌≡◌, refl, ap, sym, subst}
 use native.Mathlib.Omega.{arith}
 use lib.ListN.{length}
-use Rattle.std.specs.Prelude.{Result, Ok, Err}
+use Rattle.std.specs.Prelude.{false, Result, Ok, Err}
+use Rattle.family.specs.declared.family.Family.{Family}
+use Rattle.family.specs.declared.family.Family.TheVariants.{Sonet, Sdh}
+use Rattle.family.specs.Sizes.{Known}
+use Rattle.ring.specs.Ring.{ring_of}
+use Rattle.text.specs.RingLine.{ring_line}
 use Rattle.ring.specs.Limits.{Limits, desk, old}
 use Rattle.ring.specs.Sheet.{Sheet}
 use Rattle.ring.specs.True.{TrueSheet}
@@ -23,7 +28,7 @@ use Rattle.reasons.specs.Refusals.{refuse}
 use Rattle.reasons.specs.declared.reason.Refusal.{Refusal}
 use Rattle.sheet.proofs.Short.{old-fits}
 use Rattle.sheet.proofs.SheetText.{sheet-text}
-use Rattle.sheet.proofs.LowerSheets.{Alike, same_result, lost_result, sheet-alike, LowerSheet, more-nodes, more-rows, same, lower-sheet}
+use Rattle.sheet.proofs.LowerSheets.{Alike, same_result, lost_result, sheet-alike, LowerSheet, marked, more-nodes, more-rows, same, lower-sheet}
 use Rattle.checker.specs.Check.{judged_on, check_read, check}
 use Rattle.checker.proofs.Reasons.{accepted-as, check-text}
 
@@ -67,6 +72,15 @@ old-accepted t x e = go (check-alike old-lower t) e
 
 -- ---- an accepted sheet
 
+one-family : {family : Family} → family ≡ Sonet → family ≡ Sdh → ⊥
+one-family {family = Sonet} e f = absurd (cc)
+one-family {family = Sdh} e f = absurd (cc)
+
+-- where no M may stand no SDH ring is known
+no-mark : {family : Family} → family ≡ Sdh → Known false family → ⊥
+no-mark {family = Sonet} e k = absurd (cc)
+no-mark {family = Sdh} e k = absurd (cc)
+
 module _ (t : List ℕ) (x : Sheet) (e : check desk t ≡ Ok x) where
   old-check : LowerSheet old x (check old t)
   unfolding check judged_on
@@ -76,30 +90,51 @@ module _ (t : List ℕ) (x : Sheet) (e : check desk t ≡ Ok x) where
       h = (check-text t x).0 e
 
       go : {y : Result Sheet Refusal} → LowerSheet old x y → LowerSheet old x (check_read old y)
-      go (more-nodes n) = more-nodes n
-      go (more-rows n r) = more-rows n r
-      go (same n r) = rw (judged-same old-lower x h.1.0.within.few n r, sym (judged-is x (Ok tt) ((accepted-as t x).0 e).1)) (same n r)
+      go (marked m f b) = marked m f b
+      go (more-nodes k n) = more-nodes k n
+      go (more-rows k n r) = more-rows k n r
+      go (same k n r) = rw (judged-same old-lower x h.1.0.within.few n r, sym (judged-is x (Ok tt) ((accepted-as t x).0 e).1)) (same k n r)
 
-  pub old-nodes : old.nodes < x.ring.nodes → check old t ≡ refuse RingSize 1 3
-  old-nodes big = go old-check
-    where
-      go : {r : Result Sheet Refusal} → LowerSheet old x r → r ≡ refuse RingSize 1 3
-      go (more-nodes n) = refl
-      go (more-rows n r) = absurd (omega arith)
-      go (same n r) = absurd (omega arith)
+  -- one byte behind the fibres, where LF should stand
+  abbrev without_m : ℕ
+  without_m = length (ring_line (ring_of x.ring.nodes x.ring.fibres Sonet))
 
-  pub old-rows : x.ring.nodes ≤ old.nodes → old.rows < length x.rows → check old t ≡ refuse TooMany (old.rows + 2) 1
-  old-rows small many = go old-check
+  pub old-marked : x.ring.family ≡ Sdh → check old t ≡ refuse Misshapen 1 without_m
+  old-marked sdh = go old-check
     where
-      go : {r : Result Sheet Refusal} → LowerSheet old x r → r ≡ refuse TooMany (old.rows + 2) 1
-      go (more-nodes n) = absurd (omega arith)
-      go (more-rows n r) = refl
-      go (same n r) = absurd (omega arith)
+      unknown : Known false x.ring.family → {A : Type 0} → A
+      unknown k = absurd (no-mark sdh k)
 
-  pub old-same : x.ring.nodes ≤ old.nodes → length x.rows ≤ old.rows → check old t ≡ Ok x
-  old-same small few = go old-check
-    where
-      go : {r : Result Sheet Refusal} → LowerSheet old x r → r ≡ Ok x
-      go (more-nodes n) = absurd (omega arith)
-      go (more-rows n r) = absurd (omega arith)
-      go (same n r) = refl
+      go : {r : Result Sheet Refusal} → LowerSheet old x r → r ≡ refuse Misshapen 1 without_m
+      go (marked m f b) = ap (refuse Misshapen 1) b
+      go (more-nodes k n) = unknown k
+      go (more-rows k n r) = unknown k
+      go (same k n r) = unknown k
+
+  module _ (sonet : x.ring.family ≡ Sonet) where
+    pub old-nodes : old.nodes < x.ring.nodes → check old t ≡ refuse RingSize 1 3
+    old-nodes big = go old-check
+      where
+        go : {r : Result Sheet Refusal} → LowerSheet old x r → r ≡ refuse RingSize 1 3
+        go (marked m f b) = absurd (one-family sonet f)
+        go (more-nodes k n) = refl
+        go (more-rows k n r) = absurd (omega arith)
+        go (same k n r) = absurd (omega arith)
+
+    pub old-rows : x.ring.nodes ≤ old.nodes → old.rows < length x.rows → check old t ≡ refuse TooMany (old.rows + 2) 1
+    old-rows small many = go old-check
+      where
+        go : {r : Result Sheet Refusal} → LowerSheet old x r → r ≡ refuse TooMany (old.rows + 2) 1
+        go (marked m f b) = absurd (one-family sonet f)
+        go (more-nodes k n) = absurd (omega arith)
+        go (more-rows k n r) = refl
+        go (same k n r) = absurd (omega arith)
+
+    pub old-same : x.ring.nodes ≤ old.nodes → length x.rows ≤ old.rows → check old t ≡ Ok x
+    old-same small few = go old-check
+      where
+        go : {r : Result Sheet Refusal} → LowerSheet old x r → r ≡ Ok x
+        go (marked m f b) = absurd (one-family sonet f)
+        go (more-nodes k n) = absurd (omega arith)
+        go (more-rows k n r) = absurd (omega arith)
+        go (same k n r) = refl

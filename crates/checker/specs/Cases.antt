@@ -148,6 +148,46 @@ cases =
     refusal_case ("R|4" ∷ "C|1|2|0" ∷ [])
     2 1 4
     [] ∷
+    -- SDH, four fibres, n = 2, 1-2 of 256: size 256
+    plan_case Level ("R|2|4|M" ∷ "D|1|2|256" ∷ [])
+    ("R|2|4|M" ∷ "D|1|2|256|256|256|F" ∷ "C|1|2|256" ∷ "L|1|256|256" ∷ "L|2|256|0" ∷ "Z|256|256" ∷ [])
+    [] ∷
+    -- of 257: no SDH size is at least that
+    plan_case Level ("R|2|4|M" ∷ "D|1|2|257" ∷ [])
+    ("R|2|4|M" ∷ "D|1|2|257|257|257|F" ∷ "C|1|2|257" ∷ "L|1|257|257" ∷ "L|2|257|0" ∷ "Z|257|0" ∷ [])
+    [] ∷
+    -- on two fibres, of 128: twice 128 is 256
+    plan_case Level ("R|2|2|M" ∷ "D|1|2|128" ∷ [])
+    ("R|2|2|M" ∷ "D|1|2|128|128|128|F" ∷ "C|1|2|128" ∷ "L|1|128|128" ∷ "L|2|128|0" ∷ "Z|128|256" ∷ [])
+    [] ∷
+    -- of 129: no SDH size is at least 258
+    plan_case Level ("R|2|2|M" ∷ "D|1|2|129" ∷ [])
+    ("R|2|2|M" ∷ "D|1|2|129|129|129|F" ∷ "C|1|2|129" ∷ "L|1|129|129" ∷ "L|2|129|0" ∷ "Z|129|0" ∷ [])
+    [] ∷
+    -- the square as an SDH ring: only its R line and its Z line differ
+    plan_case Level ("R|4|4|M" ∷ "D|1|3|1" ∷ "D|2|4|1" ∷ [])
+    ("R|4|4|M" ∷ "D|1|3|1|1|1|F" ∷ "D|2|4|1|1|1|B" ∷ "C|1|3|2" ∷ "L|1|2|2" ∷ "L|2|2|1" ∷ "L|3|2|0" ∷ "L|4|2|1" ∷ "Z|2|4" ∷ [])
+    [] ∷
+    -- with the size of a SONET ring: 12
+    refusal_case ("R|4|4|M" ∷ "D|1|3|1|1|1|F" ∷ "D|2|4|1|1|1|B" ∷ "C|1|3|2" ∷ "L|1|2|2" ∷ "L|2|2|1" ∷ "L|3|2|0" ∷ "L|4|2|1" ∷ "Z|2|3" ∷ [])
+    12 9 1
+    [] ∷
+    -- an SDH ring of 65 offices: 3; of three fibres: 20; another letter, or none behind the tab: 2 where M should stand; M in front of the fibres: 2 there
+    refusal_case ("R|65|4|M" ∷ [])
+    3 1 3
+    [] ∷
+    refusal_case ("R|4|3|M" ∷ [])
+    20 1 5
+    [] ∷
+    refusal_case ("R|4|4|m" ∷ [])
+    2 1 7
+    [] ∷
+    refusal_case ("R|4|4|" ∷ [])
+    2 1 7
+    [] ∷
+    refusal_case ("R|4|M|4" ∷ [])
+    2 1 5
+    [] ∷
     []
 
 -- ---- what is true of a sheet, in place of a claim

@@ -1,4 +1,4 @@
-pub mod Turns
+pub mod LinkByLink
 pub mod Lowered
 pub mod TightCuts
 pub mod OnlySame

@@ -19,7 +19,7 @@ use Rattle.engines.specs.Lowering.{lowest_room, lowered_rooms, OneOf, earlier, l
 use Rattle.ring.proofs.Across.{either_order, one_link}
 use Rattle.ring.proofs.Peaks.{peak-above, peak-least, peak-attained}
 use Rattle.ring.proofs.LargestCut.{rule-A}
-use Rattle.engines.proofs.Turns.{room-is}
+use Rattle.engines.proofs.LinkByLink.{room-is}
 
 -- what lies across a and b lies across a and g or across g and b
 by_way_of : (rs : List Demand) (a g b : ℕ) → across rs a b ≤ across rs a g + across rs g b

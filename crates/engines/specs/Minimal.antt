@@ -6,7 +6,7 @@ use Rattle.ring.specs.Routing.{split_load}
 use Rattle.ring.specs.Division.{Divides}
 
 -- the routing `other`, in parts of 1/q unit, is at most as large on every link as ss, which is in halves, and smaller on one
-pub record Lower (q n : ℕ) (other ss : List Sent) : Type 0 where
+pub record Below (q n : ℕ) (other ss : List Sent) : Type 0 where
   pub everywhere : (k : ℕ) → 1 ≤ k → k ≤ n → 2 * split_load other k ≤ q * split_load ss k
   pub link : ℕ
   pub low : 1 ≤ link
@@ -15,4 +15,4 @@ pub record Lower (q n : ℕ) (other ss : List Sent) : Type 0 where
 
 -- no split routing of the demands rs is, however finely they are divided
 abbrev pub Minimal : ℕ → List Demand → List Sent → Type 0
-Minimal n rs ss = (q : ℕ) (other : List Sent) → Divides q rs other → Lower q n other ss → ⊥
+Minimal n rs ss = (q : ℕ) (other : List Sent) → Divides q rs other → Below q n other ss → ⊥

@@ -3,6 +3,7 @@ use Rattle.std.proofs.Common.{ℕ, ◌+◌, ◌*◌, ◌<◌, ◌≤◌, List, [
 use Rattle.std.proofs.lemmas.List.{length-map}
 use mathlib.Core.Logic.{⊎_elim}
 use native.Mathlib.Decide.{dec_lt, dec_le}
+use Rattle.family.proofs.Sizes.{known-always}
 use Rattle.ring.specs.declared.types.Routed.{Routed}
 use Rattle.ring.specs.declared.types.Cut.{Cut}
 use Rattle.ring.specs.declared.types.Link.{Link}
@@ -14,7 +15,8 @@ use Rattle.ring.specs.Sheet.{Sheet, figures_of, numbers_from, sents, demands, tr
 use Rattle.ring.specs.True.{SumsTo2d, GoesByRuleD, TrueSheet}
 use Rattle.ring.proofs.Lists.{each, each-map, each-of-map}
 use Rattle.ring.proofs.Small.{demands-length, each-of-demands, each-demands}
-use Rattle.reasons.specs.Findings.{Findings, then, First, ring_findings}
+use Rattle.reasons.specs.Findings.{Findings, then, First}
+use Rattle.reasons.specs.RowFindings.{ring_findings}
 use Rattle.reasons.specs.declared.finding.Finding.{Finding}
 use Rattle.reasons.proofs.Findings.{fine, then-on, none-of, both-of, one-answer}
 use Rattle.judge.specs.Findings.{rows_findings, cut_findings, loads_findings, last_findings, findings, Fits}
@@ -47,6 +49,7 @@ module _ (x : Sheet) where
         few = ring.few;
         many = ring.many;
         fibres = ring.fibres;
+        family = known-always x.ring.family;
         rows = record { nodes = nodes; order = rows.order };
         count = count;
         amounts = amounts;

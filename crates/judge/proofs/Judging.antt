@@ -7,8 +7,9 @@ use Rattle.ring.specs.Limits.{Limits, desk}
 use Rattle.ring.specs.LineSize.{IsFibres}
 use Rattle.ring.specs.Sheet.{Sheet, figures_of, true_link, largest_split_of}
 use Rattle.ring.proofs.Lists.{each}
-use Rattle.reasons.specs.Faults.{ring_found}
-use Rattle.reasons.specs.Findings.{First, found, found_at, ring_findings}
+use Rattle.reasons.specs.Faults.{ring_found, found_at}
+use Rattle.reasons.specs.Findings.{First, found}
+use Rattle.reasons.specs.RowFindings.{ring_findings}
 use Rattle.reasons.specs.declared.fault.Fault.{Fault}
 use Rattle.reasons.proofs.Faults.{ring_given}
 use Rattle.reasons.specs.declared.finding.Finding.{Finding}

@@ -5,8 +5,7 @@ use Rattle.ring.specs.Sheet.{Sheet}
 use Rattle.ring.specs.declared.types.Demand.{Demand}
 use Rattle.ring.specs.declared.types.Routed.{Routed}
 use Rattle.reasons.specs.AndThen.{and_then}
-use Rattle.reasons.specs.Faults.{verdict_found, ring_found, row_found}
-use Rattle.reasons.specs.Findings.{found_at}
+use Rattle.reasons.specs.Faults.{verdict_found, ring_found, row_found, found_at}
 use Rattle.reasons.specs.Verdict.{Verdict}
 use Rattle.reasons.specs.declared.finding.Finding.{Finding}
 use Rattle.reasons.specs.declared.reason.Reason.{Reason}

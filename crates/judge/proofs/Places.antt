@@ -5,7 +5,8 @@ use Rattle.ring.specs.declared.types.Routed.{Routed}
 use Rattle.ring.specs.declared.types.Link.{Link}
 use Rattle.ring.specs.Limits.{Limits, desk}
 use Rattle.ring.specs.Sheet.{Sheet, figures_of, true_link, split_peak, unsplit_peak, largest_split_of}
-use Rattle.reasons.specs.Findings.{Findings, nothing, finding, then, found, First, ring_findings}
+use Rattle.reasons.specs.Findings.{Findings, nothing, finding, then, found, First}
+use Rattle.reasons.specs.RowFindings.{ring_findings}
 use Rattle.reasons.specs.declared.finding.Finding.{Finding}
 use Rattle.reasons.specs.declared.reason.Reason.{Reason}
 use Rattle.reasons.specs.declared.reason.Reason.TheVariants.{WrongLink}

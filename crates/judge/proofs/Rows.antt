@@ -13,8 +13,9 @@ use Rattle.ring.specs.Demand.{OnRing}
 use Rattle.ring.specs.TableRows.{PairBefore, InTableOrder}
 use Rattle.ring.specs.Sheet.{sents, demands}
 use Rattle.ring.specs.True.{SumsTo2d, GoesByRuleD}
-use Rattle.reasons.specs.Findings.{NoNode, then, First, Falls, found_at, demand_findings}
-use Rattle.reasons.specs.Faults.{row_found}
+use Rattle.reasons.specs.Findings.{then, First}
+use Rattle.reasons.specs.RowFindings.{NoNode, Falls, demand_findings}
+use Rattle.reasons.specs.Faults.{row_found, found_at}
 use Rattle.reasons.specs.declared.fault.Fault.{Fault}
 use Rattle.reasons.proofs.Faults.{row_given}
 use Rattle.reasons.specs.declared.finding.Finding.{Finding}

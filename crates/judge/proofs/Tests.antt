@@ -1,6 +1,5 @@
 -- Each test is of its finding's fact, and a table's faults are its findings, so what is judged is the first finding.
 use Rattle.std.proofs.Common.{ℕ, ◌+◌, ◌*◌, ◌<◌, ◌≤◌, Bool, List, [], ◌∷◌, ◌++◌, Option, Some, None, Result, Ok, Err, ◌⊎◌, inl, inr, ◌≡◌, refl, ap, length, arith}
-use Rattle.sonet.specs.Size.{sonet_sizes}
 use Rattle.ring.specs.declared.types.Demand.{Demand}
 use Rattle.ring.specs.declared.types.Routed.{Routed}
 use Rattle.ring.specs.declared.types.Way.{Way}
@@ -9,12 +8,13 @@ use Rattle.ring.specs.declared.types.Cut.{Cut}
 use Rattle.ring.specs.declared.types.Link.{Link}
 use Rattle.ring.specs.declared.types.Figures.{Figures}
 use Rattle.ring.specs.Limits.{Limits, desk}
-use Rattle.ring.specs.LineSize.{line_size}
+use Rattle.ring.specs.LineSize.{line_size_of}
 use Rattle.ring.specs.Cut.{IsCut, across}
 use Rattle.ring.specs.Sheet.{Sheet, figures_of, sents, demands, true_link, split_peak, unsplit_peak, largest_split_of}
 use Rattle.ring.specs.True.{GoesByRuleD}
 use Rattle.reasons.specs.AndThen.{and_then}
-use Rattle.reasons.specs.Findings.{Findings, nothing, finding, then, found, First, ring_findings, demand_findings}
+use Rattle.reasons.specs.Findings.{Findings, nothing, finding, then, found, First}
+use Rattle.reasons.specs.RowFindings.{ring_findings, demand_findings}
 use Rattle.reasons.specs.declared.finding.Finding.{Finding}
 use Rattle.reasons.specs.declared.reason.Reason.{Reason}
 use Rattle.reasons.proofs.Findings.{then-on, then-stop, one-answer}
@@ -125,7 +125,7 @@ loads-tested n due ls = test (test-other (length ls) n) (links-tested due 1 ls)
 last-tested : (x : Figures) (split unsplit largest : ℕ) → AllTested (last_findings x split unsplit largest) (last_tests x split unsplit largest)
 unfolding last_tests
 last-tested x split unsplit largest =
-    test (test-or (test-other x.unsplit_peak unsplit) (test-other x.size (line_size sonet_sizes x.ring.fibres unsplit)))
+    test (test-or (test-other x.unsplit_peak unsplit) (test-other x.size (line_size_of x.ring unsplit)))
     (test (test-other split x.cut.across)
     (test (test-less (split + 3 * largest) (2 * unsplit))
     no_test))

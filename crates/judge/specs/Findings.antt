@@ -1,18 +1,18 @@
 -- To believe: what is found against a sheet that is held as values, in the order in which it is judged (Rules, reasons), and what is accepted.
 use Rattle.std.specs.Prelude.{ℕ, ◌+◌, ◌*◌, ◌<◌, List, [], ◌∷◌, Option, Some, None, ◌⊎◌, ◌≡◌, length}
-use Rattle.sonet.specs.Size.{sonet_sizes}
 use Rattle.ring.specs.declared.types.Demand.{Demand}
 use Rattle.ring.specs.declared.types.Routed.{Routed}
 use Rattle.ring.specs.declared.types.Cut.{Cut}
 use Rattle.ring.specs.declared.types.Link.{Link}
 use Rattle.ring.specs.declared.types.Figures.{Figures}
 use Rattle.ring.specs.Limits.{Limits}
-use Rattle.ring.specs.LineSize.{line_size}
+use Rattle.ring.specs.LineSize.{line_size_of}
 use Rattle.ring.specs.Cut.{IsCut, across}
 use Rattle.ring.specs.Sheet.{Sheet, figures_of, sents, demands, true_link, split_peak, unsplit_peak, largest_split_of}
 use Rattle.ring.specs.WithinLimits.{WithinLimits}
 use Rattle.ring.specs.True.{SumsTo2d, GoesByRuleD}
-use Rattle.reasons.specs.Findings.{Findings, nothing, finding, then, ring_findings, demand_findings}
+use Rattle.reasons.specs.Findings.{Findings, nothing, finding, then}
+use Rattle.reasons.specs.RowFindings.{ring_findings, demand_findings}
 use Rattle.reasons.specs.declared.reason.Reason.TheVariants.{WrongSum, WrongWay, WrongCut, WrongLink, WrongLast, NotTight, OverBound}
 
 -- ---- the rows
@@ -52,7 +52,7 @@ loads_findings n due ls = finding (length ls ≡ n → ⊥) WrongLink 0 (links_f
 -- number of the cut; twice the unsplit peak is above the split peak and 3D
 abbrev pub last_findings : Figures → ℕ → ℕ → ℕ → Findings
 last_findings x split unsplit largest =
-    finding ((x.unsplit_peak ≡ unsplit → ⊥) ⊎ (x.size ≡ line_size sonet_sizes x.ring.fibres unsplit → ⊥)) WrongLast 0
+    finding ((x.unsplit_peak ≡ unsplit → ⊥) ⊎ (x.size ≡ line_size_of x.ring unsplit → ⊥)) WrongLast 0
     (finding (split ≡ x.cut.across → ⊥) NotTight 0
     (finding (split + 3 * largest < 2 * unsplit) OverBound 0
     nothing))

@@ -1,6 +1,5 @@
 -- Internal: the answer of judging as it computes: what a table finds against the ring and the demands, and for each other finding, in the same order, a test.
 use Rattle.std.specs.Prelude.{ℕ, ◌+◌, ◌*◌, Bool, cond, not, ◌&&◌, ◌||◌, ltb, leb, eqb, List, [], ◌∷◌, ◌++◌, Option, Some, None, Result, Ok, Err, length}
-use Rattle.sonet.specs.Size.{sonet_sizes}
 use Rattle.ring.specs.declared.types.Demand.{Demand}
 use Rattle.ring.specs.declared.types.Sent.{Sent}
 use Rattle.ring.specs.declared.types.Way.{Way}
@@ -10,14 +9,14 @@ use Rattle.ring.specs.declared.types.Cut.{Cut}
 use Rattle.ring.specs.declared.types.Link.{Link}
 use Rattle.ring.specs.declared.types.Figures.{Figures}
 use Rattle.ring.specs.Limits.{Limits}
-use Rattle.ring.specs.LineSize.{line_size}
+use Rattle.ring.specs.LineSize.{line_size, line_size_of}
 use Rattle.ring.specs.Routing.{split_load, unsplit_load, peak}
 use Rattle.ring.specs.RuleD.{largest_split}
 use Rattle.ring.specs.Cut.{across}
 use Rattle.ring.specs.Sheet.{Sheet, figures_of, sents, demands, true_link, split_peak, unsplit_peak, largest_split_of}
-use Rattle.reasons.specs.Faults.{ring_found, row_found}
+use Rattle.reasons.specs.Faults.{ring_found, row_found, found_at}
 use Rattle.reasons.specs.AndThen.{and_then}
-use Rattle.reasons.specs.Findings.{found, found_at}
+use Rattle.reasons.specs.Findings.{found}
 use Rattle.reasons.specs.declared.finding.Finding.{Finding}
 use Rattle.reasons.specs.declared.reason.Reason.TheVariants.{WrongSum, WrongWay, WrongCut, WrongLink, WrongLast, NotTight, OverBound}
 
@@ -77,7 +76,7 @@ loads_tests n due ls = (not (eqb (length ls) n), found WrongLink 0) ∷ links_te
 unfoldable pub last_tests : Figures → ℕ → ℕ → ℕ → List Test
 unfolding line_size
 last_tests x split unsplit largest =
-    (not (eqb x.unsplit_peak unsplit) || not (eqb x.size (line_size sonet_sizes x.ring.fibres unsplit)), found WrongLast 0) ∷
+    (not (eqb x.unsplit_peak unsplit) || not (eqb x.size (line_size_of x.ring unsplit)), found WrongLast 0) ∷
     (not (eqb split x.cut.across), found NotTight 0) ∷
     (ltb (split + 3 * largest) (2 * unsplit), found OverBound 0) ∷
     []

@@ -9,7 +9,8 @@ ghost use Rattle.std.specs.Prelude.{◌≡◌, ◌↔◌, ◌+◌, ◌≤◌, Re
 ghost use Rattle.ring.specs.Limits.{desk};
 ghost use Rattle.ring.specs.Sheet.{sheet_in};
 ghost use Rattle.ring.specs.True.{TrueSheet};
-ghost use Rattle.reasons.specs.Findings.{First, ring_findings};
+ghost use Rattle.reasons.specs.Findings.{First};
+ghost use Rattle.reasons.specs.RowFindings.{ring_findings};
 ghost use Rattle.judge.specs.Findings.{findings, Fits};
 
 use crate::cut::judge_cut;

@@ -1,15 +1,20 @@
--- What routing writes for a table that the rule takes is the sheet of its plan, which checking accepts, and judging too.
+-- What routing writes for a table that the rule takes is the sheet of its plan, which checking accepts, and judging too; and a report counts it as accepted.
+use Prim.Native.Nat.{ℕ}
 use mathlib.Core.List.{List, [], ◌∷◌, map}
 use mathlib.Core.Path.{◌≡◌, refl}
 use native.Mathlib.Omega.{arith}
+use Rattle.ring.specs.Limits.{desk}
 use Rattle.ring.specs.declared.types.Routed.{Routed}
 use Rattle.ring.specs.Routing.{routed, way_number}
+use Rattle.ring.proofs.Lists.{each}
 use Rattle.rows.specs.SheetRow.{routed_row}
 use Rattle.rows.specs.declared.sheet_row.SheetRow.{SheetRow}
 use Rattle.sheet.proofs.SheetLines.{way_back}
 use Rattle.ringkit.proofs.PlanCalls.{some-plan, due-short, due-sheet, due-within}
+use Rattle.checker.specs.Says.{Accepted}
 use Rattle.ringkit.proofs.SheetCalls.{sheet-accepted}
-use Rattle.laws.specs.Calls.{RoutedChecked, RoutedJudged}
+use Rattle.ringkit.proofs.ReportCalls.{all-counted}
+use Rattle.laws.specs.Calls.{RoutedChecked, RoutedJudged, WroteSheet, RoutedCounted}
 
 pub routed-checked : RoutedChecked
 routed-checked engine rule t old new r p a takes room =
@@ -52,3 +57,10 @@ routed-judged engine rule t old new r p a takes room =
       success = rw d.is at ((p.succeeds s.sheet).1 (d, omega (arith, room, due-short engine rule t s.sheet d)));
       judged = λ q j. j.accepts.1 (due-within engine rule t s.sheet d, of.true_sheet);
     }
+
+-- what was written was due, and is accepted
+wrote-accepted : (sheet : List ℕ) → WroteSheet sheet → Accepted desk sheet
+wrote-accepted sheet w = let due = ((w.routes.succeeds sheet).0 w.success).0 in sheet-accepted sheet due.x (due-sheet w.engine w.rule w.t sheet due)
+
+pub routed-counted : RoutedCounted
+routed-counted sheets wrote t joined old new r p = all-counted t sheets joined (each wrote-accepted wrote) old new r p

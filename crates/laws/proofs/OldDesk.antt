@@ -6,7 +6,7 @@ use Rattle.std.specs.Prelude.{Ok}
 use Rattle.ring.specs.Limits.{Limits, old, desk}
 use Rattle.ring.specs.Sheet.{Sheet, plan}
 use Rattle.reasons.specs.Refusals.{refusal}
-use Rattle.reasons.specs.declared.reason.Reason.TheVariants.{RingSize, TooMany}
+use Rattle.reasons.specs.declared.reason.Reason.TheVariants.{Misshapen, RingSize, TooMany}
 use Rattle.reasons.proofs.LowerLimits.{old-lower}
 use Rattle.table.proofs.LowerTables.{low-spelled, old-table-accepted}
 use Rattle.table.proofs.ReasonsGiven.{accepted-is}
@@ -15,9 +15,9 @@ use Rattle.table.proofs.Spelled.{LimitsSpelled}
 use Rattle.sheet.specs.WriteSheet.{write_sheet}
 use Rattle.sheet.proofs.LowerSheets.{same-bytes}
 use Rattle.checker.specs.Check.{check}
-use Rattle.checker.proofs.LowerChecks.{old-nodes, old-rows, old-same, old-accepted, old-refused}
+use Rattle.checker.proofs.LowerChecks.{old-marked, old-nodes, old-rows, old-same, old-accepted, old-refused}
 use Rattle.checker.proofs.Reasons.{given-by, accepted-by}
-use Rattle.laws.specs.Old.{SameBytes, AcceptedAs, BeyondOld, OldAccepted, OldRefused}
+use Rattle.laws.specs.Old.{SameBytes, byte_of_lf, AcceptedAs, BeyondOld, OldAccepted, OldRefused}
 
 old-spelled : LimitsSpelled old
 old-spelled = low-spelled old-lower
@@ -53,9 +53,10 @@ pub beyond-old : BeyondOld
 beyond-old t x a =
     let e = checks desk desk-spelled t x a in
     record {
-      nodes = λ big. (given-by old old-spelled t (refusal RingSize 1 3)).0 (old-nodes t x e big);
-      rows = λ small many. (given-by old old-spelled t (refusal TooMany (old.rows + 2) 1)).0 (old-rows t x e small many);
-      within = λ small few. accepts old old-spelled t x (old-same t x e small few);
+      marked = λ sdh. (given-by old old-spelled t (refusal Misshapen 1 (byte_of_lf x.ring))).0 (old-marked t x e sdh);
+      nodes = λ sonet big. (given-by old old-spelled t (refusal RingSize 1 3)).0 (old-nodes t x e sonet big);
+      rows = λ sonet small many. (given-by old old-spelled t (refusal TooMany (old.rows + 2) 1)).0 (old-rows t x e sonet small many);
+      within = λ sonet small few. accepts old old-spelled t x (old-same t x e sonet small few);
     }
 
 pub old-is-accepted : OldAccepted

@@ -1,6 +1,7 @@
 -- To believe: what one call says of the text that another wrote.
 use Rattle.std.specs.Prelude.{ℕ, ◌≤◌, List, ◌≡◌, length}
 use Rattle.ring.specs.Limits.{desk}
+use Rattle.ring.specs.Lists.{Each}
 use Rattle.ring.specs.Sheet.{Sheet}
 use Rattle.table.specs.Says as table
 use Rattle.checker.specs.Says as sheet
@@ -10,7 +11,8 @@ use Rattle.ringkit.specs.Says.{Answer, Success}
 use Rattle.engines.specs.declared.Engine.{Engine}
 use Rattle.router.specs.Plans.{Rule}
 use Rattle.ringkit.specs.Texts.{Takes}
-use Rattle.ringkit.specs.Promises.{PlanPromise, RewriteSheetPromise}
+use Rattle.ringkit.specs.Promises.{PlanPromise, RewriteSheetPromise, ReportPromise}
+use Rattle.ringkit.specs.Sheets.{Joined, AllCounted}
 use Rattle.ringkit.specs.Answers.{Checked, yes, CheckPromise}
 use Rattle.rows.specs.declared.sheet_row.SheetRow.{SheetRow}
 use Rattle.ringkit.specs.Judging.{Judged, sheet_given, valid, JudgePromise}
@@ -47,3 +49,20 @@ abbrev pub RoutedJudged : Type 0
 RoutedJudged =
     (engine : Engine) (rule : Rule) (t old new : List ℕ) (r : Answer) → PlanPromise engine rule t old new r
     → table.Accepted desk t → Takes engine rule t → longest desk ≤ length old → WroteJudged old new r
+
+-- some call of routing wrote this sheet, by whichever engine and rule
+pub record WroteSheet (sheet : List ℕ) : Type 0 where
+  pub engine : Engine
+  pub rule : Rule
+  pub t : List ℕ
+  pub old : List ℕ
+  pub new : List ℕ
+  pub r : Answer
+  pub routes : PlanPromise engine rule t old new r
+  pub success : Success sheet old new r
+
+-- a report over such sheets, one behind the other and within the limit, counts all of them as accepted
+abbrev pub RoutedCounted : Type 0
+RoutedCounted =
+    (sheets : List (List ℕ)) → Each WroteSheet sheets → (t : List ℕ) → Joined sheets t
+    → (old new : List ℕ) (r : Answer) → ReportPromise t old new r → AllCounted t (length sheets) old new r

@@ -1,7 +1,10 @@
--- To believe: what the desk of the limits before these answers, 32 nodes, 496 rows and numbers of 7 digits. A table that it accepts is routed to the same
--- bytes; a sheet that it accepts is accepted, and each of its refusals but 2, 3 and 16 is given; and an accepted sheet beyond its limits it refuses by 3 or 16.
+-- To believe: what the desk of the limits before these answers, 32 nodes, 496 rows, numbers of 7 digits and no M. A table that it accepts is routed to the same
+-- bytes; a sheet that it accepts is accepted, and each of its refusals but 2, 3 and 16 is given; and an accepted sheet beyond its limits it refuses by 2, 3 or 16.
 use Rattle.std.specs.Prelude.{ℕ, ◌+◌, ◌≤◌, ◌<◌, List, ◌≡◌, length}
+use Rattle.family.specs.declared.family.Family.TheVariants.{Sonet, Sdh}
 use Rattle.ring.specs.Limits.{Limits, old, desk}
+use Rattle.ring.specs.Ring.{ring_of}
+use Rattle.text.specs.RingLine.{ring_line}
 use Rattle.ring.specs.declared.types.Ring.{Ring}
 use Rattle.ring.specs.declared.types.Demand.{Demand}
 use Rattle.ring.specs.Sheet.{Sheet, plan}
@@ -42,12 +45,17 @@ pub record AcceptedAs (limits : Limits) (t : List ℕ) (x : Sheet) : Type 0 wher
   pub is : ReadTo limits t x
   pub none : found.NoneHolds (findings limits x)
 
--- what the old desk answers to a text that is accepted as this sheet: 3 at n where it has too many nodes, which stand at byte 3 of line 1; else 16 at the first
--- row too many, where it has such a row; else it accepts it
+-- the byte of the R line where LF should stand where no M may: the last of the line of a SONET ring of as many nodes and fibres
+abbrev pub byte_of_lf : Ring → ℕ
+byte_of_lf ring = length (ring_line (ring_of ring.nodes ring.fibres Sonet))
+
+-- what the old desk answers to a text that is accepted as this sheet: with the M of an SDH ring 2 on line 1, where LF should stand; without it 3 at n where it has
+-- too many nodes, which stand at byte 3 of line 1; else 16 at the first row too many, where it has such a row; else it accepts it
 pub record OldAnswers (t : List ℕ) (x : Sheet) : Type 0 where
-  pub nodes : old.nodes < x.ring.nodes → Given old t RingSize 1 3
-  pub rows : x.ring.nodes ≤ old.nodes → old.rows < length x.rows → Given old t TooMany (old.rows + 2) 1
-  pub within : x.ring.nodes ≤ old.nodes → length x.rows ≤ old.rows → AcceptedAs old t x
+  pub marked : x.ring.family ≡ Sdh → Given old t Misshapen 1 (byte_of_lf x.ring)
+  pub nodes : x.ring.family ≡ Sonet → old.nodes < x.ring.nodes → Given old t RingSize 1 3
+  pub rows : x.ring.family ≡ Sonet → x.ring.nodes ≤ old.nodes → old.rows < length x.rows → Given old t TooMany (old.rows + 2) 1
+  pub within : x.ring.family ≡ Sonet → x.ring.nodes ≤ old.nodes → length x.rows ≤ old.rows → AcceptedAs old t x
 
 -- so it is of every accepted sheet
 abbrev pub BeyondOld : Type 0

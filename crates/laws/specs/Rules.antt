@@ -1,7 +1,9 @@
 -- To believe: what fronts, cuts, loads and peaks are, what the four rules give for the rows of every table, and which line size is taken: each the contract of a
 -- function that does nothing.
 use Rattle.std.specs.Prelude.{ℕ, ◌+◌, ◌*◌, ◌≤◌, true, not, List, ◌⊎◌, ◌↔◌, ◌≡◌}
-use Rattle.sonet.specs.Size.{sonet_sizes, sonet_size, rises, Answers}
+use Rattle.family.specs.declared.family.Family.{Family}
+use Rattle.family.specs.Size.{smallest_in, rises, Answers}
+use Rattle.family.specs.Sizes.{sizes_of}
 use Rattle.ring.specs.Lists.{Pairs}
 use Rattle.ring.specs.Demand.{OnRing, in_front, Leads}
 use Rattle.ring.specs.declared.types.Demand.{Demand}
@@ -195,10 +197,10 @@ FewAreSplit = (engine : Engine) → OfTables (λ n rs. 2 * splits (split_routing
 abbrev pub SizeOfRising : Type 0
 SizeOfRising = (sizes : List ℕ) → rises sizes ≡ true → SizeRule sizes (line_size sizes)
 
--- so of the SONET family
+-- so of each family
 abbrev pub SizeOfFamily : Type 0
-SizeOfFamily = SizeRule sonet_sizes (line_size sonet_sizes)
+SizeOfFamily = (family : Family) → SizeRule (sizes_of family) (line_size (sizes_of family))
 
--- whose own answer to a peak is its smallest size that is at least the peak, 0 if none is
+-- whose own answer to a peak is its smallest size that is at least the peak, 0 if none is, and no other number is that
 abbrev pub FamilyAnswers : Type 0
-FamilyAnswers = (peak : ℕ) → Answers sonet_sizes peak (sonet_size peak)
+FamilyAnswers = (family : Family) (peak size : ℕ) → (size ≡ smallest_in (sizes_of family) peak) ↔ Answers (sizes_of family) peak size

@@ -6,6 +6,8 @@ use Rattle.text.specs.Number.{limit, digits, Spelling}
 use Rattle.text.specs.declared.field.Field.{Field}
 use Rattle.text.specs.WriteLine.{write_line, FitsShape}
 use Rattle.text.specs.FirstFault.{FirstFault}
+use Rattle.text.specs.RingLine.{RingLineIs, RingFault}
+use Rattle.ring.specs.declared.types.Ring.{Ring}
 use Rattle.reasons.specs.Reasons.{number_of}
 use Rattle.reasons.specs.declared.reason.Reason.{Reason}
 use Rattle.matrix.specs.Says as matrix
@@ -26,6 +28,16 @@ abbrev pub FaultyIs : Type 0
 FaultyIs =
     (limits : Limits) (shape : List Field) (s : List ℕ) →
     ((p : ℕ) × FirstFault limits.digits shape s p) ↔ ((vs : List ℕ) → s ≡ write_line shape vs → FitsShape limits.digits shape vs → ⊥)
+
+-- a text is the R line of one ring
+abbrev pub OneRingLine : Type 0
+OneRingLine = (limits : Limits) (s : List ℕ) (p q : Ring) → RingLineIs limits.marks limits.digits s p → RingLineIs limits.marks limits.digits s q → p ≡ q
+
+-- and has a first faulty byte exactly where it is the R line of none
+abbrev pub RingFaultyIs : Type 0
+RingFaultyIs =
+    (limits : Limits) (s : List ℕ) →
+    ((p : ℕ) × RingFault limits.marks limits.digits s p) ↔ ((ring : Ring) → RingLineIs limits.marks limits.digits s ring → ⊥)
 
 -- a text is well-formed exactly where it is a sheet of values in range, true or not
 abbrev pub WellFormedIs : Type 0

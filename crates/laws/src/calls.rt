@@ -1,7 +1,7 @@
 // Laws over several calls.
 ghost use Rattle.ringkit.specs.Back.{TableThereAndBack, MatrixToTableToMatrix, TableToMatrixToTable};
 ghost use Rattle.ringkit.specs.WorkCalls.{RoutedAsNamed};
-ghost use Rattle.laws.specs.Calls.{SheetThereAndBack, RoutedChecked, RoutedJudged};
+ghost use Rattle.laws.specs.Calls.{SheetThereAndBack, RoutedChecked, RoutedJudged, RoutedCounted};
 
 /// A table there and back: an accepted table is read and written as the same bytes, values in range as a text of these values only.
 pub fn table_there_and_back()
@@ -36,4 +36,9 @@ pub fn routed_checked()
 /// What routing wrote for an accepted table that its rule takes, with room, is a sheet to whose values judging says yes.
 pub fn routed_judged()
     ensures { RoutedJudged }
+{}
+
+/// A report over sheets that calls of routing wrote, one behind the other and within its limit, counts all of them as accepted.
+pub fn routed_counted()
+    ensures { RoutedCounted }
 {}

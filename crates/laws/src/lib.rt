@@ -6,7 +6,7 @@ mod texts; // what texts are, and what holds of all sheets
 mod calls; // over several calls
 
 pub use calls::{
-    matrix_to_table_to_matrix, routed_as_named, routed_checked, routed_judged,
+    matrix_to_table_to_matrix, routed_as_named, routed_checked, routed_counted, routed_judged,
     sheet_there_and_back, table_there_and_back, table_to_matrix_to_table,
 };
 pub use old::{old_desk, same_bytes};
@@ -18,6 +18,6 @@ pub use rules::{
 pub use texts::{
     accepted_matrix, cases_as_promised, cases_hold, digits_of_figures, falling_order,
     judged_in_range, lines_of_a_shape, lines_of_a_text, no_lower_peak, numbers_spelled,
-    plan_accepted, reason_numbers, rows_of_a_matrix, same_sheet, true_sheet_accepted,
+    plan_accepted, reason_numbers, ring_lines, rows_of_a_matrix, same_sheet, true_sheet_accepted,
     turned_cases_hold, well_formed_sheet,
 };

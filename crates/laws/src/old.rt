@@ -1,4 +1,4 @@
-// What the desk of the limits before these answers: 32 nodes, 496 rows, numbers of 7 digits.
+// What the desk of the limits before these answers: 32 nodes, 496 rows, numbers of 7 digits, no M.
 ghost use Rattle.laws.specs.Old.{SameBytes, BeyondOld, OldAccepted, OldRefused};
 
 /// A table that it accepts is routed to the same bytes.
@@ -6,8 +6,9 @@ pub fn same_bytes()
     ensures { SameBytes }
 {}
 
-/// An accepted sheet beyond its limits it refuses by 3, at byte 3 of line 1, where that has too many nodes, and else by 16, at byte 1 of the first line too
-/// many; within them it accepts it. All else that it answers, but for 2, 3 and 16, is answered alike.
+/// An accepted sheet of an SDH ring it refuses by 2 on line 1, at the byte where LF should stand. One of a SONET ring beyond its limits it refuses by 3, at byte 3
+/// of line 1, where that has too many nodes, and else by 16, at byte 1 of the first line too many; within them it accepts it. All else that it answers, but for 2,
+/// 3 and 16, is answered alike.
 pub fn old_desk()
     ensures beyond { BeyondOld }
     ensures accepted { OldAccepted }

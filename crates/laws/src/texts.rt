@@ -7,7 +7,7 @@ ghost use Rattle.checker.specs.Cases.{CasesHold};
 ghost use Rattle.turns.specs.Cases.{CasesHold as TurnedCasesHold};
 ghost use Rattle.turns.specs.InOrder.{FallingIs};
 ghost use Rattle.checker.specs.Laws.{TrueAccepted, PlanAccepted, NoLowerPeak, FormedIs, JudgedInRange};
-ghost use Rattle.laws.specs.Texts.{SpellingIs, OneLine, FaultyIs, WellFormedIs, AcceptedMatrixIs, ReasonsApart, ReasonsFromOne};
+ghost use Rattle.laws.specs.Texts.{SpellingIs, OneLine, FaultyIs, OneRingLine, RingFaultyIs, WellFormedIs, AcceptedMatrixIs, ReasonsApart, ReasonsFromOne};
 ghost use Rattle.laws.specs.Cases.{CasesPromised};
 ghost use Rattle.laws.specs.Digits.{OfJudged, WrittenAccepted, RoomsFit, ShortNodes, ShortAmounts, ShortHalves, ShortLoads, FitsText};
 
@@ -20,6 +20,12 @@ pub fn numbers_spelled()
 pub fn lines_of_a_shape()
     ensures one { OneLine }
     ensures faulty { FaultyIs }
+{}
+
+/// An R line, of either family, says one ring, and a text has a first faulty byte exactly where it is no R line.
+pub fn ring_lines()
+    ensures one { OneRingLine }
+    ensures faulty { RingFaultyIs }
 {}
 
 /// The lines of a text are these and no others: one behind the other they are the text, each ends with LF and has no other, and what is behind the last LF has none.

@@ -8,14 +8,17 @@ use lib.Dec.{eqb}
 use lib.ListN.{length, get_or, take, drop, drop_of_length-le, length-drop}
 use lib.Seq.{drop-drop, take-length}
 use borrow.Author.Tests.{eq-eqb, ne_eqb, eqb-true}
-use Rattle.std.specs.Prelude.{Ok, Err, IfErr}
+use Rattle.std.specs.Prelude.{Result, Ok, Err, IfErr}
 use Rattle.ring.specs.Limits.{desk}
+use Rattle.ring.specs.declared.types.Ring.{Ring}
 use Rattle.std.proofs.Common.{Some, None}
 use Rattle.memchr.specs.Find.{IsFirstByte, Passes, is_byte}
 use Rattle.text.specs.Bytes.{lf}
 use Rattle.text.specs.ReadLine.{Reading, read_line}
+use Rattle.text.specs.ReadRing.{read_ring}
 use Rattle.text.specs.declared.field.Field.{Field}
 use Rattle.text.proofs.LineLaws.{bad-within}
+use Rattle.text.proofs.RingLaws.{ring-within}
 use Rattle.text.proofs.Lists.{here}
 use Rattle.lines.specs.Lines.{with_byte, lines}
 use Rattle.lines.specs.LineEnds.{line_length, LineEnds}
@@ -95,5 +98,9 @@ line_first t end there ends =
 pub fault-within : (shape : List Field) (t : List ℕ) → length t ≤ desk.bytes → (x : Reading) → x ≡ read_line desk.digits shape t → IfErr x (λ place. place ≤ desk.bytes)
 fault-within shape t short (Ok vs) is = tt
 fault-within shape t short (Err p) is = omega (arith, bad-within desk.digits desk.countable shape t p (sym is))
+
+pub ring-fault-within : (t : List ℕ) → length t ≤ desk.bytes → (x : Result Ring ℕ) → x ≡ read_ring desk.marks desk.digits t → IfErr x (λ place. place ≤ desk.bytes)
+ring-fault-within t short (Ok ring) is = tt
+ring-fault-within t short (Err p) is = omega (arith, ring-within desk.digits desk.countable desk.marks t p (sym is))
 
 pub ruleset line_ends = (ends-at, ends-nowhere)

@@ -6,9 +6,9 @@ use Rattle.ring.specs.Limits.{Limits}
 use Rattle.lines.specs.Lines.{lines, LineIs}
 
 -- where a line is due: 1 where it is missing; else the byte at which its first fault is, by what a fault is there
-pub data DueByte (t : List ℕ) (line : ℕ) (Fault : List ℕ → ℕ → Type 0) : ℕ → Type 0 where
-  line_missing : ((l : List ℕ) → LineIs (lines t) line l → ⊥) → DueByte t line Fault 1
-  line_faulty : {l : List ℕ} {p : ℕ} → LineIs (lines t) line l → Fault l p → DueByte t line Fault (p + 1)
+pub data DueByte (t : List ℕ) (line : ℕ) (FaultAt : List ℕ → ℕ → Type 0) : ℕ → Type 0 where
+  line_missing : ((l : List ℕ) → LineIs (lines t) line l → ⊥) → DueByte t line FaultAt 1
+  line_faulty : {l : List ℕ} {p : ℕ} → LineIs (lines t) line l → FaultAt l p → DueByte t line FaultAt (p + 1)
 
 -- where a line of this shape is due it is the first byte at which no line of the shape goes on like this
 abbrev pub ShapeByte : Limits → List ℕ → List Field → ℕ → ℕ → Type 0

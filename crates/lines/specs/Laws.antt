@@ -1,4 +1,4 @@
--- To believe: what holds of the lines of all texts at once, the contract of a function that does nothing.
+-- To believe: what holds of the lines of all texts at once, the contract of a function that does nothing (`lines_of_a_text` of the crate `laws`).
 use Rattle.std.specs.Prelude.{ℕ, List, [], ◌∷◌, ◌++◌, ◌↔◌, ◌≡◌}
 use Rattle.ring.specs.Lists.{Each}
 use Rattle.text.specs.Bytes.{lf}

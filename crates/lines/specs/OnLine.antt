@@ -1,7 +1,7 @@
 -- Internal: what one line is read to: a value, against which nothing is found; or the refusal of the line.
 use Rattle.std.specs.Prelude.{ℕ, ◌+◌, List, Result, Ok, Err}
 use Rattle.text.specs.FieldByte.{field_byte}
-use Rattle.text.specs.ReadLine.{Reading, read_line}
+use Rattle.text.specs.ReadLine.{read_line}
 use Rattle.text.specs.declared.field.Field.{Field}
 use Rattle.reasons.specs.declared.reason.Reason.TheVariants.{Misshapen}
 use Rattle.reasons.specs.declared.reason.Refusal.{Refusal}
@@ -9,9 +9,9 @@ use Rattle.reasons.specs.declared.fault.Fault.{Fault}
 use Rattle.reasons.specs.AndThen.{and_then}
 use Rattle.reasons.specs.Refusals.{refuse}
 
--- the values of the line; or the place of its first faulty byte
-unfoldable pub values_on : ℕ → Reading → Result (List ℕ) Refusal
-values_on line (Ok vs) = Ok vs
+-- what the line is read to; or the refusal of it, by the place of its first faulty byte
+unfoldable pub values_on : {A : Type 0} → ℕ → Result A ℕ → Result A Refusal
+values_on line (Ok x) = Ok x
 values_on line (Err p) = refuse Misshapen line (p + 1)
 
 -- what its values say, where nothing is found against them

@@ -2,6 +2,7 @@
 ghost use Rattle.std.specs.Prelude.{◌≡◌, ◌<◌, ◌≤◌, [], ◌∷◌, length, IfOk, IfErr, MatchOption};
 ghost use Rattle.ring.specs.Limits.{desk};
 ghost use Rattle.text.specs.ReadLine.{read_line};
+ghost use Rattle.text.specs.ReadRing.{read_ring};
 ghost use Rattle.lines.specs.Lines.{lines};
 ghost use Rattle.lines.specs.LineEnds.{LineEnds};
 ghost use Rattle.lines.specs.OnLine.{values_on};
@@ -9,7 +10,7 @@ ghost use Rattle.reasons.specs.Refusals.{refusal};
 
 use memchr::memchr;
 use reasons::{Reason, Refusal};
-use ring::BYTES;
+use ring::{BYTES, Ring};
 use std::marker::Model;
 use text::Field;
 
@@ -64,12 +65,29 @@ impl<'a> Line<'a> {
             .map_err(|place| Refusal::misshapen(number, place))
     }
 
-    /// Its values by a shape: one for each field, of a letter 0; or the place of the first faulty byte, counted from 0.
+    /// The same where it may yet be a line of another shape, so that no refusal is due: the place of the first faulty byte is answered, counted from 0.
     pub fn read<const N: usize>(&self, shape: &[Field; N]) -> Result<[u32; N], usize>
         ensures is { result ≡ read_line desk.digits shape.now self.now }
         ensures place { IfErr result (λ place. place ≤ desk.bytes) }
     {
         text::read_line(self.text, shape)
+    }
+
+    /// The ring that it says as an R line, of either family, as the line with this number; or its refusal, the byte of which is the first faulty one.
+    #[tactic(auto, unfolding(crate::specs::OnLine::values_on))]
+    pub fn ring(&self, number: u32) -> Result<Ring, Refusal>
+        ensures { result ≡ values_on number (read_ring desk.marks desk.digits self.now) }
+    {
+        self.read_ring()
+            .map_err(|place| Refusal::misshapen(number, place))
+    }
+
+    // The same, with the place of the first faulty byte where no refusal is made of it yet.
+    fn read_ring(&self) -> Result<Ring, usize>
+        ensures is { result ≡ read_ring desk.marks desk.digits self.now }
+        ensures place { IfErr result (λ place. place ≤ desk.bytes) }
+    {
+        text::read_ring(self.text)
     }
 }
 

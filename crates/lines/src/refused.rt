@@ -8,6 +8,7 @@ use reasons::{Fault, Refusal};
 use text::Field;
 
 /// The refusal of the line with this number, this shape and these values, for what is found against them: its byte is where the field starts that the fault is about.
+// Cold, so that lines which are accepted cost no more.
 #[cold]
 pub fn refusal_on(line: u32, shape: &[Field], values: &[u32], fault: Fault) -> Refusal
     requires short { length shape.now ≤ most_fields }

@@ -9,12 +9,12 @@ use borrow.Author.Tests.{eq-eqb, ne_eqb}
 use Rattle.std.specs.Prelude.{Ok, Err}
 use Rattle.ring.specs.TableRows.{PairBefore}
 use Rattle.reasons.specs.AndThen.{and_then}
-use Rattle.reasons.specs.Verdict.{Verdict}
+use Rattle.reasons.specs.Verdict.{Verdict, refused_at}
 use Rattle.reasons.specs.declared.reason.Reason.{Reason}
 use Rattle.reasons.specs.declared.reason.Reason.TheVariants.{NotZero, NotSymmetric}
 use Rattle.reasons.specs.Refusals.{refuse}
 use Rattle.matrix.specs.Matrix.{entry, Node}
-use Rattle.matrix.specs.Read.{MatrixVerdict, check_entry, on_entry, square_byte, judge_across, judge_down}
+use Rattle.matrix.specs.Read.{MatrixVerdict, check_entry, square_byte, judge_across, judge_down}
 
 -- what is wrong with an entry
 pub data WrongEntry (m : List (List ℕ)) (i j : ℕ) : Reason → Type 0 where
@@ -55,7 +55,7 @@ module _ (m : List (List ℕ)) where
     across_right : ((x : ℕ) (s : Reason) → j ≤ x → x < j + k → WrongEntry m i x s → ⊥) → AcrossJudged i j k next next
 
   across-judged : (i j k : ℕ) (next : MatrixVerdict) → AcrossJudged i j k next (judge_across m i j k next)
-  unfolding judge_across on_entry
+  unfolding judge_across refused_at
   across-judged i j zero next = across_right (λ x s l h w. omega arith)
   across-judged i j (suc k) next = go (entry-judged i j) (across-judged i (j + 1) k next)
     where
@@ -66,7 +66,7 @@ module _ (m : List (List ℕ)) where
             | no e ↦ later (omega arith) w
           ]
 
-      go : {v : Verdict} {w : MatrixVerdict} → EntryJudged m i j v → AcrossJudged i (j + 1) k next w → AcrossJudged i j (suc k) next (and_then (on_entry v i (square_byte m i j)) λ u. w)
+      go : {v : Verdict} {w : MatrixVerdict} → EntryJudged m i j v → AcrossJudged i (j + 1) k next w → AcrossJudged i j (suc k) next (and_then (refused_at v i (square_byte m i j)) λ u. w)
       go (entry_wrong h) rest = across_wrong j (omega arith) (omega arith) h (λ x s l m w. omega arith)
       go (entry_right none) (across_wrong at l m h first) = across_wrong at (omega arith) (omega arith) h (λ x s p q. first-right none x s (λ u. first x s u q) p)
       go (entry_right none) (across_right all) = across_right (λ x s p q. first-right none x s (λ u. all x s u (omega arith)) p)

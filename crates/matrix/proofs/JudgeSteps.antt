@@ -5,10 +5,10 @@ use mathlib.Core.Path.{◌≡◌, ◌∙◌, sym}
 use native.Mathlib.Omega.{arith}
 use Rattle.std.specs.Prelude.{Ok, Err}
 use Rattle.reasons.specs.AndThen.{and_then}
-use Rattle.reasons.specs.Verdict.{Verdict}
+use Rattle.reasons.specs.Verdict.{Verdict, refused_at}
 use Rattle.reasons.specs.declared.reason.Refusal.{Refusal}
 use Rattle.matrix.specs.Matrix.{entry}
-use Rattle.matrix.specs.Read.{MatrixVerdict, check_entry, on_entry, square_byte, judge_across, judge_down}
+use Rattle.matrix.specs.Read.{MatrixVerdict, check_entry, square_byte, judge_across, judge_down}
 
 module _ (m : List (List ℕ)) (n : ℕ) where
   -- the lines before i are fine
@@ -27,7 +27,7 @@ module _ (m : List (List ℕ)) (n : ℕ) where
       record { rest = down.rest ∙ rw (e, f) }
 
   module _ (i j : ℕ) (across : Across i j) where
-    module _ (l : j < n + 1) (x y : ℕ) (ex : x ≡ entry m i j) (ey : y ≡ entry m j i) (v : Verdict) (ev : v ≡ check_entry i j x y) (f : MatrixVerdict) (ef : f ≡ on_entry v i (square_byte m i j)) where
+    module _ (l : j < n + 1) (x y : ℕ) (ex : x ≡ entry m i j) (ey : y ≡ entry m j i) (v : Verdict) (ev : v ≡ check_entry i j x y) (f : MatrixVerdict) (ef : f ≡ refused_at v i (square_byte m i j)) where
       next-entry : judge_down m n 1 n ≡ and_then f (λ u. judge_across m i (j + 1) (n + 1 - (j + 1)) (judge_down m n (i + 1) (n + 1 - (i + 1))))
       unfolding judge_across
       next-entry = let e : n + 1 - j ≡ suc (n + 1 - (j + 1)) = omega arith in across.rest ∙ rw (e, ← ex, ← ey, ← ev, ← ef)

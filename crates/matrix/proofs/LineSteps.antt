@@ -22,7 +22,6 @@ use Rattle.matrix.specs.Matrix.{entry_byte}
 use Rattle.std.specs.List.{count_by}
 use Rattle.std.proofs.lemmas.List.Recursion.{is_count_by}
 use Rattle.matrix.proofs.AnyFields.{fields-some}
-use Rattle.reasons.specs.AndThen.{and_then}
 use Rattle.lines.specs.OnLine.{values_on}
 use Rattle.reasons.specs.Refusals.{refuse}
 use Rattle.matrix.specs.ReadInto.{read_as}

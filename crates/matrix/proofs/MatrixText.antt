@@ -20,13 +20,13 @@ use Rattle.text.specs.Shapes.{numbers, numbers_line}
 use Rattle.text.proofs.Digits.{tens, by_digits, digits-one, digits_more}
 use Rattle.lines.specs.Lines.{lines}
 use Rattle.reasons.specs.declared.reason.Reason.{Reason}
-use Rattle.reasons.specs.Verdict as of_reasons
+use Rattle.reasons.specs.Verdict.{Verdict, refused_at}
 use Rattle.reasons.proofs.Judged.{SizeJudged, not_so_many, right_size, size-judged, fine-size}
 use Rattle.lines.proofs.LinesOf.{join-lines}
 use Rattle.matrix.specs.Matrix.{entry, write_matrix, Node}
 use Rattle.matrix.specs.Range.{InRange}
 use Rattle.matrix.specs.Demands.{rows_of_matrix}
-use Rattle.matrix.specs.Read.{SquareRead, MatrixVerdict, fields_in, square_lines, judge_down, judge_count, square_judged, on_first, matrix_lines, matrix_of}
+use Rattle.matrix.specs.Read.{SquareRead, MatrixVerdict, fields_in, square_lines, judge_down, judge_count, square_judged, matrix_lines, matrix_of}
 use Rattle.std.specs.Prelude.{Ok, Err}
 use Rattle.reasons.specs.AndThen.{and_then}
 use Rattle.lines.specs.OnLine.{values_on}
@@ -96,18 +96,18 @@ module _ {limits : Limits} {t : List ℕ} (short : length t ≤ limits.bytes) wh
           }))
 
   lines-matrix : (ls : List (List ℕ)) → t ≡ flatten ls → MatrixRead limits t (matrix_lines limits ls)
-  unfolding matrix_lines values_on on_first
+  unfolding matrix_lines values_on refused_at
   lines-matrix [] whole = matrix_refused
   lines-matrix (l ∷ ls) whole = go (numbers-read limits (fields_in l) l) (size-judged limits (fields_in l))
     where
       next : SquareRead
       next = square_judged limits (square_lines limits (fields_in l) 1 (fields_in l) [] (l ∷ ls))
 
-      ring : {v : of_reasons.Verdict} → SizeJudged limits (fields_in l) v → MatrixRead limits t (and_then (on_first v) (λ u. next))
+      ring : {v : Verdict} → SizeJudged limits (fields_in l) v → MatrixRead limits t (and_then (refused_at v 1 1) (λ u. next))
       ring (not_so_many w) = matrix_refused
       ring (right_size few many) = square-read few many whole (lines-read (l ∷ ls) 1 (fields_in l) [])
 
-      go : {x : Reading} {v : of_reasons.Verdict} → NumbersRead limits (fields_in l) l x → SizeJudged limits (fields_in l) v → MatrixRead limits t (and_then (values_on 1 x) (λ vs. and_then (on_first v) (λ u. next)))
+      go : {x : Reading} {v : Verdict} → NumbersRead limits (fields_in l) l x → SizeJudged limits (fields_in l) v → MatrixRead limits t (and_then (values_on 1 x) (λ vs. and_then (refused_at v 1 1) (λ u. next)))
       go (are_numbers e k s) judged = ring judged
       go (no_numbers h fault) judged = matrix_refused
 
@@ -132,7 +132,7 @@ right-square limits n m range = go (down-judged m n 1 n)
 
 module _ (limits : Limits) (possible : Possible limits) where
   first-written : (n : ℕ) (m : List (List ℕ)) → InRange limits n m → (l : List (List ℕ)) → lines (write_matrix m) ≡ l → matrix_lines limits l ≡ Ok (n, m)
-  unfolding matrix_lines values_on on_first square_judged write_matrix
+  unfolding matrix_lines values_on refused_at square_judged write_matrix
   first-written n [] range l e = absurd (omega (arith, range.square.tall, range.few, possible.some))
   first-written n (vs ∷ m) range l e = go range.square.wide range.amounts
     where

@@ -15,7 +15,7 @@ use Rattle.text.specs.ReadLine.{read_line}
 use Rattle.text.specs.Shapes.{numbers}
 use Rattle.lines.specs.Lines.{lines}
 use Rattle.reasons.specs.Judge.{check_size}
-use Rattle.reasons.specs.Verdict as of_reasons
+use Rattle.reasons.specs.Verdict.{Verdict, refused_at}
 use Rattle.reasons.specs.declared.reason.Reason.TheVariants.{TooLong, Misshapen}
 use Rattle.reasons.specs.declared.reason.Refusal.{Refusal}
 use Rattle.reasons.proofs.Judged.{SizeJudged, right_size, size-judged}
@@ -23,7 +23,7 @@ use Rattle.matrix.specs.Demands.{rows_of_matrix}
 use Rattle.reasons.specs.AndThen.{and_then}
 use Rattle.lines.specs.OnLine.{values_on}
 use Rattle.reasons.specs.Refusals.{refusal, refuse}
-use Rattle.matrix.specs.Read.{SquareRead, MatrixVerdict, Numbers, fields_in, first_numbers, amounts_in, square_lines, judge_down, judge_count, square_judged, on_first, matrix_of}
+use Rattle.matrix.specs.Read.{SquareRead, MatrixVerdict, Numbers, fields_in, first_numbers, amounts_in, square_lines, judge_down, judge_count, square_judged, matrix_of}
 use Rattle.matrix.specs.ReadInto.{read_to, IsMatrix, IsGiven}
 use Rattle.matrix.proofs.LineSteps.{told-bad, told-good}
 use Rattle.matrix.proofs.LinesText.{LineRead, line_is, line-read, LinesRead, lines_are, lines-read}
@@ -32,11 +32,11 @@ use Rattle.matrix.proofs.ReasonsGiven.{given}
 
 -- ---- the first line
 
-pub ring-few : (n : ℕ) (v : of_reasons.Verdict) → v ≡ check_size desk n → (y : MatrixVerdict) → y ≡ on_first v → y ≡ Ok tt → n ≤ desk.nodes
-unfolding on_first
+pub ring-few : (n : ℕ) (v : Verdict) → v ≡ check_size desk n → (y : MatrixVerdict) → y ≡ refused_at v 1 1 → y ≡ Ok tt → n ≤ desk.nodes
+unfolding refused_at
 ring-few n v e y ey f = go v (rw (← e) at (size-judged desk n)) (sym ey ∙ f)
   where
-    go : (v : of_reasons.Verdict) → SizeJudged desk n v → on_first v ≡ Ok tt → n ≤ desk.nodes
+    go : (v : Verdict) → SizeJudged desk n v → refused_at v 1 1 ≡ Ok tt → n ≤ desk.nodes
     go (Ok tt) (right_size few many) g = many
     go (Err r) judged g = absurd (cc)
 
@@ -56,7 +56,7 @@ module _ (s : List ℕ) where
         unfolding matrix_of
         first-misshapen r f = rw (le-ltb desk.bytes (length s) short, left, ← ec, told-bad count 1 first x ex r f)
 
-        module _ (read : List ℕ) (f : x ≡ Ok read) (v : of_reasons.Verdict) (ev : v ≡ check_size desk count) (y : MatrixVerdict) (ey : y ≡ on_first v) where
+        module _ (read : List ℕ) (f : x ≡ Ok read) (v : Verdict) (ev : v ≡ check_size desk count) (y : MatrixVerdict) (ey : y ≡ refused_at v 1 1) where
           size-told : matrix_of desk s ≡ and_then y (λ u. square_judged desk (square_lines desk count 1 count [] (lines s)))
           unfolding matrix_of values_on
           size-told = rw (le-ltb desk.bytes (length s) short, left, ← ec, (told-good count 1 first x ex read f).is, ← ev, ← ey)

@@ -25,15 +25,15 @@ use Rattle.std.specs.Prelude.{Ok, Err}
 use Rattle.reasons.specs.AndThen.{and_then}
 use Rattle.lines.specs.OnLine.{values_on}
 use Rattle.reasons.specs.declared.reason.Refusal.{Refusal}
-use Rattle.reasons.specs.Verdict as of_reasons
+use Rattle.reasons.specs.Verdict.{Verdict, refused_at}
 use Rattle.reasons.specs.Refusals.{refuse}
 use Rattle.reasons.proofs.Judged.{SizeJudged, not_so_many, right_size, size-judged}
-use Rattle.reasons.proofs.FirstGiven.{one-first, same-place as same-on-lines}
+use Rattle.reasons.proofs.FirstGiven.{RightBy, none_holds, first_holds, one-first, same-place as same-on-lines, refused-as, accepted-as}
 use Rattle.lines.proofs.LineNumbers.{line-low, line-one, LinesFrom, from_first, from_next, line-here, no-line-left}
 use Rattle.reasons.proofs.ReasonNumbers.{no-rank-0}
 use Rattle.matrix.specs.Matrix.{entry, entry_byte, Node}
 use Rattle.matrix.specs.Demands.{pairs_from, above_zero, rows_by, rows_of_matrix}
-use Rattle.matrix.specs.Read.{SquareRead, Numbers, MatrixVerdict, fields_in, square_lines, square_byte, judge_count, square_judged, on_first, matrix_lines, matrix_of}
+use Rattle.matrix.specs.Read.{SquareRead, Numbers, MatrixVerdict, fields_in, square_lines, square_byte, judge_count, square_judged, matrix_lines, matrix_of}
 use Rattle.matrix.specs.Says.{NumbersAre, EntryIs, NoFirstLine, NoLaterLine, LeftOver, SaysRingSize, SaysTooMuch, WrongEntry, not_zero, not_mirror, FirstFaulty, SaysTooMany, says_too_long, says_no_first_line, says_no_later_line, says_left_over, says_ring_size, says_too_much, says_not_zero, says_not_symmetric, says_too_many, Says, LineByte, first_due, later_due, none_due, EntryStarts, FaultyByte, at_none, at_fault, at_size, at_amount, at_diagonal, at_mirror, at_rows, ByteIs, stage, Earlier, Given, Accepted}
 use Rattle.matrix.proofs.LinesText.{NumbersRead, are_numbers, no_numbers, numbers-read, FirstOver, LineRead, line_is, line_over, line_not, line-read, Spelled, each_by, each_at}
 use Rattle.matrix.proofs.MatrixText.{fields-are}
@@ -69,11 +69,10 @@ told (says_not_zero h) = of_square refl h
 told (says_not_symmetric h) = of_square refl h
 told (says_too_many h) = of_rows refl h
 
--- ---- a result that is right by what the reasons say
+-- ---- an answer that is right by what the reasons say
 
-data Right (limits : Limits) (t : List ℕ) : SquareRead → Type 0 where
-  none_holds : {s : ℕ × List (List ℕ)} → Accepted limits t → Right limits t (Ok s)
-  first_holds : {r : Refusal} → Given limits t r.reason r.line r.byte → Right limits t (Err r)
+abbrev Right : Limits → List ℕ → SquareRead → Type 0
+Right limits t = RightBy (Says limits t) Earlier (ByteIs limits t)
 
 -- nothing is said of the lines before this one
 record Clean (limits : Limits) (t : List ℕ) (line : ℕ) : Type 0 where
@@ -424,7 +423,7 @@ module _ (limits : Limits) (t : List ℕ) where
       given-here RingSize refl (clean-start short) (says_ring_size (record { at = refl; us = us; first = first; wrong = w })) (λ s l h. size-first limits t us first l h) (at_size refl)
 
   all_right : length t ≤ limits.bytes → (ls : List (List ℕ)) → LinesFrom (lines t) 1 ls → Right limits t (matrix_lines limits ls)
-  unfolding matrix_lines values_on on_first square_judged
+  unfolding matrix_lines values_on refused_at square_judged
   all_right short [] from =
       first_holds (misshapen-here (omega arith) (clean-start short) (first_says (λ vs is. omega (arith, no-line-left from is.text)))
       (first_due refl (line_missing (λ l is. omega (arith, no-line-left from is)))))
@@ -433,7 +432,7 @@ module _ (limits : Limits) (t : List ℕ) where
       next : SquareRead
       next = square_judged limits (square_lines limits (fields_in l) 1 (fields_in l) [] (l ∷ ls))
 
-      ring : (us : List ℕ) {v : of_reasons.Verdict} → NumbersAre limits t 1 us → length us ≡ fields_in l → SizeJudged limits (fields_in l) v → Right limits t (and_then (on_first v) (λ u. next))
+      ring : (us : List ℕ) {v : Verdict} → NumbersAre limits t 1 us → length us ≡ fields_in l → SizeJudged limits (fields_in l) v → Right limits t (and_then (refused_at v 1 1) (λ u. next))
       ring us first k (not_so_many w) =
           first_holds (size-given short first (subst (λ x. (x < limits.fewest) ⊎ (limits.nodes < x)) (sym k) w))
       ring us first k (right_size few many) =
@@ -441,7 +440,7 @@ module _ (limits : Limits) (t : List ℕ) where
           (lines-right limits t us first (omega arith) (omega arith) (l ∷ ls) 1 (length us) [] (omega arith) (omega arith) from (is_first refl) (clean-start short)
           (record { count = refl; at = λ i p q. absurd (omega arith); wide = λ i p q. absurd (omega arith) }))
 
-      go : {x : Reading} {v : of_reasons.Verdict} → NumbersRead limits (fields_in l) l x → SizeJudged limits (fields_in l) v → Right limits t (and_then (values_on 1 x) (λ vs. and_then (on_first v) (λ u. next)))
+      go : {x : Reading} {v : Verdict} → NumbersRead limits (fields_in l) l x → SizeJudged limits (fields_in l) v → Right limits t (and_then (values_on 1 x) (λ vs. and_then (refused_at v 1 1) (λ u. next)))
       go (are_numbers {vs = us} e k s) judged =
           ring us (record { text = subst (LineIs (lines t) 1) e (line-here from); some = omega (arith, fields-some l); spelled = s }) k judged
       go (no_numbers {p} out fault) judged =
@@ -478,14 +477,7 @@ pub one-given : (limits : Limits) (t : List ℕ) {r s : Reason} {line other byte
 one-given limits t f g = one-first same-place (λ line b c r x y. one_byte x y) f g
 
 pub given : (limits : Limits) (t : List ℕ) (r : Refusal) → (matrix_of limits t ≡ Err r) ↔ Given limits t r.reason r.line r.byte
-given limits t r = (λ e. there (subst (Right limits t) e (right limits t)), λ g. back g (right limits t))
-  where
-    there : Right limits t (Err r) → Given limits t r.reason r.line r.byte
-    there (first_holds g) = g
-
-    back : Given limits t r.reason r.line r.byte → {x : SquareRead} → Right limits t x → x ≡ Err r
-    back g (none_holds out) = absurd (out r.reason r.line g.holds)
-    back g (first_holds f) = let o = one-given limits t f g in let a = o.0 in let b = o.1 in let c = o.2 in ap Err (λ i. record { reason = a i; line = b i; byte = c i })
+given limits t = refused-as same-place (λ line b c r x y. one_byte x y) (right limits t)
 
 -- a text is read to a matrix
 pub record Reads (limits : Limits) (t : List ℕ) : Type 0 where
@@ -494,11 +486,6 @@ pub record Reads (limits : Limits) (t : List ℕ) : Type 0 where
   pub is : matrix_of limits t ≡ Ok (n, m)
 
 pub accepted-is : (limits : Limits) (t : List ℕ) → Reads limits t ↔ Accepted limits t
-accepted-is limits t = (λ h. there (subst (Right limits t) h.is (right limits t)), λ out. back out (matrix_of limits t) refl)
-  where
-    there : {s : ℕ × List (List ℕ)} → Right limits t (Ok s) → Accepted limits t
-    there (none_holds out) = out
-
-    back : Accepted limits t → (x : SquareRead) → matrix_of limits t ≡ x → Reads limits t
-    back out (Ok s) e = record { n = s.0; m = s.1; is = e }
-    back out (Err r) e = absurd (out r.reason r.line ((given limits t r).0 e).holds)
+accepted-is limits t =
+    let law = accepted-as (right limits t) in
+    (λ h. law.0 ((h.n, h.m), h.is), λ out. let read = law.1 out in record { n = read.0.0; m = read.0.1; is = read.1 })

@@ -8,6 +8,8 @@ use native.Mathlib.Omega.{arith}
 use native.Mathlib.Decide.{dec_lt, ℕ_discrete}
 use lib.ListN.{length, get_or}
 use Rattle.ring.specs.LineSize.{IsFibres}
+use Rattle.family.specs.declared.family.Family.{Family}
+use Rattle.family.proofs.Sizes.{known-always}
 use Rattle.ring.specs.Ring.{ring_of}
 use Rattle.ring.specs.Limits.{Limits, desk}
 use Rattle.ring.specs.Lists.{listed, Each, none, more, Steps, no_member, one_member, step, Pairs, no_pair, and_pairs}
@@ -176,24 +178,25 @@ table-back n rs table each =
 -- ---- the table is in range
 
 -- room for the table of every matrix
-pub table-room : (n fibres : ℕ) (m : List (List ℕ)) → IsFibres fibres → InRange desk n m → length (write_table (ring_of n fibres) (rows_of_matrix n m)) ≤ table_room desk
-table-room n fibres m two_or_four range =
-    table-short desk desk-narrow (ring_of n fibres) (rows_of_matrix n m) range.many two_or_four (rows_on (entry m) n) range.count (rows-small desk n m range)
+pub table-room : (n fibres : ℕ) (family : Family) (m : List (List ℕ)) → IsFibres fibres → InRange desk n m → length (write_table (ring_of n fibres family) (rows_of_matrix n m)) ≤ table_room desk
+table-room n fibres family m two_or_four range =
+    table-short desk desk-narrow (ring_of n fibres family) (rows_of_matrix n m) range.many two_or_four (rows_on (entry m) n) range.count (rows-small desk n m range)
 
 -- so it is accepted: at most one row for a pair, none of amount 0
-pub rows-in-range : (n fibres : ℕ) (m : List (List ℕ)) → IsFibres fibres → InRange desk n m → TableInRange desk (ring_of n fibres) (rows_of_matrix n m)
-rows-in-range n fibres m two_or_four range =
+pub rows-in-range : (n fibres : ℕ) (family : Family) (m : List (List ℕ)) → IsFibres fibres → InRange desk n m → TableInRange desk (ring_of n fibres family) (rows_of_matrix n m)
+rows-in-range n fibres family m two_or_four range =
     record {
       within =
           record {
             few = range.few;
             many = range.many;
             fibres = two_or_four;
+            family = known-always family;
             rows = record { nodes = rows_on (entry m) n; order = rising-steps (rows-rising (entry m) n) };
             count = range.count;
             amounts = rows-small desk n m range;
           };
-      short = omega (arith, table-room n fibres m two_or_four range);
+      short = omega (arith, table-room n fibres family m two_or_four range);
     }
 
 pub rows-one-each : (n : ℕ) (m : List (List ℕ)) → OneEach (rows_of_matrix n m)

@@ -8,7 +8,7 @@ use Rattle.lines.specs.Lines.{lines}
 use Rattle.reasons.specs.Judge.{check_size}
 use Rattle.reasons.specs.AndThen.{and_then}
 use Rattle.lines.specs.OnLine.{values_on}
-use Rattle.reasons.specs.Verdict as of_reasons
+use Rattle.reasons.specs.Verdict.{Verdict, refused_at}
 use Rattle.reasons.specs.declared.reason.Refusal.{Refusal}
 use Rattle.reasons.specs.declared.reason.Reason.TheVariants.{TooLong, Misshapen, TooMany, TooMuch, NotZero, NotSymmetric}
 use Rattle.reasons.specs.Refusals.{refuse}
@@ -68,13 +68,8 @@ square_lines limits n line (suc left) m (l ∷ ls) =
 -- ---- the entries in order
 
 -- 17 and 18, of the entry x at i, j whose mirror entry is y
-unfoldable pub check_entry : ℕ → ℕ → ℕ → ℕ → of_reasons.Verdict
+unfoldable pub check_entry : ℕ → ℕ → ℕ → ℕ → Verdict
 check_entry i j x y = cond (eqb i j) (cond (eqb x 0) (Ok tt) (Err NotZero)) (cond (eqb x y) (Ok tt) (Err NotSymmetric))
-
--- what is found against an entry that starts there
-unfoldable pub on_entry : of_reasons.Verdict → ℕ → ℕ → MatrixVerdict
-on_entry (Ok tt) line byte = Ok tt
-on_entry (Err reason) line byte = refuse reason line byte
 
 -- where the entry i, j starts in its line
 abbrev pub square_byte : List (List ℕ) → ℕ → ℕ → ℕ
@@ -82,10 +77,10 @@ square_byte m i j = entry_byte (get_or m (i - 1) []) (j - 1)
 
 -- the entries i, j and on, k of them, then what is next
 unfoldable pub judge_across : List (List ℕ) → ℕ → ℕ → ℕ → MatrixVerdict → MatrixVerdict
-unfolding check_entry on_entry
+unfolding check_entry refused_at
 judge_across m i j zero next = next
 judge_across m i j (suc k) next =
-    and_then (on_entry (check_entry i j (entry m i j) (entry m j i)) i (square_byte m i j)) λ u. judge_across m i (j + 1) k next
+    and_then (refused_at (check_entry i j (entry m i j) (entry m j i)) i (square_byte m i j)) λ u. judge_across m i (j + 1) k next
 
 -- the lines i and on, k of them, each of n entries
 unfoldable pub judge_down : List (List ℕ) → ℕ → ℕ → ℕ → MatrixVerdict
@@ -103,18 +98,13 @@ square_judged limits x = and_then x λ s. and_then (judge_down s.1 s.0 1 s.0) λ
 
 -- ---- the whole
 
--- what is found against the number of fields of the first line
-unfoldable pub on_first : of_reasons.Verdict → MatrixVerdict
-on_first (Ok tt) = Ok tt
-on_first (Err reason) = refuse reason 1 1
-
 -- n is the number of fields of the first line
 unfoldable pub matrix_lines : Limits → List (List ℕ) → SquareRead
-unfolding values_on on_first square_lines square_judged fields_in
+unfolding values_on refused_at square_lines square_judged fields_in
 matrix_lines limits [] = refuse Misshapen 1 1
 matrix_lines limits (l ∷ ls) =
     and_then (values_on 1 (read_line limits.digits (numbers (fields_in l)) l)) λ vs.
-    and_then (on_first (check_size limits (fields_in l))) λ u.
+    and_then (refused_at (check_size limits (fields_in l)) 1 1) λ u.
     square_judged limits (square_lines limits (fields_in l) 1 (fields_in l) [] (l ∷ ls))
 
 unfoldable pub matrix_of : Limits → List ℕ → SquareRead

@@ -1,4 +1,5 @@
--- To believe: what each reason says of a matrix's text (Rules, reasons), by its lines and the writer alone, and the byte that goes with it; which reason is given; and what an accepted matrix is.
+-- To believe: what each reason says of a matrix's text (Rules, reasons), by its lines and the writer alone, and the byte that goes with it; which reason is given;
+-- and what an accepted matrix is.
 use Rattle.std.specs.Prelude.{ℕ, ◌+◌, ◌-◌, ◌≤◌, ◌<◌, List, [], ◌⊎◌, ◌≡◌, length, get_or}
 use Rattle.ring.specs.Limits.{Limits}
 use Rattle.ring.specs.Lists.{Each, Some}

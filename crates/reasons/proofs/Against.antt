@@ -9,7 +9,7 @@ use Rattle.ring.specs.declared.types.Ring.{Ring}
 use Rattle.ring.specs.declared.types.Demand.{Demand}
 use Rattle.ring.specs.LineSize.{IsFibres}
 use Rattle.reasons.specs.Reasons.{rank_of}
-use Rattle.reasons.specs.Findings.{NoNode, Falls}
+use Rattle.reasons.specs.RowFindings.{NoNode, Falls}
 use Rattle.reasons.specs.Judge.{ring_verdict, row_verdict}
 use Rattle.reasons.specs.declared.reason.Reason.{Reason}
 use Rattle.reasons.specs.declared.reason.Reason.TheVariants.{RingSize, Fibres, NoSuchNode, NotBelow, OutOfOrder, TooMany, TooMuch}

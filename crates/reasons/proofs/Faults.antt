@@ -10,8 +10,9 @@ use Rattle.ring.specs.Limits.{Limits, desk}
 use Rattle.ring.specs.declared.types.Ring.{Ring}
 use Rattle.ring.specs.declared.types.Demand.{Demand}
 use Rattle.reasons.specs.Judge.{ring_verdict, row_verdict}
-use Rattle.reasons.specs.Faults.{verdict_found, ring_found, row_found, last_demand}
-use Rattle.reasons.specs.Findings.{First, found_at, ring_findings, demand_findings}
+use Rattle.reasons.specs.Faults.{verdict_found, ring_found, row_found, found_at, last_demand}
+use Rattle.reasons.specs.Findings.{First}
+use Rattle.reasons.specs.RowFindings.{ring_findings, demand_findings}
 use Rattle.reasons.specs.Verdict.{Verdict}
 use Rattle.reasons.specs.declared.reason.Reason.{Reason}
 use Rattle.reasons.specs.declared.fault.Fault.{Fault}

@@ -13,7 +13,7 @@ use Rattle.ring.specs.Limits.{Limits}
 use Rattle.ring.specs.declared.types.Ring.{Ring}
 use Rattle.ring.specs.declared.types.Demand.{Demand}
 use Rattle.ring.specs.LineSize.{two_fibres, four_fibres, IsFibres}
-use Rattle.reasons.specs.Findings.{NoNode, Falls}
+use Rattle.reasons.specs.RowFindings.{NoNode, Falls}
 use Rattle.reasons.specs.Judge.{wrong_size, check_size, other_fibres, ring_verdict, outside, falls, row_verdict}
 use Rattle.reasons.specs.declared.reason.Reason.TheVariants.{RingSize, Fibres, NoSuchNode, NotBelow, OutOfOrder, TooMany, TooMuch}
 use Rattle.reasons.specs.Verdict.{Verdict}

@@ -13,7 +13,7 @@ use Rattle.reasons.specs.Verdict.{Verdict}
 use Rattle.reasons.specs.declared.reason.Reason.{Reason}
 use Rattle.reasons.specs.declared.reason.Reason.TheVariants.{Misshapen, RingSize, NoSuchNode, NotBelow, OutOfOrder, TooMany, TooMuch}
 
--- limits of which none is above the other's; texts, the least ring and amounts have the same, and a node or an amount of the higher ones is no number too long for the lower
+-- limits of which none is above the other's, and no M may stand but where one may there; texts, the least ring and amounts have the same, and a node or an amount of the higher ones is no number too long for the lower
 pub record Lower (low high : Limits) : Type 0 where
   pub bytes : low.bytes ≡ high.bytes
   pub fewest : low.fewest ≡ high.fewest
@@ -21,10 +21,11 @@ pub record Lower (low high : Limits) : Type 0 where
   pub nodes : low.nodes ≤ high.nodes
   pub rows : low.rows ≤ high.rows
   pub digits : low.digits ≤ high.digits
+  pub marks : low.marks ≡ true → high.marks ≡ true
   pub spelled : (high.nodes < 10 ^ low.digits) × (high.amount < 10 ^ low.digits)
 
 pub old-lower : Lower old desk
-old-lower = record { bytes = refl; fewest = refl; amount = refl; nodes = omega arith; rows = omega arith; digits = omega arith; spelled = (omega arith, omega arith) }
+old-lower = record { bytes = refl; fewest = refl; amount = refl; nodes = omega arith; rows = omega arith; digits = omega arith; marks = λ e. refl; spelled = (omega arith, omega arith) }
 
 -- ---- what is found against a ring or a row
 

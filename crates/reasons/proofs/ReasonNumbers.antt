@@ -8,18 +8,18 @@ use native.Mathlib.Decide.{dec_lt}
 use lib.ListN.{get_or}
 use Rattle.reasons.specs.Reasons.{number_of, rank_of}
 use Rattle.reasons.specs.declared.reason.Reason.{Reason}
-use Rattle.reasons.specs.declared.reason.Reason.TheVariants.{TooLong, Misshapen, RingSize, Fibres, NoRow, NoSuchNode, NotBelow, OutOfOrder, TooMany, TooMuch, Full, WrongSum, WrongWay, WrongCut, WrongLink, WrongLast, NotTight, OverBound, NotZero, NotSymmetric, SumTooMuch, TooManySplit, NoRoom}
+use Rattle.reasons.specs.declared.reason.Reason.TheVariants.{TooLong, Misshapen, RingSize, Fibres, NoRow, NoSuchNode, NotBelow, OutOfOrder, TooMany, TooMuch, Full, WrongSum, WrongWay, WrongCut, WrongLink, WrongLast, NotTight, OverBound, NotZero, NotSymmetric, SumTooMuch, TooManySplit, PlansTooLong, NoRoom}
 
 -- from place 1 on
 abbrev by_number : List Reason
 by_number =
     NoRoom ∷ TooLong ∷ Misshapen ∷ RingSize ∷ NoSuchNode ∷ NotBelow ∷ OutOfOrder ∷ TooMuch ∷ WrongSum ∷ WrongWay ∷ WrongCut ∷ WrongLink ∷ WrongLast
-    ∷ NotTight ∷ OverBound ∷ NoRoom ∷ TooMany ∷ NotZero ∷ NotSymmetric ∷ SumTooMuch ∷ Fibres ∷ Full ∷ NoRow ∷ TooManySplit ∷ []
+    ∷ NotTight ∷ OverBound ∷ NoRoom ∷ TooMany ∷ NotZero ∷ NotSymmetric ∷ SumTooMuch ∷ Fibres ∷ Full ∷ NoRow ∷ TooManySplit ∷ PlansTooLong ∷ []
 
 abbrev by_rank : List Reason
 by_rank =
     NoRoom ∷ TooLong ∷ Misshapen ∷ RingSize ∷ Fibres ∷ NoRow ∷ NoSuchNode ∷ NotBelow ∷ OutOfOrder ∷ TooMany ∷ TooMuch ∷ Full ∷ WrongSum ∷ WrongWay ∷ WrongCut ∷ WrongLink
-    ∷ WrongLast ∷ NotTight ∷ OverBound ∷ NotZero ∷ NotSymmetric ∷ SumTooMuch ∷ TooManySplit ∷ NoRoom ∷ []
+    ∷ WrongLast ∷ NotTight ∷ OverBound ∷ NotZero ∷ NotSymmetric ∷ SumTooMuch ∷ TooManySplit ∷ PlansTooLong ∷ NoRoom ∷ []
 
 record InItsPlaces (r : Reason) : Type 0 where
   number : get_or by_number (number_of r) NoRoom ≡ r
@@ -48,6 +48,7 @@ in-its-places NotZero = record { number = refl; rank = refl }
 in-its-places NotSymmetric = record { number = refl; rank = refl }
 in-its-places SumTooMuch = record { number = refl; rank = refl }
 in-its-places TooManySplit = record { number = refl; rank = refl }
+in-its-places PlansTooLong = record { number = refl; rank = refl }
 in-its-places NoRoom = record { number = refl; rank = refl }
 
 -- a key under which each reason stands in a list, from place 1 on; 15 stands at place 0

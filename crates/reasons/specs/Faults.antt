@@ -1,13 +1,15 @@
--- Internal: what is found against the values of a line: a reason, and the field that it is about.
+-- Internal: what is found against the values of a line: a reason, and the field that it is about; and of values without a line, its place.
 use Rattle.std.specs.Prelude.{ℕ, Result, Option, Some, None, Ok, Err, List, [], ◌∷◌}
 use Rattle.ring.specs.Limits.{Limits}
 use Rattle.ring.specs.declared.types.Ring.{Ring}
 use Rattle.ring.specs.declared.types.Demand.{Demand}
 use Rattle.reasons.specs.Fields.{field_of, node_field}
+use Rattle.reasons.specs.Findings.{found}
 use Rattle.reasons.specs.Judge.{ring_verdict, row_verdict}
 use Rattle.reasons.specs.Verdict.{Verdict}
 use Rattle.reasons.specs.declared.reason.Reason.{Reason}
 use Rattle.reasons.specs.declared.fault.Fault.{Fault}
+use Rattle.reasons.specs.declared.finding.Finding.{Finding}
 
 -- a verdict, by which field each reason is about
 unfoldable pub verdict_found : Verdict → (Reason → ℕ) → Result Unit Fault
@@ -23,6 +25,11 @@ ring_found limits ring = verdict_found (ring_verdict limits ring) (λ reason. fi
 unfoldable pub row_found : Limits → ℕ → ℕ → Option Demand → Demand → Result Unit Fault
 unfolding verdict_found node_field
 row_found limits n k above r = verdict_found (row_verdict limits n k above r) (λ reason. field_of reason (node_field n r.first))
+
+-- a fault as what is found at a place; or nothing is found
+abbrev pub found_at : ℕ → Result Unit Fault → Result Unit Finding
+found_at place (Ok tt) = Ok tt
+found_at place (Err fault) = Err (found fault.reason place)
 
 -- the last of some rows
 abbrev pub last_demand : List Demand → Option Demand

@@ -2,6 +2,7 @@ pub mod Reasons
 pub mod Refusals
 pub mod AndThen
 pub mod Findings
+pub mod RowFindings
 pub mod Verdict
 pub mod Judge
 pub mod Fields

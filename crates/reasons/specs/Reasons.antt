@@ -1,7 +1,7 @@
 -- To believe: the numbers of the reasons (Rules, reasons), the order in which they are tried (Rules, the order of reasons), and which of them is given.
 use Rattle.std.specs.Prelude.{ℕ, ◌<◌, ◌⊎◌, ◌≡◌}
 use Rattle.reasons.specs.declared.reason.Reason.{Reason}
-use Rattle.reasons.specs.declared.reason.Reason.TheVariants.{TooLong, Misshapen, RingSize, Fibres, NoRow, NoSuchNode, NotBelow, OutOfOrder, TooMany, TooMuch, Full, WrongSum, WrongWay, WrongCut, WrongLink, WrongLast, NotTight, OverBound, NotZero, NotSymmetric, SumTooMuch, TooManySplit, NoRoom}
+use Rattle.reasons.specs.declared.reason.Reason.TheVariants.{TooLong, Misshapen, RingSize, Fibres, NoRow, NoSuchNode, NotBelow, OutOfOrder, TooMany, TooMuch, Full, WrongSum, WrongWay, WrongCut, WrongLink, WrongLast, NotTight, OverBound, NotZero, NotSymmetric, SumTooMuch, TooManySplit, PlansTooLong, NoRoom}
 
 -- the number of each, by which the texts of refusals and C name it
 abbrev pub number_of : Reason → ℕ
@@ -49,6 +49,8 @@ number_of NotSymmetric = 18
 number_of SumTooMuch = 19
 -- more split rows than the best choice is made among
 number_of TooManySplit = 23
+-- text of many plans over 65,536 bytes
+number_of PlansTooLong = 24
 -- lent buffer shorter than the text to be written
 number_of NoRoom = 15
 
@@ -76,7 +78,8 @@ rank_of NotZero = 19
 rank_of NotSymmetric = 20
 rank_of SumTooMuch = 21
 rank_of TooManySplit = 22
-rank_of NoRoom = 23
+rank_of PlansTooLong = 23
+rank_of NoRoom = 24
 
 -- what is tried earlier: the line before, which is 0 for reason 1, and on the same line the reason before (Rules, the order of reasons)
 abbrev pub Earlier : Reason → ℕ → Reason → ℕ → Type 0

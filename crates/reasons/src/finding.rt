@@ -1,4 +1,4 @@
-// What is found against values that are held as records: they have places, and no lines or bytes.
+//! What is found against values that are held as records: they have places, and no lines or bytes.
 ghost use Rattle.std.specs.Prelude.{◌≡◌};
 ghost use Rattle.reasons.specs.Findings.{found};
 

@@ -68,7 +68,7 @@ pub fn check_ring(ring: Ring) -> Result<(), Fault>
 
 // Whether a ring of n nodes lacks the node i.
 #[tactic(auto, unfolding(crate::specs::Judge::outside))]
-fn no_node(n: u32, i: u32) -> bool
+fn outside(n: u32, i: u32) -> bool
     ensures { result ≡ outside n i }
 {
     i < 1 || n < i
@@ -85,22 +85,22 @@ fn falls(above: Option<Demand>, row: Demand) -> bool
     }
 }
 
-/// What is found against a row on a ring of so many nodes, behind `place` rows of which the last is `above`: the first that holds of 4 of its first node, 4 of its
+/// What is found against a row on a ring of so many nodes, behind `before` rows of which the last is `above`: the first that holds of 4 of its first node, 4 of its
 /// second, 5, 6, 16 and 7. The amount is in units.
 #[tactic(auto, unfolding(crate::specs::Judge::row_verdict, crate::specs::Fields::node_field, crate::specs::Faults::row_found, crate::specs::Faults::verdict_found))]
-pub fn check_row(nodes: u32, place: usize, above: Option<Demand>, row: Demand) -> Result<(), Fault>
-    ensures first { result ≡ row_found desk nodes place above row }
+pub fn check_row(nodes: u32, before: usize, above: Option<Demand>, row: Demand) -> Result<(), Fault>
+    ensures first { result ≡ row_found desk nodes before above row }
     ensures field { IfErr result (λ fault. fault.field ≤ 3) }
 {
-    let (reason, field) = if no_node(nodes, row.first) {
+    let (reason, field) = if outside(nodes, row.first) {
         (Reason::NoSuchNode, 1)
-    } else if no_node(nodes, row.second) {
+    } else if outside(nodes, row.second) {
         (Reason::NoSuchNode, 2)
     } else if row.second <= row.first {
         (Reason::NotBelow, 0)
     } else if falls(above, row) {
         (Reason::OutOfOrder, 0)
-    } else if ROWS <= place {
+    } else if ROWS <= before {
         (Reason::TooMany, 0)
     } else if AMOUNT < row.amount {
         (Reason::TooMuch, 3)

@@ -5,7 +5,7 @@ ghost use Rattle.reasons.specs.Reasons.{number_of};
 ghost use Rattle.reasons.specs.Refusals.{refusal};
 
 /// The reasons, in the order in which they are tried (but that of a matrix `TooMany` is tried behind `NotSymmetric`), each with its number. Tables use the
-/// first ten but NoRow, the best choice `TooManySplit`, and, where a buffer is lent, the last; the working table has NoRow and Full.
+/// first ten but NoRow, the best choice `TooManySplit`, a report `PlansTooLong`, and, where a buffer is lent, the last; the working table has NoRow and Full.
 #[derive(Clone, Copy, Debug, PartialEq, Eq)]
 pub enum Reason {
     TooLong = 1,
@@ -30,6 +30,7 @@ pub enum Reason {
     NotSymmetric = 18,
     SumTooMuch = 19,
     TooManySplit = 23,
+    PlansTooLong = 24,
     NoRoom = 15,
 }
 
@@ -42,7 +43,7 @@ pub struct Refusal {
 }
 
 impl Reason {
-    /// Its number, from 1 to 23, by which C and the printed refusals name it.
+    /// Its number, from 1 to 24, by which C and the printed refusals name it.
     pub fn number(self) -> u32
         ensures { result ≡ number_of self }
     {

@@ -1,4 +1,4 @@
-// The line that the programs print of a refusal.
+//! The line that the programs print of a refusal.
 ghost use Rattle.std.specs.Prelude.{◌≡◌, Some};
 ghost use Rattle.reasons.specs.Reasons.{number_of};
 ghost use Rattle.reasons.specs.Refusals.{refusal_line};

@@ -7,7 +7,7 @@ use mathlib.Core.Path.{◌≡◌, refl, ap, sym, ◌∙◌}
 use lib.Dec.{eqb}
 use borrow.Author.Tests.{eqb-true}
 use Rattle.text.specs.Bytes.{lf, letter_r}
-use Rattle.report.specs.Pieces.{starts_r, is_cut, pieces}
+use Rattle.report.specs.Pieces.{starts_r, ends_piece, pieces}
 use Rattle.report.specs.Damage.{alone}
 use Rattle.report.specs.PiecesAre.{EndsLine, NoneBehind, IsEmpty}
 use Rattle.report.specs.Anywhere.{line_behind, begins_r, line_at, Harmless, Inside}
@@ -79,8 +79,8 @@ record LastPiece (u : List ℕ) : Type 0 where
   parted : IsEmpty a ⊎ (EndsLine a × (starts_r p ≡ true))
   one : begins_r false p ≡ false
 
-uncut-byte : (b : ℕ) (p : List ℕ) → is_cut b p ≡ false → begins_r false p ≡ false → begins_r false (b ∷ p) ≡ false
-unfolding is_cut starts_r begins_r
+uncut-byte : (b : ℕ) (p : List ℕ) → ends_piece b p ≡ false → begins_r false p ≡ false → begins_r false (b ∷ p) ≡ false
+unfolding ends_piece starts_r begins_r
 uncut-byte b [] h o = refl
 uncut-byte b (c ∷ p) h o = or-false (eqb b lf && eqb c letter_r) (begins_r (eqb c lf) p) h o
 
@@ -90,12 +90,12 @@ byte-before b u l = go l.a l.p l.whole l.parted l.one
   where
     go : (a p : List ℕ) → a ++ p ≡ u → (a ≡ []) ⊎ (((front : List ℕ) × (a ≡ front ++ lf ∷ [])) × (starts_r p ≡ true)) → begins_r false p ≡ false → LastPiece (b ∷ u)
     go a p e (inr (n, s)) o = record { a = b ∷ a; p = p; whole = ap (λ (l : List ℕ). b ∷ l) e; parted = inr (ends-append (b ∷ []) a n, s); one = o }
-    go a p e (inl i) o = cut (is_cut b p) refl
+    go a p e (inl i) o = cut (ends_piece b p) refl
       where
         same : p ≡ u
         same = rw i at e
 
-        cut : (v : Bool) → is_cut b p ≡ v → LastPiece (b ∷ u)
+        cut : (v : Bool) → ends_piece b p ≡ v → LastPiece (b ∷ u)
         cut true h = record {
           a = b ∷ [];
           p = p;

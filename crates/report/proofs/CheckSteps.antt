@@ -15,7 +15,7 @@ use Rattle.ring.proofs.Small.{figures-small}
 use Rattle.reasons.specs.declared.reason.Refusal.{Refusal}
 use Rattle.text.specs.Field.{spell}
 use Rattle.text.specs.WriteLine.{end_of, write_line}
-use Rattle.text.specs.Shapes.{ring_line}
+use Rattle.text.specs.RingLine.{ring_line}
 use Rattle.text.specs.declared.field.Field.{Field}
 use Rattle.sheet.specs.ReadInto.{with_values}
 use Rattle.sheet.specs.WriteSheet.{routed_line, end_text, write_sheet}
@@ -28,7 +28,7 @@ use Rattle.report.specs.ByCheck.{outcome_of, checked}
 -- ---- what a piece gives
 
 module _ (rs : List Routed) (ls : List Link) (answer : Either Figures Refusal) (s : List ℕ) (e : with_values rs ls answer ≡ check desk s) where
-  pub gives-plan : (f : Figures) → answer ≡ Ok f → Accepted f.unsplit_peak f.cut.across ≡ checked s
+  pub gives-plan : (f : Figures) → answer ≡ Ok f → Accepted f.ring.family f.unsplit_peak f.cut.across ≡ checked s
   unfolding outcome_of
   gives-plan f a = ap outcome_of (sym (ap (with_values rs ls) a) ∙ e)
 
@@ -54,7 +54,7 @@ unfolding write_sheet
 sheet-length x =
     omega (
       arith,
-      length-append (ring_line x.ring.nodes x.ring.fibres) (flat_map routed_line x.rows ++ end_text (figures_of x) x.links),
+      length-append (ring_line x.ring) (flat_map routed_line x.rows ++ end_text (figures_of x) x.links),
       length-append (flat_map routed_line x.rows) (end_text (figures_of x) x.links),
       rows-length x.rows,
     )

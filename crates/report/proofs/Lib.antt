@@ -7,6 +7,7 @@ pub mod SheetPieces
 pub mod WalkSteps
 pub mod WorstLaws
 pub mod TotalsLaws
+pub mod WriteSteps
 pub mod Damage
 pub mod Anywhere
 pub mod ReportLaws

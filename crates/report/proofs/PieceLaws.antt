@@ -10,7 +10,7 @@ use borrow.Author.Tests.{eqb-true}
 use Rattle.ring.specs.Lists.{Each, none, more, Steps, no_member, one_member, step}
 use Rattle.text.specs.Bytes.{lf, letter_r}
 use Rattle.lines.specs.Lines.{with_byte}
-use Rattle.report.specs.Pieces.{starts_r, is_cut, pieces}
+use Rattle.report.specs.Pieces.{starts_r, ends_piece, pieces}
 use Rattle.report.specs.Damage.{alone}
 use Rattle.report.specs.PiecesAre.{EndsLine, NoneBehind, IsEmpty, OnePiece, Parted, ArePieces, PiecesAre}
 
@@ -25,16 +25,16 @@ join-byte false b (p ∷ ps) = refl
 pub join-pieces : (t : List ℕ) → flatten (pieces t) ≡ t
 unfolding pieces flatten
 join-pieces [] = refl
-join-pieces (b ∷ t) = join-byte (is_cut b t) b (pieces t) ∙ ap (λ (l : List ℕ). b ∷ l) (join-pieces t)
+join-pieces (b ∷ t) = join-byte (ends_piece b t) b (pieces t) ∙ ap (λ (l : List ℕ). b ∷ l) (join-pieces t)
 
 -- ---- no line behind the first starts with R, byte by byte
 
 unfoldable pub Uncut : List ℕ → Type 0
 Uncut [] = Unit {0}
-Uncut (b ∷ t) = (is_cut b t ≡ false) × Uncut t
+Uncut (b ∷ t) = (ends_piece b t ≡ false) × Uncut t
 
-pub cut-means : (b : ℕ) (t : List ℕ) → is_cut b t ≡ true → (b ≡ lf) × ((rest : List ℕ) × (t ≡ letter_r ∷ rest))
-unfolding is_cut starts_r
+pub cut-means : (b : ℕ) (t : List ℕ) → ends_piece b t ≡ true → (b ≡ lf) × ((rest : List ℕ) × (t ≡ letter_r ∷ rest))
+unfolding ends_piece starts_r
 cut-means b [] e = elim (eqb b lf) as (λ v. (v && false) ≡ true → (b ≡ lf) × ((rest : List ℕ) × ([] ≡ letter_r ∷ rest))) [ true ↦ λ h. absurd (cc) | false ↦ λ h. absurd (cc) ] e
 cut-means b (c ∷ t) e = go (eqb b lf) (eqb-true b lf) e
   where
@@ -45,14 +45,14 @@ cut-means b (c ∷ t) e = go (eqb b lf) (eqb-true b lf) e
 none-uncut : (p : List ℕ) → NoneBehind p → Uncut p
 unfolding NoneBehind Uncut
 none-uncut [] h = tt
-none-uncut (b ∷ t) h = (go (is_cut b t) (cut-means b t), none-uncut t (λ front rest e. h (b ∷ front) rest (ap (λ (l : List ℕ). b ∷ l) e)))
+none-uncut (b ∷ t) h = (go (ends_piece b t) (cut-means b t), none-uncut t (λ front rest e. h (b ∷ front) rest (ap (λ (l : List ℕ). b ∷ l) e)))
   where
     go : (v : Bool) → (v ≡ true → (b ≡ lf) × ((rest : List ℕ) × (t ≡ letter_r ∷ rest))) → v ≡ false
     go false f = refl
     go true f = absurd (let m = f refl in h [] m.1.0 (cc (m.0, m.1.1)))
 
 pub uncut-none : (p : List ℕ) → Uncut p → NoneBehind p
-unfolding NoneBehind Uncut is_cut starts_r
+unfolding NoneBehind Uncut ends_piece starts_r
 uncut-none [] u [] rest e = cc
 uncut-none [] u (x ∷ front) rest e = cc
 uncut-none (b ∷ []) u [] rest e = cc
@@ -65,8 +65,8 @@ uncut-none (b ∷ t) u (x ∷ front) rest e =
     let m : t ≡ front ++ lf ∷ letter_r ∷ rest = cc in
     uncut-none t u.1 front rest m
 
-pub starts-cut : (b : ℕ) (t : List ℕ) → is_cut b t ≡ true → starts_r t ≡ true
-unfolding is_cut
+pub starts-cut : (b : ℕ) (t : List ℕ) → ends_piece b t ≡ true → starts_r t ≡ true
+unfolding ends_piece
 starts-cut b t = go (eqb b lf)
   where
     go : (v : Bool) → (v && starts_r t) ≡ true → starts_r t ≡ true
@@ -88,7 +88,7 @@ one-piece t h = uncut-alone t (none-uncut t h)
 
 some-piece : (b : ℕ) (t : List ℕ) → (p : List ℕ) × (ps : List (List ℕ)) × (pieces (b ∷ t) ≡ p ∷ ps)
 unfolding pieces with_byte
-some-piece b t = go (is_cut b t) (pieces t)
+some-piece b t = go (ends_piece b t) (pieces t)
   where
     go : (v : Bool) (ps : List (List ℕ)) → (p : List ℕ) × (qs : List (List ℕ)) × (with_byte v b ps ≡ p ∷ qs)
     go true ps = (b ∷ [], ps, refl)
@@ -107,12 +107,12 @@ byte-then v b c t qs =
 
 -- the first ends a line, and the second starts with R
 line-then : (front b : List ℕ) → starts_r b ≡ true → pieces ((front ++ lf ∷ []) ++ b) ≡ pieces (front ++ lf ∷ []) ++ pieces b
-unfolding pieces is_cut with_byte starts_r
+unfolding pieces ends_piece with_byte starts_r
 line-then [] b h = rw h refl
 line-then (x ∷ []) b h =
-    rw (line-then [] b h) (byte-then (is_cut x (lf ∷ [])) x lf [] (pieces b))
+    rw (line-then [] b h) (byte-then (ends_piece x (lf ∷ [])) x lf [] (pieces b))
 line-then (x ∷ y ∷ front) b h =
-    rw (line-then (y ∷ front) b h) (byte-then (is_cut x (y ∷ (front ++ lf ∷ []))) x y (front ++ lf ∷ []) (pieces b))
+    rw (line-then (y ∷ front) b h) (byte-then (ends_piece x (y ∷ (front ++ lf ∷ []))) x y (front ++ lf ∷ []) (pieces b))
 
 -- nothing is on one side, or a line ends there and one that starts with R begins
 pub data Meet (a b : List ℕ) : Type 0 where
@@ -158,11 +158,11 @@ only-pieces t ps a = sym (only ps a.each a.parted) ∙ ap pieces a.together
 
 -- ---- the pieces are such a list
 
-uncut-join : (b : ℕ) (p t : List ℕ) → is_cut b t ≡ false → starts_r t ≡ starts_r p → Uncut p → Uncut (b ∷ p)
-unfolding Uncut is_cut
+uncut-join : (b : ℕ) (p t : List ℕ) → ends_piece b t ≡ false → starts_r t ≡ starts_r p → Uncut p → Uncut (b ∷ p)
+unfolding Uncut ends_piece
 uncut-join b p t h e u = (rw e at h, u)
 
-none-join : (b : ℕ) (p t : List ℕ) → is_cut b t ≡ false → starts_r t ≡ starts_r p → NoneBehind p → NoneBehind (b ∷ p)
+none-join : (b : ℕ) (p t : List ℕ) → ends_piece b t ≡ false → starts_r t ≡ starts_r p → NoneBehind p → NoneBehind (b ∷ p)
 none-join b p t h e n = uncut-none (b ∷ p) (uncut-join b p t h e (none-uncut p n))
 
 one-byte : (b : ℕ) → OnePiece (b ∷ [])
@@ -179,7 +179,7 @@ longer b p [] s = one_member
 longer b p (q ∷ ps) (step r s) = step (record { ends = ends-append (b ∷ []) p r.ends; starts = r.starts }) s
 
 module _ (b : ℕ) (t : List ℕ) where
-  byte-are : (ends : Bool) → is_cut b t ≡ ends → (ps : List (List ℕ)) → flatten ps ≡ t → Each OnePiece ps → Steps Parted ps
+  byte-are : (ends : Bool) → ends_piece b t ≡ ends → (ps : List (List ℕ)) → flatten ps ≡ t → Each OnePiece ps → Steps Parted ps
       → Each OnePiece (with_byte ends b ps) × Steps Parted (with_byte ends b ps)
   unfolding with_byte EndsLine IsEmpty
   byte-are true h [] j each s = (more (one-byte b) none, one_member)
@@ -197,7 +197,7 @@ unfolding pieces
 stand [] = (none, no_member)
 stand (b ∷ t) =
     let r = stand t in
-    byte-are b t (is_cut b t) refl (pieces t) (join-pieces t) r.0 r.1
+    byte-are b t (ends_piece b t) refl (pieces t) (join-pieces t) r.0 r.1
 
 pub pieces-are : (t : List ℕ) → ArePieces t (pieces t)
 pieces-are t = let r = stand t in record { together = join-pieces t; each = r.0; parted = r.1 }

@@ -5,42 +5,45 @@ use mathlib.Core.Logic.{◌⊎◌}
 use mathlib.Core.Path.{◌≡◌, refl, sym, ap, ◌∙◌}
 use native.Mathlib.Omega.{arith}
 use Rattle.report.specs.Pieces.{pieces}
-use Rattle.report.specs.Damage.{alone, IsPiece, BeforeFirst, MayReplace, SameAround, share, OnlyItsShare, DamageStays, PiecesStand}
+use Rattle.report.specs.Damage.{alone, IsPiece, BeforeFirst, MayReplace, SameAround, share, OnlyShare, OnlyItsShare, DamageStays, PiecesStand}
 use Rattle.report.specs.Anywhere.{Harmless, OthersSame, DamageAnywhere}
 use Rattle.report.proofs.Anywhere.{damage-anywhere}
 use Rattle.report.proofs.Damage.{damage, is-piece, split-at}
 use Rattle.report.specs.declared.outcome.Outcome.{Outcome}
-use Rattle.report.specs.Totals.{accepts, refuses, peak_of, total}
-use Rattle.report.specs.Totals.{totals}
+use Rattle.report.specs.declared.totals.Report.{Report}
+use Rattle.report.specs.Totals.{report_of, totals_in}
 use Rattle.report.specs.Report.{outcomes, report}
-use Rattle.report.proofs.TotalsLaws.{total-between}
+use Rattle.report.specs.Checked.{ReportIs}
+use Rattle.report.specs.ByCheck.{checked}
+use Rattle.report.specs.DamagedReports.{DifferBetween, ReportsDiffer}
+use Rattle.report.proofs.CheckedLaws.{report-as, each-checked}
+use Rattle.report.proofs.TotalsLaws.{Adds, accepted-adds, peaks-adds, refused-adds, adds-between}
 
 between : (gives : List ℕ → Outcome) (a x b : List ℕ) → pieces (a ++ (x ++ b)) ≡ pieces a ++ (alone x ++ pieces b)
     → outcomes gives (a ++ (x ++ b)) ≡ outcomes gives a ++ (map gives (alone x) ++ outcomes gives b)
 unfolding outcomes
 between gives a x b e = rw (e, map-append gives (pieces a) (alone x ++ pieces b), map-append gives (alone x) (pieces b)) refl
 
-part-between : (part : Outcome → ℕ) (gives : List ℕ → Outcome) (a x b : List ℕ) → outcomes gives (a ++ (x ++ b)) ≡ outcomes gives a ++ (map gives (alone x) ++ outcomes gives b)
-    → total part (outcomes gives (a ++ (x ++ b))) ≡ total part (outcomes gives a) + (share part gives x + total part (outcomes gives b))
-part-between part gives a x b e = rw e (total-between part (outcomes gives a) (map gives (alone x)) (outcomes gives b))
-
 module _ (gives : List ℕ → Outcome) (a x b y : List ℕ) where
-  differ : (part : Outcome → ℕ) → outcomes gives (a ++ (x ++ b)) ≡ outcomes gives a ++ (map gives (alone x) ++ outcomes gives b)
-      → outcomes gives (a ++ (y ++ b)) ≡ outcomes gives a ++ (map gives (alone y) ++ outcomes gives b)
-      → total part (outcomes gives (a ++ (y ++ b))) + share part gives x ≡ total part (outcomes gives (a ++ (x ++ b))) + share part gives y
-  differ part e f = omega (arith, part-between part gives a x b e, part-between part gives a y b f)
+  number-between : (number : Report → ℕ) → Adds number → (z : List ℕ) → outcomes gives (a ++ (z ++ b)) ≡ outcomes gives a ++ (map gives (alone z) ++ outcomes gives b)
+      → number (report gives (a ++ (z ++ b))) ≡ number (report_of (outcomes gives a)) + (share number gives z + number (report_of (outcomes gives b)))
+  unfolding report
+  number-between number adds z e = ap (λ (os : List Outcome). number (report_of os)) e ∙ adds-between number adds (outcomes gives a) (map gives (alone z)) (outcomes gives b)
+
+  differ : (number : Report → ℕ) → Adds number → outcomes gives (a ++ (x ++ b)) ≡ outcomes gives a ++ (map gives (alone x) ++ outcomes gives b)
+      → outcomes gives (a ++ (y ++ b)) ≡ outcomes gives a ++ (map gives (alone y) ++ outcomes gives b) → OnlyShare number gives a x b y
+  differ number adds e f = omega (arith, number-between number adds x e, number-between number adds y f)
 
   alone-differs : SameAround a x b y → OnlyItsShare gives a x b y
-  unfolding report totals
   alone-differs s =
       let e = between gives a x b s.as_it_was in
       let f = between gives a y b s.damaged in
       record {
         as_it_was = e;
         damaged = f;
-        accepted = differ accepts e f;
-        refused = differ refuses e f;
-        peaks = differ peak_of e f;
+        accepted = λ family. differ (λ (r : Report). (totals_in family r).accepted) (accepted-adds family) e f;
+        peaks = λ family. differ (λ (r : Report). (totals_in family r).peaks) (peaks-adds family) e f;
+        refused = differ (λ (r : Report). r.refused) refused-adds e f;
       }
 
   pub report-damaged : IsPiece a x b ⊎ BeforeFirst a x b → MayReplace x b y → OnlyItsShare gives a x b y
@@ -71,3 +74,25 @@ others-same gives u v w y h =
 
 pub anywhere-stays : DamageAnywhere
 anywhere-stays u v w y h = (damage-anywhere u v w y h, λ gives. others-same gives u v w y h)
+
+-- the report of a text is of what its pieces give, between those of a and of b
+of-between : (a z b : List ℕ) (r : Report) → ReportIs (a ++ (z ++ b)) r → outcomes checked (a ++ (z ++ b)) ≡ outcomes checked a ++ (map checked (alone z) ++ outcomes checked b)
+    → r ≡ report_of (map checked (pieces a) ++ (map checked (alone z) ++ map checked (pieces b)))
+unfolding report outcomes
+of-between a z b r h e = (report-as (a ++ (z ++ b)) r).1 h ∙ ap report_of e
+
+pub reports-differ : ReportsDiffer
+reports-differ a x b y h r s before behind =
+    let g = report-damaged checked a x b y h.0 h.1 in
+    record {
+      before = map checked (pieces a);
+      was = map checked (alone x);
+      becomes = map checked (alone y);
+      behind = map checked (pieces b);
+      of_a = each-checked (pieces a);
+      of_x = each-checked (alone x);
+      of_y = each-checked (alone y);
+      of_b = each-checked (pieces b);
+      as_it_was = of-between a x b r before g.as_it_was;
+      damaged = of-between a y b s behind g.damaged;
+    }

@@ -7,28 +7,34 @@ use mathlib.Core.Path.{◌≡◌, refl, ap, sym, ◌∙◌}
 use native.Mathlib.Omega.{arith}
 use lib.Dec.{eqb}
 use lib.ListN.{length}
+use Rattle.family.specs.declared.family.Family.{Family}
+use Rattle.family.specs.declared.family.Family.TheVariants.{Sonet, Sdh}
 use Rattle.ring.specs.Limits.{desk}
+use Rattle.ring.specs.Ring.{ring_of}
+use Rattle.ring.specs.declared.types.Ring.{Ring}
 use Rattle.ring.specs.Lists.{Each, none, more, Steps, no_member, one_member, step}
 use Rattle.ring.specs.Sheet.{Sheet}
 use Rattle.text.specs.Bytes.{lf, letter_r}
 use Rattle.text.specs.Field.{spell}
 use Rattle.text.specs.WriteLine.{end_of, write_line}
+use Rattle.text.specs.RingLine.{ring_line}
 use Rattle.text.specs.declared.field.Field.{Field}
 use Rattle.lines.specs.Lines.{with_byte, lines}
 use Rattle.lines.proofs.LinesOf.{FirstLine, join-lines}
 use Rattle.sheet.specs.Says.{State, start, rows, links, end}
-use Rattle.sheet.proofs.Rest.{Rest, rest_end, rest_last, rest_link, rest_cut, rest_row, rest_ring, ring-first, sent-first, cut-first, link-first, last-first}
+use Rattle.sheet.proofs.Rest.{Rest, rest_end, rest_last, rest_link, rest_cut, rest_row, rest_ring, sent-first, cut-first, link-first, last-first}
 use Rattle.sheet.proofs.SheetText.{sheet-rest}
+use Rattle.table.proofs.TableLines.{ring-first}
 use Rattle.table.proofs.TableText.{desk-spelled}
 use Rattle.checker.specs.Says.{Accepted}
-use Rattle.report.specs.Pieces.{starts_r, is_cut, pieces}
+use Rattle.report.specs.Pieces.{starts_r, ends_piece, pieces}
 use Rattle.report.specs.PiecesAre.{EndsLine, IsEmpty, OnePiece, Parted}
-use Rattle.report.specs.Totals.{accepts, refuses, total, totals}
+use Rattle.report.specs.Totals.{refuses, total, totals, report_of}
 use Rattle.report.specs.Report.{outcomes, report}
 use Rattle.report.specs.Checked.{gives_plan, AllAccepted}
 use Rattle.report.specs.ByCheck.{checked}
 use Rattle.report.proofs.PieceLaws.{Uncut, uncut-none, only-pieces, ends-append}
-use Rattle.report.proofs.CheckedLaws.{only-checked, report-as}
+use Rattle.report.proofs.CheckedLaws.{only-checked, report-as, each-once}
 
 -- ---- lines that do not start with R
 
@@ -48,7 +54,7 @@ starts-line (b ∷ t) h = go (eqb b lf) (lines t) h
 
 -- where no line behind the first starts with R, none does
 lines-uncut : (t l : List ℕ) (ls : List (List ℕ)) → lines t ≡ l ∷ ls → NoR ls → Uncut t
-unfolding lines with_byte flatten starts_r Uncut is_cut
+unfolding lines with_byte flatten starts_r Uncut ends_piece
 lines-uncut [] l ls e h = tt
 lines-uncut (b ∷ t) l ls e h = go (λ m ms f n. lines-uncut t m ms f n) (eqb b lf) (lines t) refl e
   where
@@ -83,7 +89,7 @@ behind (rest_last {p} {z} {text} all a b rest) h = no-r-more _ text (last-first 
 behind (rest_link {k} {s} {u} {text} few a b d rest) h = no-r-more _ text (link-first desk k s u a b d) refl (behind rest tt)
 behind (rest_cut {g} {h = c} {m} {text} p q r rest) h = no-r-more _ text (cut-first desk g c m p q r) refl (behind rest tt)
 behind (rest_row {i} {j} {d} {f} {k} {w} {text} spelled v rest) h = no-r-more _ text (sent-first desk i j d f k w spelled) refl (behind rest tt)
-behind (rest_ring a b v rest) h = absurd h
+behind (rest_ring w v rest) h = absurd h
 
 -- ---- it ends with LF
 
@@ -102,6 +108,14 @@ unfolding IsEmpty
 ends-more l t e (inl i) = rw (i, append-nil l) e
 ends-more l t e (inr n) = ends-append l t n
 
+-- the R line of either family does
+ring-ends : (ring : Ring) → EndsLine (ring_line ring)
+ring-ends ring = go ring.family
+  where
+    go : (family : Family) → EndsLine (ring_line (ring_of ring.nodes ring.fibres family))
+    go Sonet = ends-line _ _ _ _ refl
+    go Sdh = ends-line _ _ _ _ refl
+
 rest-ends : {x : Sheet} {state : State} {text : List ℕ} → Rest desk x state text → IsEmpty text ⊎ EndsLine text
 unfolding IsEmpty
 rest-ends rest_end = inl refl
@@ -109,7 +123,7 @@ rest-ends (rest_last {text} all a b rest) = inr (ends-more _ text (ends-line _ _
 rest-ends (rest_link {text} few a b d rest) = inr (ends-more _ text (ends-line _ _ _ _ refl) (rest-ends rest))
 rest-ends (rest_cut {text} p q r rest) = inr (ends-more _ text (ends-line _ _ _ _ refl) (rest-ends rest))
 rest-ends (rest_row {text} spelled v rest) = inr (ends-more _ text (ends-line _ _ _ _ refl) (rest-ends rest))
-rest-ends (rest_ring {text} a b v rest) = inr (ends-more _ text (ends-line _ _ _ _ refl) (rest-ends rest))
+rest-ends (rest_ring {ring} {text} w v rest) = inr (ends-more _ text (ring-ends ring) (rest-ends rest))
 
 -- ---- so it is one piece
 
@@ -127,15 +141,25 @@ unfolding starts_r IsEmpty
 started [] e i = absurd (cc)
 started (b ∷ t) e i = cc
 
+-- the R line of either family starts with R
+ring-starts : (ring : Ring) (text : List ℕ) → starts_r (ring_line ring ++ text) ≡ true
+unfolding write_line spell starts_r
+ring-starts ring text = go ring.family
+  where
+    go : (family : Family) → starts_r (ring_line (ring_of ring.nodes ring.fibres family) ++ text) ≡ true
+    go Sonet = refl
+    go Sdh = refl
+
 sheet-piece : {x : Sheet} {t : List ℕ} → Rest desk x start t → SheetPiece t
-unfolding write_line spell starts_r Later
-sheet-piece (rest_ring {ring} {text} a b v rest) =
-    let r = rest_ring a b v rest in
-    let l = ring-first desk ring.nodes ring.fibres a b text in
+unfolding Later
+sheet-piece (rest_ring {ring} {text} w v rest) =
+    let s = ring-starts ring text in
+    let r = rest_ring w v rest in
+    let l = ring-first desk ring w text in
     record {
-      one = record { filled = started _ refl; none_behind = uncut-none _ (lines-uncut _ _ (lines text) l (behind rest tt)) };
-      starts = refl;
-      ends = ended _ (started _ refl) (rest-ends r);
+      one = record { filled = started _ s; none_behind = uncut-none _ (lines-uncut _ _ (lines text) l (behind rest tt)) };
+      starts = s;
+      ends = ended _ (started _ s) (rest-ends r);
     }
 
 accepted-piece : (t : List ℕ) → Accepted desk t → SheetPiece t
@@ -151,18 +175,20 @@ are-pieces (t ∷ s ∷ ts) (more a (more b each)) =
     let p = accepted-piece t a in
     (more p.one r.0, step (record { ends = p.ends; starts = (accepted-piece s b).starts }) r.1)
 
-all-counted : (ts : List (List ℕ)) → Each (Accepted desk) ts → (total accepts (map checked ts) ≡ length ts) × (total refuses (map checked ts) ≡ 0)
-unfolding total accepts refuses
-all-counted [] none = (refl, refl)
-all-counted (t ∷ ts) (more a each) =
-    let r = all-counted ts each in
+none-refused : (ts : List (List ℕ)) → Each (Accepted desk) ts → total refuses (map checked ts) ≡ 0
+unfolding total refuses
+none-refused [] none = refl
+none-refused (t ∷ ts) (more a each) =
     let e = only-checked t _ (gives_plan a) in
-    rw (← e) (omega (arith, r.0), omega (arith, r.1))
+    rw (← e) (omega (arith, none-refused ts each))
 
 pub all-accepted : AllAccepted
-unfolding report outcomes totals
-all-accepted ts each r h =
+unfolding report outcomes report_of totals
+all-accepted ts each =
     let p = are-pieces ts each in
-    let e : ts ≡ pieces (flatten ts) = only-pieces (flatten ts) ts (record { together = refl; each = p.0; parted = p.1 }) in
-    let c = all-counted ts each in
-    rw ((report-as (flatten ts) r).1 h, ← e) c
+    let e : ts ≡ pieces (flatten ts) = only-pieces (flatten ts) ts (record { together = refl; each = p.0; parted = p.1 }) in (
+      sym e,
+      λ r h.
+          let none : r.refused ≡ 0 = rw ((report-as (flatten ts) r).1 h, ← e) (none-refused ts each) in
+          (omega (arith, none, each-once (flatten ts) r h, ap length e), none),
+    )

@@ -1,5 +1,5 @@
 -- To believe: damage at any place of a text of many plans (Rules, a report over many plans): the bytes v between u and w become y, which makes no line that
--- starts with R and breaks none.
+-- starts with R and breaks none. What v and y both begin or end with is left to u and w; damage to several pieces is such damage, one after the other.
 use Rattle.std.specs.Prelude.{ℕ, Bool, true, false, List, [], ◌∷◌, ◌++◌, map, ◌≡◌, eqb, ◌&&◌, ◌||◌}
 use Rattle.text.specs.Bytes.{lf, letter_r}
 use Rattle.report.specs.declared.outcome.Outcome.{Outcome}

@@ -5,10 +5,11 @@ use Rattle.ring.specs.Sheet.{Sheet}
 use Rattle.reasons.specs.declared.reason.Refusal.{Refusal}
 use Rattle.checker.specs.Check.{check}
 use Rattle.report.specs.declared.outcome.Outcome.{Outcome}
-use Rattle.report.specs.declared.outcome.Outcome.TheVariants.{Refused, Accepted}
+use Rattle.report.specs.declared.outcome.Outcome.TheVariants.{Refused}
+use Rattle.report.specs.Checked.{plan_of}
 
 unfoldable pub outcome_of : Result Sheet Refusal → Outcome
-outcome_of (Ok x) = Accepted x.unsplit_peak x.cut.across
+outcome_of (Ok x) = plan_of x
 outcome_of (Err r) = Refused
 
 abbrev pub checked : List ℕ → Outcome

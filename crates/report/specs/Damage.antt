@@ -1,10 +1,12 @@
 -- To believe: a text of many plans of which a part is damaged (Rules, a report over many plans): x stands between a and b, and y is put in its place.
 use Rattle.std.specs.Prelude.{ℕ, ◌+◌, true, List, [], ◌∷◌, ◌++◌, map, ◌≡◌, ◌⊎◌}
 use mathlib.Core.List.{flatten}
+use Rattle.family.specs.declared.family.Family.{Family}
 use Rattle.report.specs.declared.outcome.Outcome.{Outcome}
+use Rattle.report.specs.declared.totals.Report.{Report}
 use Rattle.report.specs.Pieces.{starts_r, pieces}
 use Rattle.report.specs.PiecesAre.{EndsLine, NoneBehind, IsEmpty}
-use Rattle.report.specs.Totals.{accepts, refuses, peak_of, total}
+use Rattle.report.specs.Totals.{report_of, totals_in}
 use Rattle.report.specs.Report.{outcomes, report}
 
 -- a text as a piece: none where it is empty
@@ -41,25 +43,30 @@ pub record SameAround (a x b y : List ℕ) : Type 0 where
   pub as_it_was : Between a x b
   pub damaged : Between a y b
 
--- what a text as a piece adds to a sum
-abbrev pub share : (Outcome → ℕ) → (List ℕ → Outcome) → List ℕ → ℕ
-share part gives x = total part (map gives (alone x))
+-- a number of the report of a text as a piece
+abbrev pub share : (Report → ℕ) → (List ℕ → Outcome) → List ℕ → ℕ
+share number gives x = number (report_of (map gives (alone x)))
+
+-- a number of the whole report loses what x added and gains what y adds
+abbrev pub OnlyShare : (Report → ℕ) → (List ℕ → Outcome) → List ℕ → List ℕ → List ℕ → List ℕ → Type 0
+OnlyShare number gives a x b y =
+    number (report gives (a ++ (y ++ b))) + share number gives x
+    ≡ number (report gives (a ++ (x ++ b))) + share number gives y
 
 -- each piece of a and of b gives what it gave, with what y gives between them ..
 abbrev pub GivesBetween : (List ℕ → Outcome) → List ℕ → List ℕ → List ℕ → Type 0
 GivesBetween gives a y b =
     outcomes gives (a ++ (y ++ b)) ≡ outcomes gives a ++ (map gives (alone y) ++ outcomes gives b)
 
--- .. and a sum loses what x added and gains what y adds
+-- .. and of the sums of each family, and of the count of what is refused, its share alone changes
 pub record OnlyItsShare (gives : List ℕ → Outcome) (a x b y : List ℕ) : Type 0 where
   pub as_it_was : GivesBetween gives a x b
   pub damaged : GivesBetween gives a y b
-  pub accepted : (report gives (a ++ (y ++ b))).accepted + share accepts gives x
-      ≡ (report gives (a ++ (x ++ b))).accepted + share accepts gives y
-  pub refused : (report gives (a ++ (y ++ b))).refused + share refuses gives x
-      ≡ (report gives (a ++ (x ++ b))).refused + share refuses gives y
-  pub peaks : (report gives (a ++ (y ++ b))).peaks + share peak_of gives x
-      ≡ (report gives (a ++ (x ++ b))).peaks + share peak_of gives y
+  pub accepted : (family : Family) →
+      OnlyShare (λ (r : Report). (totals_in family r).accepted) gives a x b y
+  pub peaks : (family : Family) →
+      OnlyShare (λ (r : Report). (totals_in family r).peaks) gives a x b y
+  pub refused : OnlyShare (λ (r : Report). r.refused) gives a x b y
 
 -- what may be damaged so
 abbrev pub Damaged : List ℕ → List ℕ → List ℕ → List ℕ → Type 0

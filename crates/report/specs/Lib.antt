@@ -7,4 +7,5 @@ pub mod Damage
 pub mod Anywhere
 pub mod Fold
 pub mod Checked
+pub mod DamagedReports
 pub mod ByCheck

@@ -9,12 +9,12 @@ starts_r [] = false
 starts_r (b ∷ t) = eqb b letter_r
 
 -- does a piece end with the byte b, where t is behind it?
-unfoldable pub is_cut : ℕ → List ℕ → Bool
+unfoldable pub ends_piece : ℕ → List ℕ → Bool
 unfolding starts_r
-is_cut b t = eqb b lf && starts_r t
+ends_piece b t = eqb b lf && starts_r t
 
 -- the pieces, in order
 unfoldable pub pieces : List ℕ → List (List ℕ)
-unfolding is_cut with_byte
+unfolding ends_piece with_byte
 pieces [] = []
-pieces (b ∷ t) = with_byte (is_cut b t) b (pieces t)
+pieces (b ∷ t) = with_byte (ends_piece b t) b (pieces t)

@@ -1,8 +1,13 @@
 //! What one piece gives.
+use family::Family;
 
-/// That it is no plan to accept; or its unsplit peak and its across number.
+/// That it is no plan to accept; or its family of line sizes, its unsplit peak and its across number.
 #[derive(Clone, Copy)]
 pub enum Outcome {
     Refused,
-    Accepted { peak: u32, across: u32 },
+    Accepted {
+        family: Family,
+        peak: u32,
+        across: u32,
+    },
 }

@@ -7,14 +7,14 @@ ghost use Rattle.report.specs.ByCheck.{checked};
 
 use crate::outcome::Outcome;
 use crate::piece::Pieces;
-use crate::totals::Totals;
+use crate::totals::Report;
 use arrayvec::ArrayVec;
 use checker::check_sheet;
 use ring::{LINKS, Link};
 use rows::Columns;
 
 /// A text of many plans has at most so many bytes.
-pub const TEXT: usize = 65536;
+pub const MOST_BYTES: usize = 65536;
 
 // What a piece gives as a sheet by itself; its rows and links are put into what is lent. A row takes a byte and more, so its peak is small.
 fn checked(piece: &[u8], rows: &mut Columns, links: &mut ArrayVec<Link, LINKS>) -> Outcome
@@ -23,6 +23,7 @@ fn checked(piece: &[u8], rows: &mut Columns, links: &mut ArrayVec<Link, LINKS>) 
 {
     match check_sheet(piece, rows, links) {
         Ok(figures) => Outcome::Accepted {
+            family: figures.ring.family,
             peak: figures.unsplit_peak,
             across: figures.cut.across,
         },
@@ -31,16 +32,16 @@ fn checked(piece: &[u8], rows: &mut Columns, links: &mut ArrayVec<Link, LINKS>) 
 }
 
 /// The report over a text of at most 65,536 bytes.
-pub fn report(text: &[u8]) -> Totals
+pub fn report(text: &[u8]) -> Report
     requires { length text.now ≤ most_bytes }
     ensures { result ≡ report checked text.now }
 {
     let mut rows = Columns::new();
     let mut links: ArrayVec<Link, LINKS> = ArrayVec::new();
-    let mut totals = Totals::none();
+    let mut report = Report::none();
     let mut pieces = Pieces::of(text);
     while let Some(piece) = pieces.next_piece() {
-        totals = totals.with(checked(piece, &mut rows, &mut links));
+        report = report.with(checked(piece, &mut rows, &mut links));
     }
-    totals
+    report
 }

@@ -1,9 +1,10 @@
 //! What a report counts and adds.
 ghost use Rattle.std.specs.Prelude.{◌≡◌, ◌+◌, ◌*◌, ◌<◌, ◌^◌};
 ghost use Rattle.report.specs.Totals.{peak_of, is_worse};
-ghost use Rattle.report.specs.Fold.{no-piece, with_piece};
+ghost use Rattle.report.specs.Fold.{no_plan, no_piece, with_plan, with_piece};
 
 use crate::outcome::Outcome;
+use family::Family;
 
 /// Twice an unsplit peak, to an across number.
 #[derive(Clone, Copy)]
@@ -24,23 +25,21 @@ impl Ratio {
     }
 }
 
-/// How many plans are accepted and how many refused, the sum of the accepted unsplit peaks, and the worst ratio, of which both numbers are 0 where no plan enters.
+/// What the plans of one family add up to: how many are accepted, the sum of their unsplit peaks, and the worst ratio, of which both numbers are 0 where no plan enters.
 #[derive(Clone, Copy)]
 pub struct Totals {
     pub accepted: u32,
-    pub refused: u32,
     pub peaks: u32,
     pub worst: Ratio,
 }
 
 impl Totals {
-    // Of no piece.
-    pub(crate) fn none() -> Self
-        ensures { result ≡ no-piece }
+    // Of no plan.
+    fn none() -> Self
+        ensures { result ≡ no_plan }
     {
         Totals {
             accepted: 0,
-            refused: 0,
             peaks: 0,
             worst: Ratio {
                 twice: 0,
@@ -49,32 +48,75 @@ impl Totals {
         }
     }
 
-    // With one more piece: of two ratios that are alike the first stays, and a plan with across number 0 does not enter.
-    #[tactic(auto, unfolding(crate::specs::Fold::with_piece, crate::specs::Totals::worst_with, crate::specs::Totals::accepts, crate::specs::Totals::refuses, crate::specs::Totals::peak_of))]
+    // With one more plan: of two ratios that are alike the first stays, and a plan with across number 0 does not enter.
+    #[tactic(auto, unfolding(crate::specs::Fold::with_plan, crate::specs::Totals::worst_with))]
+    fn with(self, peak: u32, across: u32) -> Self
+        requires few { self.accepted + 1 < 2 ^ 32 }
+        requires small { (2 * peak < 2 ^ 32) × (self.peaks + peak < 2 ^ 32) }
+        ensures { result ≡ with_plan self peak across }
+    {
+        let ratio = Ratio {
+            twice: 2 * peak,
+            across,
+        };
+        let enters = across != 0 && ratio.is_worse(self.worst);
+        Totals {
+            accepted: self.accepted + 1,
+            peaks: self.peaks + peak,
+            worst: if enters { ratio } else { self.worst },
+        }
+    }
+}
+
+/// The totals of each family, and how many pieces are refused.
+#[derive(Clone, Copy)]
+pub struct Report {
+    pub sonet: Totals,
+    pub sdh: Totals,
+    pub refused: u32,
+}
+
+impl Report {
+    // Of no piece.
+    pub(crate) fn none() -> Self
+        ensures { result ≡ no_piece }
+    {
+        Report {
+            sonet: Totals::none(),
+            sdh: Totals::none(),
+            refused: 0,
+        }
+    }
+
+    // With one more piece: a plan is added to the totals of its own family.
+    #[tactic(auto, unfolding(crate::specs::Fold::with_piece, crate::specs::Totals::peak_of))]
     pub(crate) fn with(self, outcome: Outcome) -> Self
-        requires few { (self.accepted + 1 < 2 ^ 32) × (self.refused + 1 < 2 ^ 32) }
+        requires few { (self.sonet.accepted + 1 < 2 ^ 32) × (self.sdh.accepted + 1 < 2 ^ 32)
+            × (self.refused + 1 < 2 ^ 32) }
         requires small { (2 * peak_of outcome < 2 ^ 32)
-            × (self.peaks + peak_of outcome < 2 ^ 32) }
+            × (self.sonet.peaks + peak_of outcome < 2 ^ 32)
+            × (self.sdh.peaks + peak_of outcome < 2 ^ 32) }
         ensures { result ≡ with_piece self outcome }
     {
         match outcome {
-            Outcome::Refused => Totals {
+            Outcome::Refused => Report {
                 refused: self.refused + 1,
                 ..self
             },
-            Outcome::Accepted { peak, across } => {
-                let ratio = Ratio {
-                    twice: 2 * peak,
-                    across,
-                };
-                let enters = across != 0 && ratio.is_worse(self.worst);
-                Totals {
-                    accepted: self.accepted + 1,
-                    peaks: self.peaks + peak,
-                    worst: if enters { ratio } else { self.worst },
+            Outcome::Accepted {
+                family,
+                peak,
+                across,
+            } => match family {
+                Family::Sonet => Report {
+                    sonet: self.sonet.with(peak, across),
                     ..self
-                }
-            }
+                },
+                Family::Sdh => Report {
+                    sdh: self.sdh.with(peak, across),
+                    ..self
+                },
+            },
         }
     }
 }

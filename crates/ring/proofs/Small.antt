@@ -5,8 +5,8 @@ use mathlib.Core.List.{List}
 use mathlib.Core.Path.{◌≡◌, ◌∙◌}
 use native.Mathlib.Omega.{arith}
 use lib.ListN.{length, length-map}
-use Rattle.sonet.specs.Size.{sonet_sizes}
-use Rattle.sonet.proofs.Sizes.{largest_of, smallest-small}
+use Rattle.family.specs.Sizes.{sizes_of}
+use Rattle.family.proofs.Sizes.{largest_of, smallest-small}
 use Rattle.ring.specs.Lists.{Each}
 use Rattle.ring.specs.LineSize.{needed, line_size}
 use Rattle.ring.specs.Demand.{Demand}
@@ -74,7 +74,7 @@ pub record SmallFigures (most : ℕ) (x : Sheet) : Type 0 where
   pub across : x.cut.across ≤ most * length x.rows
   pub links : Each (SmallLink most (length x.rows)) x.links
   pub unsplit_peak : x.unsplit_peak ≤ most * length x.rows
-  pub size : x.size ≤ largest_of sonet_sizes
+  pub size : x.size ≤ largest_of (sizes_of x.ring.family)
 
 -- no size is above the largest of the list
 pub line-size-small : (sizes : List ℕ) (fibres p : ℕ) → line_size sizes fibres p ≤ largest_of sizes
@@ -91,5 +91,5 @@ figures-small most x t amounts =
         unsplit = omega (arith, loads.unsplit, unsplit-small most x.rows amounts l.link);
       }) t.loads;
       unsplit_peak = omega (arith, t.peak, peak-least (unsplit_load x.rows) x.ring.nodes (most * length x.rows) (λ k a b. unsplit-small most x.rows amounts k));
-      size = omega (arith, t.size, line-size-small sonet_sizes x.ring.fibres (unsplit_peak x));
+      size = omega (arith, t.size, line-size-small (sizes_of x.ring.family) x.ring.fibres (unsplit_peak x));
     }

@@ -1,20 +1,19 @@
 // The records of the subject, one for each thing: the definitions speak of these very types.
 ghost use Rattle.std.specs.Prelude.{◌≡◌, ◌*◌, ◌^◌, ◌<◌};
-ghost use Rattle.sonet.specs.Size.{sonet_sizes};
 ghost use Rattle.ring.specs.Demand.{in_front};
-ghost use Rattle.ring.specs.LineSize.{needed, line_size};
+ghost use Rattle.ring.specs.LineSize.{needed, line_size_of};
 ghost use Rattle.ring.specs.Routing.{by_way, way_of, way_number};
 ghost use Rattle.ring.specs.RuleD.{whole_way};
 
 use crate::TWO_FIBRES;
-use sonet::Sonet;
+use family::Family;
 
-/// A ring: its nodes, 1 to `nodes`, and its fibres. Link k joins nodes k and k + 1, the last link the last node and node 1.
-#[repr(C)]
+/// A ring: its nodes, 1 to `nodes`, its fibres, and its family of line sizes. Link k joins nodes k and k + 1, the last link the last node and node 1.
 #[derive(Clone, Copy)]
 pub struct Ring {
     pub nodes: u32,
     pub fibres: u32,
+    pub family: Family,
 }
 
 impl Ring {
@@ -31,14 +30,14 @@ impl Ring {
         }
     }
 
-    /// Its line size for an unsplit peak in units, the smallest of the SONET sizes that carries it, 0 if none does. A peak that is asked for is a sum of at most
+    /// Its line size for an unsplit peak in units, the smallest of its family's sizes that carries it, 0 if none does. A peak that is asked for is a sum of at most
     /// 1,024 amounts, so twice it fits.
     #[tactic(auto, unfolding(crate::specs::LineSize::line_size))]
     pub fn line_size(self, peak: u32) -> u32
         requires { 2 * peak < 2 ^ 32 }
-        ensures { result ≡ line_size sonet_sizes self.fibres peak }
+        ensures { result ≡ line_size_of self peak }
     {
-        Sonet::size(self.must_carry(peak))
+        self.family.size(self.must_carry(peak))
     }
 }
 
@@ -135,7 +134,7 @@ pub struct Cut {
     pub across: u32,
 }
 
-/// The figures of a sheet that are not of a row or of a link: R n fibres, C g h across, Z unsplit-peak size; the peak is in units.
+/// The figures of a sheet that are not of a row or of a link: R n fibres M, C g h across, Z unsplit-peak size; the peak is in units.
 #[derive(Clone, Copy)]
 pub struct Figures {
     pub ring: Ring,

@@ -12,3 +12,4 @@ pub mod WorkCalls
 pub mod JudgeCalls
 pub mod TurnCalls
 pub mod PlanCalls
+pub mod ReportCalls

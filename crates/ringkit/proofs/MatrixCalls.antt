@@ -9,6 +9,7 @@ use lib.ListN.{length, take}
 use Rattle.std.specs.Prelude.{Result, Ok, Err, IsOk, IfOk}
 use Rattle.ring.specs.Limits.{desk}
 use Rattle.ring.specs.LineSize.{IsFibres}
+use Rattle.family.specs.declared.family.Family.{Family}
 use Rattle.ring.specs.Ring.{ring_of}
 use Rattle.ring.specs.declared.types.Ring.{Ring}
 use Rattle.ring.specs.declared.types.Demand.{Demand}
@@ -62,21 +63,21 @@ module _ (t : List ℕ) where
   )
 
 -- the rows of a matrix on 2 or 4 fibres
-module _ (fibres : ℕ) (t : List ℕ) where
-  decided : IsFibres fibres → (x : SquareRead) → matrix_of desk t ≡ x → Decided (MatrixDue fibres t) (MatrixGiven fibres t) (table_of_matrix fibres x)
+module _ (fibres : ℕ) (family : Family) (t : List ℕ) where
+  decided : IsFibres fibres → (x : SquareRead) → matrix_of desk t ≡ x → Decided (MatrixDue fibres family t) (MatrixGiven fibres t) (table_of_matrix fibres family x)
   unfolding table_of_matrix
   decided f (Ok s) e = is_due (record { two_or_four = f; n = s.0; m = s.1; of = (matrix_is t s.0 s.1).0 e; is = refl })
   decided f (Err r) e = is_given (of_matrix f ((given desk t r).0 e))
 
-  all-decided : Decided (MatrixDue fibres t) (MatrixGiven fibres t) (matrix_read fibres t)
+  all-decided : Decided (MatrixDue fibres family t) (MatrixGiven fibres t) (matrix_read fibres family t)
   unfolding matrix_read check_fibres on_call
   all-decided = go (fibred fibres)
     where
-      go : Fibred fibres → Decided (MatrixDue fibres t) (MatrixGiven fibres t) (matrix_read fibres t)
+      go : Fibred fibres → Decided (MatrixDue fibres family t) (MatrixGiven fibres t) (matrix_read fibres family t)
       go (not-fibres f e) = rw e (is_given (of_fibres f))
       go (are-fibres f e) = rw e (decided f (matrix_of desk t) refl)
 
-  due-accepted-matrix : (text : List ℕ) → MatrixDue fibres t text → Accepted desk t
+  due-accepted-matrix : (text : List ℕ) → MatrixDue fibres family t text → Accepted desk t
   due-accepted-matrix text d = (accepted-is desk t).0 (record { n = d.n; m = d.m; is = (matrix_is t d.n d.m).1 d.of })
 
   not-15 : {reason : Reason} {line : ℕ} → Says desk t reason line → number_of reason ≡ 15 → ⊥
@@ -96,7 +97,7 @@ module _ (fibres : ℕ) (t : List ℕ) where
   one-given-matrix (of_matrix f h) (of_fibres g) = absurd (g f)
   one-given-matrix (of_matrix f h) (of_matrix g k) = one-given desk t h k
 
-  due-not-given : {text : List ℕ} {r : Reason} {line byte : ℕ} → MatrixDue fibres t text → MatrixGiven fibres t r line byte → ⊥
+  due-not-given : {text : List ℕ} {r : Reason} {line byte : ℕ} → MatrixDue fibres family t text → MatrixGiven fibres t r line byte → ⊥
   due-not-given d (of_fibres f) = f d.two_or_four
   due-not-given {text} d (of_matrix {reason} {line} {byte} f g) = due-accepted-matrix text d reason line g.holds
 
@@ -104,51 +105,51 @@ module _ (fibres : ℕ) (t : List ℕ) where
   given-not-15 (of_fibres f) e = absurd (omega (arith, ap number_of e))
   given-not-15 (of_matrix f g) e = not-15 g.holds (ap number_of e)
 
-  one-due : One (MatrixDue fibres t) (MatrixGiven fibres t)
+  one-due : One (MatrixDue fibres family t) (MatrixGiven fibres t)
   one-due =
       record {
         text = λ a b.
             let e : ◌≡◌ {A = SquareRead} (Ok (a.n, a.m)) (Ok (b.n, b.m)) = sym ((matrix_is t a.n a.m).1 a.of) ∙ (matrix_is t b.n b.m).1 b.of in
             let same : (a.n, a.m) ≡ (b.n, b.m) = cc in
-            a.is ∙ ap (λ (s : ℕ × List (List ℕ)). write_table (ring_of s.0 fibres) (rows_of_matrix s.0 s.1)) same ∙ sym b.is;
+            a.is ∙ ap (λ (s : ℕ × List (List ℕ)). write_table (ring_of s.0 fibres family) (rows_of_matrix s.0 s.1)) same ∙ sym b.is;
         refusal = λ f g. one-given-matrix f g;
         apart = λ d g. due-not-given d g;
         other = λ g. given-not-15 g;
       }
 
 -- the table of a matrix is written, with room for it; else 20, the matrix's first reason or 15
-pub read-matrix-promise : (fibres : ℕ) (t old new : List ℕ) (r : Answer) → Fills (matrix_read fibres t) old new r → CallPromise (MatrixDue fibres t) (MatrixGiven fibres t) old new r
-read-matrix-promise fibres t old new r f = call-promise (one-due fibres t) (all-decided fibres t) f
+pub read-matrix-promise : (fibres : ℕ) (family : Family) (t old new : List ℕ) (r : Answer) → Fills (matrix_read fibres family t) old new r → CallPromise (MatrixDue fibres family t) (MatrixGiven fibres t) old new r
+read-matrix-promise fibres family t old new r f = call-promise (one-due fibres family t) (all-decided fibres family t) f
 
-pub read-matrix-only : (fibres : ℕ) (t old new : List ℕ) (r : Answer) → Fills (matrix_read fibres t) old new r → Only (ReadMatrixPromise fibres t old) new r
-read-matrix-only fibres t old new r f = call-only (read-matrix-promise fibres t old new r f) (one-due fibres t)
+pub read-matrix-only : (fibres : ℕ) (family : Family) (t old new : List ℕ) (r : Answer) → Fills (matrix_read fibres family t) old new r → Only (ReadMatrixPromise fibres family t old) new r
+read-matrix-only fibres family t old new r f = call-only (read-matrix-promise fibres family t old new r f) (one-due fibres family t)
 
-module _ (fibres : ℕ) (t text : List ℕ) (d : MatrixDue fibres t text) where
+module _ (fibres : ℕ) (family : Family) (t text : List ℕ) (d : MatrixDue fibres family t text) where
   -- the table that is due is a table in range, so that it is accepted and can be routed
-  due-table : TableOf text (ring_of d.n fibres) (rows_of_matrix d.n d.m)
-  due-table = record { text = d.is; range = rows-in-range d.n fibres d.m d.two_or_four d.of.range }
+  due-table : TableOf text (ring_of d.n fibres family) (rows_of_matrix d.n d.m)
+  due-table = record { text = d.is; range = rows-in-range d.n fibres family d.m d.two_or_four d.of.range }
 
   pub matrix-table-accepted : table.Accepted desk text
-  matrix-table-accepted = (accepted-table text).1 (record { ring = ring_of d.n fibres; rs = rows_of_matrix d.n d.m; of = due-table })
+  matrix-table-accepted = (accepted-table text).1 (record { ring = ring_of d.n fibres family; rs = rows_of_matrix d.n d.m; of = due-table })
 
   -- and no longer than `table_room`
   pub matrix-table-short : length text ≤ table_room desk
-  matrix-table-short = omega (arith, ap length d.is, table-room d.n fibres d.m d.two_or_four d.of.range)
+  matrix-table-short = omega (arith, ap length d.is, table-room d.n fibres family d.m d.two_or_four d.of.range)
 
 -- what is written is an accepted table, and fits
-pub read-accepted : (fibres : ℕ) (t old new : List ℕ) (r : Answer) → Fills (matrix_read fibres t) old new r → IfOk r (λ n. table.Accepted desk (take n new))
-read-accepted fibres t old new r f = if-ok r (λ n. matrix-table-accepted fibres t (take n new)) (written-due (read-matrix-promise fibres t old new r f))
+pub read-accepted : (fibres : ℕ) (family : Family) (t old new : List ℕ) (r : Answer) → Fills (matrix_read fibres family t) old new r → IfOk r (λ n. table.Accepted desk (take n new))
+read-accepted fibres family t old new r f = if-ok r (λ n. matrix-table-accepted fibres family t (take n new)) (written-due (read-matrix-promise fibres family t old new r f))
 
-pub read-fits : (fibres : ℕ) (t old new : List ℕ) (r : Answer) → Fills (matrix_read fibres t) old new r → IfOk r (λ n. n ≤ table_room desk)
-read-fits fibres t old new r f = length-within (read-matrix-promise fibres t old new r f) (table_room desk) (matrix-table-short fibres t)
+pub read-fits : (fibres : ℕ) (family : Family) (t old new : List ℕ) (r : Answer) → Fills (matrix_read fibres family t) old new r → IfOk r (λ n. n ≤ table_room desk)
+read-fits fibres family t old new r f = length-within (read-matrix-promise fibres family t old new r f) (table_room desk) (matrix-table-short fibres family t)
 
 -- so with that room every accepted matrix is read
-pub always-read : (fibres : ℕ) (t old new : List ℕ) (r : Answer) → Fills (matrix_read fibres t) old new r → IsFibres fibres → Accepted desk t → table_room desk ≤ length old → IsOk r
-always-read fibres t old new r call f a room =
+pub always-read : (fibres : ℕ) (family : Family) (t old new : List ℕ) (r : Answer) → Fills (matrix_read fibres family t) old new r → IsFibres fibres → Accepted desk t → table_room desk ≤ length old → IsOk r
+always-read fibres family t old new r call f a room =
     let h = (matrix-accepted t).0 a in
-    let text = write_table (ring_of h.n fibres) (rows_of_matrix h.n h.m) in
-    let d : MatrixDue fibres t text = record { two_or_four = f; n = h.n; m = h.m; of = h.of; is = refl } in
-    written (read-matrix-promise fibres t old new r call) d (omega (arith, matrix-table-short fibres t text d))
+    let text = write_table (ring_of h.n fibres family) (rows_of_matrix h.n h.m) in
+    let d : MatrixDue fibres family t text = record { two_or_four = f; n = h.n; m = h.m; of = h.of; is = refl } in
+    written (read-matrix-promise fibres family t old new r call) d (omega (arith, matrix-table-short fibres family t text d))
 
 -- ---- writing
 
@@ -231,17 +232,17 @@ one-each-written t ring rs of each = one-each-fit ring rs of.range each
 
 -- ---- there and back
 
--- the same bytes, for every accepted matrix, whatever the fibres
+-- the same bytes, for every accepted matrix, whatever the fibres and the family
 pub matrix-there-and-back : MatrixToTableToMatrix
-matrix-there-and-back fibres t text old new r read done other after q write room =
+matrix-there-and-back fibres family t text old new r read done other after q write room =
     let d = ((read.succeeds text).0 done).0 in
-    let table = due-table fibres t text d in
+    let table = due-table fibres family t text d in
     let due : SumsDue text t =
     record {
-      ring = ring_of d.n fibres;
+      ring = ring_of d.n fibres family;
       rs = rows_of_matrix d.n d.m;
       of = table;
-      fit = one-each-fit (ring_of d.n fibres) (rows_of_matrix d.n d.m) table.range (rows-one-each d.n d.m);
+      fit = one-each-fit (ring_of d.n fibres family) (rows_of_matrix d.n d.m) table.range (rows-one-each d.n d.m);
       is = d.of.text ∙ sym (ap write_matrix (matrix-back desk d.n d.m d.of.range));
     } in
     (write.succeeds t).1 (due, room)
@@ -254,8 +255,7 @@ table-there-and-back t ring rs of each text old new r write done other after q r
     let er = same.0 in
     let es = same.1 in
     let back = table-back d.ring.nodes d.rs d.of.range.within.rows (rw es at each) in
-    let fibres : d.ring.fibres ≡ ring.fibres = ap (λ (x : Ring). x.fibres) (sym er) in
-    let due : MatrixDue d.ring.fibres text t =
+    let due : MatrixDue d.ring.fibres d.ring.family text t =
     record {
       two_or_four = d.of.range.within.fibres;
       n = d.ring.nodes;
@@ -263,4 +263,4 @@ table-there-and-back t ring rs of each text old new r write done other after q r
       of = due-matrix t text d;
       is = d.of.text ∙ sym (ap (write_table d.ring) back);
     } in
-    (read.succeeds t).1 (subst (λ f. MatrixDue f text t) fibres due, room)
+    (read.succeeds t).1 (subst (λ (x : Ring). MatrixDue x.fibres x.family text t) (sym er) due, room)

@@ -6,6 +6,7 @@ use native.Mathlib.Omega.{arith}
 use lib.ListN.{length}
 use Rattle.std.specs.Prelude.{Ok, Err}
 use Rattle.ring.specs.Limits.{desk}
+use Rattle.family.specs.declared.family.Family.{Family}
 use Rattle.ring.specs.Ring.{ring_of}
 use Rattle.ring.specs.declared.types.Ring.{Ring}
 use Rattle.ring.specs.declared.types.Demand.{Demand}
@@ -31,23 +32,23 @@ use Rattle.ringkit.proofs.FillSteps.{refuses, same-fills}
 
 -- ---- reading a matrix, on a ring of so many fibres
 
-module _ (s old : List ℕ) (fibres : ℕ) (v : Verdict) (ev : v ≡ check_fibres fibres) (found : MatrixVerdict) (ef : found ≡ on_call v) where
-  read-is : matrix_read fibres s ≡ and_then found (λ u. table_of_matrix fibres (matrix_of desk s))
+module _ (s old : List ℕ) (fibres : ℕ) (family : Family) (v : Verdict) (ev : v ≡ check_fibres fibres) (found : MatrixVerdict) (ef : found ≡ on_call v) where
+  read-is : matrix_read fibres family s ≡ and_then found (λ u. table_of_matrix fibres family (matrix_of desk s))
   unfolding matrix_read
   read-is = rw (ef, ev)
 
-  pub fibres-refused : (x : Refusal) → found ≡ Err x → Fills (matrix_read fibres s) old old (Err x)
-  fibres-refused x e = refuses (matrix_read fibres s) old x (read-is ∙ rw e)
+  pub fibres-refused : (x : Refusal) → found ≡ Err x → Fills (matrix_read fibres family s) old old (Err x)
+  fibres-refused x e = refuses (matrix_read fibres family s) old x (read-is ∙ rw e)
 
   module _ (fine : found ≡ Ok tt) where
-    known : matrix_read fibres s ≡ table_of_matrix fibres (matrix_of desk s)
+    known : matrix_read fibres family s ≡ table_of_matrix fibres family (matrix_of desk s)
     known = read-is ∙ rw fine
 
-    pub matrix_refused : (x : Refusal) → IsGiven s x → Fills (matrix_read fibres s) old old (Err x)
+    pub matrix_refused : (x : Refusal) → IsGiven s x → Fills (matrix_read fibres family s) old old (Err x)
     unfolding table_of_matrix
-    matrix_refused x g = refuses (matrix_read fibres s) old x (rw (known, (given desk s x).1 g))
+    matrix_refused x g = refuses (matrix_read fibres family s) old x (rw (known, (given desk s x).1 g))
 
-    pub matrix-fills : (n : ℕ) (rs : List Demand) → IsMatrix s n rs → (new : List ℕ) (r : Answer) → Fills (Ok (write_table (ring_of n fibres) rs)) old new r → Fills (matrix_read fibres s) old new r
+    pub matrix-fills : (n : ℕ) (rs : List Demand) → IsMatrix s n rs → (new : List ℕ) (r : Answer) → Fills (Ok (write_table (ring_of n fibres family) rs)) old new r → Fills (matrix_read fibres family s) old new r
     unfolding table_of_matrix
     matrix-fills n rs is new r = same-fills old new r (let rows = is.rows in rw (known, (matrix-text desk desk-possible s n is.m).1 (is.text, is.range), rows))
 

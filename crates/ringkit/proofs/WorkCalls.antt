@@ -22,6 +22,7 @@ use Rattle.work.proofs.SortedRows.{rows-sorted}
 use Rattle.work.proofs.OneOrder.{one-order}
 use Rattle.work.proofs.ByCalls.{made-keeps, made-writes-out, made-sized, made-bytes}
 use Rattle.work.proofs.Promised.{made-as-played}
+use Rattle.work.specs.HeldRing.{ring_held}
 use Rattle.ringkit.specs.Outcome.{Fills}
 use Rattle.ringkit.specs.Says.{Answer, CallPromise}
 use Rattle.ringkit.specs.TableCalls.{work_written}
@@ -35,13 +36,13 @@ use Rattle.ringkit.proofs.PlanCalls.{some-plan, due-short, due-cut}
 
 module _ (w : Work) (s : Sized w) (byte : HasBytes w) where
   -- a text is due, and one only
-  work-due : WorkDue w (write_table w.ring (sorted_rows w))
+  work-due : WorkDue w (write_table (ring_held w.ring) (sorted_rows w))
   work-due = record { rs = sorted_rows w; sorted = rows-sorted w s byte; is = refl }
 
   one-due : One (WorkDue w) NoRefusal
   one-due =
       record {
-        text = λ a b. let e = one-order w s byte a.sorted b.sorted in a.is ∙ ap (write_table w.ring) e ∙ sym b.is;
+        text = λ a b. let e = one-order w s byte a.sorted b.sorted in a.is ∙ ap (write_table (ring_held w.ring)) e ∙ sym b.is;
         refusal = λ f g. absurd f;
         apart = λ d g. g;
         other = λ g e. g;
@@ -59,22 +60,22 @@ work-write-promise w s b f = filled-promise w s (bytes-of w s b) f
 -- ---- one made by calls
 
 module _ {cs : List Call} {w : Work} (m : Made cs w) where
-  rows-short : length (write_table w.ring (sorted_rows w)) ≤ table_room desk
-  rows-short = let k = (made-writes-out m).within in table-short desk desk-narrow w.ring (sorted_rows w) k.many k.fibres k.rows.nodes k.count k.amounts
+  rows-short : length (write_table (ring_held w.ring) (sorted_rows w)) ≤ table_room desk
+  rows-short = let k = (made-writes-out m).within in table-short desk desk-narrow (ring_held w.ring) (sorted_rows w) k.many k.fibres k.rows.nodes k.count k.amounts
 
   module _ (text : List ℕ) (d : WorkDue w text) where
     same-rows : d.rs ≡ sorted_rows w
     same-rows = one-order w (made-sized m) (made-bytes m) d.sorted (made-writes-out m).sorted
 
     -- it is the table of its rows
-    work-table : TableOf text w.ring d.rs
+    work-table : TableOf text (ring_held w.ring) d.rs
     work-table = record { text = d.is; range = rw same-rows (record { within = (made-writes-out m).within; short = omega (arith, rows-short) }) }
 
     work-accepted : Accepted desk text
-    work-accepted = (accepted-table text).1 (record { ring = w.ring; rs = d.rs; of = work-table })
+    work-accepted = (accepted-table text).1 (record { ring = ring_held w.ring; rs = d.rs; of = work-table })
 
     work-short : length text ≤ table_room desk
-    work-short = let e = same-rows in omega (arith, ap length d.is, ap (λ rs. length (write_table w.ring rs)) e, rows-short)
+    work-short = let e = same-rows in omega (arith, ap length d.is, ap (λ rs. length (write_table (ring_held w.ring) rs)) e, rows-short)
 
   module _ {old new : List ℕ} {r : Answer} where
     pub writes-accepted : CallPromise (WorkDue w) NoRefusal old new r → IfOk r (λ n. Accepted desk (take n new))

@@ -1,5 +1,6 @@
 -- To believe: there and back: what one call wrote, read by another, gives what was there before.
 use Rattle.std.specs.Prelude.{ℕ, ◌≤◌, List, ◌≡◌, length}
+use Rattle.family.specs.declared.family.Family.{Family}
 use Rattle.ring.specs.Limits.{desk}
 use Rattle.ring.specs.declared.types.Ring.{Ring}
 use Rattle.ring.specs.declared.types.Demand.{Demand}
@@ -28,20 +29,20 @@ pub record TableThereAndBack : Type 0 where
   pub rewritten : (t old new : List ℕ) (r : Answer) → RewriteTablePromise t old new r
       → Accepted desk t → length t ≤ length old → Success t old new r
 
--- matrix to table to matrix: reading a matrix wrote a table, whatever the fibres; writing the matrix of that table gives, with room, the bytes of the matrix
+-- matrix to table to matrix: reading a matrix wrote a table, whatever the fibres and the family; writing the matrix of that table gives, with room, the bytes of the matrix
 -- that was read
 abbrev pub MatrixToTableToMatrix : Type 0
 MatrixToTableToMatrix =
-    (fibres : ℕ) (t text old new : List ℕ) (r : Answer) → ReadMatrixPromise fibres t old new r
+    (fibres : ℕ) (family : Family) (t text old new : List ℕ) (r : Answer) → ReadMatrixPromise fibres family t old new r
     → Success text old new r
     → (other after : List ℕ) (q : Answer) → WriteMatrixPromise text other after q
     → length t ≤ length other → Success t other after q
 
--- table to matrix to table, of a table with at most one row for a pair and none of amount 0: writing its matrix wrote a text; reading that on the table's own fibres
--- gives, with room, the bytes of the table
+-- table to matrix to table, of a table with at most one row for a pair and none of amount 0: writing its matrix wrote a text; reading that with the table's own fibres
+-- and family gives, with room, the bytes of the table
 abbrev pub TableToMatrixToTable : Type 0
 TableToMatrixToTable =
     (t : List ℕ) (ring : Ring) (rs : List Demand) → TableOf t ring rs → OneEach rs
     → (text old new : List ℕ) (r : Answer) → WriteMatrixPromise t old new r → Success text old new r
-    → (other after : List ℕ) (q : Answer) → ReadMatrixPromise ring.fibres text other after q
+    → (other after : List ℕ) (q : Answer) → ReadMatrixPromise ring.fibres ring.family text other after q
     → length t ≤ length other → Success t other after q

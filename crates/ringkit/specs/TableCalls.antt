@@ -8,6 +8,7 @@ use Rattle.engines.specs.declared.Engine.{Engine}
 use Rattle.engines.specs.Engine.{plan_by}
 use Rattle.table.specs.Table.{write_table}
 use Rattle.table.specs.ReadTable.{table_of}
+use Rattle.work.specs.HeldRing.{ring_held}
 use Rattle.work.specs.Keys.{sorted_rows}
 use Rattle.work.specs.declared.Work.{Work}
 use Rattle.sheet.specs.WriteSheet.{write_sheet}
@@ -27,4 +28,4 @@ table_routed engine = table_due λ ring rs. write_sheet (plan_by engine ring rs)
 
 -- writing out a working table, whatever its bytes
 abbrev pub work_written : Work → Outcome
-work_written w = Ok (write_table w.ring (sorted_rows w))
+work_written w = Ok (write_table (ring_held w.ring) (sorted_rows w))

@@ -1,18 +1,19 @@
 -- To believe: which values a text is the table, the sheet or the matrix of, and which text is due to it.
-use Rattle.std.specs.Prelude.{ℕ, ◌≤◌, List, ◌≡◌}
+use Rattle.std.specs.Prelude.{ℕ, ◌≤◌, ◌<◌, List, ◌≡◌, length}
+use Rattle.family.specs.declared.family.Family.{Family}
 use Rattle.ring.specs.Limits.{desk}
 use Rattle.ring.specs.LineSize.{IsFibres}
 use Rattle.ring.specs.Ring.{ring_of}
 use Rattle.ring.specs.declared.types.Ring.{Ring}
 use Rattle.ring.specs.declared.types.Demand.{Demand}
-use Rattle.ring.specs.Sheet.{Sheet, split_routing}
+use Rattle.ring.specs.Sheet.{Sheet}
 use Rattle.ring.specs.True.{TrueSheet}
 use Rattle.sheet.specs.Range as sheet_range
 use Rattle.sheet.specs.WriteSheet.{write_sheet}
 use Rattle.table.specs.Says.{Given}
 use Rattle.table.specs.Table.{write_table, InRange}
 use Rattle.reasons.specs.declared.reason.Reason.{Reason}
-use Rattle.reasons.specs.declared.reason.Reason.TheVariants.{Fibres, SumTooMuch, TooManySplit}
+use Rattle.reasons.specs.declared.reason.Reason.TheVariants.{Fibres, SumTooMuch, TooManySplit, PlansTooLong}
 use Rattle.best.specs.Best.{splits, most_split}
 use Rattle.engines.specs.declared.Engine.{Engine}
 use Rattle.engines.specs.Engine.{split_routing_by}
@@ -21,6 +22,9 @@ use Rattle.matrix.specs.Range as matrix
 use Rattle.matrix.specs.Says as matrix_says
 use Rattle.matrix.specs.Matrix.{write_matrix}
 use Rattle.matrix.specs.Demands.{rows_of_matrix, matrix_of_rows, Passes, PassesAt}
+use Rattle.report.specs.declared.totals.Report.{Report}
+use Rattle.report.specs.Report.{most_bytes, report_text}
+use Rattle.report.specs.Checked.{ReportIs}
 
 -- t is the table of these values, and they are in the desk's range
 pub record TableOf (t : List ℕ) (ring : Ring) (rs : List Demand) : Type 0 where
@@ -97,13 +101,13 @@ pub record Itself (Accepted : Type 0) (t text : List ℕ) : Type 0 where
   pub accepted : Accepted
   pub same : text ≡ t
 
--- the text that is due to a matrix that is read on 2 or 4 fibres: the table with one row for each pair whose entry is above 0
-pub record MatrixDue (fibres : ℕ) (t text : List ℕ) : Type 0 where
+-- the text that is due to a matrix that is read on 2 or 4 fibres, of a family: the table with one row for each pair whose entry is above 0
+pub record MatrixDue (fibres : ℕ) (family : Family) (t text : List ℕ) : Type 0 where
   pub two_or_four : IsFibres fibres
   pub n : ℕ
   pub m : List (List ℕ)
   pub of : MatrixOf t n m
-  pub is : text ≡ write_table (ring_of n fibres) (rows_of_matrix n m)
+  pub is : text ≡ write_table (ring_of n fibres family) (rows_of_matrix n m)
 
 -- what is given to a matrix that is read: 20 first of all, with line 0 and byte 0; then the matrix's own reasons
 pub data MatrixGiven (fibres : ℕ) (t : List ℕ) : Reason → ℕ → ℕ → Type 0 where
@@ -129,3 +133,14 @@ pub record SumsFit (t : List ℕ) : Type 0 where
 pub data SumsGiven (t : List ℕ) : Reason → ℕ → ℕ → Type 0 where
   of_the_table : {reason : Reason} {line byte : ℕ} → Given desk t reason line byte → SumsGiven t reason line byte
   of_sums : {ring : Ring} {rs : List Demand} {line : ℕ} → TableOf t ring rs → PassesAt desk rs line → SumsGiven t SumTooMuch line 1
+
+-- the text that is due to a text of many plans within the limit: the lines of its report
+pub record ReportDue (t text : List ℕ) : Type 0 where
+  pub within : length t ≤ most_bytes
+  pub report : Report
+  pub of : ReportIs t report
+  pub is : text ≡ report_text report
+
+-- what is given to a longer one: 24, with line 0 and byte 0
+pub data ReportGiven (t : List ℕ) : Reason → ℕ → ℕ → Type 0 where
+  of_its_length : most_bytes < length t → ReportGiven t PlansTooLong 0 0

@@ -7,6 +7,7 @@ use Rattle.table.specs.Table.{write_table}
 use Rattle.reasons.specs.declared.reason.Reason.{Reason}
 use Rattle.sheet.specs.Range.{longest}
 use Rattle.sheet.specs.WriteSheet.{write_sheet}
+use Rattle.work.specs.HeldRing.{ring_held}
 use Rattle.work.specs.Places.{table_held}
 use Rattle.work.specs.Calls.{Call}
 use Rattle.work.specs.Sorted.{Sorted}
@@ -23,7 +24,7 @@ use Rattle.ringkit.specs.Promises.{PlanPromise}
 pub record WorkDue (w : Work) (text : List ℕ) : Type 0 where
   pub rs : List Demand
   pub sorted : Sorted (table_held w).places rs
-  pub is : text ≡ write_table w.ring rs
+  pub is : text ≡ write_table (ring_held w.ring) rs
 
 -- but for 15, writing it has no refusal
 abbrev pub NoRefusal : Reason → ℕ → ℕ → Type 0

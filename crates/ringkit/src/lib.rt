@@ -1,6 +1,7 @@
 #![tactic(auto)]
 //! The public calls: byte slices, numbers and records in, a `Result` by value out. No call has a `requires`. `ringkit_c` gives them to C.
 mod judging; // the call that judges values
+mod reporting; // the call that makes a report over many plans
 mod texts; // the calls that read a text
 mod turning; // the call that turns rows
 mod working; // the calls of the working table
@@ -14,10 +15,12 @@ ghost use Rattle.matrix.specs.Demands.{matrix_of_rows};
 ghost use Rattle.matrix.specs.Room.{matrix_room};
 ghost use Rattle.sheet.specs.WriteSheet.{write_sheet};
 ghost use Rattle.sheet.specs.Range.{longest};
+ghost use Rattle.report.specs.Checked.{report_room};
 ghost use Rattle.ringkit.specs.Outcome.{ask_room, Fills};
 
 pub use judging::ringkit_judge;
 use reasons::{Reason, Refusal};
+pub use reporting::ringkit_report;
 use ring::{BYTES, Figures, LINKS, Link, ROWS, Ring};
 use rows::Rows;
 pub use texts::{
@@ -34,20 +37,20 @@ pub use working::{
 /// A program that reads a text from outside takes at most so many bytes of it: one more than a text can have, so that a longer one is seen to be longer.
 pub const BYTES_TAKEN: u64 = BYTES as u64 + 1;
 
-/// A buffer of so many bytes has room for every sheet that routing writes: at most 44 bytes of the R, C and Z lines, 27 of a D line and 23 of an L line. A node has at
+/// A buffer of so many bytes has room for every sheet that routing writes: at most 46 bytes of the R, C and Z lines, 27 of a D line and 23 of an L line. A node has at
 /// most 2 digits, an amount 4, a front or back 5, a load 8, and behind each field stands one byte.
 pub const fn sheet_bytes() -> usize
     ensures { result ≡ longest desk }
 {
-    44 + 27 * ROWS + 23 * LINKS
+    46 + 27 * ROWS + 23 * LINKS
 }
 
 /// A buffer of so many bytes has room for every table that is made of a matrix, or that a working table which calls made is written as: at most
-/// 7 bytes of the R line and 13 of a D line.
+/// 9 bytes of the R line and 13 of a D line.
 pub const fn table_bytes() -> usize
     ensures { result ≡ table_room desk }
 {
-    7 + 13 * ROWS
+    9 + 13 * ROWS
 }
 
 /// A buffer of so many bytes has room for every matrix that is made of a table: each entry has at most 4 digits, and the byte behind them.
@@ -55,6 +58,14 @@ pub const fn matrix_bytes() -> usize
     ensures { result ≡ matrix_room desk }
 {
     5 * LINKS * LINKS
+}
+
+/// A buffer of so many bytes has room for every report: for each family the letter and its byte, a count of at most 5 digits, a sum and a twice-peak of at most 9, an
+/// across number of at most 8, and the byte behind each; then another letter with its byte, and a count of at most 5 digits with the byte behind it.
+pub const fn report_bytes() -> usize
+    ensures { result ≡ report_room }
+{
+    82
 }
 
 // Whether the buffer has room for so many bytes.

@@ -29,6 +29,7 @@ use crate::{put_matrix, put_sheet, put_table};
 use arrayvec::ArrayVec;
 use checker::Pair;
 use engines::Engine;
+use family::Family;
 use reasons::{Reason, Refusal};
 use ring::Ring;
 use rows::Columns;
@@ -88,29 +89,47 @@ pub fn ringkit_rewrite_table(table: &[u8], buffer: &mut [u8]) -> Result<usize, R
     rewrite_table(table, buffer)
 }
 
-fn read_matrix(matrix: &[u8], fibres: u32, buffer: &mut [u8]) -> Result<usize, Refusal>
-    ensures { Fills (matrix_read fibres matrix.now) buffer.old buffer.new result }
+fn read_matrix(
+    matrix: &[u8],
+    fibres: u32,
+    family: Family,
+    buffer: &mut [u8],
+) -> Result<usize, Refusal>
+    ensures { Fills (matrix_read fibres family matrix.now) buffer.old buffer.new result }
 {
     reasons::check_fibres(fibres).map_err(Refusal::whole)?;
     let mut rows = Columns::new();
     let nodes = matrix::read_matrix(matrix, &mut rows)?;
-    put_table(buffer, Ring { nodes, fibres }, &rows)
+    put_table(
+        buffer,
+        Ring {
+            nodes,
+            fibres,
+            family,
+        },
+        &rows,
+    )
 }
 
-/// Reads a matrix and writes its table, on a ring of so many fibres, 2 or 4, which a matrix does not say. Answers the table's length, at most `table_bytes()`.
-/// Else the buffer stays as it was, and the refusal is 20 of the fibres, which is tried before the text is read, with line 0; or the matrix's first reason,
+/// Reads a matrix and writes its table, on a ring of so many fibres, 2 or 4, and of a family, which a matrix does not say. Answers the table's length, at most
+/// `table_bytes()`. Else the buffer stays as it was, and the refusal is 20 of the fibres, which is tried before the text is read, with line 0; or the matrix's first reason,
 /// with its line and byte; or 15.
-pub fn ringkit_read_matrix(matrix: &[u8], fibres: u32, buffer: &mut [u8]) -> Result<usize, Refusal>
-    ensures promise { ReadMatrixPromise fibres matrix.now buffer.old buffer.new result }
-    ensures only { Only (ReadMatrixPromise fibres matrix.now buffer.old) buffer.new result }
+pub fn ringkit_read_matrix(
+    matrix: &[u8],
+    fibres: u32,
+    family: Family,
+    buffer: &mut [u8],
+) -> Result<usize, Refusal>
+    ensures promise { ReadMatrixPromise fibres family matrix.now buffer.old buffer.new result }
+    ensures only { Only (ReadMatrixPromise fibres family matrix.now buffer.old) buffer.new result }
     ensures accepted { IfOk result (λ length. AcceptedTable desk (take length buffer.new)) }
     ensures fits { IfOk result (λ length. length ≤ table_room desk) }
     ensures room { IsFibres fibres → AcceptedMatrix desk matrix.now →
         table_room desk ≤ length buffer.old →
         IsOk result }
-    ensures value { Fills (matrix_read fibres matrix.now) buffer.old buffer.new result }
+    ensures value { Fills (matrix_read fibres family matrix.now) buffer.old buffer.new result }
 {
-    read_matrix(matrix, fibres, buffer)
+    read_matrix(matrix, fibres, family, buffer)
 }
 
 fn write_matrix(table: &[u8], buffer: &mut [u8]) -> Result<usize, Refusal>

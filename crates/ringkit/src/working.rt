@@ -146,7 +146,7 @@ fn written(work: &Work, buffer: &mut [u8]) -> Result<usize, Refusal>
 {
     let mut rows = Columns::new();
     work::sorted(work, &mut rows);
-    put_table(buffer, work.ring, &rows)
+    put_table(buffer, work.ring.ring(), &rows)
 }
 
 /// Writes the table of the rows held, by nodes, then by place, at the start of the buffer. Answers its length, at most `table_bytes()` of a table that calls

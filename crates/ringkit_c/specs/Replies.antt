@@ -1,7 +1,9 @@
 -- To believe: what C's structs say of the answers of the calls: reason 0 is success; else the reason's number, with its line and byte or its place, and every
 -- other field is 0.
 use Rattle.std.specs.Prelude.{ℕ, List, ◌≡◌, Ok, Err}
+use Rattle.family.specs.Sizes.{family_of}
 use Rattle.ring.specs.Ring.{ring_of}
+use Rattle.ring.specs.declared.types.Ring.{Ring}
 use Rattle.ring.specs.Sheet.{Sheet}
 use Rattle.ring.specs.declared.types.Link.{Link}
 use Rattle.rows.specs.declared.sheet_row.SheetRow.{SheetRow}
@@ -43,10 +45,14 @@ unfoldable pub turn_reply : TurnAnswer → TurnReply
 turn_reply (Ok x) = record { reason = 0; line = 0; byte = 0; peak = x.turned.peak; link = x.turned.link; turns = x.turned.turns; rows = x.rows }
 turn_reply (Err r) = record { reason = number_of r.reason; line = r.line; byte = r.byte; peak = 0; link = 0; turns = 0; rows = 0 }
 
--- the values that C lends to be judged, as a sheet: R n fibres, its rows, C g h across, its links, Z peak size
-abbrev pub sheet_lent : List SheetRow → ℕ → ℕ → ℕ → ℕ → ℕ → List Link → ℕ → ℕ → Sheet
-sheet_lent rows n fibres g h across links peak size =
-    sheet_given (record { ring = ring_of n fibres; cut = record { g = g; h = h; across = across }; unsplit_peak = peak; size = size }) rows links
+-- the ring that C tells in numbers: family 0 is SONET, any other number SDH
+abbrev pub ring_told : ℕ → ℕ → ℕ → Ring
+ring_told n fibres family = ring_of n fibres (family_of family)
+
+-- the values that C lends to be judged, as a sheet: its ring, its rows, C g h across, its links, Z peak size
+abbrev pub sheet_lent : List SheetRow → Ring → ℕ → ℕ → ℕ → List Link → ℕ → ℕ → Sheet
+sheet_lent rows ring g h across links peak size =
+    sheet_given (record { ring = ring; cut = record { g = g; h = h; across = across }; unsplit_peak = peak; size = size }) rows links
 
 -- C is told of an answer: there is one that keeps the promise, and this reply says it
 pub record Told {A R : Type 0} (reply : A → R) (Promise : A → Type 0) (r : R) : Type 0 where

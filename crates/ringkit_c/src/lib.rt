@@ -3,13 +3,14 @@
 // own since no Rattle crate can name a static library.
 mod judging; // the call that judges values
 mod replies; // C's structs, each with what makes it of an answer
+mod ring_told; // the ring that C tells
 mod texts; // the calls that read a text
 mod working; // the calls of the working table
 
 pub use judging::ringkit_judge;
 pub use replies::{JudgeReply, PairReply, Reply, RowReply, TurnReply, WorkReply};
 pub use texts::{
-    ringkit_check, ringkit_parallel, ringkit_read_matrix, ringkit_rewrite_sheet,
+    ringkit_check, ringkit_parallel, ringkit_read_matrix, ringkit_report, ringkit_rewrite_sheet,
     ringkit_rewrite_table, ringkit_route, ringkit_route_best, ringkit_route_lowered,
     ringkit_route_lowered_best, ringkit_turn, ringkit_write_matrix,
 };

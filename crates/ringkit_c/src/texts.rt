@@ -1,7 +1,9 @@
 // The calls that read a text.
-ghost use Rattle.std.specs.Prelude.{◌≡◌, ◌≢◌, ◌≤◌, length, take};
+ghost use Rattle.std.specs.Prelude.{ℕ, ◌≡◌, ◌≢◌, ◌≤◌, List, length, take};
+ghost use Rattle.family.specs.Sizes.{family_of};
 ghost use Rattle.ring.specs.Limits.{desk};
 ghost use Rattle.ring.specs.LineSize.{IsFibres};
+ghost use Rattle.ring.specs.Lists.{Each};
 ghost use Rattle.engines.specs.declared.Engine.TheVariants.{Level, Lowered};
 ghost use Rattle.table.specs.Table.{table_room};
 ghost use Rattle.table.specs.Says.{Accepted as AcceptedTable};
@@ -12,11 +14,14 @@ ghost use Rattle.matrix.specs.Says.{Accepted as AcceptedMatrix};
 ghost use Rattle.sheet.specs.Range.{longest};
 ghost use Rattle.sheet.specs.Says.{WellFormed};
 ghost use Rattle.router.specs.Plans.{rule_D, best_choice};
+ghost use Rattle.checker.specs.Says.{Accepted as AcceptedSheet};
+ghost use Rattle.report.specs.Report.{most_bytes};
+ghost use Rattle.report.specs.Checked.{report_room};
 ghost use Rattle.ringkit.specs.Says.{Only};
 ghost use Rattle.ringkit.specs.Texts.{FewSplit, OnRingUpTo, SumsFit};
-ghost use Rattle.ringkit.specs.Promises.{PlanPromise, RewriteTablePromise, RewriteSheetPromise, ReadMatrixPromise, WriteMatrixPromise};
+ghost use Rattle.ringkit.specs.Promises.{PlanPromise, RewriteTablePromise, RewriteSheetPromise, ReadMatrixPromise, WriteMatrixPromise, ReportPromise};
 ghost use Rattle.ringkit.specs.Answers.{CheckPromise, PairPromise};
-ghost use Rattle.ringkit.specs.Sheets.{FormedSheet, BestSheet, RoutedWell, NothingBelowSheet};
+ghost use Rattle.ringkit.specs.Sheets.{FormedSheet, BestSheet, RoutedWell, NothingBelowSheet, Joined, AllCounted};
 ghost use Rattle.ringkit.specs.Outcome.{Fills};
 ghost use Rattle.ringkit.specs.TableCalls.{table_afresh, table_routed};
 ghost use Rattle.ringkit.specs.MatrixCalls.{matrix_read, matrix_written};
@@ -27,6 +32,7 @@ ghost use Rattle.ringkit.specs.TurnCalls.{TurnsTable};
 ghost use Rattle.ringkit_c.specs.Replies.{checked_reply, pair_reply, turn_reply, Told, Replies};
 
 use crate::replies::{PairReply, Reply, TurnReply};
+use family::Family;
 use ring::ROWS;
 
 /// Reads a table and writes its values afresh: the same bytes. The reply has their number; or the table's first reason with its line and byte, or 15, and then
@@ -40,21 +46,30 @@ pub extern "C" fn ringkit_rewrite_table(table: &[u8], buffer: &mut [u8]) -> Repl
     Reply::from(ringkit::ringkit_rewrite_table(table, buffer))
 }
 
-/// Reads a matrix and writes its table, on a ring of so many fibres. The reply has the table's length in bytes; or 20, the matrix's first reason with its line
-/// and byte, or 15, and then no byte of the buffer has changed.
+/// Reads a matrix and writes its table, on a ring of so many fibres, of a family: 0 is SONET, any other number SDH. The reply has the table's length in bytes; or
+/// 20, the matrix's first reason with its line and byte, or 15, and then no byte of the buffer has changed.
 #[unsafe(no_mangle)]
-pub extern "C" fn ringkit_read_matrix(matrix: &[u8], fibres: u32, buffer: &mut [u8]) -> Reply
-    ensures promise { Replies (ReadMatrixPromise fibres matrix.now buffer.old) buffer.new result }
-    ensures only { Only (Replies (ReadMatrixPromise fibres matrix.now buffer.old)) buffer.new
+pub extern "C" fn ringkit_read_matrix(
+    matrix: &[u8],
+    fibres: u32,
+    family: u32,
+    buffer: &mut [u8],
+) -> Reply
+    ensures promise { let family = family_of family in
+        Replies (ReadMatrixPromise fibres family matrix.now buffer.old) buffer.new result }
+    ensures only { let family = family_of family in
+        Only (Replies (ReadMatrixPromise fibres family matrix.now buffer.old)) buffer.new
         result }
     ensures accepted { result.reason ≡ 0 → AcceptedTable desk (take result.length buffer.new) }
     ensures fits { result.length ≤ table_room desk }
     ensures room { IsFibres fibres → AcceptedMatrix desk matrix.now →
         table_room desk ≤ length buffer.old →
         result.reason ≡ 0 }
-    ensures value { Replies (Fills (matrix_read fibres matrix.now) buffer.old) buffer.new result }
+    ensures value { let family = family_of family in
+        Replies (Fills (matrix_read fibres family matrix.now) buffer.old) buffer.new result }
 {
-    Reply::from(ringkit::ringkit_read_matrix(matrix, fibres, buffer))
+    let family = Family::of(family);
+    Reply::from(ringkit::ringkit_read_matrix(matrix, fibres, family, buffer))
 }
 
 /// Reads a table and writes its matrix. The reply has the matrix's length in bytes; or the table's first reason or 19, with line and byte, or 15, and then no
@@ -191,4 +206,20 @@ pub extern "C" fn ringkit_turn(table: &[u8], ways: &mut [u8; ROWS]) -> TurnReply
         Told turn_reply (TurnsTable read ways.old ways.new) result }
 {
     TurnReply::from(ringkit::ringkit_turn(table, ways))
+}
+
+/// Makes a report over a text of many plans and writes its lines. The reply has its length in bytes; or 24, where the text is over 65,536 bytes, or 15, and then no byte
+/// of the buffer has changed.
+#[unsafe(no_mangle)]
+pub extern "C" fn ringkit_report(sheets: &[u8], buffer: &mut [u8]) -> Reply
+    ensures promise { Replies (ReportPromise sheets.now buffer.old) buffer.new result }
+    ensures only { Only (Replies (ReportPromise sheets.now buffer.old)) buffer.new result }
+    ensures counted { (plans : List (List ℕ)) → Joined plans sheets.now →
+        Each (AcceptedSheet desk) plans →
+        Replies (AllCounted sheets.now (length plans) buffer.old) buffer.new result }
+    ensures fits { result.length ≤ report_room }
+    ensures room { length sheets.now ≤ most_bytes → report_room ≤ length buffer.old →
+        result.reason ≡ 0 }
+{
+    Reply::from(ringkit::ringkit_report(sheets, buffer))
 }

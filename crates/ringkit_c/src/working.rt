@@ -1,7 +1,6 @@
 // The calls of the working table.
 ghost use Rattle.std.specs.Prelude.{◌≡◌, ◌≤◌, List, [], ◌∷◌, length, take};
 ghost use Rattle.ring.specs.Limits.{desk};
-ghost use Rattle.ring.specs.Ring.{ring_of};
 ghost use Rattle.ring.specs.Demand.{demand};
 ghost use Rattle.table.specs.Table.{table_room};
 ghost use Rattle.table.specs.Says.{Accepted};
@@ -16,38 +15,40 @@ ghost use Rattle.ringkit.specs.Says.{CallPromise, Only};
 ghost use Rattle.ringkit.specs.WorkCalls.{WorkDue, NoRefusal};
 ghost use Rattle.ringkit.specs.Outcome.{Fills};
 ghost use Rattle.ringkit.specs.TableCalls.{work_written};
-ghost use Rattle.ringkit_c.specs.Replies.{Told, Replies};
+ghost use Rattle.ringkit_c.specs.Replies.{ring_told, Told, Replies};
 ghost use Rattle.ringkit_c.specs.Working.{work_reply, row_reply, ToldWork};
 
 use crate::replies::{Reply, RowReply, WorkReply};
-use ring::{Demand, Ring};
+use crate::ring_told::ring_told;
+use ring::Demand;
 use work::Work;
 
-/// Makes the struct a table of this ring that holds no row. The reply has place 0 and the cut of no rows; or 3 or 20, and then no byte of the struct has changed.
+/// Makes the struct a table of this ring that holds no row; its family is SONET where the number is 0 and SDH where it is any other. The reply has place 0 and the
+/// cut of no rows; or 3 or 20, and then no byte of the struct has changed.
 #[unsafe(no_mangle)]
-pub extern "C" fn ringkit_work_start(work: &mut Work, n: u32, fibres: u32) -> WorkReply
+pub extern "C" fn ringkit_work_start(work: &mut Work, n: u32, fibres: u32, family: u32) -> WorkReply
     // On every struct.
-    ensures promise { ToldWork work.old (start (ring_of n fibres)) result work.new }
-    ensures only { OnlyThis (ToldWork work.old (start (ring_of n fibres))) result work.new }
-    ensures any { let call = start (ring_of n fibres) in
+    ensures promise { ToldWork work.old (start (ring_told n fibres family)) result work.new }
+    ensures only { OnlyThis (ToldWork work.old (start (ring_told n fibres family))) result work.new }
+    ensures any { let call = start (ring_told n fibres family) in
         Told work_reply (λ a. Answered work.old call a work.new) result }
-    ensures answered { Told work_reply (AnswerAfter [] (start (ring_of n fibres))) result }
-    ensures value { result ≡ work_reply (placed_of (started_in (ring_of n fibres))) }
-    ensures table { work.new ≡ work_after work.old (started_in (ring_of n fibres)) }
+    ensures answered { Told work_reply (AnswerAfter [] (start (ring_told n fibres family))) result }
+    ensures value { result ≡ work_reply (placed_of (started_in (ring_told n fibres family))) }
+    ensures table { work.new ≡ work_after work.old (started_in (ring_told n fibres family)) }
 
     // Where it is accepted.
-    ensures made { result.reason ≡ 0 → Made (start (ring_of n fibres) ∷ []) work.new }
+    ensures made { result.reason ≡ 0 → Made (start (ring_told n fibres family) ∷ []) work.new }
     ensures kept { result.reason ≡ 0 → TrueTable work.new }
-    ensures played { result.reason ≡ 0 → AsPlayed (start (ring_of n fibres) ∷ []) work.new }
+    ensures played { result.reason ≡ 0 → AsPlayed (start (ring_told n fibres family) ∷ []) work.new }
 
     // On a struct made by calls, accepted or refused.
     ensures made_later { (calls : List Call) → Made calls work.old →
-        Made (start (ring_of n fibres) ∷ calls) work.new }
+        Made (start (ring_told n fibres family) ∷ calls) work.new }
     ensures kept_later { (calls : List Call) → Made calls work.old → TrueTable work.new }
     ensures played_later { (calls : List Call) → Made calls work.old →
-        AsPlayed (start (ring_of n fibres) ∷ calls) work.new }
+        AsPlayed (start (ring_told n fibres family) ∷ calls) work.new }
 {
-    WorkReply::from(ringkit::ringkit_work_start(work, Ring { nodes: n, fibres }))
+    WorkReply::from(ringkit::ringkit_work_start(work, ring_told(n, fibres, family)))
 }
 
 /// Puts a row at the lowest free place; its amount is in units. The reply has the place, counted from 1, and the largest cut; or 4, 5, 7 or 21, and then no

@@ -14,7 +14,7 @@ use Rattle.ring.proofs.Peaks.{same-peak}
 use Rattle.weight.specs.LinkSteps.{link_at}
 use Rattle.engines.specs.declared.Engine.TheVariants.{Level, Lowered}
 use Rattle.engines.specs.Lowering.{lowest_room, lower_to}
-use Rattle.engines.proofs.Turns.{room-is}
+use Rattle.engines.proofs.LinkByLink.{room-is}
 use Rattle.router.specs.Lowering.{RoomsFrom}
 
 module _ (number : ℕ → ℕ → ℕ) (m n : ℕ) where

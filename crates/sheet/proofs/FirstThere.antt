@@ -9,7 +9,6 @@ use borrow.Author.Tests.{ltb-true, ltb-false}
 use Rattle.ring.specs.declared.types.Cut.{Cut}
 use Rattle.ring.specs.Limits.{Limits}
 use Rattle.ring.specs.Demand.{demand}
-use Rattle.ring.specs.Ring.{ring_of}
 use Rattle.ring.specs.declared.types.Ring.{Ring}
 use Rattle.ring.specs.declared.types.Routed.{Routed}
 use Rattle.ring.specs.declared.types.Link.{Link}
@@ -22,7 +21,6 @@ use Rattle.text.specs.Shapes.{ring_shape, sheet_row_shape}
 use Rattle.text.specs.declared.field.Field.{Field}
 use Rattle.lines.specs.Lines.{lines, LineIs}
 use Rattle.reasons.specs.Fields.{field_of, node_field}
-use Rattle.table.specs.RingByte.{ring_reason_byte}
 use Rattle.reasons.specs.Faults.{verdict_found, ring_found, row_found}
 use Rattle.table.specs.RowReasons.{RingIs, at_fault}
 use Rattle.lines.specs.DueBytes.{line_faulty}
@@ -30,18 +28,21 @@ use Rattle.reasons.specs.declared.reason.Reason.{Reason}
 use Rattle.reasons.specs.declared.reason.Reason.TheVariants.{Misshapen}
 use Rattle.reasons.specs.declared.reason.Refusal.{Refusal}
 use Rattle.reasons.specs.AndThen.{and_then}
-use Rattle.lines.specs.OnLine.{values_on, passed, line_judged}
+use Rattle.lines.specs.OnLine.{values_on, passed}
 use Rattle.table.specs.ReadTable.{ring_on}
 use Rattle.reasons.specs.Refusals.{refuse}
 use Rattle.reasons.specs.Verdict.{Verdict}
 use Rattle.std.specs.Prelude.{Result, Ok, Err}
 use Rattle.reasons.proofs.Judged.{ring-judged, row-judged}
+use Rattle.text.proofs.RingLaws.{RingRead, is_ring, no_ring}
+use Rattle.table.proofs.LineRead.{as-ring}
+use Rattle.table.proofs.TableLines.{ring-said, ring-is}
 use Rattle.table.proofs.BytesGiven.{ring-byte, row-byte}
 use Rattle.table.proofs.FirstOnLine.{HoldsAs, First, wrong-first, ring-judged-first, row-judged-first}
 use Rattle.lines.proofs.LineNumbers.{line-one}
 use Rattle.sheet.specs.Read.{last_demand_of, routed_in, cut_in, link_in, row_by, cut_by, row_step, link_step, last_step, step}
 use Rattle.sheet.specs.Says.{State, start, rows, links, end, RoutedIs, CutIs, LinkIs, LastIs, At, at_start, behind_ring, behind_row, behind_cut, behind_link, behind_last, RowIs, row_is, Says, LineByte, ring_due, row_or_cut_due, link_due, last_due, none_due, ByteIs}
-use Rattle.sheet.proofs.SheetLines.{way-spelled, ring_by, RingRead, is_ring, no_ring, ring-read, SentRead, is_sent, no_sent, sent-read, CutRead, is_cut, no_cut, cut-read, LinkRead, is_link, no_link, link-read, LastRead, is_last, no_last, last-read}
+use Rattle.sheet.proofs.SheetLines.{way-spelled, ring_by, SentRead, is_sent, no_sent, sent-read, CutRead, is_cut, no_cut, cut-read, LinkRead, is_link, no_link, link-read, LastRead, is_last, no_last, last-read}
 use Rattle.sheet.proofs.Places.{sent-spelled, ring-above, rows-above}
 use Rattle.sheet.proofs.SheetSaid.{Unfit, unfit-wrong, wrong-unfit, row-laws, row-above, none-of-cut, none-of-link, none-of-last}
 use Rattle.sheet.proofs.SheetBytes.{neither}
@@ -68,16 +69,16 @@ module _ (limits : Limits) {t : List ℕ} {line : ℕ} where
 
 module _ (limits : Limits) {t l : List ℕ} where
   -- R n fibres
-  ring-stepped : {x : Reading} {line : ℕ} → At limits t line start → LineIs (lines t) line l → RingRead limits l x → Stepped limits t line (ring_by limits x)
-  unfolding values_on ring_found ring_reason_byte
-  ring-stepped at_start here (is_ring {n} {fibres} e a b) =
-      let ring : RingIs limits t (ring_of n fibres) = record { text = subst (LineIs (lines t) 1) e here; spelled = (a, b) } in
-      passed-stepped limits ring_shape (0 ∷ n ∷ fibres ∷ []) (λ reason. field_of reason 0) (ring_of n fibres) (λ ring. rows ring [])
-      (ring-judged-first row-laws ring (λ w. wrong-unfit at_start w (ring_of n fibres) ring) (ring-judged limits (ring_of n fibres)))
-      (ring-byte (RowIs limits t) (LineByte limits t) ring (ring-judged limits (ring_of n fibres)))
-      (behind_ring ring)
+  ring-stepped : {x : Result Ring ℕ} {line : ℕ} → At limits t line start → LineIs (lines t) line l → RingRead limits.digits limits.countable limits.marks l x → Stepped limits t line (ring_by limits x)
+  unfolding values_on ring_found
+  ring-stepped at_start here (is_ring {ring} h) =
+      let is : RingIs limits t ring = ring-is here h in
+      passed-stepped limits ring_shape (0 ∷ ring.nodes ∷ ring.fibres ∷ []) (λ reason. field_of reason 0) ring (λ ring. rows ring [])
+      (ring-judged-first row-laws is (λ w. wrong-unfit at_start w ring is) (ring-judged limits ring))
+      (ring-byte (RowIs limits t) (LineByte limits t) is (ring-judged limits ring))
+      (behind_ring is)
   ring-stepped at_start here (no_ring none fault) =
-      stops (unfit-first limits at_start (λ ring r. none ring.nodes ring.fibres (line-one here r.text refl) r.spelled.0 r.spelled.1)) (at_fault (ring_due at_start (line_faulty here fault)))
+      stops (unfit-first limits at_start (λ ring r. none ring (ring-said r here))) (at_fault (ring_due at_start (line_faulty here fault)))
 
   module _ {line : ℕ} (here : LineIs (lines t) line l) where
     -- C g h across, where the line is no D line
@@ -133,8 +134,8 @@ module _ (limits : Limits) {t l : List ℕ} where
 
   -- by what is due
   pub state-stepped : {state : State} {line : ℕ} → At limits t line state → LineIs (lines t) line l → Stepped limits t line (step limits state line l)
-  unfolding step ring_on line_judged
-  state-stepped {state = start} at here = ring-stepped at here (ring-read limits l)
+  unfolding step ring_on
+  state-stepped {state = start} at here = ring-stepped at here (as-ring limits l)
   state-stepped {state = rows ring rs} at here = row-stepped here at (sent-read limits l) (cut-read limits l)
   state-stepped {state = links ring rs c ks} {line} at here =
       cond-elim (Stepped limits t line) _ _ _

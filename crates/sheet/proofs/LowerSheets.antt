@@ -1,6 +1,6 @@
 -- A desk of lower limits, asked of a sheet's text: what it reads, one of higher limits reads too; what it refuses but by 2, 3 or 16, the other refuses alike. And of
--- a true sheet that one of higher limits reads: it refuses the R line where the ring has more nodes than it knows, else the first row that it has no room for, and
--- else reads the same sheet, whose figures it can spell since the sheet is true.
+-- a true sheet that one of higher limits reads: it refuses the R line where that has an M and none may stand, or where the ring has more nodes than it knows, else the first
+-- row that it has no room for, and else reads the same sheet, whose figures it can spell since the sheet is true.
 use Prim.Native.Nat.{ℕ, ◌+◌, ◌≤◌, ◌<◌}
 use mathlib.Core.List.{List, [], ◌∷◌, ◌++◌, append_assoc}
 use mathlib.Core.Path.{◌≡◌, refl, ap, ◌∙◌, sym, subst}
@@ -13,6 +13,10 @@ use Rattle.std.specs.List.{flat_map}
 use Rattle.ring.specs.Limits.{Limits, desk, old}
 use Rattle.ring.specs.LineSize.{IsFibres}
 use Rattle.ring.specs.Lists.{Each, none, more}
+use Rattle.family.specs.declared.family.Family.TheVariants.{Sonet, Sdh}
+use Rattle.family.specs.Sizes.{Known}
+use Rattle.family.proofs.Sizes.{Knows, is_known, not_known, knows}
+use Rattle.ring.specs.Ring.{ring_of}
 use Rattle.ring.specs.declared.types.Ring.{Ring}
 use Rattle.ring.specs.declared.types.Demand.{Demand}
 use Rattle.ring.specs.declared.types.Routed.{Routed}
@@ -28,18 +32,22 @@ use Rattle.text.specs.FieldByte.{field_byte}
 use Rattle.text.specs.WriteLine.{write_line, end_of}
 use Rattle.text.specs.Field.{spell}
 use Rattle.text.specs.ReadLine.{Reading, read_line}
-use Rattle.text.specs.Shapes.{ring_shape, sheet_row_shape, cut_shape, link_shape, last_shape, ring_line, cut_line}
+use Rattle.text.specs.Shapes.{ring_shape, sheet_row_shape, cut_shape, link_shape, last_shape, cut_line}
+use Rattle.text.specs.Number.{limit}
+use Rattle.text.specs.RingLine.{ring_line}
+use Rattle.text.specs.ReadRing.{read_ring}
+use Rattle.text.proofs.RingLaws.{ring-wider, marked-refused}
 use Rattle.text.proofs.LineLaws.{line-wider}
 use Rattle.lines.specs.Lines.{lines}
 use Rattle.reasons.specs.Faults.{verdict_found, ring_found, row_found}
 use Rattle.reasons.specs.AndThen.{and_then}
-use Rattle.lines.specs.OnLine.{values_on, passed, line_judged}
-use Rattle.table.specs.ReadTable.{ring_in, ring_on, table_of}
+use Rattle.lines.specs.OnLine.{values_on, passed}
+use Rattle.table.specs.ReadTable.{ring_on, table_of}
 use Rattle.reasons.specs.Refusals.{refuse}
 use Rattle.reasons.specs.Verdict.{Verdict}
 use Rattle.reasons.specs.declared.reason.Reason.{Reason}
 use Rattle.reasons.specs.declared.reason.Refusal.{Refusal}
-use Rattle.reasons.specs.declared.reason.Reason.TheVariants.{TooLong, RingSize, TooMany}
+use Rattle.reasons.specs.declared.reason.Reason.TheVariants.{TooLong, Misshapen, RingSize, TooMany}
 use Rattle.table.proofs.Accepted.{one-table}
 use Rattle.reasons.proofs.Against.{fine-ring-judged, big-ring-judged, fine-row-judged, full-row-judged}
 use Rattle.reasons.proofs.FineRows.{FineRows, fine_row, fine-rows}
@@ -48,7 +56,7 @@ use Rattle.table.proofs.LineRead.{RingSpelled, ring-values}
 use Rattle.table.proofs.TableLines.{ring-first}
 use Rattle.reasons.proofs.LowerLimits.{Lower, Lost, lost_shape, VerdictAlike, same_verdict, lost_verdict, ring-alike, row-alike}
 use Rattle.table.proofs.LowerTables.{old-table-accepted, wider, low-spelled, high-spelled}
-use Rattle.table.proofs.TableText.{fibres-spelled}
+use Rattle.table.proofs.TableText.{fibres-spelled, ring-spelled}
 use Rattle.sheet.specs.WriteSheet.{routed_line, end_text, write_sheet}
 use Rattle.sheet.specs.Range.{InRange}
 use Rattle.sheet.specs.Read.{routed_in, last_demand_of, row_by, cut_by, row_step, link_step, last_step, step, read_from, read_sheet}
@@ -67,9 +75,12 @@ pub data Alike {A : Type 0} : Result A Refusal → Result A Refusal → Type 0 w
   lost_result : {r : Refusal} {x : Result A Refusal} → Lost r.reason → Alike (Err r) x
 
 -- what is read is read alike
-data LineAlike : Reading → Reading → Type 0 where
-  same_line : {vs : List ℕ} → LineAlike (Ok vs) (Ok vs)
-  lost_line : {p : ℕ} {x : Reading} → LineAlike (Err p) x
+data ReadAlike {A : Type 0} : Result A ℕ → Result A ℕ → Type 0 where
+  same_read : {a : A} → ReadAlike (Ok a) (Ok a)
+  lost_read : {p : ℕ} {x : Result A ℕ} → ReadAlike (Err p) x
+
+abbrev LineAlike : Reading → Reading → Type 0
+LineAlike x y = ReadAlike x y
 
 passed-alike : {A : Type 0} (line : ℕ) (shape : List Field) (vs : List ℕ) (field : Reason → ℕ) (a : A) (then : A → State) {v u : Verdict} → VerdictAlike v u
     → Alike (and_then (passed line shape vs (verdict_found v field) a) λ a. Ok (then a)) (and_then (passed line shape vs (verdict_found u field) a) λ a. Ok (then a))
@@ -85,38 +96,45 @@ module _ {low high : Limits} (lower : Lower low high) where
   line-alike shape l = go (read_line low.digits shape l) refl
     where
       go : (x : Reading) → read_line low.digits shape l ≡ x → LineAlike x (read_line high.digits shape l)
-      go (Ok vs) e = let f = line-again shape l vs e in rw f same_line
-      go (Err p) e = lost_line
+      go (Ok vs) e = let f = line-again shape l vs e in rw f same_read
+      go (Err p) e = lost_read
 
-  ring-alike-by : {x y : Reading} → LineAlike x y → Alike (ring_by low x) (ring_by high y)
+  ring-read-alike : (l : List ℕ) → ReadAlike (read_ring low.marks low.digits l) (read_ring high.marks high.digits l)
+  ring-read-alike l = go (read_ring low.marks low.digits l) refl
+    where
+      go : (x : Result Ring ℕ) → read_ring low.marks low.digits l ≡ x → ReadAlike x (read_ring high.marks high.digits l)
+      go (Ok ring) e = let f = ring-wider low.marks high.marks low.digits high.digits low.countable high.countable lower.marks (wider lower) l ring e in rw f same_read
+      go (Err p) e = lost_read
+
+  ring-alike-by : {x y : Result Ring ℕ} → ReadAlike x y → Alike (ring_by low x) (ring_by high y)
   unfolding values_on ring_found
-  ring-alike-by (same_line {vs}) = passed-alike 1 ring_shape vs _ (ring_in vs) (λ ring. rows ring []) (ring-alike lower (ring_in vs))
-  ring-alike-by lost_line = lost_result lost_shape
+  ring-alike-by (same_read {a = ring}) = passed-alike 1 ring_shape (0 ∷ ring.nodes ∷ ring.fibres ∷ []) _ ring (λ ring. rows ring []) (ring-alike lower ring)
+  ring-alike-by lost_read = lost_result lost_shape
 
   row-step-alike : (ring : Ring) (rs : List Routed) (line : ℕ) (l : List ℕ) {x y z : Reading} → LineAlike x y → y ≡ read_line high.digits sheet_row_shape l → CutRead low l z → z ≡ read_line low.digits cut_shape l
       → Alike (row_step low ring rs line x z) (row_step high ring rs line y (read_line high.digits cut_shape l))
   unfolding row_step row_by row_found cut_by
-  row-step-alike ring rs line l (same_line {vs}) sent cut is =
+  row-step-alike ring rs line l (same_read {a = vs}) sent cut is =
       passed-alike line sheet_row_shape vs _ (routed_in vs) (λ r. rows ring (rs ++ r ∷ [])) (row-alike lower ring.nodes (length rs) (last_demand_of rs) (routed_in vs).sent.demand)
-  row-step-alike ring rs line l lost_line sent (no_cut misread fault) is = lost_result lost_shape
-  row-step-alike ring rs line l lost_line sent (is_cut {g} {h} {m} e a b c) is =
+  row-step-alike ring rs line l lost_read sent (no_cut misread fault) is = lost_result lost_shape
+  row-step-alike ring rs line l lost_read sent (is_cut {g} {h} {m} e a b c) is =
       let again = line-again cut_shape l (0 ∷ g ∷ h ∷ m ∷ []) (sym is) in
       let other = cut-not-sent high g h m (sent-read high (cut_line g h m)) ring rs line (Ok (0 ∷ g ∷ h ∷ m ∷ [])) in
       rw (again, sent, e, other.1) same_result
 
   link-step-alike : (ring : Ring) (rs : List Routed) (c : Cut) (ks : List Link) (line : ℕ) {x y : Reading} → LineAlike x y → Alike (link_step ring rs c ks line x) (link_step ring rs c ks line y)
   unfolding link_step values_on
-  link-step-alike ring rs c ks line same_line = same_result
-  link-step-alike ring rs c ks line lost_line = lost_result lost_shape
+  link-step-alike ring rs c ks line same_read = same_result
+  link-step-alike ring rs c ks line lost_read = lost_result lost_shape
 
   last-step-alike : (ring : Ring) (rs : List Routed) (c : Cut) (ks : List Link) (line : ℕ) {x y : Reading} → LineAlike x y → Alike (last_step ring rs c ks line x) (last_step ring rs c ks line y)
   unfolding last_step values_on
-  last-step-alike ring rs c ks line same_line = same_result
-  last-step-alike ring rs c ks line lost_line = lost_result lost_shape
+  last-step-alike ring rs c ks line same_read = same_result
+  last-step-alike ring rs c ks line lost_read = lost_result lost_shape
 
   step-alike : (state : State) (line : ℕ) (l : List ℕ) → Alike (step low state line l) (step high state line l)
-  unfolding step ring_on line_judged
-  step-alike start line l = ring-alike-by (line-alike ring_shape l)
+  unfolding step ring_on
+  step-alike start line l = ring-alike-by (ring-read-alike l)
   step-alike (rows ring rs) line l = row-step-alike ring rs line l (line-alike sheet_row_shape l) refl (cut-read low l) refl
   step-alike (links ring rs c ks) line l = go (ltb (length ks) ring.nodes)
     where
@@ -150,22 +168,30 @@ module _ {low high : Limits} (lower : Lower low high) where
 
 -- what a desk of these limits answers to this sheet, which one of higher limits accepts
 pub data LowerSheet (low : Limits) (x : Sheet) : Result Sheet Refusal → Type 0 where
-  more-nodes : low.nodes < x.ring.nodes → LowerSheet low x (refuse RingSize 1 3)
-  more-rows : x.ring.nodes ≤ low.nodes → low.rows < length x.rows → LowerSheet low x (refuse TooMany (low.rows + 2) 1)
-  same : x.ring.nodes ≤ low.nodes → length x.rows ≤ low.rows → LowerSheet low x (Ok x)
+  marked : {byte : ℕ} → low.marks ≡ false → x.ring.family ≡ Sdh → byte ≡ length (ring_line (ring_of x.ring.nodes x.ring.fibres Sonet)) → LowerSheet low x (refuse Misshapen 1 byte)
+  more-nodes : Known low.marks x.ring.family → low.nodes < x.ring.nodes → LowerSheet low x (refuse RingSize 1 3)
+  more-rows : Known low.marks x.ring.family → x.ring.nodes ≤ low.nodes → low.rows < length x.rows → LowerSheet low x (refuse TooMany (low.rows + 2) 1)
+  same : Known low.marks x.ring.family → x.ring.nodes ≤ low.nodes → length x.rows ≤ low.rows → LowerSheet low x (Ok x)
 
 -- ---- each line
 
+mark-read : (marks : Bool) (most : ℕ) (ring : Ring) (p : ℕ) → marks ≡ false → ring.family ≡ Sdh → read_ring false most (ring_line (ring_of ring.nodes ring.fibres Sdh)) ≡ Err p → read_ring marks most (ring_line ring) ≡ Err p
+mark-read marks most ring p m f e = rw (m, f) e
+
 module _ (low : Limits) where
-  ring-stepped : (ring : Ring) (line : ℕ) → RingSpelled low ring.nodes ring.fibres → low.fewest ≤ ring.nodes → ring.nodes ≤ low.nodes → IsFibres ring.fibres
-      → step low start line (ring_line ring.nodes ring.fibres) ≡ Ok (rows ring [])
-  unfolding step ring_on line_judged values_on passed ring_found verdict_found
-  ring-stepped ring line w few many fibres = rw (ring-values low ring.nodes ring.fibres w, fine-ring-judged low ring few many fibres)
+  ring-stepped : (ring : Ring) (line : ℕ) → RingSpelled low ring → low.fewest ≤ ring.nodes → ring.nodes ≤ low.nodes → IsFibres ring.fibres → step low start line (ring_line ring) ≡ Ok (rows ring [])
+  unfolding step ring_on values_on passed ring_found verdict_found
+  ring-stepped ring line w few many fibres = rw (ring-values low ring w, fine-ring-judged low ring few many fibres)
 
   -- too many nodes: n is at byte 3
-  ring-refused : (ring : Ring) (line : ℕ) → RingSpelled low ring.nodes ring.fibres → low.nodes < ring.nodes → step low start line (ring_line ring.nodes ring.fibres) ≡ refuse RingSize 1 3
-  unfolding step ring_on line_judged values_on passed ring_found verdict_found field_byte write_line spell end_of
-  ring-refused ring line w big = rw (ring-values low ring.nodes ring.fibres w, big-ring-judged low ring big)
+  ring-refused : (ring : Ring) (line : ℕ) → RingSpelled low ring → low.nodes < ring.nodes → step low start line (ring_line ring) ≡ refuse RingSize 1 3
+  unfolding step ring_on values_on passed ring_found verdict_found field_byte write_line spell end_of
+  ring-refused ring line w big = rw (ring-values low ring w, big-ring-judged low ring big)
+
+  -- an M where none may stand: it is refused where LF should stand
+  mark-refused : (l : List ℕ) (line p : ℕ) → read_ring low.marks low.digits l ≡ Err p → step low start line l ≡ refuse Misshapen 1 (p + 1)
+  unfolding step ring_on values_on
+  mark-refused l line p e = rw e refl
 
   -- a row is spelled
   abbrev Spells : Routed → Type 0
@@ -224,59 +250,83 @@ module _ {low high : Limits} (lower : Lower low high) (fits : Fitting low) where
   -- ---- the sheet
 
   -- in range of the higher limits, true, and within the lower ones
-  narrow : {x : Sheet} → InRange high x → TrueSheet x → x.ring.nodes ≤ low.nodes → length x.rows ≤ low.rows → InRange low x
-  narrow {x} range t n r =
+  narrow : {x : Sheet} → InRange high x → TrueSheet x → Known low.marks x.ring.family → x.ring.nodes ≤ low.nodes → length x.rows ≤ low.rows → InRange low x
+  narrow {x} range t known n r =
       let e = lower.amount in
       true-in-range low fits x t
       (record {
         few = omega (arith, range.within.few, lower.fewest);
         many = n;
         fibres = range.within.fibres;
+        family = known;
         rows = range.within.rows;
         count = omega (arith, r, demands-length x.rows);
         amounts = rw e range.within.amounts;
       })
 
-  -- a true sheet that the higher read, the lower refuse by 3 or 16, or read too
-  pub lower-sheet : (t : List ℕ) (x : Sheet) → read_sheet high t ≡ Ok x → TrueSheet x → LowerSheet low x (read_sheet low t)
-  unfolding read_sheet read_from write_sheet
-  lower-sheet t x e true_sheet =
-      elim (dec_lt low.nodes x.ring.nodes) [
-        | yes big ↦ rw (is, le-ltb low.bytes (length (write_sheet x)) short, first, ring-refused low x.ring 1 w big) (more-nodes big)
-        | no small ↦ elim (dec_lt low.rows (length x.rows)) [
-          | yes over ↦
-              let n : x.ring.nodes ≤ low.nodes = omega arith in
-              let fine = ring-stepped low x.ring 1 w (omega (arith, range.within.few, lower.fewest)) n range.within.fibres in
-              let refusal =
-              many-rows x.ring range.within.many (end_text (figures_of x) x.links) [] x.rows refl refl (omega arith) (omega arith)
-              (fine-rows range.within.rows (omega (arith, range.within.count)) range.within.amounts) (figures-small low.amount x true_sheet amounts).rows in
-              rw (is, le-ltb low.bytes (length (write_sheet x)) short, first, fine, refusal) (more-rows n over)
-          | no few ↦
-              let n : x.ring.nodes ≤ low.nodes = omega arith in
-              let r : length x.rows ≤ low.rows = omega arith in
-              let a : read_sheet low t ≡ Ok x = (sheet-text low (low-spelled lower) t x).1 (is, narrow range true_sheet n r) in
-              rw a (same n r)
+  module _ {x : Sheet} (range : InRange high x) (true_sheet : TrueSheet x) where
+    abbrev behind : List ℕ
+    behind = flat_map routed_line x.rows ++ end_text (figures_of x) x.links
+
+    amounts : Each (λ (r : Demand). r.amount ≤ low.amount) (demands (sents x.rows))
+    amounts = let q = lower.amount in rw q range.within.amounts
+
+    short : length (write_sheet x) ≤ low.bytes
+    short = omega (arith, range.short, lower.bytes)
+
+    nodes-fit : x.ring.nodes < limit low.digits
+    nodes-fit = omega (arith, range.within.many, lower.spelled.0)
+
+    fibres-fit : x.ring.fibres < limit low.digits
+    fibres-fit = fibres-spelled low x.ring.fibres range.within.fibres
+
+    first : lines (ring_line x.ring ++ behind) ≡ ring_line x.ring ∷ lines behind
+    first = ring-first high x.ring (ring-spelled high (high-spelled lower) x.ring range.within.many range.within.fibres range.within.family) behind
+
+    -- by its M
+    lower-marked : low.marks ≡ false → x.ring.family ≡ Sdh → LowerSheet low x (read_sheet low (write_sheet x))
+    unfolding read_sheet read_from write_sheet
+    lower-marked m f =
+        let u = marked-refused low.digits low.countable x.ring.nodes x.ring.fibres nodes-fit fibres-fit in
+        let is : read_ring low.marks low.digits (ring_line x.ring) ≡ Err u.0 = mark-read low.marks low.digits x.ring u.0 m f u.1.0 in
+        let refusal = mark-refused low (ring_line x.ring) 1 u.0 is in
+        rw (le-ltb low.bytes (length (write_sheet x)) short, first, refusal) (marked m f u.1.1)
+
+    -- and where its family is known
+    lower-known : Known low.marks x.ring.family → LowerSheet low x (read_sheet low (write_sheet x))
+    unfolding read_sheet read_from write_sheet
+    lower-known known =
+        elim (dec_lt low.nodes x.ring.nodes) [
+          | yes big ↦ rw (le-ltb low.bytes (length (write_sheet x)) short, first, ring-refused low x.ring 1 w big) (more-nodes known big)
+          | no small ↦ elim (dec_lt low.rows (length x.rows)) [
+            | yes over ↦
+                let n : x.ring.nodes ≤ low.nodes = omega arith in
+                let fine = ring-stepped low x.ring 1 w (omega (arith, range.within.few, lower.fewest)) n range.within.fibres in
+                let refusal =
+                many-rows x.ring range.within.many (end_text (figures_of x) x.links) [] x.rows refl refl (omega arith) (omega arith)
+                (fine-rows range.within.rows (omega (arith, range.within.count)) range.within.amounts) (figures-small low.amount x true_sheet amounts).rows in
+                rw (le-ltb low.bytes (length (write_sheet x)) short, first, fine, refusal) (more-rows known n over)
+            | no few ↦
+                let n : x.ring.nodes ≤ low.nodes = omega arith in
+                let r : length x.rows ≤ low.rows = omega arith in
+                let a : read_sheet low (write_sheet x) ≡ Ok x = (sheet-text low (low-spelled lower) (write_sheet x) x).1 (refl, narrow range true_sheet known n r) in
+                rw a (same known n r)
+          ]
         ]
-      ]
+      where
+        w : RingSpelled low x.ring
+        w = record { known = known; text = refl; nodes = nodes-fit; fibres = fibres-fit }
+
+  -- a true sheet that the higher read, the lower refuse by its M, by 3 or by 16, or read too
+  pub lower-sheet : (t : List ℕ) (x : Sheet) → read_sheet high t ≡ Ok x → TrueSheet x → LowerSheet low x (read_sheet low t)
+  lower-sheet t x e true_sheet = let is = h.0 in rw is (go (knows low.marks x.ring.family))
     where
-      is : t ≡ write_sheet x
-      is = ((sheet-text high (high-spelled lower) t x).0 e).0
+      h : (t ≡ write_sheet x) × InRange high x
+      h = (sheet-text high (high-spelled lower) t x).0 e
 
-      range : InRange high x
-      range = ((sheet-text high (high-spelled lower) t x).0 e).1
-
-      amounts : Each (λ (r : Demand). r.amount ≤ low.amount) (demands (sents x.rows))
-      amounts = let q = lower.amount in rw q range.within.amounts
-
-      short : length (write_sheet x) ≤ low.bytes
-      short = omega (arith, range.short, lower.bytes)
-
-      w : RingSpelled low x.ring.nodes x.ring.fibres
-      w = (omega (arith, range.within.many, lower.spelled.0), fibres-spelled low x.ring.fibres range.within.fibres)
-
-      first : lines (ring_line x.ring.nodes x.ring.fibres ++ (flat_map routed_line x.rows ++ end_text (figures_of x) x.links))
-          ≡ ring_line x.ring.nodes x.ring.fibres ∷ lines (flat_map routed_line x.rows ++ end_text (figures_of x) x.links)
-      first = ring-first low x.ring.nodes x.ring.fibres w (flat_map routed_line x.rows ++ end_text (figures_of x) x.links)
+      go : Knows low.marks x.ring.family → LowerSheet low x (read_sheet low (write_sheet x))
+      go (is_known k) = lower-known h.1 true_sheet k
+      go (not_known m f) = lower-marked h.1 true_sheet m f
 
 -- ---- a table that the old desk accepts is routed to the same bytes: the rules and the writer take no limits, and both desks read the same ring and rows
 

@@ -12,7 +12,7 @@ use Rattle.ring.specs.declared.types.Link.{Link}
 use Rattle.ring.specs.declared.types.Ring.{Ring}
 use Rattle.ring.specs.declared.types.Routed.{Routed}
 use Rattle.ring.specs.declared.types.Demand.{Demand}
-use Rattle.text.specs.ReadLine.{Reading, read_line}
+use Rattle.text.specs.ReadLine.{read_line}
 use Rattle.text.specs.Shapes.{sheet_row_shape, cut_shape, link_shape, last_shape}
 use Rattle.reasons.specs.Faults.{row_found}
 use Rattle.lines.specs.Lines.{lines}

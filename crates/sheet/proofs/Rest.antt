@@ -9,7 +9,6 @@ use lib.ListN.{length, get_or}
 use borrow.Author.Tests.{lt-ltb, le-ltb}
 use Rattle.ring.specs.declared.types.Cut.{Cut}
 use Rattle.ring.specs.Limits.{Limits}
-use Rattle.ring.specs.Ring.{ring_of}
 use Rattle.ring.specs.declared.types.Ring.{Ring}
 use Rattle.ring.specs.Demand.{demand}
 use Rattle.ring.specs.Lists.{Each, none, more}
@@ -20,7 +19,9 @@ use Rattle.text.specs.Number.{limit}
 use Rattle.text.specs.Bytes.{letter_c, letter_d, letter_l}
 use Rattle.text.specs.Field.{spell}
 use Rattle.text.specs.WriteLine.{write_line}
-use Rattle.text.specs.Shapes.{ring_shape, sheet_row_shape, cut_shape, link_shape, last_shape, ring_line, sheet_row_line, cut_line, link_line, last_line}
+use Rattle.text.specs.Shapes.{ring_shape, sheet_row_shape, cut_shape, link_shape, last_shape, sheet_row_line, cut_line, link_line, last_line}
+use Rattle.text.specs.RingLine.{ring_line}
+use Rattle.text.proofs.RingLaws.{RingRead, is_ring, no_ring}
 use Rattle.text.specs.ReadLine.{Reading, read_line}
 use Rattle.text.specs.declared.field.Field.{Field}
 use Rattle.text.specs.declared.field.Field.TheVariants.{Letter, Number}
@@ -28,18 +29,20 @@ use Rattle.text.proofs.Apart.{clash}
 use Rattle.lines.specs.Lines.{lines}
 use Rattle.reasons.specs.AndThen.{and_then}
 use Rattle.reasons.specs.Judge.{ring_verdict}
-use Rattle.lines.specs.OnLine.{values_on, passed, line_judged}
+use Rattle.lines.specs.OnLine.{values_on, passed}
 use Rattle.table.specs.ReadTable.{ring_on}
 use Rattle.reasons.specs.Faults.{verdict_found, ring_found, row_found}
 use Rattle.reasons.specs.declared.fault.Fault.{Fault}
 use Rattle.reasons.specs.declared.reason.Refusal.{Refusal}
 use Rattle.std.specs.Prelude.{Result, Ok, Err}
 use Rattle.reasons.proofs.Faults.{found-none}
+use Rattle.table.proofs.LineRead.{RingSpelled, ring-values, as-ring}
+use Rattle.table.proofs.TableLines.{ring-first}
 use Rattle.lines.proofs.LinesOf.{FirstLine, NoLf, written-first}
 use Rattle.sheet.specs.Read.{last_demand_of, routed_in, cut_in, link_in, row_by, cut_by, row_step, link_step, last_step, step, at_end, read_from}
 use Rattle.sheet.specs.Says.{State, start, rows, links, end}
 use Rattle.sheet.proofs.Last.{judge_next}
-use Rattle.sheet.proofs.SheetLines.{ring_by, RingRead, is_ring, no_ring, ring-read, SentSpelled, SentRead, is_sent, no_sent, sent-read, CutRead, is_cut, no_cut, cut-read, LinkRead, is_link, no_link, link-read, LastRead, is_last, no_last, last-read, line-back, ring-in-range, sent-in-range, cut-in-range, link-in-range, last-in-range}
+use Rattle.sheet.proofs.SheetLines.{ring_by, SentSpelled, SentRead, is_sent, no_sent, sent-read, CutRead, is_cut, no_cut, cut-read, LinkRead, is_link, no_link, link-read, LastRead, is_last, no_last, last-read, line-back, sent-in-range, cut-in-range, link-in-range, last-in-range}
 
 -- the values of a line
 abbrev pub routed_of : ℕ → ℕ → ℕ → ℕ → ℕ → ℕ → Routed
@@ -62,8 +65,7 @@ pub data Rest (limits : Limits) (x : Sheet) : State → List ℕ → Type 0 wher
       → Rest limits x (links ring rs (cut_of g h m) []) text → Rest limits x (rows ring rs) (cut_line g h m ++ text)
   rest_row : {ring : Ring} {rs : List Routed} {i j d f k w : ℕ} {text : List ℕ} → SentSpelled limits i j d f k w → judge_next limits ring.nodes rs (demand i j d) ≡ Ok tt
       → Rest limits x (rows ring (rs ++ routed_of i j d f k w ∷ [])) text → Rest limits x (rows ring rs) (sheet_row_line i j d f k w ++ text)
-  rest_ring : {ring : Ring} {text : List ℕ} → ring.nodes < limit limits.digits → ring.fibres < limit limits.digits → ring_verdict limits ring ≡ Ok tt → Rest limits x (rows ring []) text
-      → Rest limits x start (ring_line ring.nodes ring.fibres ++ text)
+  rest_ring : {ring : Ring} {text : List ℕ} → RingSpelled limits ring → ring_verdict limits ring ≡ Ok tt → Rest limits x (rows ring []) text → Rest limits x start (ring_line ring ++ text)
 
 -- ---- a line that leads on
 
@@ -81,11 +83,12 @@ module _ (limits : Limits) (x : Sheet) where
   abbrev Leads : State → List ℕ → Result State Refusal → Type 0
   Leads state l t = (next : State) → t ≡ Ok next → (text : List ℕ) → Rest limits x next text → Rest limits x state (l ++ text)
 
-  ring-leads : (l : List ℕ) {y : Reading} → RingRead limits l y → Leads start l (ring_by limits y)
+  ring-leads : (l : List ℕ) {y : Result Ring ℕ} → RingRead limits.digits limits.countable limits.marks l y → Leads start l (ring_by limits y)
   unfolding values_on ring_found
-  ring-leads l (is_ring {n} {fibres} e a b) next q text rest =
-      let u = passed-on 1 ring_shape (0 ∷ n ∷ fibres ∷ []) (ring_found limits (ring_of n fibres)) (ring_of n fibres) (λ ring. rows ring []) next q in
-      rw e (rest_ring {ring = ring_of n fibres} a b (found-none _ _ u.0) (subst (λ s. Rest limits x s text) (sym u.1) rest))
+  ring-leads l (is_ring {ring} h) next q text rest =
+      let u = passed-on 1 ring_shape (0 ∷ ring.nodes ∷ ring.fibres ∷ []) (ring_found limits ring) ring (λ ring. rows ring []) next q in
+      let e = h.text in
+      rw e (rest_ring {ring = ring} (record { known = h.known; text = refl; nodes = h.nodes; fibres = h.fibres }) (found-none _ _ u.0) (subst (λ s. Rest limits x s text) (sym u.1) rest))
   ring-leads l (no_ring misread fault) next q text rest = clash (cc)
 
   module _ (ring : Ring) (rs : List Routed) (line : ℕ) where
@@ -117,8 +120,8 @@ module _ (limits : Limits) (x : Sheet) where
       last-leads l all (no_last misread fault) next t text rest = clash (cc)
 
   step-leads : (state : State) (line : ℕ) (l : List ℕ) → Leads state l (step limits state line l)
-  unfolding step ring_on line_judged
-  step-leads start line l = ring-leads l (ring-read limits l)
+  unfolding step ring_on
+  step-leads start line l = ring-leads l (as-ring limits l)
   step-leads (rows ring rs) line l = row-leads ring rs line l (sent-read limits l) (cut-read limits l)
   step-leads (links ring rs c ks) line l =
       elim (dec_lt (length ks) ring.nodes) [
@@ -161,9 +164,6 @@ cut-not-sent limits g h m (is_sent e s) ring rs line z = absurd (cut-no-row g h 
 cut-not-sent limits g h m (no_sent {p} misread fault) ring rs line z = (p, refl)
 
 -- each line is the first of what it begins
-pub ring-first : (limits : Limits) (n fibres : ℕ) → n < limit limits.digits → fibres < limit limits.digits → FirstLine (ring_line n fibres)
-ring-first limits n fibres a b = written-first limits.digits limits.countable _ _ _ (more (λ e. omega arith) (more tt (more tt none))) (ring-in-range limits n fibres a b)
-
 pub sent-first : (limits : Limits) (i j d f b w : ℕ) → SentSpelled limits i j d f b w → FirstLine (sheet_row_line i j d f b w)
 sent-first limits i j d f b w h =
     written-first limits.digits limits.countable _ _ _
@@ -184,7 +184,7 @@ last-first limits p z a b = written-first limits.digits limits.countable _ _ _ (
 
 module _ (limits : Limits) (x : Sheet) where
   pub rest_read : {state : State} {text : List ℕ} → Rest limits x state text → (line : ℕ) → read_from limits state line (lines text) ≡ Ok x
-  unfolding read_from step at_end lines ring_on line_judged row_step row_by cut_by link_step last_step values_on passed ring_found row_found verdict_found
+  unfolding read_from step at_end lines ring_on row_step row_by cut_by link_step last_step values_on passed ring_found row_found verdict_found
   rest_read rest_end line = refl
   rest_read (rest_last {ring} {rs} {c} {ks} {p} {z} {text} all a b rest) line =
       rw (last-first limits p z a b text, le-ltb (length ks) ring.nodes all, line-back limits last_shape _ (last-in-range limits p z a b)) (rest_read rest (line + 1))
@@ -195,5 +195,4 @@ module _ (limits : Limits) (x : Sheet) where
       (rest_read rest (line + 1))
   rest_read (rest_row {ring} {rs} {i} {j} {d} {f} {k} {w} {text} spelled v rest) line =
       rw (sent-first limits i j d f k w spelled text, line-back limits sheet_row_shape _ (sent-in-range limits i j d f k w spelled), v) (rest_read rest (line + 1))
-  rest_read (rest_ring {ring} {text} a b v rest) line =
-      rw (ring-first limits ring.nodes ring.fibres a b text, line-back limits ring_shape _ (ring-in-range limits ring.nodes ring.fibres a b), v) (rest_read rest (line + 1))
+  rest_read (rest_ring {ring} {text} w v rest) line = rw (ring-first limits ring w text, ring-values limits ring w, v) (rest_read rest (line + 1))

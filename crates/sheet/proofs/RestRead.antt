@@ -14,7 +14,9 @@ use Rattle.ring.specs.declared.types.Routed.{Routed}
 use Rattle.ring.specs.Sheet.{Sheet, sents, demands, figures_of}
 use Rattle.ring.specs.declared.types.Link.{Link}
 use Rattle.text.specs.Number.{limit}
-use Rattle.text.specs.Shapes.{ring_line, sheet_row_line, cut_line, link_line, last_line}
+use Rattle.family.specs.Sizes.{Known}
+use Rattle.text.specs.RingLine.{ring_line}
+use Rattle.text.specs.Shapes.{sheet_row_line, cut_line, link_line, last_line}
 use Rattle.std.specs.Prelude.{Ok, Some, None}
 use Rattle.std.specs.List.{flat_map}
 use Rattle.reasons.proofs.Judged.{RingJudged, right_ring, ring-judged, RowJudged, row_fine, row-judged}
@@ -146,27 +148,29 @@ pub record IsSheet (limits : Limits) (t : List ℕ) (x : Sheet) : Type 0 where
   pub few : limits.fewest ≤ x.ring.nodes
   pub many : x.ring.nodes ≤ limits.nodes
   pub fibres : IsFibres x.ring.fibres
+  pub family : Known limits.marks x.ring.family
   pub fine : FineRows limits x.ring.nodes 0 None (demands (sents x.rows))
   pub spelled : Spelled limits x
   pub links : length x.links ≡ x.ring.nodes
 
-sheet-from : (limits : Limits) (t : List ℕ) (x : Sheet) (ring : Ring) → RingJudged limits ring (Ok tt) → FromRows x limits ring [] t
-    → IsSheet limits (ring_line ring.nodes ring.fibres ++ t) x
+sheet-from : (limits : Limits) (t : List ℕ) (x : Sheet) (ring : Ring) → Known limits.marks ring.family → RingJudged limits ring (Ok tt) → FromRows x limits ring [] t
+    → IsSheet limits (ring_line ring ++ t) x
 unfolding write_sheet
-sheet-from limits t x ring (right_ring few many fibres) f =
+sheet-from limits t x ring known (right_ring few many fibres) f =
     let b = f.behind in
     let en : x.ring ≡ ring = ap (λ (y : Sheet). y.ring) b.same in
     let el : x.links ≡ b.later = ap (λ (y : Sheet). y.links) b.same in
     let er : x.rows ≡ f.later = f.same in
     record {
-      text = rw (en, er) (ap (λ (s : List ℕ). ring_line ring.nodes ring.fibres ++ s) f.is_text);
+      text = rw (en, er) (ap (λ (s : List ℕ). ring_line ring ++ s) f.is_text);
       few = rw en few;
       many = rw en many;
       fibres = rw en fibres;
+      family = rw en known;
       fine = rw (en, er) f.fine;
       spelled = record { halves = rw er f.halves; cut = f.cut; loads = rw el b.spelled; last = b.last };
       links = omega (arith, b.many, ap length el, ap (λ (r : Ring). r.nodes) en);
     }
 
 pub from_start : (limits : Limits) (t : List ℕ) (x : Sheet) → Rest limits x start t → IsSheet limits t x
-from_start limits t x (rest_ring {ring} {text} a b v rest) = sheet-from limits text x ring (rw v at (ring-judged limits ring)) (from-rows x rest)
+from_start limits t x (rest_ring {ring} {text} w v rest) = sheet-from limits text x ring w.known (rw v at (ring-judged limits ring)) (from-rows x rest)

@@ -8,7 +8,9 @@ use native.Mathlib.Decide.{dec_le}
 use lib.ListN.{length}
 use Rattle.ring.specs.Limits.{Limits}
 use Rattle.text.specs.FirstFault.{Agrees, FirstFault}
-use Rattle.text.specs.Shapes.{ring_shape, sheet_row_shape, cut_shape, link_shape, last_shape}
+use Rattle.text.specs.RingLine.{RingFault}
+use Rattle.text.proofs.RingLaws.{one-ring-fault}
+use Rattle.text.specs.Shapes.{sheet_row_shape, cut_shape, link_shape, last_shape}
 use Rattle.text.proofs.LineLaws.{fewer}
 use Rattle.lines.proofs.DueBytes.{one-due, one-shape-byte}
 use Rattle.lines.specs.DueBytes.{DueByte, ShapeByte}
@@ -38,14 +40,14 @@ one-neither {p} {q} x y = let a : p < q → ⊥ = no_later x y in let b : q < p 
 
 -- by what is due
 abbrev ByteBy : Limits → List ℕ → ℕ → ℕ → State → Type 0
-ByteBy limits t line byte start = ShapeByte limits t ring_shape line byte
+ByteBy limits t line byte start = DueByte t line (RingFault limits.marks limits.digits) byte
 ByteBy limits t line byte (rows ring rs) = DueByte t line (NeitherGoesOn limits) byte
 ByteBy limits t line byte (links ring rs c ks) = ((length ks < ring.nodes) × ShapeByte limits t link_shape line byte) ⊎ ((ring.nodes ≤ length ks) × ShapeByte limits t last_shape line byte)
 ByteBy limits t line byte (end x) = byte ≡ 1
 
 module _ (limits : Limits) (t : List ℕ) (line : ℕ) where
   one-by : {b c : ℕ} (state : State) → ByteBy limits t line b state → ByteBy limits t line c state → b ≡ c
-  one-by start x y = one-shape-byte limits x y
+  one-by start x y = one-due (λ l p q. one-ring-fault limits.digits limits.countable limits.marks l) x y
   one-by (rows ring rs) x y = one-due (λ l p q f g. one-neither f g) x y
   one-by (links ring rs c ks) (inl x) (inl y) = one-shape-byte limits x.1 y.1
   one-by (links ring rs c ks) (inl x) (inr y) = absurd (omega (arith, x.0, y.0))

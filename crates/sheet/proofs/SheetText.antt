@@ -14,6 +14,7 @@ use Rattle.ring.specs.Routing.{way_number, way_of}
 use Rattle.ring.specs.declared.types.Routed.{Routed}
 use Rattle.ring.specs.Limits.{Limits}
 use Rattle.ring.specs.declared.types.Demand.{Demand}
+use Rattle.family.specs.Sizes.{Known}
 use Rattle.ring.specs.LineSize.{IsFibres}
 use Rattle.ring.specs.Lists.{Each, none, more}
 use Rattle.ring.specs.Sheet.{Sheet, sents, demands, figures_of}
@@ -77,16 +78,15 @@ module _ (limits : Limits) (x : Sheet) (spelled : Spelled limits x) (count : len
         subst (λ t. Rest limits x (rows x.ring rs) t) (sym (append_assoc (routed_line r) (flat_map routed_line later) (end_text (figures_of x) x.links)))
         (rest_row s (fine-row-judged limits x.ring.nodes (length rs) (last_demand_of rs) r.sent.demand on up room most) (rw same (to-rows later (rs ++ r ∷ []) f behind hs)))
 
-    to_start : limits.fewest ≤ x.ring.nodes → IsFibres x.ring.fibres → FineRows limits x.ring.nodes 0 None (demands (sents x.rows)) → Rest limits x start (write_sheet x)
+    to_start : limits.fewest ≤ x.ring.nodes → IsFibres x.ring.fibres → Known limits.marks x.ring.family → FineRows limits x.ring.nodes 0 None (demands (sents x.rows)) → Rest limits x start (write_sheet x)
     unfolding write_sheet
-    to_start few fibres fine =
-        let s = ring-spelled limits limited x.ring many fibres in
-        rest_ring {ring = x.ring} s.0 s.1 (fine-ring-judged limits x.ring few many fibres) (to-rows x.rows [] refl fine spelled.halves)
+    to_start few fibres known fine =
+        rest_ring {ring = x.ring} (ring-spelled limits limited x.ring many fibres known) (fine-ring-judged limits x.ring few many fibres) (to-rows x.rows [] refl fine spelled.halves)
 
 -- that of a sheet in range
 pub sheet-rest : (limits : Limits) → LimitsSpelled limits → (x : Sheet) → InRange limits x → Rest limits x start (write_sheet x)
 sheet-rest limits limited x r =
-    to_start limits x r.spelled r.links limited r.within.many r.within.few r.within.fibres
+    to_start limits x r.spelled r.links limited r.within.many r.within.few r.within.fibres r.within.family
     (fine-rows {limits = limits} r.within.rows (omega (arith, r.within.count)) r.within.amounts)
 
 -- ---- both
@@ -108,6 +108,7 @@ module _ (limits : Limits) (limited : LimitsSpelled limits) (t : List ℕ) (x : 
                 few = s.few;
                 many = s.many;
                 fibres = s.fibres;
+                family = s.family;
                 rows = table-rows s.fine;
                 count = omega (arith, count-fine s.fine (omega arith));
                 amounts = amounts-fine s.fine;

@@ -6,8 +6,10 @@ use mathlib.Core.Path.{◌≡◌, refl, ap, ◌∙◌, sym, subst}
 use native.Mathlib.Omega.{arith}
 use native.Mathlib.Nat.{mul-suc, mul-le-mul_left}
 use lib.ListN.{length, length-append, length-map}
-use Rattle.sonet.specs.Size.{sonet_sizes}
-use Rattle.sonet.proofs.Sizes.{largest_of}
+use Rattle.family.specs.declared.family.Family.{Family}
+use Rattle.family.specs.declared.family.Family.TheVariants.{Sonet, Sdh}
+use Rattle.family.specs.Sizes.{sizes_of}
+use Rattle.family.proofs.Sizes.{largest_of}
 use Rattle.ring.specs.Limits.{Limits, desk, old}
 use Rattle.ring.specs.declared.types.Ring.{Ring}
 use Rattle.ring.specs.Lists.{Each, none, more}
@@ -26,7 +28,8 @@ use Rattle.text.specs.declared.field.Field.TheVariants.{Number}
 use Rattle.text.specs.Bytes.{letter_d, letter_c, letter_l, letter_z}
 use Rattle.text.specs.Number.{limit}
 use Rattle.text.specs.Field.{spell}
-use Rattle.text.specs.Shapes.{ring_line, cut_line, last_line}
+use Rattle.text.specs.RingLine.{ring_line}
+use Rattle.text.specs.Shapes.{cut_line, last_line}
 use Rattle.text.proofs.Widths.{no-field, wide-field, line-wide, number-wide, number-most, letter-wide, way-wide}
 use Rattle.table.specs.Table as table
 use Rattle.table.proofs.Short.{Narrow, desk-narrow, old-narrow, node-wide, amount-wide, ring-short}
@@ -56,9 +59,10 @@ lines-most line most (more {a = a} {l = l} p e) = omega (arith, length-append (l
 
 -- ---- a true sheet's figures
 
-sizes-small : largest_of sonet_sizes < 20000
+sizes-small : (family : Family) → largest_of (sizes_of family) < 20000
 unfolding largest_of
-sizes-small = omega arith
+sizes-small Sonet = omega arith
+sizes-small Sdh = omega arith
 
 numbers-length : (k m : ℕ) → length (numbers_from k m) ≡ m
 unfolding numbers_from
@@ -91,7 +95,7 @@ module _ (limits : Limits) (fits : Fitting limits) (x : Sheet) (t : TrueSheet x)
         halves = each (λ r h. record { front = omega (arith, h.halves, fits.narrow.amount, fits.small); back = omega (arith, h.halves, fits.narrow.amount, fits.small) }) small.rows;
         cut = (omega (arith, t.cut.order, t.cut.high, fits.narrow.nodes, fits.small), (omega (arith, t.cut.high, fits.narrow.nodes, fits.small), omega (arith, small.across, figures)));
         loads = each_both (λ l k h. record { link = omega (arith, fits.small); split = omega (arith, h.split, figures); unsplit = omega (arith, h.unsplit, figures) }) numbers small.links;
-        last = (omega (arith, small.unsplit_peak, figures), omega (arith, small.size, sizes-small, fits.small));
+        last = (omega (arith, small.unsplit_peak, figures), omega (arith, small.size, sizes-small x.ring.family, fits.small));
       }
 
   pub true-links : length x.links ≡ x.ring.nodes
@@ -151,7 +155,7 @@ module _ (limits : Limits) (fits : Fitting limits) (x : Sheet) (t : TrueSheet x)
         count,
         w.many,
         true-links,
-        length-append (ring_line x.ring.nodes x.ring.fibres) (flat_map routed_line x.rows ++ end_text (figures_of x) x.links),
+        length-append (ring_line x.ring) (flat_map routed_line x.rows ++ end_text (figures_of x) x.links),
         length-append (flat_map routed_line x.rows) (end_text (figures_of x) x.links),
         length-append (cut_line x.cut.g x.cut.h x.cut.across) (flat_map load_line x.links ++ last_line x.unsplit_peak x.size),
         length-append (flat_map load_line x.links) (last_line x.unsplit_peak x.size),

@@ -10,7 +10,9 @@ use Rattle.ring.specs.declared.types.Routed.{Routed}
 use Rattle.ring.specs.declared.types.Link.{Link}
 use Rattle.text.specs.Pass.{PassLaws}
 use Rattle.text.specs.Written.{Passed}
-use Rattle.text.specs.Shapes.{ring_shape, sheet_row_shape, cut_shape, link_shape, last_shape, ring_line, cut_line, last_line}
+use Rattle.text.specs.RingLine.{ring_line}
+use Rattle.text.specs.Shapes.{sheet_row_shape, cut_shape, link_shape, last_shape, cut_line, last_line}
+use Rattle.text.proofs.RingLaws.{ring-line-short}
 use Rattle.text.proofs.Lengths.{line-short}
 use Rattle.text.proofs.Going.{Going, going-start, piece-fits, going-on}
 use Rattle.ring.specs.Sheet.{sheet_in}
@@ -36,7 +38,7 @@ module _ {A : Type 0} (line : A → List ℕ) where
 
 module _ (x : Figures) (rs : List Routed) (ls : List Link) where
   abbrev ring : List ℕ
-  ring = ring_line x.ring.nodes x.ring.fibres
+  ring = ring_line x.ring
 
   abbrev cut : List ℕ
   cut = cut_line x.cut.g x.cut.h x.cut.across
@@ -69,7 +71,7 @@ module _ (x : Figures) (rs : List Routed) (ls : List Link) where
         length-append rows (cut ++ (links ++ last)),
         length-append cut (links ++ last),
         length-append links last,
-        line-short ring_shape (0 ∷ x.ring.nodes ∷ x.ring.fibres ∷ []),
+        ring-line-short x.ring,
         line-short cut_shape (0 ∷ x.cut.g ∷ x.cut.h ∷ x.cut.across ∷ []),
         line-short last_shape (0 ∷ x.unsplit_peak ∷ x.size ∷ []),
         lines-short routed_line row-short rs,
@@ -85,10 +87,10 @@ module _ (x : Figures) (rs : List Routed) (ls : List Link) where
     unfolding write_sheet end_text
     at-ring = going-start pass old 0 whole (omega (arith, fits))
 
-    pub ring-placed : 0 + length (ring_line x.ring.nodes x.ring.fibres) ≤ room old
+    pub ring-placed : 0 + length (ring_line x.ring) ≤ room old
     ring-placed = piece-fits pass at-ring ring _ refl
 
-    module _ {a : List ℕ} {p : ℕ} (u : Passed after old 0 (ring_line x.ring.nodes x.ring.fibres) a p) where
+    module _ {a : List ℕ} {p : ℕ} (u : Passed after old 0 (ring_line x.ring) a p) where
       at-rows : Before a p (rows ++ (cut ++ (links ++ last)))
       at-rows = going-on pass at-ring ring _ refl a p u
 

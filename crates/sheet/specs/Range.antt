@@ -38,6 +38,6 @@ pub record InRange (limits : Limits) (x : Sheet) : Type 0 where
   pub short : length (write_sheet x) ≤ limits.bytes
 
 -- no true sheet of so many rows and nodes is longer, within limits of at most 2 digits for a node, 4 for an amount and 8 for any number: halves have 5 digits
--- and loads 8, and each field has the byte behind it, so the R line has at most 7 bytes, the C line 17, the Z line 20, a D line 27 and an L line 23
+-- and loads 8, and each field has the byte behind it, so the R line has at most 9 bytes, the C line 17, the Z line 20, a D line 27 and an L line 23
 abbrev pub longest : Limits → ℕ
-longest limits = 44 + 27 * limits.rows + 23 * limits.nodes
+longest limits = 46 + 27 * limits.rows + 23 * limits.nodes

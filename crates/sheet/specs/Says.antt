@@ -1,4 +1,5 @@
--- To believe: what each reason for which no sheet is read says of a text (Rules, reasons), by its lines and the writer alone, and which byte of the line goes with it; which reason is given; and what a well-formed sheet is.
+-- To believe: what each reason for which no sheet is read says of a text (Rules, reasons), by its lines and the writer alone, and which byte of the line goes with
+-- it; which reason is given; and what a well-formed sheet is.
 use Rattle.std.specs.Prelude.{ℕ, ◌+◌, ◌≤◌, ◌<◌, List, [], ◌∷◌, ◌++◌, ◌⊎◌, ◌≡◌, length}
 use Rattle.ring.specs.declared.types.Cut.{Cut}
 use Rattle.ring.specs.Limits.{Limits}
@@ -9,7 +10,8 @@ use Rattle.ring.specs.Sheet.{Sheet}
 use Rattle.ring.specs.declared.types.Link.{Link}
 use Rattle.text.specs.Number.{limit}
 use Rattle.text.specs.FirstFault.{Agrees}
-use Rattle.text.specs.Shapes.{ring_shape, sheet_row_shape, cut_shape, link_shape, last_shape, cut_line, last_line}
+use Rattle.text.specs.RingLine.{RingFault}
+use Rattle.text.specs.Shapes.{sheet_row_shape, cut_shape, link_shape, last_shape, cut_line, last_line}
 use Rattle.lines.specs.Lines.{lines, LineIs}
 use Rattle.reasons.specs.Reasons.{FirstReason, NoReason, Earlier}
 use Rattle.table.specs.RowReasons.{RingIs, RowsSay, RowsByte}
@@ -47,7 +49,7 @@ pub record LastIs (limits : Limits) (t : List ℕ) (line p z : ℕ) : Type 0 whe
 -- behind that nothing
 pub data State : Type 0 where
   start : State
-  -- behind R n fibres and rows
+  -- behind the R line and rows
   rows : Ring → List Routed → State
   -- behind the cut and links
   links : Ring → List Routed → Cut → List Link → State
@@ -93,9 +95,9 @@ pub record NeitherGoesOn (limits : Limits) (l : List ℕ) (p : ℕ) : Type 0 whe
   pub no_row : Agrees limits.digits sheet_row_shape l (p + 1) → ⊥
   pub no_cut : Agrees limits.digits cut_shape l (p + 1) → ⊥
 
--- 2: by the shape that is due; 1 where the line is left over
+-- 2: by the shape that is due, of an R line by the shapes of both families; 1 where the line is left over
 pub data LineByte (limits : Limits) (t : List ℕ) (line byte : ℕ) : Type 0 where
-  ring_due : At limits t line start → ShapeByte limits t ring_shape line byte → LineByte limits t line byte
+  ring_due : At limits t line start → DueByte t line (RingFault limits.marks limits.digits) byte → LineByte limits t line byte
   row_or_cut_due : {ring : Ring} {rs : List Routed} → At limits t line (rows ring rs) → DueByte t line (NeitherGoesOn limits) byte → LineByte limits t line byte
   link_due : {ring : Ring} {rs : List Routed} {c : Cut} {ks : List Link} → At limits t line (links ring rs c ks) → length ks < ring.nodes → ShapeByte limits t link_shape line byte → LineByte limits t line byte
   last_due : {ring : Ring} {rs : List Routed} {c : Cut} {ks : List Link} → At limits t line (links ring rs c ks) → ring.nodes ≤ length ks → ShapeByte limits t last_shape line byte → LineByte limits t line byte

@@ -1,4 +1,4 @@
--- To believe: a sheet as text (Rules, sheets): R n fibres; D lines; the C line; L lines; Z unsplit-peak size.
+-- To believe: a sheet as text (Rules, sheets): the R line; D lines; the C line; L lines; Z unsplit-peak size.
 use Rattle.std.specs.Prelude.{ℕ, List, ◌++◌}
 use Rattle.std.specs.List.{flat_map}
 use Rattle.ring.specs.Routing.{way_number}
@@ -6,7 +6,8 @@ use Rattle.ring.specs.declared.types.Routed.{Routed}
 use Rattle.ring.specs.Sheet.{Sheet, figures_of}
 use Rattle.ring.specs.declared.types.Link.{Link}
 use Rattle.ring.specs.declared.types.Figures.{Figures}
-use Rattle.text.specs.Shapes.{ring_line, sheet_row_line, cut_line, link_line, last_line}
+use Rattle.text.specs.Shapes.{sheet_row_line, cut_line, link_line, last_line}
+use Rattle.text.specs.RingLine.{ring_line}
 
 -- D i j amount front back F-or-B
 abbrev pub routed_line : Routed → List ℕ
@@ -20,7 +21,7 @@ load_line l = link_line l.link l.split l.unsplit
 unfoldable pub end_text : Figures → List Link → List ℕ
 end_text x links = cut_line x.cut.g x.cut.h x.cut.across ++ (flat_map load_line links ++ last_line x.unsplit_peak x.size)
 
--- R n fibres; D lines; then these
+-- the R line; D lines; then these
 unfoldable pub write_sheet : Sheet → List ℕ
 unfolding end_text
-write_sheet x = ring_line x.ring.nodes x.ring.fibres ++ (flat_map routed_line x.rows ++ end_text (figures_of x) x.links)
+write_sheet x = ring_line x.ring ++ (flat_map routed_line x.rows ++ end_text (figures_of x) x.links)

@@ -1,17 +1,20 @@
 -- The byte that the reader gives with a reason is that of the reason's own sentence, and a reason on a line has one byte: by the cases of the judging, since a
 -- line has one reading and one first faulty byte.
 use Prim.Native.Nat.{ℕ}
-use mathlib.Core.List.{List}
+use mathlib.Core.List.{List, [], ◌∷◌}
 use mathlib.Core.Logic.{◌⊎◌, inl, inr}
-use mathlib.Core.Path.{◌≡◌, refl, ap, sym, ◌∙◌}
+use mathlib.Core.Path.{◌≡◌, ap, sym, ◌∙◌}
+use native.Mathlib.Omega.{arith}
 use Rattle.ring.specs.Limits.{Limits}
 use Rattle.ring.specs.declared.types.Ring.{Ring}
 use Rattle.ring.specs.declared.types.Demand.{Demand}
-use Rattle.text.specs.FieldByte.{ring_byte, row_byte}
+use Rattle.text.specs.FieldByte.{field_byte, row_byte}
+use Rattle.text.specs.Shapes.{ring_shape}
+use Rattle.text.specs.RingLine.{ring_byte}
+use Rattle.text.proofs.RingLaws.{ring-byte-alike}
 use Rattle.reasons.specs.Fields.{field_of, node_field}
-use Rattle.table.specs.RingByte.{ring_reason_byte}
 use Rattle.table.specs.RowReasons.{RingIs, RowsByte, at_none, at_fault, at_size, at_fibres, at_first_node, at_second_node, at_amount, at_pair, at_order, at_count}
-use Rattle.reasons.specs.Findings.{NoNode}
+use Rattle.reasons.specs.RowFindings.{NoNode}
 use Rattle.reasons.specs.declared.reason.Reason.{Reason}
 use Rattle.reasons.specs.declared.reason.Reason.TheVariants.{NoSuchNode}
 use Rattle.reasons.specs.Verdict.{Verdict}
@@ -23,10 +26,9 @@ use Rattle.table.proofs.TableLines.{ring-one}
 
 module _ {limits : Limits} {t : List ℕ} (Row : ℕ → Demand → Type 0) (LineByte : ℕ → ℕ → Type 0) where
   -- the byte that goes with the reason of a verdict is that reason's
-  pub ring-byte : {ring : Ring} {v : Verdict} → RingIs limits t ring → RingJudged limits ring v → HoldsAs (λ s. RowsByte limits t Row LineByte 1 (ring_reason_byte ring s) s) v
-  unfolding ring_reason_byte
-  ring-byte here (size_wrong w) = at_size here refl
-  ring-byte here (wrong_fibres l m w) = at_fibres here refl
+  pub ring-byte : {ring : Ring} {v : Verdict} → RingIs limits t ring → RingJudged limits ring v → HoldsAs (λ s. RowsByte limits t Row LineByte 1 (field_byte ring_shape (0 ∷ ring.nodes ∷ ring.fibres ∷ []) (field_of s 0)) s) v
+  ring-byte {ring} here (size_wrong w) = at_size here (ring-byte-alike ring 1 (omega arith))
+  ring-byte {ring} here (wrong_fibres l m w) = at_fibres here (ring-byte-alike ring 2 (omega arith))
   ring-byte here (right_ring l m f) = tt
 
   -- where each field of a D line starts up to the amount

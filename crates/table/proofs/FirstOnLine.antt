@@ -8,7 +8,7 @@ use Rattle.ring.specs.Limits.{Limits}
 use Rattle.ring.specs.TableRows.{PairBefore}
 use Rattle.ring.specs.declared.types.Ring.{Ring}
 use Rattle.ring.specs.declared.types.Demand.{Demand}
-use Rattle.reasons.specs.Findings.{Falls}
+use Rattle.reasons.specs.RowFindings.{Falls}
 use Rattle.table.specs.RowReasons.{RingIs, RowsSay, says_too_long, says_misshapen, says_ring_size, says_fibres, says_no_such_node, says_not_below, says_out_of_order, says_too_many, says_too_much}
 use Rattle.reasons.specs.declared.reason.Reason.{Reason}
 use Rattle.reasons.specs.declared.reason.Reason.TheVariants.{Misshapen, OutOfOrder}

@@ -9,6 +9,7 @@ use Rattle.ring.specs.Limits.{Limits, desk, old}
 use Rattle.ring.specs.declared.types.Ring.{Ring}
 use Rattle.ring.specs.declared.types.Demand.{Demand}
 use Rattle.text.specs.Number.{base, limit}
+use Rattle.text.proofs.RingLaws.{known-too}
 use Rattle.table.specs.Table.{InRange}
 use Rattle.table.specs.ReadTable.{table_of}
 use Rattle.table.proofs.TableText.{table-text}
@@ -27,13 +28,14 @@ module _ {low high : Limits} (lower : Lower low high) where
   high-spelled = record { nodes = omega (arith, wider, lower.spelled.0); amount = omega (arith, wider, lower.spelled.1) }
 
   widen : {ring : Ring} {rs : List Demand} → InRange low ring rs → InRange high ring rs
-  widen range =
+  widen {ring} range =
       record {
         within =
             record {
               few = omega (arith, range.within.few, lower.fewest);
               many = omega (arith, range.within.many, lower.nodes);
               fibres = range.within.fibres;
+              family = known-too low.marks high.marks lower.marks ring.family range.within.family;
               rows = range.within.rows;
               count = omega (arith, range.within.count, lower.rows);
               amounts = let e = lower.amount in rw (← e) range.within.amounts;

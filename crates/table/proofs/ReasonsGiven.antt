@@ -3,7 +3,7 @@
 use Prim.Native.Nat.{ℕ, ◌+◌, ◌≤◌}
 use mathlib.Core.List.{List, [], ◌∷◌, ◌++◌}
 use mathlib.Core.Logic.{◌↔◌}
-use mathlib.Core.Path.{◌≡◌, refl, ap, subst}
+use mathlib.Core.Path.{◌≡◌, refl}
 use native.Mathlib.Omega.{arith}
 use lib.ListN.{length, length-append}
 use borrow.Author.Tests.{ltb-true, ltb-false}
@@ -11,11 +11,10 @@ use Rattle.ring.specs.Demand.{demand}
 use Rattle.ring.specs.declared.types.Demand.{Demand}
 use Rattle.ring.proofs.Side.{cond-elim}
 use Rattle.ring.specs.Limits.{Limits}
-use Rattle.ring.specs.Ring.{ring_of}
+use Rattle.text.proofs.RingLaws.{RingRead, is_ring, no_ring as no_ring_line, one-ring-fault}
 use Rattle.ring.specs.declared.types.Ring.{Ring}
 use Rattle.lines.specs.Lines.{lines}
 use Rattle.reasons.specs.Fields.{field_of, node_field}
-use Rattle.table.specs.RingByte.{ring_reason_byte}
 use Rattle.reasons.specs.Faults.{verdict_found, ring_found, row_found, last_demand}
 use Rattle.reasons.specs.AndThen.{and_then}
 use Rattle.lines.specs.OnLine.{values_on, passed, line_judged}
@@ -25,9 +24,10 @@ use Rattle.text.specs.ReadLine.{Reading}
 use Rattle.text.specs.Shapes.{ring_shape, row_shape}
 use Rattle.text.specs.declared.field.Field.{Field}
 use Rattle.reasons.proofs.Faults.{last-more}
-use Rattle.table.specs.ReadTable.{Table, ring_in, demand_in, ring_on, row_on, rows_on_lines, table_lines, table_of}
+use Rattle.table.specs.ReadTable.{Table, demand_in, ring_on, row_on, rows_on_lines, table_lines, table_of}
 use Rattle.table.specs.RowReasons.{RingIs, at_fault}
 use Rattle.lines.specs.DueBytes.{line_missing, line_faulty}
+use Rattle.reasons.specs.Reasons.{Earlier}
 use Rattle.table.specs.Says.{RowIs, WrongLine, no_ring, no_row, Says, LineByte, ring_due, row_due, ByteIs, Given, Accepted}
 use Rattle.reasons.specs.declared.reason.Reason.{Reason}
 use Rattle.reasons.specs.declared.reason.Refusal.{Refusal}
@@ -36,14 +36,14 @@ use Rattle.reasons.specs.declared.reason.Reason.TheVariants.{Misshapen}
 use Rattle.reasons.specs.Verdict.{Verdict}
 use Rattle.std.specs.Prelude.{Result, Ok, Err}
 use Rattle.reasons.proofs.Judged.{ring-judged, row-judged}
-use Rattle.table.proofs.LineRead.{RingLine, ring_line_is, no_ring_line, as-ring, RowLine, row_line_is, no_row_line, as-row}
+use Rattle.table.proofs.LineRead.{as-ring, RowLine, row_line_is, no_row_line, as-row}
 use Rattle.lines.proofs.LineNumbers.{line-one, LinesFrom, from_first, from_next, line-here, no-line-left}
-use Rattle.table.proofs.TableLines.{row-one}
+use Rattle.table.proofs.TableLines.{ring-said, ring-is, row-one}
 use Rattle.table.proofs.Said.{RowLaws}
 use Rattle.table.proofs.BytesGiven.{ring-byte, row-byte, one_byte}
-use Rattle.lines.proofs.DueBytes.{one-shape-byte}
+use Rattle.lines.proofs.DueBytes.{one-due, one-shape-byte}
 use Rattle.table.proofs.FirstOnLine.{HoldsAs, First, wrong-first, ring-judged-first, RowBefore, no_row_before, row_before, row-judged-first}
-use Rattle.reasons.proofs.FirstGiven.{one-first, same-place}
+use Rattle.reasons.proofs.FirstGiven.{RightBy, none_holds, first_holds, one-first, same-place, refused-as, accepted-as}
 use Rattle.table.proofs.Walked.{Clean, given-here, clean-next, clean-start, clean-end, too-long-given}
 
 -- ---- lines
@@ -65,17 +65,16 @@ module _ {limits : Limits} {t : List ℕ} where
   row-right {r = r} row (no_row later is none) = none r row
 
   one-line-byte : {line b c : ℕ} → LineByte limits t line b → LineByte limits t line c → b ≡ c
-  one-line-byte (ring_due e x) (ring_due f y) = one-shape-byte limits x y
+  one-line-byte (ring_due e x) (ring_due f y) = one-due (λ l p q. one-ring-fault limits.digits limits.countable limits.marks l) x y
   one-line-byte (ring_due e x) (row_due f y) = absurd (omega arith)
   one-line-byte (row_due e x) (ring_due f y) = absurd (omega arith)
   one-line-byte (row_due e x) (row_due f y) = one-shape-byte limits x y
 
 -- ---- line by line
 
--- a result that is right by what the reasons say
-data Right (limits : Limits) (t : List ℕ) : Result Table Refusal → Type 0 where
-  none_holds : {x : Table} → Accepted limits t → Right limits t (Ok x)
-  first_holds : {r : Refusal} → Given limits t r.reason r.line r.byte → Right limits t (Err r)
+-- an answer that is right by what the reasons say
+abbrev Right : Limits → List ℕ → Result Table Refusal → Type 0
+Right limits t = RightBy (Says limits t) Earlier (ByteIs limits t)
 
 module _ {limits : Limits} {t : List ℕ} where
   judged-right : {A : Type 0} {line : ℕ} (shape : List Field) (vs : List ℕ) (field : Reason → ℕ) (y : A) (next : A → Result Table Refusal) (v : Verdict) → Clean (Says limits t) line → First (λ s. Says limits t s line) v
@@ -126,21 +125,22 @@ module _ {limits : Limits} {t : List ℕ} where
           wrong-given clean (no_row (omega arith) (line-here from) (λ r x. none r.first r.second r.amount (line-one (line-here from) x.text refl) x.spelled)) (row_due (omega arith) (line_faulty (line-here from) fault))
 
   lines-right : length t ≤ limits.bytes → (ls : List (List ℕ)) → LinesFrom (lines t) 1 ls → Right limits t (table_lines limits ls)
-  unfolding table_lines ring_on line_judged values_on ring_found ring_reason_byte
+  unfolding table_lines ring_on values_on ring_found
   lines-right short [] from = wrong-given (clean-start (row-laws limits t) short) (no_ring refl (λ ring x. omega (arith, no-line-left from x.text))) (ring_due refl (line_missing (λ l is. omega (arith, no-line-left from is))))
   lines-right short (l ∷ ls) from = go (as-ring limits l)
     where
       next : Ring → Result Table Refusal
       next ring = rows_on_lines limits ring [] ls
 
-      go : {x : Reading} → RingLine limits l x → Right limits t (and_then (and_then (values_on 1 x) λ vs. passed 1 ring_shape vs (ring_found limits (ring_in vs)) (ring_in vs)) next)
-      go (ring_line_is {n} {fibres} e w) =
-          let here : RingIs limits t (ring_of n fibres) = record { text = rw e at (line-here from); spelled = w } in
-          let judged = ring-judged limits (ring_of n fibres) in
-          judged-right ring_shape (0 ∷ n ∷ fibres ∷ []) (λ reason. field_of reason 0) (ring_of n fibres) next _ (clean-start (row-laws limits t) short) (ring-judged-first (row-laws limits t) here (ring-right here) judged) (ring-byte (RowIs limits t) (LineByte limits t) here judged)
+      go : {x : Result Ring ℕ} → RingRead limits.digits limits.countable limits.marks l x
+          → Right limits t (and_then (and_then (values_on 1 x) λ ring. passed 1 ring_shape (0 ∷ ring.nodes ∷ ring.fibres ∷ []) (ring_found limits ring) ring) next)
+      go (is_ring {ring} h) =
+          let here : RingIs limits t ring = ring-is (line-here from) h in
+          let judged = ring-judged limits ring in
+          judged-right ring_shape (0 ∷ ring.nodes ∷ ring.fibres ∷ []) (λ reason. field_of reason 0) ring next _ (clean-start (row-laws limits t) short) (ring-judged-first (row-laws limits t) here (ring-right here) judged) (ring-byte (RowIs limits t) (LineByte limits t) here judged)
           (λ c. rows_right here ls [] (from_next from) c no_row_before)
       go (no_ring_line none fault) =
-          wrong-given (clean-start (row-laws limits t) short) (no_ring refl (λ ring x. none ring.nodes ring.fibres (line-one (line-here from) x.text refl) x.spelled)) (ring_due refl (line_faulty (line-here from) fault))
+          wrong-given (clean-start (row-laws limits t) short) (no_ring refl (λ ring x. none ring (ring-said x (line-here from)))) (ring_due refl (line_faulty (line-here from) fault))
 
 right : (limits : Limits) (t : List ℕ) → Right limits t (table_of limits t)
 unfolding table_of
@@ -151,19 +151,16 @@ right limits t =
 
 -- ---- the laws
 
+-- a reason on a line has one byte
+same-byte : {limits : Limits} {t : List ℕ} (line b c : ℕ) (r : Reason) → ByteIs limits t r line b → ByteIs limits t r line c → b ≡ c
+same-byte line b c r x y = one_byte (λ q p. row-one) one-line-byte x y
+
 -- a text has one first reason, with one byte
 pub one-given : {limits : Limits} {t : List ℕ} {r s : Reason} {line other byte on : ℕ} → Given limits t r line byte → Given limits t s other on → (r ≡ s) × (line ≡ other) × (byte ≡ on)
-one-given {limits} {t} f g = one-first same-place (λ line b c r x y. one_byte (λ q p. row-one) one-line-byte x y) f g
+one-given f g = one-first same-place same-byte f g
 
 pub given : (limits : Limits) (t : List ℕ) (r : Refusal) → (table_of limits t ≡ Err r) ↔ Given limits t r.reason r.line r.byte
-given limits t r = (λ e. there (subst (Right limits t) e (right limits t)), λ g. back g (right limits t))
-  where
-    there : Right limits t (Err r) → Given limits t r.reason r.line r.byte
-    there (first_holds g) = g
-
-    back : Given limits t r.reason r.line r.byte → {x : Result Table Refusal} → Right limits t x → x ≡ Err r
-    back g (none_holds none) = absurd (none r.reason r.line g.holds)
-    back g (first_holds f) = let o = one-given f g in let a = o.0 in let b = o.1 in let c = o.2 in ap Err (λ i. record { reason = a i; line = b i; byte = c i })
+given limits t = refused-as same-place same-byte (right limits t)
 
 -- the text is read to a table
 pub record Reads (limits : Limits) (t : List ℕ) : Type 0 where
@@ -172,11 +169,6 @@ pub record Reads (limits : Limits) (t : List ℕ) : Type 0 where
   pub is : table_of limits t ≡ Ok (ring, rs)
 
 pub accepted-is : (limits : Limits) (t : List ℕ) → Reads limits t ↔ Accepted limits t
-accepted-is limits t = (λ h. there (subst (Right limits t) h.is (right limits t)), λ none. back none (table_of limits t) refl)
-  where
-    there : {x : Table} → Right limits t (Ok x) → Accepted limits t
-    there (none_holds none) = none
-
-    back : Accepted limits t → (x : Result Table Refusal) → table_of limits t ≡ x → Reads limits t
-    back none (Ok x) e = record { ring = x.0; rs = x.1; is = e }
-    back none (Err r) e = absurd (none r.reason r.line ((given limits t r).0 e).holds)
+accepted-is limits t =
+    let law = accepted-as (right limits t) in
+    (λ h. law.0 ((h.ring, h.rs), h.is), λ none. let read = law.1 none in record { ring = read.0.0; rs = read.0.1; is = read.1 })

@@ -11,10 +11,14 @@ use Rattle.ring.specs.declared.types.Ring.{Ring}
 use Rattle.ring.specs.Demand.{OnRing}
 use Rattle.ring.specs.declared.types.Demand.{Demand}
 use Rattle.text.specs.declared.field.Field.TheVariants.{Number}
-use Rattle.text.specs.Bytes.{letter_r, letter_d}
+use Rattle.text.specs.Bytes.{letter_r, letter_d, letter_m}
 use Rattle.text.specs.Number.{base}
 use Rattle.text.specs.Field.{spell}
-use Rattle.text.specs.Shapes.{ring_line, row_line}
+use Rattle.text.specs.Shapes.{row_line}
+use Rattle.text.specs.RingLine.{ring_line}
+use Rattle.family.specs.declared.family.Family.{Family}
+use Rattle.family.specs.declared.family.Family.TheVariants.{Sonet, Sdh}
+use Rattle.ring.specs.Ring.{ring_of}
 use Rattle.text.proofs.Widths.{no-field, wide-field, line-wide, number-wide, letter-wide}
 use Rattle.table.specs.Table.{write_rows, write_table, table_room}
 
@@ -36,14 +40,21 @@ module _ (limits : Limits) (narrow : Narrow limits) where
   pub amount-wide : (v : ℕ) → v ≤ limits.amount → length (spell Number v) ≤ 4
   amount-wide v h = number-wide 3 v (omega arith) (omega (arith, narrow.amount))
 
-  pub ring-short : (ring : Ring) → ring.nodes ≤ limits.nodes → IsFibres ring.fibres → length (ring_line ring.nodes ring.fibres) ≤ 7
-  ring-short ring many fibres =
-      line-wide {ws = 1 ∷ 2 ∷ 1 ∷ []}
-      (wide-field (letter-wide letter_r 0) (wide-field (node-wide ring.nodes many) (wide-field (number-wide 0 ring.fibres (omega arith) (one fibres)) no-field)))
+  pub ring-short : (ring : Ring) → ring.nodes ≤ limits.nodes → IsFibres ring.fibres → length (ring_line ring) ≤ 9
+  ring-short ring many fibres = go ring.family
     where
       one : {f : ℕ} → IsFibres f → f < base
       one (inl e) = omega arith
       one (inr e) = omega arith
+
+      fibres-wide : length (spell Number ring.fibres) ≤ 1
+      fibres-wide = number-wide 0 ring.fibres (omega arith) (one fibres)
+
+      go : (family : Family) → length (ring_line (ring_of ring.nodes ring.fibres family)) ≤ 9
+      go Sonet = omega (arith, line-wide {ws = 1 ∷ 2 ∷ 1 ∷ []} (wide-field (letter-wide letter_r 0) (wide-field (node-wide ring.nodes many) (wide-field fibres-wide no-field))))
+      go Sdh =
+          line-wide {ws = 1 ∷ 2 ∷ 1 ∷ 1 ∷ []}
+          (wide-field (letter-wide letter_r 0) (wide-field (node-wide ring.nodes many) (wide-field fibres-wide (wide-field (letter-wide letter_m 0) no-field))))
 
   row-short : (n : ℕ) (r : Demand) → n ≤ limits.nodes → OnRing n r → r.amount ≤ limits.amount → length (row_line r.first r.second r.amount) ≤ 13
   row-short n r many on d =
@@ -62,4 +73,4 @@ module _ (limits : Limits) (narrow : Narrow limits) where
       → length (write_table ring rs) ≤ table_room limits
   unfolding write_table
   table-short ring rs many fibres nodes count amounts =
-      omega (arith, length-append (ring_line ring.nodes ring.fibres) (write_rows rs), ring-short ring many fibres, rows_short ring.nodes rs many nodes amounts)
+      omega (arith, length-append (ring_line ring) (write_rows rs), ring-short ring many fibres, rows_short ring.nodes rs many nodes amounts)

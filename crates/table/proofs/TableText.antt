@@ -12,9 +12,11 @@ use Rattle.ring.specs.Demand.{demand, OnRing}
 use Rattle.ring.specs.declared.types.Demand.{Demand}
 use Rattle.ring.proofs.Side.{cond-elim}
 use Rattle.text.specs.Number.{limit}
-use Rattle.text.specs.Shapes.{ring_shape, row_shape, ring_line, row_line}
+use Rattle.text.specs.Shapes.{ring_shape, row_shape, row_line}
+use Rattle.text.specs.RingLine.{ring_line, RingLineIs}
+use Rattle.text.proofs.RingLaws.{RingRead, is_ring, no_ring}
+use Rattle.family.specs.Sizes.{Known}
 use Rattle.ring.specs.Limits.{Limits, desk}
-use Rattle.ring.specs.Ring.{ring_of}
 use Rattle.ring.specs.declared.types.Ring.{Ring}
 use Rattle.ring.specs.LineSize.{IsFibres}
 use Rattle.lines.specs.Lines.{lines}
@@ -22,7 +24,7 @@ use Rattle.table.specs.Table.{write_rows, write_table, InRange}
 use Rattle.reasons.specs.Faults.{verdict_found, ring_found, row_found, last_demand}
 use Rattle.reasons.specs.AndThen.{and_then}
 use Rattle.lines.specs.OnLine.{values_on, passed, line_judged}
-use Rattle.table.specs.ReadTable.{Table, ring_in, demand_in, ring_on, row_on, rows_on_lines, table_lines, table_of}
+use Rattle.table.specs.ReadTable.{Table, demand_in, ring_on, row_on, rows_on_lines, table_lines, table_of}
 use Rattle.reasons.specs.declared.fault.Fault.{Fault}
 use Rattle.reasons.specs.declared.reason.Refusal.{Refusal}
 use Rattle.reasons.proofs.Faults.{last-more}
@@ -33,7 +35,7 @@ use Rattle.text.specs.ReadLine.{Reading}
 use Rattle.reasons.proofs.Judged.{RingJudged, right_ring, ring-judged, InOrder, RowJudged, row_fine, row-judged}
 use Rattle.reasons.proofs.Against.{fine-ring-judged, fine-row-judged}
 use Rattle.reasons.proofs.FineRows.{FineRows, no_row, fine_row, fine-rows, table-rows, amounts-fine, count-fine}
-use Rattle.table.proofs.LineRead.{RingSpelled, ring-values, RingLine, ring_line_is, no_ring_line, as-ring, RowSpelled, row-values, RowLine, row_line_is, no_row_line, as-row}
+use Rattle.table.proofs.LineRead.{RingSpelled, ring-values, as-ring, RowSpelled, row-values, RowLine, row_line_is, no_row_line, as-row}
 use Rattle.lines.proofs.LinesOf.{join-lines}
 use Rattle.table.proofs.TableLines.{ring-first, row_first}
 use Rattle.table.proofs.Spelled.{LimitsSpelled}
@@ -87,10 +89,11 @@ data TableRead (limits : Limits) (t : List ℕ) : Result Table Refusal → Type 
   table_refused : {r : Refusal} → TableRead limits t (Err r)
 
 module _ {limits : Limits} {t : List ℕ} (short : length t ≤ limits.bytes) where
-  ring-more : {ring : Ring} {l : List ℕ} {ls : List (List ℕ)} {x : Result Table Refusal} → t ≡ l ++ flatten ls → l ≡ ring_line ring.nodes ring.fibres
+  ring-more : {ring : Ring} {l : List ℕ} {ls : List (List ℕ)} {x : Result Table Refusal} → t ≡ l ++ flatten ls → RingLineIs limits.marks limits.digits l ring
       → RingJudged limits ring (Ok tt) → RowsRead limits ring [] ls x → TableRead limits t x
   unfolding write_table
-  ring-more {ring} whole e (right_ring few many fibres) (rows_are {all} rs is text fine) =
+  ring-more {ring} whole w (right_ring few many fibres) (rows_are {all} rs is text fine) =
+      let e = w.text in
       let written : t ≡ write_table ring all = whole ∙ rw (e, text, is) in
       table_is {rs = all} written (record {
         within =
@@ -98,30 +101,32 @@ module _ {limits : Limits} {t : List ℕ} (short : length t ≤ limits.bytes) wh
               few = few;
               many = many;
               fibres = fibres;
+              family = w.known;
               rows = rw is (table-rows fine);
               count = omega (arith, count-fine fine (omega arith), ap length is);
               amounts = rw is (amounts-fine fine);
             };
         short = omega (arith, ap length written);
       })
-  ring-more whole e w rows_refused = table_refused
+  ring-more whole h w rows_refused = table_refused
 
   lines-read : (ls : List (List ℕ)) → t ≡ flatten ls → TableRead limits t (table_lines limits ls)
-  unfolding table_lines ring_on line_judged values_on ring_found flatten
+  unfolding table_lines ring_on values_on ring_found flatten
   lines-read [] whole = table_refused
   lines-read (l ∷ ls) whole = go (as-ring limits l)
     where
       next : Ring → Result Table Refusal
       next ring = rows_on_lines limits ring [] ls
 
-      judging : {ring : Ring} {v : Verdict} (vs : List ℕ) (field : Reason → ℕ) → l ≡ ring_line ring.nodes ring.fibres → RingJudged limits ring v
+      judging : {ring : Ring} {v : Verdict} (vs : List ℕ) (field : Reason → ℕ) → RingLineIs limits.marks limits.digits l ring → RingJudged limits ring v
           → TableRead limits t (and_then (passed 1 ring_shape vs (verdict_found v field) ring) next)
-      judging {v = Err r} vs field e w = table_refused
-      judging {v = Ok tt} vs field e w = ring-more whole e w (rows-read ls [])
+      judging {v = Err r} vs field h w = table_refused
+      judging {v = Ok tt} vs field h w = ring-more whole h w (rows-read ls [])
 
-      go : {x : Reading} → RingLine limits l x → TableRead limits t (and_then (and_then (values_on 1 x) λ vs. passed 1 ring_shape vs (ring_found limits (ring_in vs)) (ring_in vs)) next)
-      go (ring_line_is {n} {fibres} e w) = judging _ _ e (ring-judged limits (ring_of n fibres))
-      go (no_ring_line none fault) = table_refused
+      go : {x : Result Ring ℕ} → RingRead limits.digits limits.countable limits.marks l x
+          → TableRead limits t (and_then (and_then (values_on 1 x) λ ring. passed 1 ring_shape (0 ∷ ring.nodes ∷ ring.fibres ∷ []) (ring_found limits ring) ring) next)
+      go (is_ring {ring} h) = judging _ _ h (ring-judged limits ring)
+      go (no_ring none fault) = table_refused
 
 table-read : (limits : Limits) (t : List ℕ) → TableRead limits t (table_of limits t)
 unfolding table_of
@@ -152,21 +157,21 @@ pub fibres-spelled : (limits : Limits) (fibres : ℕ) → IsFibres fibres → fi
 fibres-spelled limits fibres (inl e) = omega (arith, tens limits.digits limits.countable)
 fibres-spelled limits fibres (inr e) = omega (arith, tens limits.digits limits.countable)
 
-pub ring-spelled : (limits : Limits) → LimitsSpelled limits → (ring : Ring) → ring.nodes ≤ limits.nodes → IsFibres ring.fibres → RingSpelled limits ring.nodes ring.fibres
-ring-spelled limits spelled ring many fibres = (omega (arith, many, spelled.nodes), fibres-spelled limits ring.fibres fibres)
+pub ring-spelled : (limits : Limits) → LimitsSpelled limits → (ring : Ring) → ring.nodes ≤ limits.nodes → IsFibres ring.fibres → Known limits.marks ring.family → RingSpelled limits ring
+ring-spelled limits spelled ring many fibres known = record { known = known; text = refl; nodes = omega (arith, many, spelled.nodes); fibres = fibres-spelled limits ring.fibres fibres }
 
-pub ring-again : (limits : Limits) (ring : Ring) → RingSpelled limits ring.nodes ring.fibres → limits.fewest ≤ ring.nodes → ring.nodes ≤ limits.nodes → IsFibres ring.fibres
-    → ring_on limits (ring_line ring.nodes ring.fibres) ≡ Ok ring
-unfolding ring_on line_judged values_on passed ring_found verdict_found
-ring-again limits ring w few many fibres = rw (ring-values limits ring.nodes ring.fibres w, fine-ring-judged limits ring few many fibres)
+pub ring-again : (limits : Limits) (ring : Ring) → RingSpelled limits ring → limits.fewest ≤ ring.nodes → ring.nodes ≤ limits.nodes → IsFibres ring.fibres
+    → ring_on limits (ring_line ring) ≡ Ok ring
+unfolding ring_on values_on passed ring_found verdict_found
+ring-again limits ring w few many fibres = rw (ring-values limits ring w, fine-ring-judged limits ring few many fibres)
 
 written_read : (limits : Limits) → LimitsSpelled limits → (ring : Ring) (rs : List Demand) → InRange limits ring rs → table_of limits (write_table ring rs) ≡ Ok (ring, rs)
 unfolding table_of table_lines write_table
 written_read limits spelled ring rs range =
-    let w : RingSpelled limits ring.nodes ring.fibres = ring-spelled limits spelled ring range.within.many range.within.fibres in
+    let w : RingSpelled limits ring = ring-spelled limits spelled ring range.within.many range.within.fibres range.within.family in
     rw (
       le-ltb limits.bytes (length (write_table ring rs)) range.short,
-      ring-first limits ring.nodes ring.fibres w (write_rows rs),
+      ring-first limits ring w (write_rows rs),
       ring-again limits ring w range.within.few range.within.many range.within.fibres,
     ) (written-rows-read limits spelled ring range.within.many [] refl refl (fine-rows range.within.rows range.within.count range.within.amounts))
 

@@ -9,7 +9,9 @@ use Rattle.ring.specs.declared.types.Ring.{Ring}
 use Rattle.ring.specs.declared.types.Demand.{Demand}
 use Rattle.ring.specs.declared.types.Routed.{Routed}
 use Rattle.ring.specs.Sheet.{sents, demands}
-use Rattle.text.specs.Shapes.{ring_shape, row_shape, ring_line, row_line}
+use Rattle.text.specs.Shapes.{row_shape, row_line}
+use Rattle.text.specs.RingLine.{ring_line}
+use Rattle.text.proofs.RingLaws.{ring-line-short}
 use Rattle.text.specs.Pass.{PassLaws}
 use Rattle.text.specs.Written.{Passed}
 use Rattle.text.proofs.Lengths.{line-short}
@@ -38,20 +40,20 @@ rows-short (r ∷ rows) = omega (arith, length-append (demand_line r) (write_row
 pub table-measurable : (ring : Ring) (rows : List Demand) → length rows ≤ desk.rows → length (write_table ring rows) ≤ 18446744073709551615
 unfolding write_table
 table-measurable ring rows few =
-    omega (arith, length-append (ring_line ring.nodes ring.fibres) (write_rows rows), line-short ring_shape (0 ∷ ring.nodes ∷ ring.fibres ∷ []), rows-short rows)
+    omega (arith, length-append (ring_line ring) (write_rows rows), ring-line-short ring, rows-short rows)
 
 module _ {room : List ℕ → ℕ} {after : List ℕ → ℕ → List ℕ → List ℕ} (pass : PassLaws room after) (old : List ℕ) where
   module _ (ring : Ring) (rows : List Demand) (fits : length (write_table ring rows) ≤ room old) where
-    whole : length (write_table ring rows) ≡ length (ring_line ring.nodes ring.fibres) + length (write_rows rows)
+    whole : length (write_table ring rows) ≡ length (ring_line ring) + length (write_rows rows)
     unfolding write_table
-    whole = length-append (ring_line ring.nodes ring.fibres) (write_rows rows)
+    whole = length-append (ring_line ring) (write_rows rows)
 
-    pub ring-placed : 0 + length (ring_line ring.nodes ring.fibres) ≤ room old
+    pub ring-placed : 0 + length (ring_line ring) ≤ room old
     ring-placed = omega (arith, fits, whole)
 
-    module _ (buffer : List ℕ) (next : ℕ) (passed : Passed after old 0 (ring_line ring.nodes ring.fibres) buffer next) where
+    module _ (buffer : List ℕ) (next : ℕ) (passed : Passed after old 0 (ring_line ring) buffer next) where
       pub rows-placed : next + length (write_rows rows) ≤ room buffer
-      rows-placed = omega (arith, fits, whole, passed.place, room-kept pass old buffer (ring_line ring.nodes ring.fibres) 0 next passed)
+      rows-placed = omega (arith, fits, whole, passed.place, room-kept pass old buffer (ring_line ring) 0 next passed)
 
       pub table-passed : (new : List ℕ) (q : ℕ) → Passed after buffer next (write_rows rows) new q → Passed after old 0 (write_table ring rows) new q
       unfolding write_table

@@ -3,13 +3,13 @@ use Rattle.std.specs.Prelude.{ℕ, ◌+◌, cond, List, [], ◌∷◌, ◌++◌,
 use Rattle.ring.specs.Demand.{demand}
 use Rattle.ring.specs.declared.types.Demand.{Demand}
 use Rattle.text.specs.Shapes.{ring_shape, row_shape}
+use Rattle.text.specs.ReadRing.{read_ring}
 use Rattle.ring.specs.Limits.{Limits}
-use Rattle.ring.specs.Ring.{ring_of}
 use Rattle.ring.specs.declared.types.Ring.{Ring}
 use Rattle.lines.specs.Lines.{lines}
 use Rattle.reasons.specs.Faults.{ring_found, row_found, last_demand}
 use Rattle.reasons.specs.AndThen.{and_then}
-use Rattle.lines.specs.OnLine.{line_judged}
+use Rattle.lines.specs.OnLine.{values_on, passed, line_judged}
 use Rattle.reasons.specs.declared.reason.Reason.TheVariants.{TooLong, Misshapen}
 use Rattle.reasons.specs.declared.reason.Refusal.{Refusal}
 use Rattle.reasons.specs.Refusals.{refuse}
@@ -20,16 +20,13 @@ Table = Ring × List Demand
 
 -- ---- one line, by its values; that of the letter is the first
 
-abbrev pub ring_in : List ℕ → Ring
-ring_in vs = ring_of (get_or vs 1 0) (get_or vs 2 0)
-
 abbrev pub demand_in : List ℕ → Demand
 demand_in vs = demand (get_or vs 1 0) (get_or vs 2 0) (get_or vs 3 0)
 
--- R n fibres
+-- R n fibres, of either family: what is found against it is about n or the fibres, which start at the same bytes in either line
 unfoldable pub ring_on : Limits → List ℕ → Result Ring Refusal
-unfolding line_judged ring_found
-ring_on limits l = line_judged limits.digits 1 ring_shape ring_in (ring_found limits) l
+unfolding values_on passed ring_found
+ring_on limits l = and_then (values_on 1 (read_ring limits.marks limits.digits l)) λ ring. passed 1 ring_shape (0 ∷ ring.nodes ∷ ring.fibres ∷ []) (ring_found limits ring) ring
 
 -- D i j amount, behind the rows rs, of which the first stands on line 2
 unfoldable pub row_on : Limits → Ring → List Demand → List ℕ → Result Demand Refusal

@@ -1,14 +1,16 @@
--- To believe: what each reason says of a table's text (Rules, reasons), by its lines and the writer alone, and which byte of the line goes with it; which reason is given; and what an accepted table is.
+-- To believe: what each reason says of a table's text (Rules, reasons), by its lines and the writer alone, and which byte of the line goes with it; which reason is
+-- given; and what an accepted table is.
 use Rattle.std.specs.Prelude.{ℕ, ◌≤◌, ◌<◌, List, ◌≡◌}
 use Rattle.text.specs.Number.{limit}
-use Rattle.text.specs.Shapes.{ring_shape, row_shape, row_line}
+use Rattle.text.specs.Shapes.{row_shape, row_line}
+use Rattle.text.specs.RingLine.{RingFault}
 use Rattle.ring.specs.Limits.{Limits}
 use Rattle.ring.specs.declared.types.Ring.{Ring}
 use Rattle.ring.specs.declared.types.Demand.{Demand}
 use Rattle.lines.specs.Lines.{lines, LineIs}
 use Rattle.reasons.specs.Reasons.{FirstReason, NoReason, Earlier}
 use Rattle.table.specs.RowReasons.{RingIs, RowsSay, RowsByte}
-use Rattle.lines.specs.DueBytes.{ShapeByte}
+use Rattle.lines.specs.DueBytes.{DueByte, ShapeByte}
 use Rattle.reasons.specs.declared.reason.Reason.{Reason}
 
 -- a later line is D i j amount
@@ -26,9 +28,9 @@ pub data WrongLine (limits : Limits) (t : List ℕ) (line : ℕ) : Type 0 where
 abbrev pub Says : Limits → List ℕ → Reason → ℕ → Type 0
 Says limits t r line = RowsSay limits t (RowIs limits t) (WrongLine limits t) line r
 
--- the byte that goes with 2, by the shape that is due
+-- the byte that goes with 2, by the shape that is due, of an R line by the shapes of both families
 pub data LineByte (limits : Limits) (t : List ℕ) (line byte : ℕ) : Type 0 where
-  ring_due : line ≡ 1 → ShapeByte limits t ring_shape line byte → LineByte limits t line byte
+  ring_due : line ≡ 1 → DueByte t line (RingFault limits.marks limits.digits) byte → LineByte limits t line byte
   row_due : 2 ≤ line → ShapeByte limits t row_shape line byte → LineByte limits t line byte
 
 -- the byte of a reason that holds on a line

@@ -4,6 +4,7 @@
 pub mod LineLaws
 pub mod Spellings
 pub mod Starts
+pub mod RingLaws
 -- how they are shown
 pub mod Lists
 pub mod Apart

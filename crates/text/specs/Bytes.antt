@@ -23,6 +23,10 @@ digit9 = 57
 abbrev pub letter_r : ℕ
 letter_r = 82
 
+-- M: the ring is an SDH ring
+abbrev pub letter_m : ℕ
+letter_m = 77
+
 -- D: a demand
 abbrev pub letter_d : ℕ
 letter_d = 68

@@ -1,18 +1,13 @@
 -- To believe: the byte of a line where a field starts, counted from 1: one more than the length of what is written before it.
 use Rattle.std.specs.Prelude.{ℕ, ◌+◌, List, [], ◌∷◌, length, take}
-use Rattle.ring.specs.declared.types.Ring.{Ring}
 use Rattle.ring.specs.declared.types.Demand.{Demand}
-use Rattle.text.specs.Shapes.{ring_shape, row_shape}
+use Rattle.text.specs.Shapes.{row_shape}
 use Rattle.text.specs.WriteLine.{write_line}
 use Rattle.text.specs.declared.field.Field.{Field}
 
 -- k fields stand before the field; each is written with the byte behind it
 unfoldable pub field_byte : List Field → List ℕ → ℕ → ℕ
 field_byte shape vs k = length (write_line (take k shape) vs) + 1
-
--- in the line R n fibres; the letter is field 0
-abbrev pub ring_byte : Ring → ℕ → ℕ
-ring_byte ring k = field_byte ring_shape (0 ∷ ring.nodes ∷ ring.fibres ∷ []) k
 
 -- in the line D i j amount; what a sheet's D line has behind the amount moves none of these fields
 abbrev pub row_byte : Demand → ℕ → ℕ

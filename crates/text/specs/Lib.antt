@@ -12,3 +12,5 @@ pub mod Written
 pub mod ReadNumber
 pub mod ReadMark
 pub mod ReadLine
+pub mod RingLine
+pub mod ReadRing

@@ -5,7 +5,7 @@ use Rattle.text.specs.WriteLine.{write_line}
 use Rattle.text.specs.declared.field.Field.{Field}
 use Rattle.text.specs.declared.field.Field.TheVariants.{Letter, Number, Way}
 
--- R n fibres
+-- R n fibres: of a SONET ring (text/RingLine has the line of either family)
 abbrev pub ring_shape : List Field
 ring_shape = Letter letter_r ∷ Number ∷ Number ∷ []
 
@@ -34,10 +34,6 @@ abbrev pub numbers : ℕ → List Field
 numbers n = replicate n Number
 
 -- ---- their texts: the letter is the first field, and its value is 0
-
--- R n fibres
-abbrev pub ring_line : ℕ → ℕ → List ℕ
-ring_line n fibres = write_line ring_shape (0 ∷ n ∷ fibres ∷ [])
 
 -- D i j amount
 abbrev pub row_line : ℕ → ℕ → ℕ → List ℕ

@@ -5,12 +5,14 @@ mod number; // digits
 mod mark; // letters and ways
 mod field; // a field, with the byte behind it
 mod line; // a line of any shape
+mod ring_line; // the R line of a ring of either family
 
 pub use field::{Field, read_field};
 pub use line::{end_of, field_byte, line_length, read_line, write_line};
 pub use pass::{Measure, Pass, Write};
+pub use ring_line::{read_ring, write_ring};
 
-/// R n fibres
+/// R n fibres, of a SONET ring: nodes and fibres stand at the same bytes in the line of either family
 pub const RING: [Field; 3] = [Field::Letter(b'R'), Field::Number, Field::Number];
 
 /// D i j amount, in a table

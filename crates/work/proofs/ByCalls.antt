@@ -13,13 +13,15 @@ use Rattle.ring.specs.declared.types.Ring.{Ring}
 use Rattle.ring.specs.declared.types.Demand.{Demand}
 use Rattle.ring.specs.RuleA.{rule_a}
 use Rattle.ring.specs.WithinLimits.{WithinLimits}
-use Rattle.reasons.specs.Findings.{Findings, nothing, finding, found, Given, NoneHolds, demand_findings}
+use Rattle.reasons.specs.Findings.{Findings, nothing, finding, found, Given, NoneHolds}
+use Rattle.reasons.specs.RowFindings.{demand_findings}
 use Rattle.reasons.specs.Judge.{ring_verdict, row_verdict}
 use Rattle.reasons.specs.Verdict.{Verdict}
 use Rattle.reasons.specs.declared.reason.Reason.{Reason}
 use Rattle.reasons.specs.declared.reason.Reason.TheVariants.{RingSize, Fibres, NoRow, Full}
 use Rattle.reasons.proofs.Findings.{fine, then-on, then-stop}
 use Rattle.reasons.proofs.Judged.{RingJudged, size_wrong, wrong_fibres, right_ring, ring-judged}
+use Rattle.work.specs.HeldRing.{ring_held}
 use Rattle.work.specs.Places.{empty, holds, PlaceTable, AllTaken, table_held}
 use Rattle.work.specs.Calls.{Call, start, add, change, remove, WorkAnswer, findings, with_place, Makes, starts, adds, changes, removes, Does, refused, accepted}
 use Rattle.work.specs.Made.{Made, begun, called}
@@ -28,7 +30,7 @@ use Rattle.work.specs.Changes.{recut_in, free_in, index_in, put_in, cleared_in, 
 use Rattle.work.specs.Keys.{sorted_rows}
 use Rattle.work.specs.declared.Work.{Work}
 use Rattle.work.specs.Sorted.{Sorted}
-use Rattle.work.proofs.Right.{Good, Right, Sized, HasBytes, sized, right-bytes, size_is, count, put-places, put_right, clear-places, clear-right, fresh-places, fresh-right, cut-is}
+use Rattle.work.proofs.Right.{Good, Right, Sized, HasBytes, sized, right-bytes, size_is, count, put-places, put_right, clear-places, clear-right, fresh-places, fresh-right, cut-is, fresh-ring}
 use Rattle.work.proofs.Fits.{Fits, begun-fits, made-fits}
 use Rattle.work.proofs.SortedRows.{rows-sorted, rows-within, rows_cut}
 use Rattle.work.proofs.Views.{Judged, bad, good, judged_demand, Indexed, none_there, row_there, indexed, taken-at, Freed, all_taken, lowest_free, freed}
@@ -60,7 +62,7 @@ module _ (w : Work) (ring : Ring) where
 
   start-made : Makes (table_held w) (start ring) 0 (table_held (fresh_in ring))
   unfolding fresh_in
-  start-made = rw (fresh-places ring) starts
+  start-made = rw (fresh-ring ring, fresh-places ring) starts
 
   pub start-step : Step w (start ring)
   unfolding started_in findings
@@ -89,7 +91,7 @@ module _ (w : Work) (s : Right w) where
   module _ (k : ℕ) (l : k < desk.rows) (r : Demand) where
     put-plain : get_or w.first k 0 ≡ 0 → Good w.ring.nodes r → table_held (put_in w k r) ≡ with_place t k (holds r)
     unfolding put_in
-    put-plain free g = ap (λ ps. record { ring = w.ring; places = ps }) (put-places w s k l r free g)
+    put-plain free g = ap (λ ps. record { ring = ring_held w.ring; places = ps }) (put-places w s k l r free g)
 
   module _ (r : Demand) where
     add_step : Step w (add r)
@@ -109,7 +111,7 @@ module _ (w : Work) (s : Right w) where
   module _ (k : ℕ) (l : k < desk.rows) (taken : 1 ≤ get_or w.first k 0) where
     cleared-plain : table_held (cleared_in w k) ≡ with_place t k empty
     unfolding cleared_in
-    cleared-plain = ap (λ ps. record { ring = w.ring; places = ps }) (clear-places w s k l taken)
+    cleared-plain = ap (λ ps. record { ring = ring_held w.ring; places = ps }) (clear-places w s k l taken)
 
     cleared-free : get_or (cleared_in w k).first k 0 ≡ 0
     unfolding cleared_in
@@ -129,7 +131,7 @@ module _ (w : Work) (s : Right w) where
       changed-plain : table_held (put_in (cleared_in w k) k r) ≡ with_place t k (holds r)
       unfolding put_in cleared_in
       changed-plain =
-          ap (λ ps. record { ring = w.ring; places = ps })
+          ap (λ ps. record { ring = ring_held w.ring; places = ps })
           (put-places (cleared_in w k) off k l r cleared-free still ∙ ap (λ ps. set ps k (holds r)) (clear-places w s k l taken) ∙ set-set t.places k empty (holds r))
 
   module _ (p : ℕ) where
@@ -203,7 +205,7 @@ made-sound m =
 -- what is written of a table: the rows held, sorted; within the limits of a table; with the cut of the rows held
 pub record WritesOut (w : Work) (rs : List Demand) : Type 0 where
   pub sorted : Sorted (table_held w).places rs
-  pub within : WithinLimits desk w.ring rs
+  pub within : WithinLimits desk (ring_held w.ring) rs
   pub cut : rule_a w.ring.nodes rs ≡ rule_a w.ring.nodes (held w)
 
 -- what is written out: the rows held, by nodes, then by place, as many and such as a table may have, with the cut of the rows held

@@ -9,7 +9,8 @@ use Rattle.ring.specs.Limits.{desk}
 use Rattle.ring.specs.Lists.{Each, none}
 use Rattle.ring.specs.declared.types.Ring.{Ring}
 use Rattle.ring.specs.declared.types.Demand.{Demand}
-use Rattle.reasons.specs.Findings.{nothing, finding, NoneHolds, demand_findings}
+use Rattle.reasons.specs.Findings.{nothing, finding, NoneHolds}
+use Rattle.reasons.specs.RowFindings.{demand_findings}
 use Rattle.reasons.specs.declared.reason.Reason.TheVariants.{Full}
 use Rattle.reasons.proofs.Findings.{none-of, both-of, fibres-of}
 use Rattle.work.specs.Places.{empty, holds, PlaceTable, rows_held, AllTaken}

@@ -8,6 +8,9 @@ use Rattle.ring.specs.Limits.{desk}
 use Rattle.ring.specs.LineSize.{IsFibres}
 use Rattle.ring.specs.Lists.{Each, none}
 use Rattle.ring.specs.Demand.{demand, OnRing}
+use Rattle.family.specs.declared.family.Family.{Family}
+use Rattle.family.proofs.Sizes.{family-again}
+use Rattle.ring.specs.Ring.{ring_of}
 use Rattle.ring.specs.declared.types.Ring.{Ring}
 use Rattle.ring.specs.declared.types.Demand.{Demand}
 use Rattle.ring.specs.Cut.{part, across}
@@ -155,6 +158,11 @@ module _ (w : Work) (s : Right w) (k : ℕ) (in_table : k < desk.rows) where
         }
 
 -- ---- an empty table
+
+-- of the ring that it was begun with
+pub fresh-ring : (ring : Ring) → (table_held (fresh_in ring)).ring ≡ ring
+unfolding fresh_in
+fresh-ring ring = ap (λ (f : Family). ring_of ring.nodes ring.fibres f) (family-again ring.family)
 
 pub fresh-places : (ring : Ring) → (table_held (fresh_in ring)).places ≡ replicate desk.rows empty
 unfolding fresh_in

@@ -15,7 +15,8 @@ use Rattle.std.proofs.lemmas.List.Sums.{prefix_len_passes, prefix_len_stops}
 use Rattle.ring.specs.Limits.{desk}
 use Rattle.ring.specs.Demand.{demand}
 use Rattle.ring.specs.declared.types.Demand.{Demand}
-use Rattle.reasons.specs.Findings.{Given, NoneHolds, demand_findings, NoNode}
+use Rattle.reasons.specs.Findings.{Given, NoneHolds}
+use Rattle.reasons.specs.RowFindings.{demand_findings, NoNode}
 use Rattle.reasons.specs.Judge.{row_verdict}
 use Rattle.reasons.specs.declared.reason.Reason.{Reason}
 use Rattle.reasons.specs.declared.reason.Reason.TheVariants.{NoRow}

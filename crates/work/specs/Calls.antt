@@ -5,7 +5,8 @@ use Rattle.ring.specs.Limits.{desk}
 use Rattle.ring.specs.declared.types.Ring.{Ring}
 use Rattle.ring.specs.declared.types.Demand.{Demand}
 use Rattle.ring.specs.RuleA.{rule_a}
-use Rattle.reasons.specs.Findings.{Findings, nothing, finding, then, Given, NoneHolds, ring_findings, demand_findings}
+use Rattle.reasons.specs.Findings.{Findings, nothing, finding, then, Given, NoneHolds}
+use Rattle.reasons.specs.RowFindings.{ring_findings, demand_findings}
 use Rattle.reasons.specs.declared.reason.Reason.{Reason}
 use Rattle.reasons.specs.declared.reason.Reason.TheVariants.{NoRow, Full}
 use Rattle.work.specs.Places.{Place, empty, holds, PlaceTable, rows_held, HoldsNone, AllTaken, LowestFree}

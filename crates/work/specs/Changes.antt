@@ -3,6 +3,7 @@
 use Rattle.std.specs.Prelude.{ℕ, ◌+◌, ◌-◌, ◌≤◌, ◌<◌, min, max, Bool, cond, ◌&&◌, Option, Some, None, Result, Ok, Err, List, ltb, eqb, get_or, set, replicate}
 use Rattle.std.specs.List.{position}
 use Rattle.ring.specs.Limits.{desk}
+use Rattle.family.specs.Sizes.{family_number}
 use Rattle.ring.specs.declared.types.Ring.{Ring}
 use Rattle.ring.specs.declared.types.Demand.{Demand}
 use Rattle.ring.specs.declared.types.Cut.{Cut}
@@ -18,6 +19,7 @@ use Rattle.reasons.specs.declared.reason.Reason.TheVariants.{NoRow, Full}
 use Rattle.reasons.specs.Verdict.{Verdict}
 use Rattle.work.specs.Calls.{Call, start, add, change, remove, WorkAnswer}
 use Rattle.work.specs.declared.Work.{Work}
+use Rattle.work.specs.declared.held_ring.HeldRing.{HeldRing}
 use Rattle.work.specs.declared.answer.Changed.{Changed}
 
 -- a ring size outside 2 to 64 counts as the nearest within
@@ -75,11 +77,15 @@ cleared_in w k = with_row w (step_row lowered (ring_size w.ring.nodes) (row_at w
 
 -- ---- the calls
 
+-- a ring in numbers
+abbrev pub as_held : Ring → HeldRing
+as_held ring = record { nodes = ring.nodes; fibres = ring.fibres; family = family_number ring.family }
+
 unfoldable pub fresh_in : Ring → Work
 fresh_in ring =
     record {
       triangle = replicate most_pairs 0;
-      ring = ring;
+      ring = as_held ring;
       cut = record { g = 0; h = 0; across = 0 };
       amount = replicate desk.rows 0;
       first = replicate desk.rows 0;

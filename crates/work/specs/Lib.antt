@@ -1,3 +1,4 @@
+pub mod HeldRing
 pub mod Places
 pub mod Calls
 pub mod Changes

@@ -3,6 +3,7 @@ use Rattle.std.specs.Prelude.{ℕ, zero, suc, ◌-◌, ◌≤◌, ◌<◌, List,
 use Rattle.ring.specs.declared.types.Ring.{Ring}
 use Rattle.ring.specs.Demand.{demand}
 use Rattle.ring.specs.declared.types.Demand.{Demand}
+use Rattle.work.specs.HeldRing.{ring_held}
 use Rattle.work.specs.declared.Work.{Work}
 
 -- a place is empty, or holds a row
@@ -68,4 +69,4 @@ places_in (i ∷ is) (j ∷ js) (d ∷ ds) = place_in i j d ∷ places_in is js 
 
 -- its ring and its places
 abbrev pub table_held : Work → PlaceTable
-table_held w = record { ring = w.ring; places = places_in w.first w.second w.amount }
+table_held w = record { ring = ring_held w.ring; places = places_in w.first w.second w.amount }

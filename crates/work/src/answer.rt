@@ -34,14 +34,17 @@ pub(crate) fn nodes(work: &Work) -> usize
     ring_size(work.ring.nodes) as usize
 }
 
-/// The rows have changed: the largest cut is looked for among the kept numbers.
+/// The rows have changed: the largest cut is looked for among the kept numbers. It is put into the table where that stays: a table made anew of the old one would take
+/// another triangle of stack.
 #[tactic(auto, unfolding(crate::specs::Changes::recut_in))]
 pub(crate) fn recut(work: Work, place: u32) -> Changed
     ensures { result ≡ recut_in work place }
 {
     let cut = largest_cut(&work.triangle, nodes(&work));
-    Changed {
+    let mut changed = Changed {
         placed: Placed { place, cut },
-        work: Work { cut, ..work },
-    }
+        work,
+    };
+    changed.work.cut = cut;
+    changed
 }

@@ -4,6 +4,7 @@
 // the type's end: neither happens to a table that was made by calls.
 mod answer; // what an accepted change answers
 mod change; // a row added, changed or removed
+mod held_ring; // the ring as C lends it
 mod place; // which places hold rows
 mod sort; // the rows by nodes, then by place
 mod start; // an empty table
@@ -11,8 +12,9 @@ mod start; // an empty table
 use across::PAIRS;
 pub use answer::{Changed, Placed};
 pub use change::{added, changed, removed};
+pub use held_ring::HeldRing;
 pub use place::row_of;
-use ring::{Cut, ROWS, Ring};
+use ring::{Cut, ROWS};
 pub use sort::sorted;
 pub use start::started;
 
@@ -22,7 +24,7 @@ pub use start::started;
 #[derive(Clone, Copy)]
 pub struct Work {
     pub triangle: [u32; PAIRS],
-    pub ring: Ring,
+    pub ring: HeldRing,
     pub cut: Cut,
     pub amount: [u16; ROWS],
     pub first: [u8; ROWS],

@@ -3,7 +3,7 @@ ghost use Rattle.std.specs.Prelude.{◌≡◌};
 ghost use Rattle.work.specs.Changes.{fresh_in, started_in};
 
 use crate::answer::recut;
-use crate::{Changed, Work};
+use crate::{Changed, HeldRing, Work};
 use across::PAIRS;
 use reasons::{Reason, check_ring};
 use ring::{Cut, ROWS, Ring};
@@ -14,7 +14,7 @@ fn fresh(ring: Ring) -> Work
 {
     Work {
         triangle: [0u32; PAIRS],
-        ring,
+        ring: HeldRing::of(ring),
         cut: Cut {
             g: 0,
             h: 0,

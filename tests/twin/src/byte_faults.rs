@@ -143,18 +143,18 @@ pub static BYTE_FAULTS: [Mutant; 62] = [
 ];
 
 impl<'a> Pointed<'a> {
-    fn byte(&self) -> Byte {
+    pub fn byte(&self) -> Byte {
         self.refusal.byte
     }
 
     /// None where the line is missing, or there is none.
-    fn line(&self) -> Option<Line<'a>> {
+    pub fn line(&self) -> Option<Line<'a>> {
         let at = (self.refusal.line as usize).checked_sub(1)?;
         table::lines(self.text).get(at).copied()
     }
 
     /// What is due on the line.
-    fn due(&self) -> Option<Due> {
+    pub fn due(&self) -> Option<Due> {
         let lines = table::lines(self.text);
         let line = self.refusal.line as usize;
         (line > 0).then(|| due(self.call, &lines, line))
@@ -173,7 +173,7 @@ impl<'a> Pointed<'a> {
         line.bytes.get(at?).copied().or(ended.then_some(b'\n'))
     }
 
-    fn at(&self) -> Option<u8> {
+    pub fn at(&self) -> Option<u8> {
         self.byte_at((self.byte() as usize).checked_sub(1))
     }
 
@@ -182,7 +182,7 @@ impl<'a> Pointed<'a> {
     }
 
     /// How many tabs stand before the byte.
-    fn field(&self) -> usize {
+    pub fn field(&self) -> usize {
         let bytes = self.line().map_or(b"".as_slice(), |line| line.bytes);
         let end = bytes.len().min((self.byte() as usize).saturating_sub(1));
         bytes[..end].iter().filter(|byte| **byte == b'\t').count()
@@ -232,14 +232,14 @@ impl<'a> Pointed<'a> {
 
     fn of_matrix(&self, reason: u32, byte: Byte) -> Byte {
         match self.call {
-            Call::ReadMatrix(_) => self.instead(reason, byte),
+            Call::ReadMatrix(..) => self.instead(reason, byte),
             _ => self.byte(),
         }
     }
 
     fn of_row(&self, reason: u32, byte: Byte) -> Byte {
         match self.call {
-            Call::ReadMatrix(_) => self.byte(),
+            Call::ReadMatrix(..) => self.byte(),
             _ => self.instead(reason, byte),
         }
     }
@@ -289,7 +289,7 @@ impl<'a> Pointed<'a> {
     /// Another byte where a letter is right and what follows is not.
     fn lettered(&self, byte: Byte) -> Byte {
         match self.call {
-            Call::ReadMatrix(_) => self.byte(),
+            Call::ReadMatrix(..) => self.byte(),
             _ => self.misshapen(|| byte),
         }
     }
@@ -325,13 +325,13 @@ fn in_text(p: &Pointed) -> Byte {
 
 fn second_bad_node(p: &Pointed) -> Byte {
     let lines = table::lines(p.text);
-    let ring = lines.first().and_then(|line| table::numbers(line, b"R", 2));
+    let ring = lines.first().and_then(table::ring_fields);
     let second = p.line().and_then(|line| {
         let field = line.bytes.split(|byte| *byte == b'\t').nth(2)?;
         table::number(field)
     });
     match (ring, second) {
-        (Some(ring), Some(node)) if node < 1 || node > ring[0] => p.instead(4, p.start(2)),
+        (Some((ring, _)), Some(node)) if node < 1 || node > ring[0] => p.instead(4, p.start(2)),
         _ => p.byte(),
     }
 }
@@ -353,7 +353,7 @@ fn mirrored(p: &Pointed) -> Byte {
 
 fn own_fault(p: &Pointed) -> Byte {
     let shape = match (p.refusal.reason, p.due(), p.call) {
-        (2, Some(Due::Nothing), Call::ReadMatrix(_)) => shape::any_numbers(),
+        (2, Some(Due::Nothing), Call::ReadMatrix(..)) => shape::any_numbers(),
         (2, Some(Due::Nothing), _) => shape::lettered(b"Z", 2),
         _ => return p.byte(),
     };

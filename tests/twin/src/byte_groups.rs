@@ -4,12 +4,14 @@
 
 use crate::bars::tabbed;
 use crate::compare::{Case, Lend, NONE};
+use crate::family::FAMILIES;
 use crate::foreign;
 use crate::gen::{self, Amounts};
 use crate::matrices::square;
 use crate::matrix::matrix_text;
 use crate::rng::Rng;
 use crate::sheet::{sheet_text, table_text};
+use crate::table::Table;
 use crate::twin::Call;
 use std::sync::LazyLock;
 
@@ -25,9 +27,9 @@ struct Whole {
 const OF_TABLE: [Call; 3] = [Call::Route, Call::Rewrite, Call::WriteMatrix];
 const OF_SHEET: [Call; 3] = [Call::Check, Call::Parallel, Call::RewriteSheet];
 const OF_MATRIX: [Call; 3] = [
-    Call::ReadMatrix(4),
-    Call::ReadMatrix(2),
-    Call::ReadMatrix(4),
+    Call::ReadMatrix(4, 0),
+    Call::ReadMatrix(2, 1),
+    Call::ReadMatrix(4, 1),
 ];
 
 /// Made once, as they are damaged thousands of times.
@@ -35,20 +37,22 @@ static WHOLES: LazyLock<Vec<Whole>> = LazyLock::new(|| (0..9).map(whole).collect
 
 /// A full table, a sheet of many rows and a full matrix, of 20, of 32 and of 64 offices;
 /// of the table of 64 the rows are near ones, so that it is soon routed.
-/// Each is the same every time.
+/// Each is the same every time, and of both families there are tables and sheets.
 fn whole(which: usize) -> Whole {
     let rng = &mut Rng::new(which as u64);
     let offices = [20, 32, 64][which % 3];
-    let full = |rng: &mut Rng| gen::full(rng, offices, Amounts::UpTo(9_999));
+    let family = FAMILIES[which % 2];
+    let of = |table: Table| Table { family, ..table };
+    let full = |rng: &mut Rng| of(gen::full(rng, offices, Amounts::UpTo(9_999)));
     let (calls, text) = match which / 3 {
         0 if offices == 64 => {
-            let near = gen::near(rng, offices, Amounts::UpTo(9_999));
+            let near = of(gen::near(rng, offices, Amounts::UpTo(9_999)));
             (OF_TABLE, table_text(&near))
         }
         0 => (OF_TABLE, table_text(&full(rng))),
         1 => {
             let (table, plan) = foreign::all_across(rng, offices, 190);
-            (OF_SHEET, sheet_text(&table, &plan))
+            (OF_SHEET, sheet_text(&of(table), &plan))
         }
         _ => (OF_MATRIX, matrix_text(&square(&full(rng)))),
     };
@@ -108,7 +112,7 @@ impl Whole {
 
 /// How a field may be spelled: * is the field itself, | a tab, / ends the line there
 /// and $ the text. First those of the wrong shape, then values out of range.
-const SPELLINGS: [&str; 36] = [
+const SPELLINGS: [&str; 40] = [
     "",
     "0*",
     "00",
@@ -119,6 +123,10 @@ const SPELLINGS: [&str; 36] = [
     "x",
     "X",
     "f",
+    "m",
+    "M",
+    "*M",
+    "*|M",
     "-1",
     "**",
     "*0",
@@ -298,9 +306,15 @@ pub fn long_lines(_: &mut Rng, case: u64) -> Option<Case> {
     let (what, length) = (case % 4, [200, 300, 32_767, 32_768].get(case as usize / 4)?);
     let zeros: Vec<u8> = b"0\t".iter().copied().cycle().take(*length).collect();
     let (call, text) = match what {
-        0 => (Call::ReadMatrix(4), zeros),
-        1 => (Call::ReadMatrix(4), [&zeros[..length - 1], b"x"].concat()),
-        2 => (Call::ReadMatrix(4), [&zeros[..length - 1], b"\n"].concat()),
+        0 => (Call::ReadMatrix(4, 0), zeros),
+        1 => (
+            Call::ReadMatrix(4, 0),
+            [&zeros[..length - 1], b"x"].concat(),
+        ),
+        2 => (
+            Call::ReadMatrix(4, 0),
+            [&zeros[..length - 1], b"\n"].concat(),
+        ),
         _ => (
             Call::Rewrite,
             [b"R\t64\t4\nD\t", vec![b'1'; length - 9].as_slice()].concat(),

@@ -28,7 +28,7 @@ fn last_lines(call: Call, above: &str, wanted: &[(&str, u32, u32)]) -> Outcome {
 }
 
 /// Spellings of the R line, which tables and sheets share.
-const RINGS: [(&str, u32, u32); 19] = [
+const RINGS: [(&str, u32, u32); 41] = [
     ("\n", 2, 1),
     ("X\n", 2, 1),
     ("r|4|4\n", 2, 1),
@@ -43,7 +43,29 @@ const RINGS: [(&str, u32, u32); 19] = [
     ("R|12345678|4\n", 3, 3),
     ("R|4|\n", 2, 5),
     ("R|4|4", 2, 6),
-    ("R|4|4|\n", 2, 6),
+    ("R|4|4|\n", 2, 7),
+    ("R|4|4|", 2, 7),
+    ("R|4|4|M", 2, 8),
+    ("R|4|4|m\n", 2, 7),
+    ("R|4|4|m", 2, 7),
+    ("R|4|4|4\n", 2, 7),
+    ("R|4|4||M\n", 2, 7),
+    ("R|4|4| M\n", 2, 7),
+    ("R|4|4|\rM\n", 2, 7),
+    ("R|4|4|MM\n", 2, 8),
+    ("R|4|4|M|\n", 2, 8),
+    ("R|4|4|M|M\n", 2, 8),
+    ("R|4|4|M \n", 2, 8),
+    ("R|4|4|M\r\n", 2, 8),
+    ("R|4|4M\n", 2, 6),
+    ("R|4|4 M\n", 2, 6),
+    ("R|4|M|4\n", 2, 5),
+    ("R|4|M\n", 2, 5),
+    ("R|M|4|4\n", 2, 3),
+    ("R|4||M\n", 2, 5),
+    ("R|64|400000000|M\n", 2, 14),
+    ("R|65|4|M\n", 3, 3),
+    ("R|4|3|M\n", 20, 5),
     ("R|65|4\n", 3, 3),
     ("R|1|3\n", 3, 3),
     ("R|4|3\n", 20, 5),
@@ -118,18 +140,22 @@ const LINES: [(Call, &str, (u32, u32, u32)); 20] = [
         (8, 2, 1),
     ),
     (Call::Check, "R|2|4\nD|1|2|1|1|2|F\nC|1|2|0\n", (2, 4, 1)),
-    (Call::ReadMatrix(4), "", (2, 1, 1)),
-    (Call::ReadMatrix(4), "0|1\n", (2, 2, 1)),
-    (Call::ReadMatrix(4), "0|1\n1|0\n0|x\n", (2, 3, 1)),
-    (Call::ReadMatrix(4), "0|x\n", (2, 1, 3)),
-    (Call::ReadMatrix(4), "0|1\n1|0|0\n", (2, 2, 4)),
-    (Call::ReadMatrix(4), "0|1\n1\n", (2, 2, 2)),
-    (Call::ReadMatrix(4), "0|1\n1|0", (2, 2, 4)),
-    (Call::ReadMatrix(4), "0\n", (3, 1, 1)),
-    (Call::ReadMatrix(4), "0|10000|20000\n", (7, 1, 3)),
-    (Call::ReadMatrix(4), "0|12\n12|3\n", (17, 2, 4)),
-    (Call::ReadMatrix(4), "0|12|3\n12|0|4\n3|5|0\n", (18, 2, 6)),
-    (Call::ReadMatrix(3), "x", (20, 0, 0)),
+    (Call::ReadMatrix(4, 0), "", (2, 1, 1)),
+    (Call::ReadMatrix(4, 0), "0|1\n", (2, 2, 1)),
+    (Call::ReadMatrix(4, 0), "0|1\n1|0\n0|x\n", (2, 3, 1)),
+    (Call::ReadMatrix(4, 0), "0|x\n", (2, 1, 3)),
+    (Call::ReadMatrix(4, 0), "0|1\n1|0|0\n", (2, 2, 4)),
+    (Call::ReadMatrix(4, 0), "0|1\n1\n", (2, 2, 2)),
+    (Call::ReadMatrix(4, 0), "0|1\n1|0", (2, 2, 4)),
+    (Call::ReadMatrix(4, 0), "0\n", (3, 1, 1)),
+    (Call::ReadMatrix(4, 0), "0|10000|20000\n", (7, 1, 3)),
+    (Call::ReadMatrix(4, 0), "0|12\n12|3\n", (17, 2, 4)),
+    (
+        Call::ReadMatrix(4, 0),
+        "0|12|3\n12|0|4\n3|5|0\n",
+        (18, 2, 6),
+    ),
+    (Call::ReadMatrix(3, 0), "x", (20, 0, 0)),
     (
         Call::WriteMatrix,
         "R|2|4\nD|1|2|9999\nD|1|2|1\n",
@@ -168,15 +194,30 @@ fn goes_on(begun: &[u8]) -> bool {
     })
 }
 
-/// Drawn lines: the byte is the first at which no end makes the line good.
-pub fn by_ends(seed: u64) -> Outcome {
-    let shape = shape::lettered(b"D", 3);
+/// The same of an R line.
+fn ring_goes_on(begun: &[u8]) -> bool {
+    let ends = ["", "\n", "4\n", "\t4\n", "4\t4\n", "\t4\t4\n", "M\n"];
+    ends.iter().any(|end| {
+        let text = [begun, end.as_bytes()].concat();
+        let lines = table::lines(&text);
+        lines.len() == 1 && table::ring_fields(&lines[0]).is_some()
+    })
+}
+
+/// Drawn lines of a kind, each made of a good one: the byte is the first at which no end
+/// makes the line good.
+fn by_ends_of(
+    (seed, group): (u64, u64),
+    good: &[u8],
+    shapes: &[shape::Shape],
+    goes_on: fn(&[u8]) -> bool,
+) -> Outcome {
     for case in 0..4_000 {
-        let mut rng = Rng::for_case(seed, 1_005, case);
-        let mut bytes = b"D\t1\t20\t300".to_vec();
+        let mut rng = Rng::for_case(seed, group, case);
+        let mut bytes = good.to_vec();
         for _ in 0..rng.between(0, 3) {
             let at = rng.below(bytes.len() + 1);
-            let new = rng.pick(b"\t\t00123D x");
+            let new = rng.pick(b"\t\t00123DMm x");
             bytes.splice(at..(at + rng.below(2)).min(bytes.len()), [new]);
         }
         let ended = rng.chance(2, 3);
@@ -184,9 +225,16 @@ pub fn by_ends(seed: u64) -> Outcome {
         let whole = [bytes.as_slice(), end].concat();
         let wanted = (1..=whole.len()).find(|length| !goes_on(&whole[..*length]));
         let bytes = bytes.as_slice();
-        let got = first_fault(&Line { bytes, ended }, std::slice::from_ref(&shape)) as usize;
+        let got = first_fault(&Line { bytes, ended }, shapes) as usize;
         let words = barred(&whole);
         same(&words, got, wanted.unwrap_or(whole.len() + 1))?;
     }
     Ok(())
+}
+
+/// Rows and R lines.
+pub fn by_ends(seed: u64) -> Outcome {
+    let row = [shape::lettered(b"D", 3)];
+    by_ends_of((seed, 1_005), b"D\t1\t20\t300", &row, goes_on)?;
+    by_ends_of((seed, 1_006), b"R\t20\t4\tM", &shape::ring(), ring_goes_on)
 }

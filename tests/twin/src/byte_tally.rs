@@ -29,7 +29,7 @@ fn fields(line: &Line) -> usize {
 /// What is due on a line behind lines that have all passed.
 pub fn due(call: Call, lines: &[Line], at: usize) -> Due {
     match call {
-        Call::ReadMatrix(_) => due_in_matrix(lines, at),
+        Call::ReadMatrix(..) => due_in_matrix(lines, at),
         _ if at == 1 => Due::Ring,
         Call::Route
         | Call::RouteBest
@@ -51,8 +51,8 @@ fn due_in_matrix(lines: &[Line], at: usize) -> Due {
 
 fn due_in_sheet(lines: &[Line], at: usize) -> Due {
     let cut = lines.iter().position(|line| line.bytes.starts_with(b"C"));
-    let ring = lines.first().and_then(|line| table::numbers(line, b"R", 2));
-    let n = ring.map_or(0, |ring| ring[0] as usize);
+    let ring = lines.first().and_then(table::ring_fields);
+    let n = ring.map_or(0, |(ring, _)| ring[0] as usize);
     match cut.filter(|cut| cut + 1 < at) {
         None => Due::RowOrCut,
         Some(cut) if at <= cut + 1 + n => Due::Link,
@@ -107,7 +107,7 @@ fn name(due: Due, line: &Line, byte: u32) -> &'static str {
 
 fn text_of(call: Call) -> &'static str {
     match call {
-        Call::ReadMatrix(_) => "matrix",
+        Call::ReadMatrix(..) => "matrix",
         Call::Route
         | Call::RouteBest
         | Call::RouteLowered
@@ -120,7 +120,7 @@ fn text_of(call: Call) -> &'static str {
 
 /// Reasons that point to a field; 3 does but in a matrix.
 fn of_field(reason: u32, call: Call) -> bool {
-    let matrix = matches!(call, Call::ReadMatrix(_));
+    let matrix = matches!(call, Call::ReadMatrix(..));
     matches!(reason, 4 | 7 | 17 | 18 | 20) || reason == 3 && !matrix
 }
 
@@ -211,9 +211,9 @@ const BEHIND_LETTER: [usize; 4] = [0, 1, 3, 4];
 
 /// Lines of a table and a sheet: letter, and how many fields follow.
 const LETTERED: [(&str, &str, usize); 7] = [
-    ("table", "R", 2),
+    ("table", "R", 3),
     ("table", "D", 3),
-    ("sheet", "R", 2),
+    ("sheet", "R", 3),
     ("sheet", "D", 6),
     ("sheet", "C", 3),
     ("sheet", "L", 3),

@@ -3,6 +3,7 @@
 //! reasons 8 to 14. Values that were never a text are judged the same way, their
 //! ring and rows too. And the question for a parallel pair.
 
+use crate::family::Family;
 use crate::rules::{self, Cut, Plan, Sent, Way};
 use crate::shape::{self, Shape};
 use crate::table::{self, misshapen, refuse, Line, Refusal, RowReason, Table, ROW_REASONS};
@@ -240,6 +241,7 @@ fn empty() -> Sheet {
         table: Table {
             n: 0,
             fibres: 0,
+            family: Family::Sonet,
             rows: Vec::new(),
         },
         plan: Plan {
@@ -306,11 +308,10 @@ impl<'a> Reader<'a> {
         self.nothing_left()
     }
 
-    /// `R n fibres`.
+    /// `R n fibres`, with M or without.
     fn ring(&mut self) -> Result<(), Refusal> {
         let (line, _) = self.next()?;
-        let table = &mut self.sheet.table;
-        (table.n, table.fibres) = table::read_ring(&line)?;
+        self.sheet.table = table::read_ring(&line)?;
         Ok(())
     }
 

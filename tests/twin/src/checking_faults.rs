@@ -3,10 +3,11 @@
 //! reader that reads another text.
 
 use crate::check::{self, Finding, Questions, Sheet, QUESTIONS};
+use crate::family::Family;
 use crate::limits::TEXT;
 use crate::row_faults::{first_rows, too_many_lines, MANY_NEVER};
 use crate::rules::{self, Cut};
-use crate::table::{refuse, Refusal, Row};
+use crate::table::{refuse, Refusal, Row, Table};
 use crate::twin::{Pair, Reply, Said};
 
 pub fn yes(_: &Sheet, _: usize) -> bool {
@@ -301,7 +302,7 @@ pub fn peak_alone(sheet: &Sheet, _: usize) -> bool {
 }
 
 pub fn size_enough(sheet: &Sheet, _: usize) -> bool {
-    let enough = [3, 12, 48, 192, 768].contains(&sheet.plan.size);
+    let enough = sheet.table.family.sizes().contains(&sheet.plan.size);
     let least = rules::least_size(&sheet.table, sheet.plan.peak);
     let larger = enough && sheet.plan.size >= least;
     peak_alone(sheet, 0) && (larger || (QUESTIONS.size)(sheet, 0))
@@ -309,7 +310,8 @@ pub fn size_enough(sheet: &Sheet, _: usize) -> bool {
 
 pub fn size_largest(sheet: &Sheet, _: usize) -> bool {
     let least = rules::least_size(&sheet.table, sheet.plan.peak);
-    peak_alone(sheet, 0) && sheet.plan.size == rules::size(least.min(768))
+    let largest = sheet.table.family.sizes()[4];
+    peak_alone(sheet, 0) && sheet.plan.size == rules::size(sheet.table.family, least.min(largest))
 }
 
 pub fn best_ours(sheet: &Sheet, _: usize) -> bool {
@@ -489,12 +491,42 @@ pub fn with_our_plan(mut sheet: Sheet) -> Sheet {
     sheet
 }
 
+/// The sizes of one family, whichever the ring is of.
+fn size_of(sheet: &Sheet, family: Family) -> bool {
+    let table = Table {
+        family,
+        ..sheet.table.clone()
+    };
+    peak_alone(sheet, 0) && sheet.plan.size == rules::line_size(&table, sheet.plan.peak)
+}
+
+pub fn size_sonet(sheet: &Sheet, _: usize) -> bool {
+    size_of(sheet, Family::Sonet)
+}
+
+pub fn size_sdh(sheet: &Sheet, _: usize) -> bool {
+    size_of(sheet, Family::Sdh)
+}
+
+/// A size of either family.
+pub fn size_either(sheet: &Sheet, _: usize) -> bool {
+    size_sonet(sheet, 0) || size_sdh(sheet, 0)
+}
+
+/// The halving for two fibres forgotten by SDH.
+pub fn size_sdh_once(sheet: &Sheet, _: usize) -> bool {
+    match sheet.table.family {
+        Family::Sonet => (QUESTIONS.size)(sheet, 0),
+        Family::Sdh => size_once(sheet, 0),
+    }
+}
+
 // Faults of the size on two fibres and on four.
 
 pub fn size_once(sheet: &Sheet, _: usize) -> bool {
-    peak_alone(sheet, 0) && sheet.plan.size == rules::size(sheet.plan.peak)
+    peak_alone(sheet, 0) && sheet.plan.size == rules::size(sheet.table.family, sheet.plan.peak)
 }
 
 pub fn size_twice(sheet: &Sheet, _: usize) -> bool {
-    peak_alone(sheet, 0) && sheet.plan.size == rules::size(2 * sheet.plan.peak)
+    peak_alone(sheet, 0) && sheet.plan.size == rules::size(sheet.table.family, 2 * sheet.plan.peak)
 }

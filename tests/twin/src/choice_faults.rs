@@ -9,7 +9,7 @@ use crate::mutant::{choosing, replying, Mutant};
 use crate::rules::{self, Plan, Way};
 use crate::sheet;
 use crate::table::{self, Refusal, Table};
-use crate::twin::{self, Answer, Reply};
+use crate::twin::{self, Answer, Call, Reply};
 
 /// One sentence read otherwise, as a fault with this name.
 macro_rules! reading {
@@ -222,39 +222,59 @@ pub static CHOICE_FAULTS: [Mutant; 41] = [
     reading! { "best: the size of rule D's peak", say: with_size_of_rule_d },
     reading! { "best: the loads of rule D's ways", say: with_loads_of_rule_d },
     reading! { "best: whole rows in the split routing", say: with_whole_split },
-    replying("best: 23 on line 1", |_, answer, buffer| {
-        many_as(answer, Refusal { line: 1, ..MANY }, buffer)
-    }),
-    replying("best: 23 with byte 1", |_, answer, buffer| {
-        many_as(answer, Refusal { byte: 1, ..MANY }, buffer)
-    }),
-    replying("best: 16 for 23", |_, answer, buffer| {
+    replying(
+        "best: 23 on line 1",
+        Call::RouteBest,
+        |_, answer, buffer| many_as(answer, Refusal { line: 1, ..MANY }, buffer),
+    ),
+    replying(
+        "best: 23 with byte 1",
+        Call::RouteBest,
+        |_, answer, buffer| many_as(answer, Refusal { byte: 1, ..MANY }, buffer),
+    ),
+    replying("best: 16 for 23", Call::RouteBest, |_, answer, buffer| {
         many_as(answer, Refusal { reason: 16, ..MANY }, buffer)
     }),
-    replying("best: rule D's sheet for 23", |text, answer, buffer| {
-        if let (true, Some(sheet)) = (is_many(answer), by_four_rules(text)) {
-            return twin::reply(&Ok(twin::written(sheet)), buffer);
-        }
-        twin::reply(answer, buffer)
-    }),
-    replying("best: 15 before 23", |text, answer, buffer| {
-        let need = by_four_rules(text).map_or(0, |sheet| sheet.len());
-        let short = is_many(answer) && buffer.len() < need;
-        many_as(answer, if short { twin::NO_ROOM } else { MANY }, buffer)
-    }),
-    replying("best: 23 before 7", |text, answer, buffer| {
-        if many_before_amounts(text, answer) {
-            return twin::refused(&MANY);
-        }
-        twin::reply(answer, buffer)
-    }),
-    replying("best: 23 writes by rule D", |text, answer, buffer| {
-        if let (true, Some(sheet)) = (is_many(answer), by_four_rules(text)) {
-            let length = sheet.len().min(buffer.len());
-            buffer[..length].copy_from_slice(&sheet[..length]);
-        }
-        twin::reply(answer, buffer)
-    }),
+    replying(
+        "best: rule D's sheet for 23",
+        Call::RouteBest,
+        |text, answer, buffer| {
+            if let (true, Some(sheet)) = (is_many(answer), by_four_rules(text)) {
+                return twin::reply(&Ok(twin::written(sheet)), buffer);
+            }
+            twin::reply(answer, buffer)
+        },
+    ),
+    replying(
+        "best: 15 before 23",
+        Call::RouteBest,
+        |text, answer, buffer| {
+            let need = by_four_rules(text).map_or(0, |sheet| sheet.len());
+            let short = is_many(answer) && buffer.len() < need;
+            many_as(answer, if short { twin::NO_ROOM } else { MANY }, buffer)
+        },
+    ),
+    replying(
+        "best: 23 before 7",
+        Call::RouteBest,
+        |text, answer, buffer| {
+            if many_before_amounts(text, answer) {
+                return twin::refused(&MANY);
+            }
+            twin::reply(answer, buffer)
+        },
+    ),
+    replying(
+        "best: 23 writes by rule D",
+        Call::RouteBest,
+        |text, answer, buffer| {
+            if let (true, Some(sheet)) = (is_many(answer), by_four_rules(text)) {
+                let length = sheet.len().min(buffer.len());
+                buffer[..length].copy_from_slice(&sheet[..length]);
+            }
+            twin::reply(answer, buffer)
+        },
+    ),
 ];
 
 /// Readings that come to the same.

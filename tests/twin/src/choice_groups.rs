@@ -91,8 +91,7 @@ pub fn crossed(rng: &mut Rng, n: i64, count: usize, most: i64) -> Table {
     let pairs = nodes[..count].iter().zip(&nodes[count..]);
     let rows = pairs.map(|(i, j)| Row::of(*i, *j, rng.between(1, most)));
     let rows = rows.collect();
-    let fibres = rng.pick(&[2, 4]);
-    Table { n, fibres, rows }
+    gen::on_any_ring(rng, n, rows)
 }
 
 /// More rows, of short fronts and long ones.

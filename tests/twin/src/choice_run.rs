@@ -3,15 +3,15 @@
 
 use crate::choice::{self, better, Sentences, SENTENCES};
 use crate::choice_groups::CHOICE_GROUPS;
-use crate::compare::{compare, describe, shrink, Case};
 use crate::count::{demands, Count};
 use crate::groups::Make;
+use crate::lends::Lends;
 use crate::limits::SPLIT;
 use crate::part::{Compared, Group, Part, Run};
 use crate::rng::Rng;
 use crate::rules;
 use crate::table::{self, Table};
-use crate::twin::{self, Call};
+use crate::twin::Call;
 
 /// The table's own reasons, and what this call gives besides.
 const REASONS: [usize; 12] = [0, 1, 2, 3, 4, 5, 6, 7, 15, 16, 20, 23];
@@ -21,10 +21,7 @@ const FEW: usize = 8;
 /// What has been counted.
 #[derive(Default)]
 pub struct ChoiceTally {
-    comparisons: u64,
-    /// Comparisons on 16 offices and more.
-    large: u64,
-    reasons: [u64; 24],
+    lends: Lends,
     /// Accepted tables by their split rows, all of more than there may be as one.
     split: [u64; SPLIT + 2],
     /// Tables of which rule D has a higher peak, and the same peak by other ways.
@@ -76,11 +73,10 @@ impl ChoiceTally {
 
     /// What must have been counted, and whether it was.
     fn demands(&self) -> [(&'static str, bool); 4] {
-        let mut reasons = REASONS.iter();
         [
             (
                 "every reason of a table, 15 and 23 seen",
-                reasons.all(|reason| self.reasons[*reason] > 0),
+                self.lends.saw(&REASONS),
             ),
             (
                 "every number of split rows from 0 to 16 seen, and more",
@@ -98,12 +94,6 @@ impl ChoiceTally {
     }
 }
 
-/// The lends of a case whose trials were made for other calls.
-fn trials(case: &Case) -> Vec<(Call, crate::compare::Lend)> {
-    let lends = case.trials.iter().map(|(_, lend)| (Call::RouteBest, *lend));
-    lends.collect()
-}
-
 impl Part for ChoiceTally {
     type Make = Make;
 
@@ -115,37 +105,14 @@ impl Part for ChoiceTally {
     /// elsewhere.
     fn case(&mut self, run: Run, group: &Group<Make>, rng: &mut Rng, number: u64) -> Compared {
         let case = (group.make)(rng, number)?;
-        let answer = twin::answer(Call::RouteBest, &case.text);
         if let (true, Ok(table)) = (run.describing, table::read(&case.text)) {
             self.count_table(&table);
         }
-        let trials = trials(&case);
-        for (at, trial) in trials.iter().enumerate() {
-            let salt = number.wrapping_mul(1_000) + at as u64;
-            match compare(run.kit, *trial, &case.text, &answer, salt) {
-                Ok(said) => {
-                    self.comparisons += 1;
-                    self.large += u64::from(case.offices >= 16);
-                    self.reasons[said.reason() as usize] += 1;
-                }
-                Err(_) if !run.describing => return Some(Err(String::new())),
-                Err(mismatch) => {
-                    let (text, mismatch) = shrink(run.kit, &case.text, mismatch);
-                    return Some(Err(describe(&text, &mismatch)));
-                }
-            }
-        }
-        Some(Ok(trials.len() as u64))
+        Some(self.lends.compare(run, Call::RouteBest, &case, number))
     }
 
     fn counted(&self) -> Count {
-        let (all, large) = (self.comparisons, self.large);
-        println!("the best choice: {all} comparisons, {large} on 16 offices and more");
-        for (reason, seen) in self.reasons.iter().enumerate() {
-            if *seen > 0 {
-                println!("reason {reason}: {seen}");
-            }
-        }
+        self.lends.print("the best choice");
         let counts = self.split.iter().map(|seen| seen.to_string());
         let counts: Vec<String> = counts.collect();
         println!(

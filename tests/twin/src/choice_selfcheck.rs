@@ -4,6 +4,7 @@
 use crate::bars::barred;
 use crate::check;
 use crate::choice::{self, SENTENCES};
+use crate::family::Family;
 use crate::gen;
 use crate::limits::SPLIT;
 use crate::rng::Rng;
@@ -72,6 +73,7 @@ pub fn by_hand() -> Outcome {
         let table = Table {
             n: 64,
             fibres: 4,
+            family: Family::Sonet,
             rows,
         };
         let got = choice::plan(&table).err().map(|refusal| refusal.reason);
@@ -122,17 +124,7 @@ fn theorems(table: &Table) -> Outcome {
 pub fn random_theorems(seed: u64) -> Outcome {
     for case in 0..400 {
         let mut rng = Rng::for_case(seed, 7_000, case);
-        let n = rng.between(2, 18);
-        let mut table = match case % 4 {
-            0 => gen::shaped(&mut rng, n),
-            1 => gen::circuits(&mut rng, n, 24),
-            2 => gen::sparse(&mut rng, n, 40),
-            _ => gen::any(&mut rng, n),
-        };
-        let most = rng.pick(&[1, 3, 40, 9_999]);
-        for row in &mut table.rows {
-            row.amount = row.amount.min(rng.between(0, most));
-        }
+        let table = gen::for_theorems(&mut rng, case);
         theorems(&table).map_err(|what| {
             let text = barred(&table_text(&table));
             format!("seed {seed}, table {case}: {what}\n{text}")

@@ -283,6 +283,6 @@ fn figure_off(rng: &mut Rng, table: &Table, plan: &mut Plan) {
         }
         7 => plan.cut = Cut { g: h, h: g, across },
         8 => (plan.cut.h, plan.cut.across) = (g, 0),
-        _ => plan.size = rng.pick(&[0, 3, 12, 48, 192, 768]),
+        _ => plan.size = rng.pick(&[0, 3, 12, 48, 192, 768, 1, 4, 16, 64, 256]),
     }
 }

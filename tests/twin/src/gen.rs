@@ -1,5 +1,6 @@
 //! Random tables and damaged texts.
 
+use crate::family::FAMILIES;
 use crate::limits::ROWS;
 use crate::rng::Rng;
 use crate::table::{Row, Table};
@@ -67,12 +68,20 @@ fn keep(rng: &mut Rng, n: i64, amounts: Amounts, kept: impl Fn(i64, i64) -> bool
             rows.push(Row::of(i, j, d));
         }
     }
-    let fibres = any_fibres(rng);
-    Table { n, fibres, rows }
+    on_any_ring(rng, n, rows)
 }
 
-fn any_fibres(rng: &mut Rng) -> i64 {
-    rng.pick(&[2, 4])
+/// Rows on a ring of two fibres or of four, and of either family.
+pub fn on_any_ring(rng: &mut Rng, n: i64, rows: Vec<Row>) -> Table {
+    // one draw, so that what is drawn behind it does not depend on the families
+    let rings = FAMILIES.map(|family| [2, 4].map(|fibres| (fibres, family)));
+    let (fibres, family) = rng.pick(&rings.concat());
+    Table {
+        n,
+        fibres,
+        family,
+        rows,
+    }
 }
 
 /// Rows left out until there are no more than there may be.
@@ -142,8 +151,7 @@ pub fn circuits(rng: &mut Rng, n: i64, count: usize) -> Table {
         let d = amount(rng, Amounts::Mixed);
         rows.push(Row::of(i, j, d));
     }
-    let fibres = any_fibres(rng);
-    let mut table = Table { n, fibres, rows };
+    let mut table = on_any_ring(rng, n, rows);
     more_circuits(rng, &mut table, count);
     table
 }
@@ -186,6 +194,23 @@ pub fn shaped(rng: &mut Rng, n: i64) -> Table {
         _ => keep(rng, n, amounts, |i, j| j - i >= half),
     };
     fit(rng, table)
+}
+
+/// A table of few rows or of many, by turns of each kind, with amounts that are small
+/// more often than not: such as theorems are tried on.
+pub fn for_theorems(rng: &mut Rng, case: u64) -> Table {
+    let n = rng.between(2, 18);
+    let mut table = match case % 4 {
+        0 => shaped(rng, n),
+        1 => circuits(rng, n, 24),
+        2 => sparse(rng, n, 40),
+        _ => any(rng, n),
+    };
+    let most = rng.pick(&[1, 3, 40, 9_999]);
+    for row in &mut table.rows {
+        row.amount = row.amount.min(rng.between(0, most));
+    }
+    table
 }
 
 /// A byte that a table or a sheet could hold, or any byte.

@@ -4,6 +4,7 @@
 use crate::bars::tabbed;
 use crate::byte_groups;
 use crate::compare::{Case, Lend};
+use crate::family::FAMILIES;
 use crate::gen::{self, Amounts};
 use crate::limits::ROWS;
 use crate::matrices;
@@ -208,7 +209,7 @@ pub fn of_text(text: &str, trials: Vec<(Call, Lend)>) -> Option<Case> {
 
 /// Tables of the stated cases (Rules, stated cases), more of circuits and of
 /// fibres, tabs shown as |.
-pub const NUMBERS: [&str; 42] = [
+pub const NUMBERS: [&str; 62] = [
     "R|4|4\nD|1|3|1\nD|2|4|1\n",
     "R|2|4\n",
     "R|2|4\nD|1|2|5\n",
@@ -251,6 +252,26 @@ pub const NUMBERS: [&str; 42] = [
     "R|4|3\nD|1|3|1\n",
     "R|65|3\n",
     "R|4|3\nx\n",
+    "R|4|4|M\nD|1|3|1\nD|2|4|1\n",
+    "R|2|4|M\n",
+    "R|2|4|M\nD|1|2|256\n",
+    "R|2|4|M\nD|1|2|257\n",
+    "R|2|2|M\nD|1|2|128\n",
+    "R|2|2|M\nD|1|2|129\n",
+    "R|64|4|M\nD|1|64|9999\n",
+    "R|4|4|M",
+    "R|4|4|\n",
+    "R|4|4||M\n",
+    "R|4|4|m\n",
+    "R|4|4|MM\n",
+    "R|4|4|M|\n",
+    "R|4|4|M|M\n",
+    "R|4|M|4\n",
+    "R|4|M\n",
+    "R|4|4 M\n",
+    "R|4|3|M\n",
+    "R|65|4|M\n",
+    "R|4|3|m\n",
 ];
 
 pub fn stated(_: &mut Rng, case: u64) -> Option<Case> {
@@ -313,8 +334,13 @@ pub fn all_small(_: &mut Rng, case: u64) -> Option<Case> {
         if case % 8 == 0 {
             trials.push((Call::Rewrite, Lend::Need(0)));
         }
-        let fibres = if case % 3 == 0 { 2 } else { 4 };
-        return of_table(&Table { n, fibres, rows }, trials);
+        let table = Table {
+            n,
+            fibres: if case % 3 == 0 { 2 } else { 4 },
+            family: FAMILIES[usize::from(case % 5 < 2)],
+            rows,
+        };
+        return of_table(&table, trials);
     }
     None
 }
@@ -337,12 +363,18 @@ pub fn about_most(_: &mut Rng, case: u64) -> Option<Case> {
     of_text(&format!("R|3|4\n{rows}{end}"), trials)
 }
 
-/// The square with each byte given each value, then with bytes put in before
+/// The square of either family with each byte given each value, then with bytes put in before
 /// it, then with it dropped or the text cut short there.
 pub fn every_byte(_: &mut Rng, case: u64) -> Option<Case> {
+    let of_sonet = gen::byte_changed(tabbed(NUMBERS[0]), case / 2);
+    let of_sdh = || gen::byte_changed(tabbed("R|4|4|M\nD|1|3|1\nD|2|4|1\n"), case / 2);
     Some(Case {
         offices: 4,
-        text: gen::byte_changed(tabbed(NUMBERS[0]), case)?,
+        text: if case % 2 == 0 {
+            of_sonet.or_else(of_sdh)
+        } else {
+            of_sdh()
+        }?,
         trials: vec![(one_call(case), Lend::Need(3))],
     })
 }

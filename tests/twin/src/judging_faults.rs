@@ -14,7 +14,7 @@ const COUNT: Finding = Finding {
     place: 0,
 };
 
-fn asking(values: &Values, questions: &Questions) -> Finding {
+pub fn asking(values: &Values, questions: &Questions) -> Finding {
     answer(check::judge_asking(&values.sheet(), questions))
 }
 

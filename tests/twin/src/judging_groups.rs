@@ -44,7 +44,7 @@ const fn changed(
     group(name, share, Changed { make, change })
 }
 
-pub const JUDGING_GROUPS: [Group<Changed>; 20] = [
+pub const JUDGING_GROUPS: [Group<Changed>; 21] = [
     as_read("judging: the stated sheets", 0, sheets::stated),
     as_read("judging: all small sheets", 0, sheets::all_small),
     as_read(
@@ -81,6 +81,7 @@ pub const JUDGING_GROUPS: [Group<Changed>; 20] = [
     as_read("judging: two figures off", 60, sheets::two_off),
     as_read("judging: fields damaged", 60, sheets::damaged_fields),
     as_read("judging: rows damaged", 60, sheets::damaged_rows),
+    changed("judging: families by any number", 60, any_family),
     changed("judging: numbers that no text can spell", 120, any_numbers),
     changed("judging: sums that wrap", 60, wrapping),
     changed("judging: rows and links moved", 90, moved),
@@ -125,6 +126,14 @@ fn any_number(rng: &mut Rng, number: u32) -> u32 {
     }
 }
 
+/// The family by another number of its own, or the other family.
+fn any_family(rng: &mut Rng, values: &mut Values) {
+    values.family = match values.family {
+        0 if rng.chance(3, 4) => 0,
+        _ => any_number(rng, 1),
+    };
+}
+
 /// One number changed, or several; seldom those of the ring, behind which nothing is
 /// judged.
 fn any_numbers(rng: &mut Rng, values: &mut Values) {
@@ -133,6 +142,9 @@ fn any_numbers(rng: &mut Rng, values: &mut Values) {
     }
     if rng.chance(1, 20) {
         values.fibres = any_number(rng, values.fibres);
+    }
+    if rng.chance(1, 10) {
+        values.family = any_number(rng, values.family);
     }
     let times = rng.pick(&[1, 1, 1, 2, 3]);
     let mut all = values.numbers();

@@ -114,6 +114,7 @@ extern "C" {
         matrix_ptr: *const u8,
         matrix_len: usize,
         fibres: u32,
+        family: u32,
         buffer_ptr: *mut u8,
         buffer_len: usize,
     ) -> Reply;
@@ -123,12 +124,19 @@ extern "C" {
         buffer_ptr: *mut u8,
         buffer_len: usize,
     ) -> Reply;
+    fn ringkit_report(
+        sheets_ptr: *const u8,
+        sheets_len: usize,
+        buffer_ptr: *mut u8,
+        buffer_len: usize,
+    ) -> Reply;
     fn ringkit_turn(table_ptr: *const u8, table_len: usize, ways_ptr: *mut u8) -> TurnReply;
     fn ringkit_judge(
         rows_ptr: *const HeldRow,
         rows_len: usize,
         n: u32,
         fibres: u32,
+        family: u32,
         g: u32,
         h: u32,
         across: u32,
@@ -137,7 +145,7 @@ extern "C" {
         peak: u32,
         size: u32,
     ) -> Finding;
-    fn ringkit_work_start(work: *mut u32, n: u32, fibres: u32) -> WorkReply;
+    fn ringkit_work_start(work: *mut u32, n: u32, fibres: u32, family: u32) -> WorkReply;
     fn ringkit_work_add(work: *mut u32, first: u32, second: u32, amount: u32) -> WorkReply;
     fn ringkit_work_change(
         work: *mut u32,
@@ -163,14 +171,16 @@ fn library(call: Call, text: &mut [u8], area: &mut [u8], lent: Range<usize>) -> 
         Call::Rewrite => ringkit_rewrite_table,
         Call::RewriteSheet => ringkit_rewrite_sheet,
         Call::WriteMatrix => ringkit_write_matrix,
+        Call::Report => ringkit_report,
         // SAFETY: the pointer comes from a slice of the length given, which
         // lives through the call.
         Call::Check => return Said::Reply(unsafe { ringkit_check(text_ptr, text_len) }),
         Call::Parallel => return Said::Pair(unsafe { ringkit_parallel(text_ptr, text_len) }),
         // SAFETY: as below.
-        Call::ReadMatrix(fibres) => {
+        Call::ReadMatrix(fibres, family) => {
             let (room, length) = (buffer.as_mut_ptr(), buffer.len());
-            let reply = unsafe { ringkit_read_matrix(text_ptr, text_len, fibres, room, length) };
+            let reply =
+                unsafe { ringkit_read_matrix(text_ptr, text_len, fibres, family, room, length) };
             return Said::Reply(reply);
         }
     };
@@ -187,7 +197,9 @@ fn library_work(ask: &Ask, words: &mut [u32], area: &mut [u8], lent: Range<usize
     // and live through the call; the buffer is another slice.
     unsafe {
         match *ask {
-            Ask::Start { n, fibres } => Told::Work(ringkit_work_start(work, n, fibres)),
+            Ask::Start([n, fibres, family]) => {
+                Told::Work(ringkit_work_start(work, n, fibres, family))
+            }
             Ask::Add([first, second, amount]) => {
                 Told::Work(ringkit_work_add(work, first, second, amount))
             }
@@ -224,6 +236,7 @@ fn library_judge(values: &mut Values) -> Finding {
             rows.len(),
             values.n,
             values.fibres,
+            values.family,
             values.g,
             values.h,
             values.across,

@@ -12,3 +12,5 @@ pub const AMOUNT: i64 = 9_999;
 pub const TEXT: usize = 32_768;
 /// The best choice is sought for so many split rows at most.
 pub const SPLIT: usize = 16;
+/// A text of many plans has so many bytes at most.
+pub const REPORT_TEXT: usize = 65_536;

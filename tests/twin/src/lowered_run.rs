@@ -2,16 +2,16 @@
 //! and by the twin: all groups, and what must have been seen in them.
 
 use crate::choice;
-use crate::compare::{compare, describe, shrink, Case};
 use crate::count::{demands, Count};
 use crate::groups::Make;
+use crate::lends::Lends;
 use crate::lowered::{self, SENTENCES};
 use crate::lowered_groups::LOWERED_GROUPS;
 use crate::part::{Compared, Group, Part, Run};
 use crate::rng::Rng;
 use crate::rules;
 use crate::table::{self, Table};
-use crate::twin::{self, Answer, Call};
+use crate::twin::Call;
 
 /// The table's own reasons, 15 and 23.
 const REASONS: [usize; 12] = [0, 1, 2, 3, 4, 5, 6, 7, 15, 16, 20, 23];
@@ -20,10 +20,7 @@ const BOTH: [Call; 2] = [Call::RouteLowered, Call::RouteLoweredBest];
 /// What has been counted.
 #[derive(Default)]
 pub struct LoweredTally {
-    comparisons: u64,
-    /// Comparisons on 16 offices and more.
-    large: u64,
-    reasons: [u64; 24],
+    lends: Lends,
     /// Tables with a load below that of level rooms, and of these such as have an unsplit
     /// peak below and above.
     lighter: u64,
@@ -46,11 +43,10 @@ impl LoweredTally {
 
     /// What must have been counted, and whether it was.
     fn demands(&self) -> [(&'static str, bool); 3] {
-        let mut reasons = REASONS.iter();
         [
             (
                 "every reason of a table, 15 and 23 seen",
-                reasons.all(|reason| self.reasons[*reason] > 0),
+                self.lends.saw(&REASONS),
             ),
             (
                 "tables of no, one and more split rows seen",
@@ -61,27 +57,6 @@ impl LoweredTally {
                 self.lighter > 0 && self.lower > 0 && self.higher > 0,
             ),
         ]
-    }
-
-    /// The lends of a case, whichever calls they were made for, for one of the two.
-    fn compared(&mut self, run: Run, case: &Case, call: Call, number: u64) -> Result<u64, String> {
-        let answer: Answer = twin::answer(call, &case.text);
-        for (at, (_, lend)) in case.trials.iter().enumerate() {
-            let salt = number.wrapping_mul(1_000) + at as u64;
-            match compare(run.kit, (call, *lend), &case.text, &answer, salt) {
-                Ok(said) => {
-                    self.comparisons += 1;
-                    self.large += u64::from(case.offices >= 16);
-                    self.reasons[said.reason() as usize] += 1;
-                }
-                Err(_) if !run.describing => return Err(String::new()),
-                Err(mismatch) => {
-                    let (text, mismatch) = shrink(run.kit, &case.text, mismatch);
-                    return Err(describe(&text, &mismatch));
-                }
-            }
-        }
-        Ok(case.trials.len() as u64)
     }
 }
 
@@ -100,7 +75,7 @@ impl Part for LoweredTally {
         }
         let mut compared = 0;
         for call in BOTH {
-            match self.compared(run, &case, call, number) {
+            match self.lends.compare(run, call, &case, number) {
                 Ok(more) => compared += more,
                 Err(words) => return Some(Err(words)),
             }
@@ -109,13 +84,7 @@ impl Part for LoweredTally {
     }
 
     fn counted(&self) -> Count {
-        let (all, large) = (self.comparisons, self.large);
-        println!("lowered rooms: {all} comparisons, {large} on 16 offices and more");
-        for (reason, seen) in self.reasons.iter().enumerate() {
-            if *seen > 0 {
-                println!("reason {reason}: {seen}");
-            }
-        }
+        self.lends.print("lowered rooms");
         let [none, one, more] = self.split;
         println!("tables with no split row: {none}, with one: {one}, with more: {more}");
         let (lighter, lower, higher) = (self.lighter, self.lower, self.higher);

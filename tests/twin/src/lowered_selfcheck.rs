@@ -177,17 +177,7 @@ fn minimal(rng: &mut Rng) -> Outcome {
 pub fn random_theorems(seed: u64) -> Outcome {
     for case in 0..400 {
         let mut rng = Rng::for_case(seed, 7_500, case);
-        let n = rng.between(2, 18);
-        let mut table = match case % 4 {
-            0 => gen::shaped(&mut rng, n),
-            1 => gen::circuits(&mut rng, n, 24),
-            2 => gen::sparse(&mut rng, n, 40),
-            _ => gen::any(&mut rng, n),
-        };
-        let most = rng.pick(&[1, 3, 40, 9_999]);
-        for row in &mut table.rows {
-            row.amount = row.amount.min(rng.between(0, most));
-        }
+        let table = gen::for_theorems(&mut rng, case);
         minimal(&mut rng)?;
         theorems(&table).map_err(|what| {
             let text = barred(&table_text(&table));

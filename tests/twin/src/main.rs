@@ -1,6 +1,7 @@
 //! The twin: ring routing, the checking of sheets and the reading and writing of
 //! matrices written once more from the rules alone, as docs/RULES.md has them,
-//! the working table among them, and compared with the library call by call and byte by byte.
+//! the working table and reports over many plans among them, and compared with the library
+//! call by call and byte by byte.
 //!
 //! `twin [SEED [COUNT]]` compares: the lists in full and COUNT random
 //! comparisons. The exit status is 0 only when nothing failed.
@@ -13,13 +14,15 @@
 //!
 //! `twin --working [SEED [COUNT]]` compares the working table alone, and `twin
 //! --working-mutants [SEED [COUNT]]` lists which of its faults are caught; `twin
-//! --byte-mutants` does so of the faults of the byte that goes with a refusal.
+//! --byte-mutants` does so of the faults of the byte that goes with a refusal, and
+//! `twin --family-mutants` of those of the families of line sizes.
 //!
 //! `twin --judging [SEED [COUNT]]` compares the judging of values alone, and `twin
 //! --judging-mutants [SEED [COUNT]]` lists which of its faults are caught; `twin
 //! --turning` and `twin --turning-mutants` do so of sending circuits one turn at a time,
-//! `twin --choosing` and `twin --choosing-mutants` of the best choice, and `twin
-//! --lowering` and `twin --lowering-mutants` of lowered rooms.
+//! `twin --choosing` and `twin --choosing-mutants` of the best choice, `twin --lowering`
+//! and `twin --lowering-mutants` of lowered rooms, and `twin --reporting` and `twin
+//! --reporting-mutants` of reports.
 //!
 //! `twin --cases` answers the stored cases given on standard input by itself,
 //! without the library, so that its reading is compared with the one that wrote
@@ -40,6 +43,8 @@ mod choice_run;
 mod choice_selfcheck;
 mod compare;
 mod count;
+mod family;
+mod family_faults;
 mod foreign;
 mod gen;
 mod groups;
@@ -48,6 +53,7 @@ mod judging_groups;
 mod judging_run;
 mod judging_selfcheck;
 mod kit;
+mod lends;
 mod limits;
 mod lowered;
 mod lowered_faults;
@@ -62,6 +68,11 @@ mod mutant;
 mod part;
 #[cfg(remote)]
 mod remote;
+mod report;
+mod report_faults;
+mod report_groups;
+mod report_run;
+mod report_selfcheck;
 mod rng;
 mod round_trips;
 mod row_faults;
@@ -97,6 +108,7 @@ use kit::Kit;
 use lowered_run::LoweredTally;
 use mutant::{faults, same, Mutant};
 use part::{part, Run};
+use report_run::ReportTally;
 use std::process::ExitCode;
 use text_run::TextTally;
 use turning_run::TurningTally;
@@ -106,13 +118,14 @@ const SEED: u64 = 20_010_496;
 const COUNT: u64 = 129_000;
 const MUTANT_COUNT: u64 = 15_480;
 
-/// The twin's own checks.
-fn self_checks(seed: u64) -> Count {
+/// What the twin shows of its readers, writers and rules by itself.
+fn self_checks_of_texts(seed: u64) -> Count {
     outcomes(&[
         ("self-check: the square", selfcheck::square()),
         ("self-check: the ring of five", selfcheck::ring_of_five()),
         ("self-check: the ring of eight", selfcheck::ring_of_eight()),
         ("self-check: small rings", selfcheck::small_rings()),
+        ("self-check: families", selfcheck::families()),
         ("self-check: refusals", selfcheck::refusals()),
         ("self-check: sheets", selfcheck::sheets()),
         ("self-check: circuits", selfcheck::circuits()),
@@ -128,6 +141,12 @@ fn self_checks(seed: u64) -> Count {
         ("self-check: working table", working_selfcheck::square()),
         ("self-check: full working table", working_selfcheck::full()),
         ("self-check: theorems", selfcheck::random_theorems(seed)),
+    ])
+}
+
+/// What the twin shows of turns, the best choice, lowered rooms and reports by itself.
+fn self_checks_of_plans(seed: u64) -> Count {
+    outcomes(&[
         (
             "self-check: one turn at a time",
             turning_selfcheck::by_hand(),
@@ -145,6 +164,11 @@ fn self_checks(seed: u64) -> Count {
         (
             "self-check: theorems of lowered rooms",
             lowered_selfcheck::random_theorems(seed),
+        ),
+        ("self-check: reports", report_selfcheck::by_hand()),
+        (
+            "self-check: damage to a text of many plans",
+            report_selfcheck::random_damage(seed),
         ),
     ])
 }
@@ -184,6 +208,8 @@ fn places(mutant: &'static Mutant, seed: u64, count: u64) -> (usize, usize) {
         part::places::<ChoiceTally>(run)
     } else if mutant.of_lowering() {
         part::places::<LoweredTally>(run)
+    } else if mutant.of_reporting() {
+        part::places::<ReportTally>(run)
     } else {
         part::places::<TextTally>(run)
     }
@@ -242,7 +268,7 @@ struct Asked {
     count: Option<u64>,
 }
 
-const MODES: [&str; 15] = [
+const MODES: [&str; 18] = [
     "--cases",
     "--judged",
     "--turned",
@@ -251,13 +277,16 @@ const MODES: [&str; 15] = [
     "--turning",
     "--choosing",
     "--lowering",
+    "--reporting",
     "--mutants",
     "--working-mutants",
     "--judging-mutants",
     "--turning-mutants",
     "--choosing-mutants",
     "--lowering-mutants",
+    "--reporting-mutants",
     "--byte-mutants",
+    "--family-mutants",
 ];
 
 fn asked() -> Option<Asked> {
@@ -286,7 +315,8 @@ fn compared(run: Run) -> Count {
         run.seed, run.count
     );
     let counts = [
-        self_checks(run.seed),
+        self_checks_of_texts(run.seed),
+        self_checks_of_plans(run.seed),
         ways_there_and_back(run.kit, run.seed),
         part::<TextTally>(run),
         part::<JudgingTally>(run),
@@ -294,6 +324,7 @@ fn compared(run: Run) -> Count {
         part::<TurningTally>(run),
         part::<ChoiceTally>(run),
         part::<LoweredTally>(run),
+        part::<ReportTally>(run),
     ];
     counts.into_iter().sum()
 }
@@ -304,7 +335,7 @@ fn status(good: bool) -> ExitCode {
 
 fn main() -> ExitCode {
     let Some(asked) = asked() else {
-        eprintln!("usage: twin --cases | twin --judged | twin --turned | twin [--working | --judging | --turning | --choosing | --lowering | --mutants | --working-mutants | --judging-mutants | --turning-mutants | --choosing-mutants | --lowering-mutants | --byte-mutants | --mutant K] [SEED [COUNT]]");
+        eprintln!("usage: twin --cases | twin --judged | twin --turned | twin [--working | --judging | --turning | --choosing | --lowering | --reporting | --mutants | --working-mutants | --judging-mutants | --turning-mutants | --choosing-mutants | --lowering-mutants | --reporting-mutants | --byte-mutants | --family-mutants | --mutant K] [SEED [COUNT]]");
         return ExitCode::from(2);
     };
     let (kit, seed) = (asked.kit, asked.seed);
@@ -326,12 +357,15 @@ fn main() -> ExitCode {
         "--turning-mutants" => caught(" of the turning of circuits", Mutant::of_turning),
         "--choosing-mutants" => caught(" of the best choice", Mutant::of_choosing),
         "--lowering-mutants" => caught(" of lowered rooms", Mutant::of_lowering),
+        "--reporting-mutants" => caught(" of reports", Mutant::of_reporting),
         "--byte-mutants" => caught(" of the byte", Mutant::of_bytes),
+        "--family-mutants" => caught(" of the families", Mutant::of_families),
         "--working" => part::<WorkTally>(run).end(),
         "--judging" => part::<JudgingTally>(run).end(),
         "--turning" => part::<TurningTally>(run).end(),
         "--choosing" => part::<ChoiceTally>(run).end(),
         "--lowering" => part::<LoweredTally>(run).end(),
+        "--reporting" => part::<ReportTally>(run).end(),
         _ => compared(run).end(),
     }
 }

@@ -10,6 +10,7 @@ use crate::matrix::{self, matrix_text, Matrix};
 use crate::rng::Rng;
 use crate::table::{Row, Table};
 use crate::twin::Call;
+use crate::working_groups::family as any_family;
 
 fn of_matrix(matrix: &Matrix, trials: Vec<(Call, Lend)>) -> Option<Case> {
     Some(Case {
@@ -27,7 +28,7 @@ fn some_trials(rng: &mut Rng, call: Call) -> Vec<(Call, Lend)> {
         trials.push((call, rng.pick(&SHORT)));
     }
     if rng.chance(1, 12) {
-        let others = [Call::ReadMatrix(4), Call::WriteMatrix, Call::Rewrite];
+        let others = [Call::ReadMatrix(4, 0), Call::WriteMatrix, Call::Rewrite];
         trials.push((rng.pick(&others), rng.pick(&LENDS)));
         trials.push((Call::Check, NONE));
     }
@@ -35,7 +36,7 @@ fn some_trials(rng: &mut Rng, call: Call) -> Vec<(Call, Lend)> {
 }
 
 /// A matrix read with two or four fibres, or one time out of twelve with another
-/// number.
+/// number, and for either family.
 fn read_trials(rng: &mut Rng) -> Vec<(Call, Lend)> {
     let wrong = rng.chance(1, 12);
     let fibres = rng.pick(if wrong {
@@ -43,7 +44,8 @@ fn read_trials(rng: &mut Rng) -> Vec<(Call, Lend)> {
     } else {
         &[2, 4, 2, 4, 2, 4, 4]
     });
-    some_trials(rng, Call::ReadMatrix(fibres))
+    let family = any_family(rng);
+    some_trials(rng, Call::ReadMatrix(fibres, family))
 }
 
 /// The ring of five, zeros, the limits of n and of an entry, each reason, and
@@ -89,11 +91,15 @@ pub const MATRICES: [&str; 36] = [
 
 pub fn by_hand(_: &mut Rng, case: u64) -> Option<Case> {
     let text = MATRICES.get(case as usize)?;
-    let read = LENDS.map(|lend| (Call::ReadMatrix(4), lend));
+    let read = LENDS.map(|lend| (Call::ReadMatrix(4, 0), lend));
     let write = [
-        (Call::ReadMatrix(2), Lend::Need(0)),
-        (Call::ReadMatrix(3), Lend::Need(0)),
-        (Call::ReadMatrix(0), Lend::Exactly(0)),
+        (Call::ReadMatrix(2, 0), Lend::Need(0)),
+        (Call::ReadMatrix(4, 1), Lend::Need(0)),
+        (Call::ReadMatrix(4, 1), Lend::Need(-1)),
+        (Call::ReadMatrix(2, 2), Lend::Need(1)),
+        (Call::ReadMatrix(3, 1), Lend::Need(0)),
+        (Call::ReadMatrix(3, 0), Lend::Need(0)),
+        (Call::ReadMatrix(0, 0), Lend::Exactly(0)),
         (Call::WriteMatrix, Lend::Need(1)),
         (Call::Check, NONE),
     ];
@@ -121,7 +127,7 @@ pub fn all_small(_: &mut Rng, case: u64) -> Option<Case> {
     if code > 0 {
         return None;
     }
-    of_text(&text, vec![(Call::ReadMatrix(4), Lend::Need(0))])
+    of_text(&text, vec![(Call::ReadMatrix(4, 0), Lend::Need(0))])
 }
 
 /// A matrix of three offices with each byte given each value, then with bytes
@@ -132,7 +138,7 @@ pub fn every_byte(_: &mut Rng, case: u64) -> Option<Case> {
     Some(Case {
         offices: 3,
         text,
-        trials: vec![(Call::ReadMatrix(4), Lend::Need(3))],
+        trials: vec![(Call::ReadMatrix(4, 0), Lend::Need(3))],
     })
 }
 
@@ -154,7 +160,7 @@ pub fn small_sums(_: &mut Rng, case: u64) -> Option<Case> {
 
 /// Every length from 0 to 160, and around the need, of both calls.
 pub fn every_length(rng: &mut Rng, case: u64) -> Option<Case> {
-    let call = [Call::ReadMatrix(4), Call::WriteMatrix][case as usize % 2];
+    let call = [Call::ReadMatrix(4, 0), Call::WriteMatrix][case as usize % 2];
     let lengths = (0..=160).map(|length| (call, Lend::Exactly(length)));
     let around = (-40..=17).map(|more| (call, Lend::Need(more)));
     let trials = lengths.chain(around).collect();

@@ -1,5 +1,6 @@
 //! A matrix, read into a table and written from one (Rules, matrices).
 
+use crate::family::Family;
 use crate::limits::{AMOUNT, ROWS};
 use crate::shape;
 use crate::table::{self, misshapen, refuse, start_of, Line, Refusal, Row, Table};
@@ -53,7 +54,7 @@ pub fn at_entry(matrix: &Matrix, i: usize, j: usize, reason: u32) -> Refusal {
     Refusal { reason, line, byte }
 }
 
-/// The matrix has no number of fibres; its reader is told it. 20 is tried first,
+/// The matrix has no number of fibres and no family; its reader is told them. 20 is tried first,
 /// line 0.
 pub fn read_told(text: &[u8], fibres: u32) -> Result<Matrix, Refusal> {
     if !table::known_fibres(i64::from(fibres)) {
@@ -139,10 +140,13 @@ pub fn rows(matrix: &Matrix) -> Vec<Row> {
 }
 
 /// Its rows. The ring size is the number of fields of the first line.
-pub fn table_of(matrix: &Matrix, fibres: u32) -> Table {
-    let (n, fibres) = (matrix.lines.len() as i64, i64::from(fibres));
-    let rows = rows(matrix);
-    Table { n, fibres, rows }
+pub fn table_of(matrix: &Matrix, fibres: u32, family: u32) -> Table {
+    Table {
+        n: matrix.lines.len() as i64,
+        fibres: i64::from(fibres),
+        family: Family::told(family),
+        rows: rows(matrix),
+    }
 }
 
 /// The square of a ring, all 0.

@@ -3,8 +3,8 @@
 
 use crate::limits::{AMOUNT, OFFICES, ROWS, TEXT};
 use crate::matrix::{self, Matrix, MatrixQuestions, MATRIX_QUESTIONS};
-use crate::mutant::{pairs, read_matrix, says_fibres, square, sums, told, Mutant};
-use crate::table::{self, refuse, Line, Refusal, Row, Table};
+use crate::mutant::{hears, pairs, read_matrix, square, sums, told, Mutant};
+use crate::table::{self, refuse, Line, Refusal, Row};
 use crate::text_faults::*;
 
 type Read = Result<Matrix, Refusal>;
@@ -89,7 +89,7 @@ pub static MATRIX_FAULTS: [Mutant; 71] = [
         counted(text, |matrix| 2 * matrix::rows(matrix).len() > ROWS)
     }),
     read_matrix("matrix: 16 of all pairs", |text| {
-        counted(text, |matrix| zeros_kept(matrix).rows.len() > ROWS)
+        counted(text, |matrix| zeros_kept(matrix).len() > ROWS)
     }),
     read_matrix("matrix: 16 before 17 and 18", |text| {
         searched(text, many_or_faulty)
@@ -103,7 +103,9 @@ pub static MATRIX_FAULTS: [Mutant; 71] = [
     told("matrix: 20 asked in 8 bits", |text, fibres| {
         matrix::read_told(text, fibres % 256)
     }),
-    says_fibres("matrix: four fibres whatever is told", 4),
+    hears("matrix: four fibres whatever is told", |_, family| {
+        (4, family)
+    }),
     pairs("matrix: zero entries kept", zeros_kept),
     pairs("matrix: rows by second node, then first", by_second),
     pairs("matrix: both halves added", doubled),
@@ -503,7 +505,7 @@ fn twenty_on_line_1(text: &[u8], fibres: u32) -> Read {
 // Faults of the rows.
 
 /// A row for each pair, with an amount of its own making.
-fn rows_by(matrix: &Matrix, amount: impl Fn(usize, usize) -> i64) -> Table {
+fn rows_by(matrix: &Matrix, amount: impl Fn(usize, usize) -> i64) -> Vec<Row> {
     let n = matrix.lines.len();
     let mut rows = Vec::new();
     for (i, j) in rows_first(n).into_iter().filter(|(i, j)| i < j) {
@@ -511,38 +513,37 @@ fn rows_by(matrix: &Matrix, amount: impl Fn(usize, usize) -> i64) -> Table {
         let (i, j) = (i as i64 + 1, j as i64 + 1);
         rows.push(Row::of(i, j, d));
     }
-    let (n, fibres) = (n as i64, 4);
-    Table { n, fibres, rows }
+    rows
 }
 
-fn zeros_kept(matrix: &Matrix) -> Table {
+fn zeros_kept(matrix: &Matrix) -> Vec<Row> {
     rows_by(matrix, |i, j| matrix.lines[i][j])
 }
 
 /// Comes to the same.
-pub fn lower_half(matrix: &Matrix) -> Table {
-    let mut table = rows_by(matrix, |i, j| matrix.lines[j][i]);
-    table.rows.retain(|row| row.amount > 0);
-    table
+pub fn lower_half(matrix: &Matrix) -> Vec<Row> {
+    let mut rows = rows_by(matrix, |i, j| matrix.lines[j][i]);
+    rows.retain(|row| row.amount > 0);
+    rows
 }
 
-fn doubled(matrix: &Matrix) -> Table {
-    let mut table = rows_by(matrix, |i, j| matrix.lines[i][j] + matrix.lines[j][i]);
-    table.rows.retain(|row| row.amount > 0);
-    table
+fn doubled(matrix: &Matrix) -> Vec<Row> {
+    let mut rows = rows_by(matrix, |i, j| matrix.lines[i][j] + matrix.lines[j][i]);
+    rows.retain(|row| row.amount > 0);
+    rows
 }
 
-fn by_second(matrix: &Matrix) -> Table {
-    let mut table = matrix::table_of(matrix, 4);
-    table.rows.sort_by_key(|row| (row.second, row.first));
-    table
+fn by_second(matrix: &Matrix) -> Vec<Row> {
+    let mut rows = matrix::rows(matrix);
+    rows.sort_by_key(|row| (row.second, row.first));
+    rows
 }
 
-fn without_last(matrix: &Matrix) -> Table {
-    let mut table = matrix::table_of(matrix, 4);
-    let n = table.n;
-    table.rows.retain(|row| row.second < n || row.first < n - 1);
-    table
+fn without_last(matrix: &Matrix) -> Vec<Row> {
+    let mut rows = matrix::rows(matrix);
+    let n = matrix.lines.len() as i64;
+    rows.retain(|row| row.second < n || row.first < n - 1);
+    rows
 }
 
 // Faults of writing.

@@ -25,10 +25,12 @@ fn all(call: Call, wanted: &[Case]) -> Outcome {
 
 /// What is made of matrices, and which reason is given.
 pub fn matrices() -> Outcome {
-    all(Call::ReadMatrix(4), &ACCEPTED)?;
+    all(Call::ReadMatrix(4, 0), &ACCEPTED)?;
+    all(Call::ReadMatrix(2, 1), &OF_SDH)?;
+    all(Call::ReadMatrix(2, 2), &OF_SDH)?;
     full()?;
     lengths()?;
-    all(Call::ReadMatrix(4), &REFUSED)
+    all(Call::ReadMatrix(4, 0), &REFUSED)
 }
 
 const ACCEPTED: [Case; 3] = [
@@ -38,6 +40,11 @@ const ACCEPTED: [Case; 3] = [
     ),
     ("0|0\n0|0\n", Ok("R|2|4\n")),
     ("0|1\n1|0\n", Ok("R|2|4\nD|1|2|1\n")),
+];
+
+const OF_SDH: [Case; 2] = [
+    ("0|0\n0|0\n", Ok("R|2|2|M\n")),
+    ("0|1\n1|0\n", Ok("R|2|2|M\nD|1|2|1\n")),
 ];
 
 /// Each reason, and which of two comes first.
@@ -69,7 +76,7 @@ fn zeros(fields: usize, lines: usize) -> String {
 /// As many offices as there may be, a line fewer and an office more.
 fn full() -> Outcome {
     all(
-        Call::ReadMatrix(4),
+        Call::ReadMatrix(4, 0),
         &[
             (&zeros(64, 64), Ok("R|64|4\n")),
             (&zeros(64, 63), Err((2, 64))),
@@ -81,7 +88,7 @@ fn full() -> Outcome {
 /// One line as long as a text may be, and two bytes longer.
 fn lengths() -> Outcome {
     all(
-        Call::ReadMatrix(4),
+        Call::ReadMatrix(4, 0),
         &[
             (&zeros(16_384, 1), Err((3, 1))),
             (&zeros(16_385, 1), Err((1, 0))),

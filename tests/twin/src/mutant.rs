@@ -6,6 +6,7 @@ use crate::check::{self, Finding, Question, Questions, Sheet, QUESTIONS};
 use crate::checking_faults::*;
 use crate::choice;
 use crate::choice_faults::{CHOICE_FAULTS, CHOICE_SAME};
+use crate::family_faults::FAMILY_FAULTS;
 use crate::foreign::cuts;
 use crate::judging_faults::JUDGING_FAULTS;
 use crate::limits::{ROWS, TEXT};
@@ -13,6 +14,8 @@ use crate::lowered;
 use crate::lowered_faults::{LOWERED_FAULTS, LOWERED_SAME};
 use crate::matrix::{self, Matrix};
 use crate::matrix_faults::{self, MATRIX_FAULTS};
+use crate::report;
+use crate::report_faults::{REPORT_FAULTS, REPORT_SAME};
 use crate::row_faults::*;
 use crate::rules::{self, Cut, Plan, Sent, Way};
 use crate::sheet;
@@ -46,9 +49,9 @@ enum How {
     Say(fn(&[u8], Said) -> Said),
     ReadMatrix(fn(&[u8]) -> Result<Matrix, Refusal>),
     Told(fn(&[u8], u32) -> Result<Matrix, Refusal>),
-    /// The fibres of a matrix's table, whatever is told.
-    Fibres(i64),
-    Pairs(fn(&Matrix) -> Table),
+    /// What is heard of the fibres and the family that a matrix is read with.
+    Hear(fn(u32, u32) -> (u32, u32)),
+    Pairs(fn(&Matrix) -> Vec<Row>),
     Sums(fn(&[u8]) -> Result<Matrix, Refusal>),
     Square(fn(&Matrix) -> Vec<u8>),
     /// The byte of a refusal.
@@ -64,9 +67,14 @@ enum How {
     Choose(choice::Sentences),
     /// Another reading of a sentence of lowered rooms.
     Lower(lowered::Sentences),
-    /// Another reply to the best choice, which may look at the text.
-    Reply(fn(&[u8], &Answer, &mut [u8]) -> Reply),
+    /// Another reading of a sentence of a report.
+    Report(report::Sentences),
+    /// Another reply to one call, which may look at the text.
+    Reply(Call, Replying),
 }
+
+/// The reply to a text and to what the twin answers of it.
+pub type Replying = fn(&[u8], &Answer, &mut [u8]) -> Reply;
 
 impl Mutant {
     pub fn call(&self, call: Call, text: &[u8], area: &mut [u8], lent: Range<usize>) -> Said {
@@ -74,14 +82,15 @@ impl Mutant {
             Call::Route | Call::Rewrite => self.answer_table(call, text),
             Call::RouteBest => self.answer_best(text),
             Call::RouteLowered | Call::RouteLoweredBest => self.answer_lowered(call, text),
-            Call::ReadMatrix(fibres) => self.answer_matrix(text, fibres),
+            Call::ReadMatrix(fibres, family) => self.answer_matrix(text, fibres, family),
             Call::WriteMatrix => self.answer_sums(text),
+            Call::Report => self.answer_report(text),
             _ => self.answer_sheet(call, text),
         };
         let answer = answer.map_err(|refusal| self.point(call, text, refusal));
         match self.how {
             How::Write(write) if call.writes() => Said::Reply(write(&answer, area, lent)),
-            How::Reply(reply) if call == Call::RouteBest => {
+            How::Reply(of, reply) if call == of => {
                 Said::Reply(reply(text, &answer, &mut area[lent]))
             }
             How::Say(change) if !call.writes() => {
@@ -141,6 +150,11 @@ impl Mutant {
         BYTE_FAULTS.iter().any(|fault| std::ptr::eq(fault, self))
     }
 
+    /// Whether the fault lies in what is made of the families.
+    pub fn of_families(&self) -> bool {
+        FAMILY_FAULTS.iter().any(|fault| std::ptr::eq(fault, self))
+    }
+
     /// Whether the fault lies in judging values.
     pub fn of_judging(&self) -> bool {
         matches!(self.how, How::Judge(_))
@@ -153,7 +167,12 @@ impl Mutant {
 
     /// Whether the fault lies in the best choice.
     pub fn of_choosing(&self) -> bool {
-        matches!(self.how, How::Choose(_) | How::Reply(_))
+        matches!(self.how, How::Choose(_) | How::Reply(Call::RouteBest, _))
+    }
+
+    /// Whether the fault lies in a report.
+    pub fn of_reporting(&self) -> bool {
+        matches!(self.how, How::Report(_) | How::Reply(Call::Report, _))
     }
 
     /// Whether the fault lies in lowered rooms.
@@ -206,6 +225,13 @@ impl Mutant {
         Ok(twin::written(sheet::sheet_text(&table, &plan)))
     }
 
+    fn answer_report(&self, text: &[u8]) -> Answer {
+        match &self.how {
+            How::Report(sentences) => report::answer_read(text, sentences),
+            _ => report::answer(text),
+        }
+    }
+
     fn answer_sheet(&self, call: Call, text: &[u8]) -> Answer {
         let sheet = match &self.how {
             How::Check(questions) => check::read_asking(text, questions)?,
@@ -224,21 +250,21 @@ impl Mutant {
         })
     }
 
-    fn answer_matrix(&self, text: &[u8], fibres: u32) -> Answer {
+    fn answer_matrix(&self, text: &[u8], fibres: u32, family: u32) -> Answer {
         let told = table::known_fibres(i64::from(fibres));
         let matrix = match self.how {
             How::Told(read) => read(text, fibres)?,
             How::ReadMatrix(read) if told => read(text)?,
             _ => matrix::read_told(text, fibres)?,
         };
-        let mut table = match self.how {
-            How::Pairs(pairs) => pairs(&matrix),
-            _ => matrix::table_of(&matrix, fibres),
+        let (fibres, family) = match self.how {
+            How::Hear(hear) => hear(fibres, family),
+            _ => (fibres, family),
         };
-        table.fibres = match self.how {
-            How::Fibres(fibres) => fibres,
-            _ => i64::from(fibres),
-        };
+        let mut table = matrix::table_of(&matrix, fibres, family);
+        if let How::Pairs(pairs) = self.how {
+            table.rows = pairs(&matrix);
+        }
         Ok(twin::written(sheet::table_text(&table)))
     }
 
@@ -256,7 +282,7 @@ impl Mutant {
 
 /// All faults, those of a matrix behind the others, then those of the byte, those of
 /// judging values, those of one turn at a time, those of the best choice, those of lowered
-/// rooms, and those of the working table last.
+/// rooms, those of reports, those of the working table, and those of the families last.
 pub fn faults() -> Vec<&'static Mutant> {
     let texts = FAULTS.iter().chain(&MATRIX_FAULTS).chain(&BYTE_FAULTS);
     texts
@@ -264,15 +290,18 @@ pub fn faults() -> Vec<&'static Mutant> {
         .chain(&TURNING_FAULTS)
         .chain(&CHOICE_FAULTS)
         .chain(&LOWERED_FAULTS)
+        .chain(&REPORT_FAULTS)
         .chain(&WORKING_FAULTS)
+        .chain(&FAMILY_FAULTS)
         .collect()
 }
 
-/// All changes that come to the same, those of one turn at a time, of the best choice and
-/// of lowered rooms last.
+/// All changes that come to the same, those of one turn at a time, of the best choice, of
+/// lowered rooms and of reports last.
 pub fn same() -> Vec<&'static Mutant> {
     let same = SAME.iter().chain(&TURNING_SAME);
-    same.chain(&CHOICE_SAME).chain(&LOWERED_SAME).collect()
+    let same = same.chain(&CHOICE_SAME).chain(&LOWERED_SAME);
+    same.chain(&REPORT_SAME).collect()
 }
 
 pub const fn judging(name: &'static str, judge: fn(&Values) -> Finding) -> Mutant {
@@ -298,8 +327,13 @@ pub const fn choosing(name: &'static str, sentences: choice::Sentences) -> Mutan
     Mutant { name, how }
 }
 
-pub const fn replying(name: &'static str, reply: fn(&[u8], &Answer, &mut [u8]) -> Reply) -> Mutant {
-    let how = How::Reply(reply);
+pub const fn replying(name: &'static str, call: Call, reply: Replying) -> Mutant {
+    let how = How::Reply(call, reply);
+    Mutant { name, how }
+}
+
+pub const fn reporting(name: &'static str, sentences: report::Sentences) -> Mutant {
+    let how = How::Report(sentences);
     Mutant { name, how }
 }
 
@@ -318,12 +352,12 @@ pub const fn pointing(name: &'static str, point: fn(&Pointed) -> u32) -> Mutant 
     Mutant { name, how }
 }
 
-const fn plan(name: &'static str, plan: fn(&Table) -> Plan) -> Mutant {
+pub const fn plan(name: &'static str, plan: fn(&Table) -> Plan) -> Mutant {
     let how = How::Plan(plan);
     Mutant { name, how }
 }
 
-const fn read(name: &'static str, read: fn(&[u8]) -> Result<Table, Refusal>) -> Mutant {
+pub const fn read(name: &'static str, read: fn(&[u8]) -> Result<Table, Refusal>) -> Mutant {
     let how = How::Read(read);
     Mutant { name, how }
 }
@@ -341,7 +375,7 @@ pub const fn write(
     Mutant { name, how }
 }
 
-const fn rewrite(name: &'static str, change: fn(Table) -> Table) -> Mutant {
+pub const fn rewrite(name: &'static str, change: fn(Table) -> Table) -> Mutant {
     let how = How::Rewrite(change);
     Mutant { name, how }
 }
@@ -376,7 +410,7 @@ const fn on_link(name: &'static str, link: Question) -> Mutant {
     check(name, questions)
 }
 
-const fn on_size(name: &'static str, size: Question) -> Mutant {
+pub const fn on_size(name: &'static str, size: Question) -> Mutant {
     let questions = Questions { size, ..QUESTIONS };
     check(name, questions)
 }
@@ -391,7 +425,7 @@ const fn on_bound(name: &'static str, bound: Question) -> Mutant {
     check(name, questions)
 }
 
-const fn read_sheet(name: &'static str, read: fn(&[u8]) -> Result<Sheet, Refusal>) -> Mutant {
+pub const fn read_sheet(name: &'static str, read: fn(&[u8]) -> Result<Sheet, Refusal>) -> Mutant {
     let how = How::ReadSheet(read);
     Mutant { name, how }
 }
@@ -401,7 +435,7 @@ const fn parallel(name: &'static str, parallel: fn(&Sheet) -> Option<(usize, usi
     Mutant { name, how }
 }
 
-const fn rewrite_sheet(name: &'static str, change: fn(Sheet) -> Sheet) -> Mutant {
+pub const fn rewrite_sheet(name: &'static str, change: fn(Sheet) -> Sheet) -> Mutant {
     let how = How::RewriteSheet(change);
     Mutant { name, how }
 }
@@ -421,12 +455,12 @@ pub const fn told(name: &'static str, read: fn(&[u8], u32) -> Result<Matrix, Ref
     Mutant { name, how }
 }
 
-pub const fn says_fibres(name: &'static str, fibres: i64) -> Mutant {
-    let how = How::Fibres(fibres);
+pub const fn hears(name: &'static str, hear: fn(u32, u32) -> (u32, u32)) -> Mutant {
+    let how = How::Hear(hear);
     Mutant { name, how }
 }
 
-pub const fn pairs(name: &'static str, pairs: fn(&Matrix) -> Table) -> Mutant {
+pub const fn pairs(name: &'static str, pairs: fn(&Matrix) -> Vec<Row>) -> Mutant {
     let how = How::Pairs(pairs);
     Mutant { name, how }
 }
@@ -479,7 +513,7 @@ static FAULTS: [Mutant; 154] = [
     plan("D: amount 0 goes B", d_zero),
     plan("D: the best choice in its place", d_best),
     plan("Z: size above the peak", z_above),
-    plan("Z: 768 for every larger peak", z_largest),
+    plan("Z: the largest size for every larger peak", z_largest),
     plan("Z: once the peak on two fibres", z_once),
     plan("Z: twice the peak on four fibres", z_twice),
     read("reading: 20 before 3", |text| {
@@ -601,7 +635,7 @@ static FAULTS: [Mutant; 154] = [
     on_size("12: peak not compared", size_of_named),
     on_size("12: size not compared", peak_alone),
     on_size("12: size large enough is enough", size_enough),
-    on_size("12: 768 for every larger peak", size_largest),
+    on_size("12: the largest size for every larger peak", size_largest),
     on_best("13: not asked", yes),
     on_best("13: our own largest cut, not the sheet's", best_ours),
     check("10, 13: our own largest cut in the sheet's place", OUR_CUT),
@@ -1104,25 +1138,29 @@ fn d_zero(table: &Table) -> Plan {
 
 fn z_above(table: &Table) -> Plan {
     let mut plan = rules::plan(table);
-    plan.size = rules::size(rules::least_size(table, plan.peak) + 1);
+    plan.size = rules::size(table.family, rules::least_size(table, plan.peak) + 1);
     plan
 }
 
 fn z_largest(table: &Table) -> Plan {
     let mut plan = rules::plan(table);
-    plan.size = rules::size(rules::least_size(table, plan.peak).min(768));
+    let largest = table.family.sizes()[4];
+    plan.size = rules::size(
+        table.family,
+        rules::least_size(table, plan.peak).min(largest),
+    );
     plan
 }
 
 fn z_once(table: &Table) -> Plan {
     let mut plan = rules::plan(table);
-    plan.size = rules::size(plan.peak);
+    plan.size = rules::size(table.family, plan.peak);
     plan
 }
 
 fn z_twice(table: &Table) -> Plan {
     let mut plan = rules::plan(table);
-    plan.size = rules::size(2 * plan.peak);
+    plan.size = rules::size(table.family, 2 * plan.peak);
     plan
 }
 
@@ -1135,7 +1173,7 @@ fn four_fibres(mut table: Table) -> Table {
 
 /// The two numbers of the R line, if it has its shape.
 fn ring_of(text: &[u8]) -> Option<Vec<i64>> {
-    table::numbers(table::lines(text).first()?, b"R", 2)
+    Some(table::ring_fields(table::lines(text).first()?)?.0)
 }
 
 /// 20 in the place of 3, where it holds too.
@@ -1156,7 +1194,9 @@ fn with_four(text: &[u8]) -> Vec<u8> {
     let rest = text.split_inclusive(|byte| *byte == b'\n').skip(1);
     match ring_of(text) {
         Some(ring) if !table::known_fibres(ring[1]) => {
-            let first = format!("R\t{}\t4\n", ring[0]).into_bytes();
+            let sdh = text.starts_with(format!("R\t{}\t{}\tM", ring[0], ring[1]).as_bytes());
+            let end = if sdh { "\tM" } else { "" };
+            let first = format!("R\t{}\t4{end}\n", ring[0]).into_bytes();
             [first, rest.flatten().copied().collect()].concat()
         }
         _ => text.to_vec(),

@@ -96,8 +96,8 @@ impl Server {
         area: &mut [u8],
         lent: Range<usize>,
     ) -> Result<Said> {
-        let (name, told) = (call.name(), [call.told(), 0, 0, 0]);
-        let said = self.made(&name, told, (text, 0), area, lent)?;
+        let name = call.name();
+        let said = self.made(&name, call.told(), (text, 0), area, lent)?;
         let [reason, line, byte, ..] = said.map(|number| number as u32);
         let refusal = Refusal { reason, line, byte };
         let (first, second) = (said[3] as usize, said[4] as usize);
@@ -145,7 +145,7 @@ impl Server {
     /// The values go as a text of words, those of the ring last; the counts of rows and
     /// links are told beside it.
     fn ask_judge(&mut self, values: &mut Values) -> Result<Finding> {
-        let ring = [values.n, values.fibres];
+        let ring = [values.n, values.fibres, values.family];
         let numbers = values.numbers().into_iter().map(|number| *number);
         let words: Vec<u32> = numbers.chain(ring).collect();
         let mut bytes = bytes_of(&words);

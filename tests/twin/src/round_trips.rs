@@ -19,7 +19,7 @@ const CASES: u64 = 600;
 /// written afresh as it is where it is a table.
 fn there_and_back(kit: Kit, text: &[u8], there: Call, back: Call) -> Outcome {
     let between = written(kit, there, text)?;
-    if matches!(there, Call::ReadMatrix(_)) && written(kit, Call::Rewrite, &between)? != between {
+    if matches!(there, Call::ReadMatrix(..)) && written(kit, Call::Rewrite, &between)? != between {
         return Err(format!("another table:\n{}", shown(&between, 40)));
     }
     if written(kit, back, &between)? != text {
@@ -43,8 +43,8 @@ fn table(rng: &mut Rng, case: u64) -> Table {
 pub fn of_tables(kit: Kit, seed: u64) -> Outcome {
     for case in 0..CASES {
         let table = table(&mut Rng::for_case(seed, 2_000, case), case);
-        // Read with the table's own number, as a matrix says none.
-        let read = Call::ReadMatrix(table.fibres as u32);
+        // Read with the table's own fibres and family, as a matrix says neither.
+        let read = Call::ReadMatrix(table.fibres as u32, table.family.number());
         there_and_back(kit, &table_text(&table), Call::WriteMatrix, read)?;
     }
     Ok(())
@@ -54,7 +54,7 @@ pub fn of_matrices(kit: Kit, seed: u64) -> Outcome {
     for case in 0..CASES {
         let table = table(&mut Rng::for_case(seed, 2_001, case), case);
         let text = matrix_text(&matrices::square(&table));
-        let read = Call::ReadMatrix(table.fibres as u32);
+        let read = Call::ReadMatrix(table.fibres as u32, table.family.number());
         there_and_back(kit, &text, read, Call::WriteMatrix)?;
     }
     Ok(())

@@ -1,5 +1,6 @@
 //! The four routing rules, sentence by sentence, in the plainest way.
 
+use crate::family::Family;
 use crate::table::{Row, Table};
 
 /// A cut is two links g < h, with its across number.
@@ -243,10 +244,9 @@ pub fn unsplit_load(rows: &[Row], ways: &[Way], link: i64) -> i64 {
     sum
 }
 
-/// The smallest size that is at least so much, 0 if none is.
-pub fn size(least: i64) -> i64 {
-    let sizes = [3, 12, 48, 192, 768];
-    let fitting = sizes.into_iter().filter(|size| *size >= least);
+/// The smallest size of the family that is at least so much, 0 if none is.
+pub fn size(family: Family, least: i64) -> i64 {
+    let fitting = family.sizes().into_iter().filter(|size| *size >= least);
     fitting.min().unwrap_or(0)
 }
 
@@ -260,7 +260,7 @@ pub fn least_size(table: &Table, peak: i64) -> i64 {
 }
 
 pub fn line_size(table: &Table, peak: i64) -> i64 {
-    size(least_size(table, peak))
+    size(table.family, least_size(table, peak))
 }
 
 /// A peak is the largest load; 0 where there is none, as on no ring.

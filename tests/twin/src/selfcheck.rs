@@ -121,6 +121,29 @@ pub fn small_rings() -> Outcome {
     same("1-2 of 1", plan.peak, 1)
 }
 
+/// Where the sizes of SDH end, with four fibres and with two, and that all else of a plan
+/// is that of SONET.
+pub fn families() -> Outcome {
+    for (text, size) in [
+        ("R|2|4|M\n", 1),
+        ("R|2|4|M\nD|1|2|1\n", 1),
+        ("R|2|4|M\nD|1|2|2\n", 4),
+        ("R|2|4|M\nD|1|2|256\n", 256),
+        ("R|2|4|M\nD|1|2|257\n", 0),
+        ("R|2|2|M\nD|1|2|128\n", 256),
+        ("R|2|2|M\nD|1|2|129\n", 0),
+        ("R|2|2|M\nD|1|2|2\n", 4),
+        ("R|2|2|M\nD|1|2|3\n", 16),
+    ] {
+        same(text, rules::plan(&table(text)?).size, size)?;
+    }
+    let rows = "D|1|2|2\nD|1|4|5\nD|2|3|9\nD|2|4|11\nD|3|4|4\nD|3|5|3\n";
+    let of_sonet = rules::plan(&table(&format!("R|5|4\n{rows}"))?);
+    let of_sdh = rules::plan(&table(&format!("R|5|4|M\n{rows}"))?);
+    same("sizes", (of_sonet.size, of_sdh.size), (48, 64))?;
+    same("all but the size", Plan { size: 48, ..of_sdh }, of_sonet)
+}
+
 /// The refusals among the stated cases.
 pub fn refusals() -> Outcome {
     let wanted = [
@@ -137,6 +160,11 @@ pub fn refusals() -> Outcome {
         ("R|65|3\n", 3, 1),
         ("R|4\n", 2, 1),
         ("R|4|4|4\n", 2, 1),
+        ("R|4|4|M\n", 0, 0),
+        ("R|64|2|M\n", 0, 0),
+        ("R|4|4|m\n", 2, 1),
+        ("R|65|3|M\n", 3, 1),
+        ("R|4|3|M\nx\n", 20, 1),
     ];
     for (text, reason, line) in wanted {
         let answer = twin::answer(Call::Route, &tabbed(text));
@@ -148,30 +176,46 @@ pub fn refusals() -> Outcome {
     Ok(())
 }
 
+/// The stated sheets that are refused: which of them, and its reason, line and byte.
+const REFUSED: [(usize, u32, u32, u32); 29] = [
+    (8, 13, 0, 0),
+    (9, 14, 0, 0),
+    (11, 9, 2, 1),
+    (12, 3, 1, 3),
+    (13, 3, 1, 3),
+    (15, 7, 2, 7),
+    (16, 4, 2, 3),
+    (17, 2, 1, 1),
+    (18, 2, 2, 1),
+    (24, 6, 4, 1),
+    (28, 12, 6, 1),
+    (29, 20, 1, 5),
+    (30, 3, 1, 3),
+    (31, 3, 1, 3),
+    (32, 2, 1, 4),
+    (33, 2, 1, 7),
+    (34, 12, 5, 1),
+    (41, 12, 5, 1),
+    (42, 12, 5, 1),
+    (43, 2, 1, 7),
+    (44, 2, 1, 7),
+    (45, 2, 1, 8),
+    (46, 2, 1, 8),
+    (47, 2, 1, 7),
+    (48, 2, 1, 5),
+    (49, 2, 1, 5),
+    (50, 20, 1, 5),
+    (51, 3, 1, 3),
+    (52, 2, 1, 8),
+];
+
 /// The stated sheets: reason, line, byte, and the parallel pair.
 pub fn sheets() -> Outcome {
-    let accepted = [0, 1, 2, 3, 4, 5, 6, 7, 10, 14, 20, 25, 26, 27];
-    let refused = [
-        (8, 13, 0, 0),
-        (9, 14, 0, 0),
-        (11, 9, 2, 1),
-        (12, 3, 1, 3),
-        (13, 3, 1, 3),
-        (15, 7, 2, 7),
-        (16, 4, 2, 3),
-        (17, 2, 1, 1),
-        (18, 2, 2, 1),
-        (24, 6, 4, 1),
-        (28, 12, 6, 1),
-        (29, 20, 1, 5),
-        (30, 3, 1, 3),
-        (31, 3, 1, 3),
-        (32, 2, 1, 4),
-        (33, 2, 1, 6),
-        (34, 12, 5, 1),
+    let accepted = [
+        0, 1, 2, 3, 4, 5, 6, 7, 10, 14, 20, 25, 26, 27, 35, 36, 37, 38, 39, 40,
     ];
     let yes = accepted.map(|at| (at, 0, 0, 0, 0, 0));
-    let no = refused.map(|(at, reason, line, byte)| (at, reason, line, byte, 0, 0));
+    let no = REFUSED.map(|(at, reason, line, byte)| (at, reason, line, byte, 0, 0));
     let pairs = [(19, 1, 2), (21, 1, 2), (22, 2, 3), (23, 2, 3)];
     let pairs = pairs.map(|(at, first, second)| (at, 0, 0, 0, first, second));
     for (at, reason, line, byte, first, second) in [yes.as_slice(), &no, &pairs].concat() {

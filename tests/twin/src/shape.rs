@@ -42,6 +42,13 @@ pub fn lettered(letter: &'static [u8], count: usize) -> Shape {
     Shape { fields, open }
 }
 
+/// `R n fibres`, or `R n fibres M`.
+pub fn ring() -> [Shape; 2] {
+    let (plain, mut marked) = (lettered(b"R", 2), lettered(b"R", 2));
+    marked.fields.push(Field::Letter(b"M"));
+    [plain, marked]
+}
+
 /// `D i j amount front back F-or-B`.
 pub fn row_of_sheet() -> Shape {
     let mut shape = lettered(b"D", 5);

@@ -17,22 +17,28 @@ fn line(text: &mut String, letter: &str, numbers: &[i64], last: &str) {
     text.push('\n');
 }
 
-/// A table is `R n fibres`, then `D i j amount` lines.
+/// `R n fibres`, and M behind them where the ring is of SDH.
+fn ring_line(text: &mut String, table: &Table) {
+    let last = table.family.letter();
+    line(text, "R", &[table.n, table.fibres], last);
+}
+
+/// A table is its R line, then `D i j amount` lines.
 pub fn table_text(table: &Table) -> Vec<u8> {
     let mut text = String::new();
-    line(&mut text, "R", &[table.n, table.fibres], "");
+    ring_line(&mut text, table);
     for row in &table.rows {
         line(&mut text, "D", &[row.first, row.second, row.amount], "");
     }
     text.into_bytes()
 }
 
-/// A sheet is `R n fibres`; `D i j amount front back F-or-B` lines; `C g h across`;
+/// A sheet is its R line; `D i j amount front back F-or-B` lines; `C g h across`;
 /// `L link split-load unsplit-load` for links 1..n in order; `Z unsplit-peak
 /// size`.
 pub fn sheet_text(table: &Table, plan: &Plan) -> Vec<u8> {
     let mut text = String::new();
-    line(&mut text, "R", &[table.n, table.fibres], "");
+    ring_line(&mut text, table);
     for (at, row) in table.rows.iter().enumerate() {
         let sent = plan.sent[at];
         let way = match plan.ways[at] {

@@ -3,6 +3,7 @@
 
 use crate::bars::tabbed;
 use crate::compare::{Case, Lend, NONE};
+use crate::family::FAMILIES;
 use crate::foreign;
 use crate::gen::{self, Amounts};
 use crate::groups::{of_text, ENOUGH, LENDS, SHORT};
@@ -55,8 +56,9 @@ fn of_plan(table: &Table, plan: &Plan, trials: Vec<(Call, Lend)>) -> Option<Case
 /// with F and with B; rings of 1, 65 and 64; a parallel pair. Then circuits of
 /// the same offices: two whole, both split, split behind a whole one and behind
 /// a row that crosses them; and a row below them. Then fibres, and a size that is large
-/// enough but not the smallest.
-pub const SHEETS: [&str; 35] = [
+/// enough but not the smallest. Then families: sizes and their ends, each with the other's
+/// size, and M spelled otherwise.
+pub const SHEETS: [&str; 53] = [
     "R|4|4\nD|1|3|1|1|1|F\nD|2|4|1|1|1|B\nC|1|3|2\nL|1|2|2\nL|2|2|1\nL|3|2|0\nL|4|2|1\nZ|2|3\n",
     "R|2|4\nC|1|2|0\nL|1|0|0\nL|2|0|0\nZ|0|3\n",
     "R|2|4\nD|1|2|5|5|5|F\nC|1|2|5\nL|1|5|5\nL|2|5|0\nZ|5|12\n",
@@ -96,7 +98,28 @@ pub const SHEETS: [&str; 35] = [
     "R|2\nC|1|2|0\nL|1|0|0\nL|2|0|0\nZ|0|3\n",
     "R|2|4|4\nC|1|2|0\nL|1|0|0\nL|2|0|0\nZ|0|3\n",
     "R|2|4\nC|1|2|0\nL|1|0|0\nL|2|0|0\nZ|0|12\n",
+    "R|4|4|M\nD|1|3|1|1|1|F\nD|2|4|1|1|1|B\nC|1|3|2\nL|1|2|2\nL|2|2|1\nL|3|2|0\nL|4|2|1\nZ|2|4\n",
+    "R|2|4|M\nC|1|2|0\nL|1|0|0\nL|2|0|0\nZ|0|1\n",
+    "R|2|4|M\nD|1|2|256|256|256|F\nC|1|2|256\nL|1|256|256\nL|2|256|0\nZ|256|256\n",
+    "R|2|4|M\nD|1|2|257|257|257|F\nC|1|2|257\nL|1|257|257\nL|2|257|0\nZ|257|0\n",
+    "R|2|2|M\nD|1|2|128|128|128|F\nC|1|2|128\nL|1|128|128\nL|2|128|0\nZ|128|256\n",
+    "R|2|2|M\nD|1|2|129|129|129|F\nC|1|2|129\nL|1|129|129\nL|2|129|0\nZ|129|0\n",
+    "R|2|4|M\nC|1|2|0\nL|1|0|0\nL|2|0|0\nZ|0|3\n",
+    "R|2|4\nC|1|2|0\nL|1|0|0\nL|2|0|0\nZ|0|1\n",
+    "R|2|4|m\nC|1|2|0\nL|1|0|0\nL|2|0|0\nZ|0|1\n",
+    "R|2|4|\nC|1|2|0\nL|1|0|0\nL|2|0|0\nZ|0|1\n",
+    "R|2|4|M|\nC|1|2|0\nL|1|0|0\nL|2|0|0\nZ|0|1\n",
+    "R|2|4|MM\nC|1|2|0\nL|1|0|0\nL|2|0|0\nZ|0|1\n",
+    "R|2|4||M\nC|1|2|0\nL|1|0|0\nL|2|0|0\nZ|0|1\n",
+    "R|2|M|4\nC|1|2|0\nL|1|0|0\nL|2|0|0\nZ|0|1\n",
+    "R|2|M\nC|1|2|0\nL|1|0|0\nL|2|0|0\nZ|0|1\n",
+    "R|2|3|M\nC|1|2|0\nL|1|0|0\nL|2|0|0\nZ|0|1\n",
+    "R|65|4|M\nC|1|2|0\nL|1|0|0\nL|2|0|0\nZ|0|1\n",
+    "R|2|4|M",
 ];
+
+/// The square of SDH.
+const OF_SDH: &str = SHEETS[35];
 
 pub fn stated(_: &mut Rng, case: u64) -> Option<Case> {
     let text = SHEETS.get(case as usize)?;
@@ -127,8 +150,12 @@ fn small_of_3(code: usize) -> Option<Case> {
             ways.push(if choice < 3 { Way::F } else { Way::B });
         }
     }
-    let (n, fibres) = (3, if code % 2 == 0 { 2 } else { 4 });
-    let table = Table { n, fibres, rows };
+    let table = Table {
+        n: 3,
+        fibres: if code % 2 == 0 { 2 } else { 4 },
+        family: FAMILIES[cut % 2],
+        rows,
+    };
     let plan = rules::figures(&table, foreign::cuts(&table)[cut], sent, ways);
     let trials = vec![(Call::Check, NONE), (Call::Parallel, NONE)];
     of_plan(&table, &plan, trials)
@@ -148,8 +175,12 @@ fn small_of_4(mut code: usize) -> Option<Case> {
     if code > 0 {
         return None;
     }
-    let (n, fibres) = (4, 4);
-    let table = Table { n, fibres, rows };
+    let table = Table {
+        n: 4,
+        fibres: 4,
+        family: FAMILIES[sent.len() % 2],
+        rows,
+    };
     let ways = rules::rule_d(&table.rows, &sent);
     let cuts = foreign::cuts(&table).into_iter();
     let cut = cuts.max_by_key(|cut| cut.across).expect("a cut");
@@ -173,8 +204,12 @@ pub fn about_most(_: &mut Rng, case: u64) -> Option<Case> {
     let end = gen::sequence(&ends, 2, case)?.concat();
     let mut rows = vec![Row::of(1, 2, 1); 200];
     rows.resize(ROWS, Row::of(2, 3, 1));
-    let (n, fibres) = (3, 4);
-    let table = Table { n, fibres, rows };
+    let table = Table {
+        n: 3,
+        fibres: 4,
+        family: FAMILIES[case as usize % 2],
+        rows,
+    };
     let text = sheet_text(&table, &rules::plan(&table));
     let mut lines = gen::lines_of(&text);
     lines[ROWS] = tabbed(&end);
@@ -189,13 +224,17 @@ pub fn about_most(_: &mut Rng, case: u64) -> Option<Case> {
     })
 }
 
-/// The square's sheet with each byte replaced by others, bytes put in before
-/// it, it dropped, or the text cut short there.
+/// The square's sheet, of SONET and then of SDH, with each byte replaced by others, bytes
+/// put in before it, it dropped, or the text cut short there.
 pub fn every_byte(_: &mut Rng, case: u64) -> Option<Case> {
-    let new = *b"RDCLZFBfb\t\n\r 0129\0\xff.-";
+    let new = *b"RDCLZFBfbMm\t\n\r 0129\0\xff.-";
     let mut text = tabbed(SHEETS[0]);
     let each = 2 * new.len() + 2;
-    let (at, what) = (case as usize / each, case as usize % each);
+    let (mut at, what) = (case as usize / each, case as usize % each);
+    if at >= text.len() {
+        at -= text.len();
+        text = tabbed(OF_SDH);
+    }
     if at >= text.len() {
         return None;
     }

@@ -44,9 +44,11 @@ fn next_case(cases: &[u8]) -> Option<(Call, &[u8], usize, &[u8])> {
         b'C' => Call::Check,
         b'S' => Call::RewriteSheet,
         b'P' => Call::Parallel,
-        // The number of fibres that the reader is told.
-        digit @ b'0'..=b'9' => Call::ReadMatrix(u32::from(digit - b'0')),
+        // The number of fibres that the reader is told, of SONET, and the same of SDH.
+        digit @ b'0'..=b'9' => Call::ReadMatrix(u32::from(digit - b'0'), 0),
+        letter @ b'a'..=b'j' => Call::ReadMatrix(u32::from(letter - b'a'), 1),
         b'W' => Call::WriteMatrix,
+        b'M' => Call::Report,
         _ => return None,
     };
     let number = |digits: &[u8]| std::str::from_utf8(digits).ok()?.parse().ok();
@@ -122,6 +124,7 @@ fn change(values: &mut Values, line: &str) -> Option<()> {
     match word {
         "#" => (),
         "ring" => *values = fresh(rest)?,
+        "family" => [values.family] = numbers_of(rest)?,
         "row" => put_row(values, rest)?,
         "link" => put_link(values, rest)?,
         "counts" => {

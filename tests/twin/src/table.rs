@@ -1,6 +1,7 @@
 //! A table and its reading: reasons 1 to 7, 16 and 20, with their bytes, in their
 //! order (Rules, the order of reasons).
 
+use crate::family::{Family, FAMILIES};
 use crate::limits::{AMOUNT, DIGITS, OFFICES, ROWS, TEXT};
 use crate::shape::{self, first_fault, Shape};
 
@@ -22,11 +23,12 @@ impl Row {
     }
 }
 
-/// Nodes 1..n, the fibres and the rows in table order.
+/// Nodes 1..n, the fibres, the family and the rows in table order.
 #[derive(Clone, PartialEq, Eq, Debug)]
 pub struct Table {
     pub n: i64,
     pub fibres: i64,
+    pub family: Family,
     pub rows: Vec<Row>,
 }
 
@@ -127,9 +129,7 @@ pub fn read_judging(text: &[u8], reasons: &[RowReason]) -> Result<Table, Refusal
     let Some(first) = lines.first() else {
         return refuse(2, 1, 1);
     };
-    let (n, fibres) = read_ring(first)?;
-    let rows = Vec::new();
-    let mut table = Table { n, fibres, rows };
+    let mut table = read_ring(first)?;
     for (at, line) in lines.iter().enumerate().skip(1) {
         let row = read_row(line, at as u32 + 1, &table, reasons)?;
         table.rows.push(row);
@@ -185,20 +185,35 @@ pub fn number(field: &[u8]) -> Option<i64> {
     Some(value)
 }
 
-/// `R n fibres`: in the line 2, then 3, where n starts, then 20, where the fibres
-/// start.
-pub fn read_ring(line: &Line) -> Result<(i64, i64), Refusal> {
-    let Some(numbers) = numbers(line, b"R", 2) else {
-        return misshapen(line, 1, &[shape::lettered(b"R", 2)]);
+/// The two numbers of an R line, and the family: SDH where M is behind them, SONET
+/// where nothing is.
+pub fn ring_fields(line: &Line) -> Option<(Vec<i64>, Family)> {
+    let sdh = line.bytes.strip_suffix(b"\tM");
+    let bytes = sdh.unwrap_or(line.bytes);
+    let ended = line.ended;
+    let numbers = numbers(&Line { bytes, ended }, b"R", 2)?;
+    Some((numbers, FAMILIES[usize::from(sdh.is_some())]))
+}
+
+/// `R n fibres`, or `R n fibres M`: in the line 2, then 3, where n starts, then 20, where
+/// the fibres start. The ring is a table that has no row yet.
+pub fn read_ring(line: &Line) -> Result<Table, Refusal> {
+    let Some((numbers, family)) = ring_fields(line) else {
+        return misshapen(line, 1, &shape::ring());
     };
-    let (n, fibres) = (numbers[0], numbers[1]);
+    let (n, fibres, rows) = (numbers[0], numbers[1], Vec::new());
     if !known_size(n) {
         return refuse(3, 1, start_of(line, 1));
     }
     if !known_fibres(fibres) {
         return refuse(20, 1, start_of(line, 2));
     }
-    Ok((n, fibres))
+    Ok(Table {
+        n,
+        fibres,
+        family,
+        rows,
+    })
 }
 
 /// 3 is given where this is not so.

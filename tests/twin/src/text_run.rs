@@ -104,7 +104,7 @@ impl TextTally {
             self.sheets.count(&sheet.table);
         }
         if let Ok(matrix) = matrix::read(&case.text) {
-            self.matrices.count(&matrix::table_of(&matrix, 4));
+            self.matrices.count(&matrix::table_of(&matrix, 4, 0));
         }
     }
 
@@ -131,7 +131,7 @@ impl TextTally {
             ),
             (
                 "every reason of reading a matrix and of writing one seen in random cases",
-                self.gave(Call::ReadMatrix(4), &OF_READING)
+                self.gave(Call::ReadMatrix(4, 0), &OF_READING)
                     && self.gave(Call::WriteMatrix, &OF_WRITING),
             ),
             (

@@ -3,6 +3,7 @@
 //! damaged or no tables at all. Where many lists are equal, ties decide.
 
 use crate::compare::Case;
+use crate::family::Family;
 use crate::gen::{self, Amounts};
 use crate::groups::{self, of_table, of_text, Make};
 use crate::limits::ROWS;
@@ -103,7 +104,12 @@ fn most_circuits(rng: &mut Rng, case: u64) -> Option<Case> {
     });
     let mut rows: Vec<Row> = rows.filter(|row| row.first < row.second).collect();
     rows.sort_by_key(|row| (row.first, row.second));
-    alone(&Table { n, fibres: 4, rows })
+    alone(&Table {
+        n,
+        fibres: 4,
+        family: Family::Sonet,
+        rows,
+    })
 }
 
 /// Few sizes, so that lists are often equal, or one the beginning of another.

@@ -4,6 +4,7 @@ use crate::check;
 use crate::choice;
 use crate::lowered;
 use crate::matrix;
+use crate::report;
 use crate::rules;
 use crate::sheet;
 use crate::table::{self, Refusal};
@@ -26,10 +27,12 @@ pub enum Call {
     RewriteSheet,
     /// The first parallel pair of split rows of an accepted sheet.
     Parallel,
-    /// Matrix text in, table text out, with the number of fibres that is told.
-    ReadMatrix(u32),
+    /// Matrix text in, table text out, with the numbers of fibres and family that are told.
+    ReadMatrix(u32, u32),
     /// Table text in, matrix text out.
     WriteMatrix,
+    /// A text of many plans in, its report out.
+    Report,
 }
 
 /// All calls that the groups of texts make, each at its place.
@@ -39,7 +42,7 @@ pub const CALLS: [Call; 7] = [
     Call::Check,
     Call::RewriteSheet,
     Call::Parallel,
-    Call::ReadMatrix(4),
+    Call::ReadMatrix(4, 0),
     Call::WriteMatrix,
 ];
 
@@ -57,12 +60,12 @@ impl Call {
         words.split('(').next().unwrap_or_default().to_owned()
     }
 
-    /// The number that the call is told beside the text; 0 where it is told none.
+    /// The numbers that the call is told beside the text; 0 where it is told none.
     #[cfg(remote)]
-    pub fn told(self) -> u32 {
+    pub fn told(self) -> [u32; 4] {
         match self {
-            Call::ReadMatrix(fibres) => fibres,
-            _ => 0,
+            Call::ReadMatrix(fibres, family) => [fibres, family, 0, 0],
+            _ => [0; 4],
         }
     }
 
@@ -181,14 +184,15 @@ pub fn answer(call: Call, text: &[u8]) -> Answer {
             Ok(written(sheet::sheet_text(&sheet.table, &sheet.plan)))
         }
         Call::Parallel => Ok(found(check::first_parallel(&check::read(text)?))),
-        Call::ReadMatrix(fibres) => {
-            let table = matrix::table_of(&matrix::read_told(text, fibres)?, fibres);
+        Call::ReadMatrix(fibres, family) => {
+            let table = matrix::table_of(&matrix::read_told(text, fibres)?, fibres, family);
             Ok(written(sheet::table_text(&table)))
         }
         Call::WriteMatrix => {
             let sums = matrix::add_up(&table::read(text)?)?;
             Ok(written(matrix::matrix_text(&sums)))
         }
+        Call::Report => report::answer(text),
     }
 }
 

@@ -3,6 +3,7 @@
 //! (Rules, reading and judging).
 
 use crate::check::{self, Finding, Sheet};
+use crate::family::Family;
 use crate::rules::{Cut, Plan, Sent, Way};
 use crate::table::{Row, Table};
 
@@ -30,6 +31,8 @@ pub struct HeldLink {
 pub struct Values {
     pub n: u32,
     pub fibres: u32,
+    /// 0 is SONET, any other number SDH.
+    pub family: u32,
     pub rows: Vec<HeldRow>,
     pub g: u32,
     pub h: u32,
@@ -48,6 +51,7 @@ impl Values {
         Values {
             n: table.n as u32,
             fibres: table.fibres as u32,
+            family: table.family.number(),
             rows: rows
                 .map(|((row, sent), way)| held_row(row, sent, *way))
                 .collect(),
@@ -100,6 +104,7 @@ impl Values {
             table: Table {
                 n: self.n.into(),
                 fibres: self.fibres.into(),
+                family: Family::told(self.family),
                 rows: self.rows.iter().map(row).collect(),
             },
             plan: Plan {

@@ -3,6 +3,7 @@
 //! over the rows held, summed afresh for every reply.
 
 use crate::compare::Lend;
+use crate::family::Family;
 use crate::limits::ROWS;
 use crate::rules::{self, Cut};
 use crate::sheet::table_text;
@@ -15,10 +16,13 @@ pub const PLACES: usize = ROWS;
 /// A row as it is asked for: first node, second node, amount.
 pub type Wanted = [u32; 3];
 
+/// A ring as it is asked for: offices, fibres, and the number of the family.
+pub type Asked = [u32; 3];
+
 /// The calls of the working table.
 #[derive(Clone, Copy, Debug)]
 pub enum Ask {
-    Start { n: u32, fibres: u32 },
+    Start(Asked),
     Add(Wanted),
     Change(u32, Wanted),
     Remove(u32),
@@ -38,7 +42,7 @@ pub const ASK_NAMES: [&str; 6] = [
 impl Ask {
     pub fn place(self) -> usize {
         match self {
-            Ask::Start { .. } => 0,
+            Ask::Start(_) => 0,
             Ask::Add(_) => 1,
             Ask::Change(..) => 2,
             Ask::Remove(_) => 3,
@@ -51,7 +55,7 @@ impl Ask {
     #[cfg(remote)]
     pub fn told(self) -> [u32; 4] {
         match self {
-            Ask::Start { n, fibres } => [n, fibres, 0, 0],
+            Ask::Start([n, fibres, family]) => [n, fibres, family, 0],
             Ask::Add([first, second, amount]) => [first, second, amount, 0],
             Ask::Change(place, [first, second, amount]) => [place, first, second, amount],
             Ask::Remove(place) | Ask::Row(place) => [place, 0, 0, 0],
@@ -155,6 +159,7 @@ pub const CALL_REASONS: CallReasons = CallReasons {
 pub struct Working {
     pub n: i64,
     pub fibres: i64,
+    pub family: Family,
     pub places: Vec<Option<Row>>,
 }
 
@@ -164,9 +169,13 @@ pub fn row(wanted: Wanted) -> Row {
 }
 
 impl Working {
-    pub fn fresh(n: i64, fibres: i64) -> Working {
-        let places = vec![None; PLACES];
-        Working { n, fibres, places }
+    pub fn fresh(n: i64, fibres: i64, family: Family) -> Working {
+        Working {
+            n,
+            fibres,
+            family,
+            places: vec![None; PLACES],
+        }
     }
 
     /// The row at a place; none at 0 and behind the last.
@@ -196,6 +205,7 @@ impl Working {
         Table {
             n: self.n,
             fibres: self.fibres,
+            family: self.family,
             rows: self.places.iter().flatten().copied().collect(),
         }
     }
@@ -216,7 +226,7 @@ impl Working {
     /// The first reason that holds, 0 where none does.
     pub fn reason(&self, ask: &Ask, reasons: &CallReasons) -> u32 {
         let (list, place, numbers) = match *ask {
-            Ask::Start { n, fibres } => (reasons.start, 0, [n, fibres, 0]),
+            Ask::Start(ring) => (reasons.start, 0, ring),
             Ask::Add(wanted) => (reasons.add, 0, wanted),
             Ask::Change(place, wanted) => (reasons.change, place, wanted),
             Ask::Remove(place) => (reasons.remove, place, [0; 3]),
@@ -230,8 +240,9 @@ impl Working {
     /// What an accepted call does; the place that it is about, 0 of a start.
     pub fn alter(&mut self, ask: &Ask) -> u32 {
         match *ask {
-            Ask::Start { n, fibres } => {
-                *self = Working::fresh(i64::from(n), i64::from(fibres));
+            Ask::Start([n, fibres, family]) => {
+                let (n, fibres) = (i64::from(n), i64::from(fibres));
+                *self = Working::fresh(n, fibres, Family::told(family));
                 0
             }
             Ask::Add(wanted) => {

@@ -9,7 +9,7 @@ use crate::rng::Rng;
 use crate::twin::Reply;
 use crate::working::{Ask, Told, PLACES};
 use crate::working_compare::{noise, Compared, Desk, GUARD_WORDS, WORDS};
-use crate::working_groups::{bad, fibres, good};
+use crate::working_groups::{bad, family, fibres, good};
 
 /// What a call said and left.
 #[derive(PartialEq)]
@@ -104,10 +104,7 @@ fn ask(rng: &mut Rng) -> Ask {
             let length = rng.pick(&[0, 7, 100, 9_000, 40_000]);
             Ask::Write(Lend::Exactly(length))
         }
-        _ => Ask::Start {
-            n: rng.pick(&[0, 65]),
-            fibres: fibres(rng),
-        },
+        _ => Ask::Start([rng.pick(&[0, 65]), fibres(rng), family(rng)]),
     }
 }
 

@@ -5,17 +5,20 @@
 //! reads.
 
 use crate::compare::{fewer, pattern, words_of, written, Lend, GUARD, ROOM};
+use crate::family::Family;
 use crate::kit::Kit;
 use crate::limits::OFFICES;
 use crate::rules::Cut;
 use crate::twin::Call;
-use crate::working::{Ask, Told, WorkReply, Working, ASK_NAMES, PLACES};
+use crate::working::{Ask, Asked, Told, WorkReply, Working, ASK_NAMES, PLACES};
 
 /// The lent struct in words of 4 bytes, of which it has no part: a number for each two
-/// links, five more, and a word for each place.
-pub const WORDS: usize = CUTS + 5 + PLACES;
+/// links, some of the ring and the cut, and a word for each place.
+pub const WORDS: usize = CUTS + OTHERS + PLACES;
 /// So many pairs of links there are.
 pub const CUTS: usize = (OFFICES * (OFFICES - 1) / 2) as usize;
+/// Offices, fibres and family, and the largest cut.
+pub const OTHERS: usize = 6;
 /// Words on both sides of it that no call may change.
 pub const GUARD_WORDS: usize = 8;
 
@@ -71,19 +74,19 @@ impl<'a> Desk<'a> {
     pub fn started(
         kit: Kit,
         salt: u64,
-        (n, fibres): (u32, u32),
+        ring: Asked,
         tally: &'a mut WorkTally,
     ) -> Compared<Desk<'a>> {
         let mut desk = Desk {
             kit,
             salt,
-            table: Working::fresh(2, 4),
+            table: Working::fresh(2, 4, Family::Sonet),
             words: noise(salt),
             asked: Vec::new(),
             last: WorkReply::default(),
             tally,
         };
-        desk.ask(Ask::Start { n, fibres })?;
+        desk.ask(Ask::Start(ring))?;
         Ok(desk)
     }
 
@@ -195,10 +198,10 @@ fn cut_of(sheet: &[u8]) -> Option<Cut> {
 /// The calls again, and where they end in a difference.
 fn replay(kit: Kit, salt: u64, asked: &[Ask]) -> Option<String> {
     let mut tally = WorkTally::default();
-    let Some(Ask::Start { n, fibres }) = asked.first() else {
+    let Some(Ask::Start(ring)) = asked.first() else {
         return None;
     };
-    let mut desk = match Desk::started(kit, salt, (*n, *fibres), &mut tally) {
+    let mut desk = match Desk::started(kit, salt, *ring, &mut tally) {
         Ok(desk) => desk,
         Err(words) => return Some(words),
     };

@@ -88,8 +88,8 @@ fn starting(kept: &mut Kept, ask: &Ask, keep_rows: bool) -> u32 {
     let later = (1..=OFFICES).contains(&kept.cut.g);
     let place = keep(kept, ask);
     match ask {
-        Ask::Start { .. } if later && keep_rows => kept.table.places = rows,
-        Ask::Start { .. } if later => kept.across = across,
+        Ask::Start(_) if later && keep_rows => kept.table.places = rows,
+        Ask::Start(_) if later => kept.across = across,
         _ => (),
     }
     place
@@ -167,7 +167,7 @@ const fn started(start: &'static [CallReason]) -> Habits {
     })
 }
 
-const fn altering(alter: fn(&mut Kept, &Ask) -> u32) -> Habits {
+pub const fn altering(alter: fn(&mut Kept, &Ask) -> u32) -> Habits {
     Habits { alter, ..SOUND }
 }
 
@@ -175,11 +175,11 @@ const fn cutting(cut: fn(&Kept) -> Cut) -> Habits {
     Habits { cut, ..SOUND }
 }
 
-const fn hearing(hear: fn(Ask) -> Ask) -> Habits {
+pub const fn hearing(hear: fn(Ask) -> Ask) -> Habits {
     Habits { hear, ..SOUND }
 }
 
-const fn ordering(order: fn(&Working) -> Table) -> Habits {
+pub const fn ordering(order: fn(&Working) -> Table) -> Habits {
     Habits { order, ..SOUND }
 }
 

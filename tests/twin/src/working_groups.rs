@@ -4,7 +4,7 @@
 use crate::compare::Lend;
 use crate::part::{group, Group};
 use crate::rng::Rng;
-use crate::working::{Ask, Wanted, Working, PLACES};
+use crate::working::{Ask, Asked, Wanted, Working, PLACES};
 use crate::working_bytes;
 use crate::working_compare::{Compared, Desk};
 
@@ -16,7 +16,7 @@ pub struct Sequences {
     pub play: Play,
 }
 
-type Ring = fn(&mut Rng, u64) -> (u32, u32);
+type Ring = fn(&mut Rng, u64) -> Asked;
 type Play = fn(&mut Desk, &mut Rng) -> Compared<()>;
 
 pub const WORKING_GROUPS: [Group<Sequences>; 9] = [
@@ -26,26 +26,26 @@ pub const WORKING_GROUPS: [Group<Sequences>; 9] = [
     random(
         "working: random calls, 2 to 15 offices",
         20,
-        |rng, _| (rng.between(2, 15) as u32, fibres(rng)),
+        |rng, _| ring(rng, 2, 15),
         short,
     ),
     random(
         "working: random calls, 16 to 64 offices",
         24,
-        |rng, _| (rng.between(16, 64) as u32, fibres(rng)),
+        |rng, _| ring(rng, 16, 64),
         short,
     ),
     random("working: equal cuts", 10, any_ring, equal_cuts),
     random(
         "working: long, on full tables of 20 offices",
         18,
-        |rng, _| (20, fibres(rng)),
+        |rng, _| ring(rng, 20, 20),
         long,
     ),
     random(
         "working: long, on full tables of 64 offices",
         6,
-        |rng, _| (64, fibres(rng)),
+        |rng, _| ring(rng, 64, 64),
         long,
     ),
     random(
@@ -65,17 +65,34 @@ const fn random(name: &'static str, share: u64, ring: Ring, play: Play) -> Group
     group(name, share, Sequences { cases, ring, play })
 }
 
-fn any_size(_: &mut Rng, case: u64) -> (u32, u32) {
-    ([64, 2, 20][case as usize % 3], [2, 4][case as usize % 2])
+fn any_size(_: &mut Rng, case: u64) -> Asked {
+    let (fibres, family) = told(case);
+    [[64, 2, 20][case as usize % 3], fibres, family]
+}
+
+/// Fibres and family by number.
+fn told(case: u64) -> (u32, u32) {
+    ([2, 4][case as usize % 2], [0, 1, 1][case as usize % 3])
 }
 
 /// Of many calls on a full table the twin sums soonest on few offices.
-fn small_size(_: &mut Rng, case: u64) -> (u32, u32) {
-    ([20, 2][case as usize % 2], [2, 4][case as usize % 2])
+fn small_size(_: &mut Rng, case: u64) -> Asked {
+    let (fibres, family) = told(case);
+    [[20, 2][case as usize % 2], fibres, family]
 }
 
-fn any_ring(rng: &mut Rng, _: u64) -> (u32, u32) {
-    (rng.between(2, 64) as u32, fibres(rng))
+fn any_ring(rng: &mut Rng, _: u64) -> Asked {
+    ring(rng, 2, 64)
+}
+
+/// A ring of so many offices that is taken.
+fn ring(rng: &mut Rng, from: i64, to: i64) -> Asked {
+    [rng.between(from, to) as u32, fibres(rng), family(rng)]
+}
+
+/// Half of the time SONET, else SDH, by any number.
+pub fn family(rng: &mut Rng) -> u32 {
+    rng.pick(&[0, 0, 0, 0, 1, 1, 2, 256, 65_536, u32::MAX])
 }
 
 pub fn fibres(rng: &mut Rng) -> u32 {
@@ -203,7 +220,7 @@ fn all_refusals(desk: &mut Desk, rng: &mut Rng) -> Compared<()> {
         }
     }
     for (n, fibres) in NO_RINGS {
-        desk.ask(Ask::Start { n, fibres })?;
+        desk.ask(Ask::Start([n, fibres, family(rng)]))?;
     }
     for lend in LENDS {
         desk.ask(Ask::Write(lend))?;
@@ -232,8 +249,7 @@ fn refusals(desk: &mut Desk, rng: &mut Rng) -> Compared<()> {
     all_refusals(desk, rng)?;
     let row = good(rng, desk.table.n as u32);
     desk.ask(Ask::Add(row))?;
-    let (n, fibres) = (rng.between(2, 64) as u32, fibres(rng));
-    desk.ask(Ask::Start { n, fibres })?;
+    desk.ask(Ask::Start(ring(rng, 2, 64)))?;
     all_refusals(desk, rng)?;
     fill(desk, rng, 3)?;
     desk.all_rows()?;
@@ -284,8 +300,7 @@ fn every_length(desk: &mut Desk, rng: &mut Rng) -> Compared<()> {
 
 /// The longest text there is, and the largest across number.
 fn longest(desk: &mut Desk) -> Compared<()> {
-    let (n, fibres) = (64, 4);
-    desk.ask(Ask::Start { n, fibres })?;
+    desk.ask(Ask::Start([64, 4, 1]))?;
     for _ in 0..PLACES {
         desk.ask(Ask::Add([63, 64, 9_999]))?;
     }
@@ -332,7 +347,7 @@ fn next(rng: &mut Rng, table: &Working, mood: Mood) -> Ask {
         at if at < 98 => Ask::Write(rng.pick(&LENDS)),
         _ => {
             let (n, fibres) = rng.pick(&NO_RINGS);
-            Ask::Start { n, fibres }
+            Ask::Start([n, fibres, family(rng)])
         }
     }
 }
@@ -347,8 +362,7 @@ fn short(desk: &mut Desk, rng: &mut Rng) -> Compared<()> {
             desk.ask(ask)?;
         }
         if rng.chance(1, 4) {
-            let (n, fibres) = (rng.between(2, 64) as u32, fibres(rng));
-            desk.ask(Ask::Start { n, fibres })?;
+            desk.ask(Ask::Start(ring(rng, 2, 64)))?;
         }
     }
     if rng.chance(1, 6) {

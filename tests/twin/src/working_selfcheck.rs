@@ -2,6 +2,7 @@
 
 use crate::bars::barred;
 use crate::compare::Lend;
+use crate::family::Family;
 use crate::selfcheck::{same, Outcome};
 use crate::working::{Ask, Told, Working};
 
@@ -24,11 +25,11 @@ fn text(table: &mut Working) -> String {
 
 /// The square, a row at a time, and what is refused on the way.
 pub fn square() -> Outcome {
-    let table = &mut Working::fresh(2, 4);
+    let table = &mut Working::fresh(2, 4, Family::Sonet);
     let calls = [
-        (Ask::Start { n: 1, fibres: 3 }, [3, 0, 0, 0, 0]),
-        (Ask::Start { n: 4, fibres: 3 }, [20, 0, 0, 0, 0]),
-        (Ask::Start { n: 4, fibres: 2 }, [0, 0, 1, 2, 0]),
+        (Ask::Start([1, 3, 1]), [3, 0, 0, 0, 0]),
+        (Ask::Start([4, 3, 0]), [20, 0, 0, 0, 0]),
+        (Ask::Start([4, 2, 0]), [0, 0, 1, 2, 0]),
         (Ask::Add([2, 4, 1]), [0, 1, 1, 2, 1]),
         (Ask::Add([1, 3, 1]), [0, 2, 1, 3, 2]),
         (Ask::Add([1, 3, 0]), [0, 3, 1, 3, 2]),
@@ -47,12 +48,17 @@ pub fn square() -> Outcome {
         same(&format!("{ask:?}"), cut(table, ask), wanted)?;
     }
     let wanted = "R|4|2\nD|1|2|4\nD|1|3|1\nD|1|3|7\n";
-    same("rows by nodes, then by place", text(table).as_str(), wanted)
+    same("rows by nodes, then by place", text(table).as_str(), wanted)?;
+    for (family, wanted) in [(0, "R|4|4\n"), (1, "R|4|4|M\n"), (2, "R|4|4|M\n")] {
+        cut(table, Ask::Start([4, 4, family]));
+        same("the family", text(table).as_str(), wanted)?;
+    }
+    Ok(())
 }
 
 /// A full table has no room for a good row, and names what is wrong of a bad one.
 pub fn full() -> Outcome {
-    let table = &mut Working::fresh(2, 4);
+    let table = &mut Working::fresh(2, 4, Family::Sonet);
     for place in 1..=1_024 {
         same(
             "filling",

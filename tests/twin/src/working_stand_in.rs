@@ -2,13 +2,14 @@
 //! It keeps what it knows in the lent words: the across number of every cut, the
 //! ring, the last cut and the places, so that faults of keeping can be tried.
 
+use crate::family::Family;
 use crate::limits::OFFICES;
 use crate::rules::{front_holds, Cut};
 use crate::sheet::table_text;
 use crate::table::{Row, Table};
 use crate::twin::{self, Answer, Reply};
 use crate::working::{Ask, CallReasons, Told, WorkReply, Working, CALL_REASONS};
-use crate::working_compare::{CUTS, GUARD_WORDS};
+use crate::working_compare::{CUTS, GUARD_WORDS, OTHERS};
 
 /// A table with the numbers kept beside it.
 pub struct Kept {
@@ -50,8 +51,9 @@ pub fn cuts() -> impl Iterator<Item = (i64, i64)> {
 impl Kept {
     fn read(words: &[u32]) -> Kept {
         let number = |at: usize| i64::from(words[CUTS + at]);
-        let mut table = Working::fresh(number(0).clamp(2, OFFICES), number(1));
-        for (place, word) in table.places.iter_mut().zip(&words[CUTS + 5..]) {
+        let family = Family::told(words[CUTS + 2]);
+        let mut table = Working::fresh(number(0).clamp(2, OFFICES), number(1), family);
+        for (place, word) in table.places.iter_mut().zip(&words[CUTS + OTHERS..]) {
             let [i, j, low, high] = word.to_le_bytes();
             let d = i64::from(u16::from_le_bytes([low, high]));
             let (i, j) = (i64::from(i), i64::from(j));
@@ -61,9 +63,9 @@ impl Kept {
             table,
             across: words[..CUTS].iter().map(|word| i64::from(*word)).collect(),
             cut: Cut {
-                g: number(2),
-                h: number(3),
-                across: number(4),
+                g: number(3),
+                h: number(4),
+                across: number(5),
             },
         }
     }
@@ -73,11 +75,12 @@ impl Kept {
         for (word, across) in words.iter_mut().zip(&self.across) {
             *word = *across as u32;
         }
-        let numbers = [table.n, table.fibres, cut.g, cut.h, cut.across];
+        let family = i64::from(table.family.number());
+        let numbers = [table.n, table.fibres, family, cut.g, cut.h, cut.across];
         for (word, number) in words[CUTS..].iter_mut().zip(numbers) {
             *word = number as u32;
         }
-        for (word, place) in words[CUTS + 5..].iter_mut().zip(&table.places) {
+        for (word, place) in words[CUTS + OTHERS..].iter_mut().zip(&table.places) {
             *word = place.map_or(0, |row| {
                 let [low, high] = (row.amount as u16).to_le_bytes();
                 u32::from_le_bytes([row.first as u8, row.second as u8, low, high])
@@ -141,7 +144,7 @@ pub fn stand_in(habits: &Habits, ask: &Ask, words: &mut [u32], buffer: &mut [u8]
 /// A call takes the old row's share off, and adds the new one's.
 pub fn keep(kept: &mut Kept, ask: &Ask) -> u32 {
     let old = match *ask {
-        Ask::Start { .. } => {
+        Ask::Start(_) => {
             kept.across = vec![0; CUTS];
             None
         }

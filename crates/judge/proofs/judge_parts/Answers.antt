@@ -17,7 +17,7 @@ returns-in_err-judge_rows g c =
     rw (p.1, p.2) (at-rows x c.in_ok-judge_ring.ensures _ c.in_err-judge_rows.ensures)
 
 pub judge_cut-requires : goal.judge_cut-requires
-judge_cut-requires g c = rows-fit _ _ c.in_ok-judge_ring.ensures c.in_ok-judge_rows.ensures
+judge_cut-requires g c = rows-fit c.args.figures.ring _ c.in_ok-judge_ring.ensures c.in_ok-judge_rows.ensures
 
 pub returns-in_err-judge_cut : goal.returns-in_err-judge_cut
 returns-in_err-judge_cut g c =
@@ -26,7 +26,7 @@ returns-in_err-judge_cut g c =
     rw (p.1, p.2) (at-cut x c.in_ok-judge_ring.ensures c.in_ok-judge_rows.ensures _ c.in_err-judge_cut.ensures)
 
 pub weigh-weight-requires : goal.weigh-weight-requires
-weigh-weight-requires g c = rows-fit _ _ c.in_ok-judge_ring.ensures c.in_ok-judge_rows.ensures
+weigh-weight-requires g c = rows-fit c.args.figures.ring _ c.in_ok-judge_ring.ensures c.in_ok-judge_rows.ensures
 
 pub returns-in_err-judge_links : goal.returns-in_err-judge_links
 returns-in_err-judge_links g c =

@@ -1,7 +1,7 @@
 -- The first line's size, one law for each way out (`ReadSteps`).
 use Rattle.std.proofs.Common.{sym, ◌∙◌, rules}
 use Rattle.std.proofs.lemmas.Result.{err_from_is_err_and}
-use Rattle.matrix.specs.Read.{on_first}
+use Rattle.reasons.specs.Verdict.{refused_at}
 use Rattle.matrix.proofs.LineSteps.{read-not, read-all}
 use Rattle.matrix.proofs.ReadSteps.{too_long, no_line, first-misshapen, ring-fault, then-square, ring-few}
 use Rattle.matrix.proofs.read.nodes_of.Goals as goal
@@ -23,17 +23,17 @@ returns-in_err-numbers_on-clause-refused c =
     (first-misshapen _ c.in_ok-of.ensures.read.1 _ _ (sym c.in_ok-of.ensures.read.0 ∙ c.in_ok-first.ensures.read) _ c.tabs-count.ensures.is _ c.numbers_on.ensures _ (read-not _ _ _ c.in_err-numbers_on.was))
 
 pub returns-in_err-map_err-clause-refused : goal.returns-in_err-map_err-clause-refused
-unfolding on_first
+unfolding refused_at
 returns-in_err-map_err-clause-refused c =
     let p = err_from_is_err_and c.from_residual-in_err-map_err.result c.from_residual-in_err-map_err.ensures.1 in
     rw (p.1, p.2)
     (ring-fault _ c.in_ok-of.ensures.read.1 _ _ (sym c.in_ok-of.ensures.read.0 ∙ c.in_ok-first.ensures.read) _ c.tabs-count.ensures.is _ c.numbers_on.ensures _ (read-all _ _ c.in_ok-numbers_on.was) _ c.check_size.ensures c.map_err.result (search rules) _ c.in_err-map_err.was)
 
 pub returns-clause-goes_on : goal.returns-clause-goes_on
-unfolding on_first
+unfolding refused_at
 returns-clause-goes_on c =
     then-square _ c.in_ok-of.ensures.read.1 _ _ (sym c.in_ok-of.ensures.read.0 ∙ c.in_ok-first.ensures.read) _ c.tabs-count.ensures.is _ c.numbers_on.ensures _ (read-all _ _ c.in_ok-numbers_on.was) _ c.check_size.ensures c.map_err.result (search rules) c.in_ok-map_err.was
 
 pub returns-clause-few : goal.returns-clause-few
-unfolding on_first
+unfolding refused_at
 returns-clause-few c = ring-few _ _ c.check_size.ensures c.map_err.result (search rules) c.in_ok-map_err.was

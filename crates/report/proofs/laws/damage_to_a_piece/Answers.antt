@@ -1,5 +1,5 @@
 -- Damage (`ReportLaws`).
-use Rattle.report.proofs.ReportLaws.{damage-stays, pieces-stand, anywhere-stays}
+use Rattle.report.proofs.ReportLaws.{damage-stays, pieces-stand, anywhere-stays, reports-differ}
 use Rattle.report.proofs.laws.damage_to_a_piece.Goals as goal
 
 pub returns-clause-stays : goal.returns-clause-stays
@@ -10,3 +10,6 @@ returns-clause-pieces c = pieces-stand
 
 pub returns-clause-anywhere : goal.returns-clause-anywhere
 returns-clause-anywhere c = anywhere-stays
+
+pub returns-clause-reports : goal.returns-clause-reports
+returns-clause-reports c = reports-differ

@@ -8,7 +8,7 @@ pub put_table-requires : goal.put_table-requires
 put_table-requires c = search rows-have-room
 
 pub returns-clause-value : goal.returns-clause-value
-returns-clause-value c = search rows_written
+returns-clause-value c = rows_written c.args.work.now _ c.sorted.ensures.value _ c.ring.ensures _ _ _ c.put_table.ensures
 
 pub returns-clause-promise : goal.returns-clause-promise
 returns-clause-promise c =

@@ -3,7 +3,7 @@ use Rattle.ringkit_c.proofs.Told.{told-only, told-success, told-length, told-rea
 use Rattle.ringkit_c.proofs.texts.ringkit_read_matrix.Goals as goal
 
 pub returns-clause-only : goal.returns-clause-only
-returns-clause-only c = told-only _ _ c.from.ensures c.ringkit_read_matrix.ensures.only
+returns-clause-only c = let e = c.of-family.ensures in told-only _ _ c.from.ensures (rw e at c.ringkit_read_matrix.ensures.only)
 
 pub returns-clause-accepted : goal.returns-clause-accepted
 returns-clause-accepted c = told-success _ _ _ c.from.ensures c.ringkit_read_matrix.ensures.accepted

@@ -1,0 +1,31 @@
+-- To believe: the families of line sizes and the sizes of each (Rules, line sizes).
+use Rattle.std.specs.Prelude.{ℕ, cond, ◌≡◌, Bool, true, List, [], ◌∷◌, eqb}
+use Rattle.family.specs.declared.family.Family.{Family}
+use Rattle.family.specs.declared.family.Family.TheVariants.{Sonet, Sdh}
+
+-- the sizes of the SONET family
+abbrev pub sonet_sizes : List ℕ
+sonet_sizes = 3 ∷ 12 ∷ 48 ∷ 192 ∷ 768 ∷ []
+
+-- the sizes of the SDH family
+abbrev pub sdh_sizes : List ℕ
+sdh_sizes = 1 ∷ 4 ∷ 16 ∷ 64 ∷ 256 ∷ []
+
+-- the sizes of a family
+abbrev pub sizes_of : Family → List ℕ
+sizes_of Sonet = sonet_sizes
+sizes_of Sdh = sdh_sizes
+
+-- a family by its number
+abbrev pub family_of : ℕ → Family
+family_of number = cond (eqb number 0) Sonet Sdh
+
+-- the number of a family
+abbrev pub family_number : Family → ℕ
+family_number Sonet = 0
+family_number Sdh = 1
+
+-- which families there are: SONET; and SDH, where a ring's line may have the mark that says so
+abbrev pub Known : Bool → Family → Type 0
+Known marks Sonet = Unit {0}
+Known marks Sdh = marks ≡ true

@@ -1,0 +1,18 @@
+//! The SDH family.
+ghost use Rattle.std.specs.Prelude.{refl};
+ghost use Rattle.family.specs.Sizes.{sdh_sizes};
+
+use crate::LineSizes;
+
+/// SDH: units of STM-1.
+pub struct Sdh;
+
+impl LineSizes for Sdh {
+    const UNIT: [u8; 5] = *b"STM-1";
+
+    const SIZES: [u32; 5] = [1, 4, 16, 64, 256];
+
+    ghost SIZES = { sdh_sizes };
+
+    ghost rising = { refl };
+}

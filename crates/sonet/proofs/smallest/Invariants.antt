@@ -1,7 +1,0 @@
--- `sonet::smallest` meets its contract. The loop keeps that the answer of the sizes not yet seen is the answer of all.
-use Rattle.std.proofs.Common.{◌≡◌, drop}
-use Rattle.sonet.specs.Size.{smallest_in}
-use Rattle.sonet.proofs.smallest.Given as goal
-
-abbrev pub invariant-loop-size : goal.invariant-loop-size
-invariant-loop-size l = smallest_in (drop l.size-index l.sizes) l.peak ≡ smallest_in l.sizes l.peak
