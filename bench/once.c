@@ -28,32 +28,32 @@ static uint32_t told;
 
 /* ---- a text */
 
-static uint32_t route(void)
+/* By a call that reads a text and fills a buffer. */
+static uint32_t filled(ringkit_reply call(const uint8_t *, size_t, uint8_t *, size_t))
 {
-    ringkit_reply reply = ringkit_route(text, length, buffer, sizeof buffer);
+    ringkit_reply reply = call(text, length, buffer, sizeof buffer);
     written = reply.length;
     return reply.reason;
+}
+
+static uint32_t route(void)
+{
+    return filled(ringkit_route);
 }
 
 static uint32_t best(void)
 {
-    ringkit_reply reply = ringkit_route_best(text, length, buffer, sizeof buffer);
-    written = reply.length;
-    return reply.reason;
+    return filled(ringkit_route_best);
 }
 
 static uint32_t lowered(void)
 {
-    ringkit_reply reply = ringkit_route_lowered(text, length, buffer, sizeof buffer);
-    written = reply.length;
-    return reply.reason;
+    return filled(ringkit_route_lowered);
 }
 
 static uint32_t lowered_best(void)
 {
-    ringkit_reply reply = ringkit_route_lowered_best(text, length, buffer, sizeof buffer);
-    written = reply.length;
-    return reply.reason;
+    return filled(ringkit_route_lowered_best);
 }
 
 static uint32_t turn(void)
@@ -93,9 +93,7 @@ static uint32_t check_pieces(void)
 
 static uint32_t report(void)
 {
-    ringkit_reply reply = ringkit_report(text, length, buffer, sizeof buffer);
-    written = reply.length;
-    return reply.reason;
+    return filled(ringkit_report);
 }
 
 /* ---- a sheet as values */

@@ -29,7 +29,8 @@ use work::Work;
 pub extern "C" fn ringkit_work_start(work: &mut Work, n: u32, fibres: u32, family: u32) -> WorkReply
     // On every struct.
     ensures promise { ToldWork work.old (start (ring_told n fibres family)) result work.new }
-    ensures only { OnlyThis (ToldWork work.old (start (ring_told n fibres family))) result work.new }
+    ensures only { OnlyThis (ToldWork work.old (start (ring_told n fibres family))) result
+        work.new }
     ensures any { let call = start (ring_told n fibres family) in
         Told work_reply (λ a. Answered work.old call a work.new) result }
     ensures answered { Told work_reply (AnswerAfter [] (start (ring_told n fibres family))) result }
@@ -39,7 +40,8 @@ pub extern "C" fn ringkit_work_start(work: &mut Work, n: u32, fibres: u32, famil
     // Where it is accepted.
     ensures made { result.reason ≡ 0 → Made (start (ring_told n fibres family) ∷ []) work.new }
     ensures kept { result.reason ≡ 0 → TrueTable work.new }
-    ensures played { result.reason ≡ 0 → AsPlayed (start (ring_told n fibres family) ∷ []) work.new }
+    ensures played { result.reason ≡ 0 →
+        AsPlayed (start (ring_told n fibres family) ∷ []) work.new }
 
     // On a struct made by calls, accepted or refused.
     ensures made_later { (calls : List Call) → Made calls work.old →
