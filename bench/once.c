@@ -4,6 +4,8 @@
  *   once report PLANS                            the report over a text of many plans
  *   once pieces PLANS                            how many of its plans are accepted, each of which is checked by itself
  *   once turn TABLE                              peak, link and turns, and the ways as letters, go there
+ *   once crossing TABLE                          kind, and the bound or the two rows
+ *   once least TABLE                             peak, floor and rule, and the ways, go there
  *   once judge SHEET                             the values that the sheet says
  *   once add|change|remove|write [FIRST SECOND]  of a full working table of 64 offices, at its last place, a row of these nodes or else the dearest
  *   once kept, once afresh                       1,024 rows are added and removed again, with the largest cut behind each: kept by the library, or summed
@@ -20,7 +22,10 @@ enum { N = RINGKIT_MAX_OFFICES, ROWS = RINGKIT_MAX_ROWS, MOST = RINGKIT_MAX_AMOU
 static uint8_t text[RINGKIT_MAX_PLANS_BYTES], buffer[RINGKIT_SHEET_BYTES];
 static size_t length, written;
 static uint8_t ways[ROWS];
-static ringkit_turn_reply turned;
+static ringkit_crossing_reply crossed;
+/* what is told beside the ways, and how many rows they are of */
+static uint32_t beside[3];
+static size_t rows_sent;
 static ringkit_work work;
 /* the row that is added, changed to or removed: the dearest for all three, by trying all pairs */
 static uint32_t first = 16, second = 47;
@@ -56,10 +61,30 @@ static uint32_t lowered_best(void)
     return filled(ringkit_route_lowered_best);
 }
 
+static void sent(const uint32_t *numbers, size_t rows)
+{
+    memcpy(beside, numbers, sizeof beside);
+    rows_sent = rows;
+}
+
 static uint32_t turn(void)
 {
-    turned = ringkit_turn(text, length, ways);
-    return turned.reason;
+    ringkit_turn_reply reply = ringkit_turn(text, length, ways);
+    sent((const uint32_t[]){reply.peak, reply.link, reply.turns}, reply.rows);
+    return reply.reason;
+}
+
+static uint32_t least(void)
+{
+    ringkit_least_reply reply = ringkit_least(text, length, ways);
+    sent((const uint32_t[]){reply.peak, reply.floor, reply.rule}, reply.rows);
+    return reply.reason;
+}
+
+static uint32_t crossing(void)
+{
+    crossed = ringkit_crossing(text, length);
+    return crossed.reason;
 }
 
 static uint32_t check(void)
@@ -223,7 +248,7 @@ static const struct job {
     void (*prepare)(void);
     uint32_t (*call)(void);
 } JOBS[] = {
-    {"route", nothing, route}, {"best", nothing, best}, {"lowered", nothing, lowered}, {"lowered_best", nothing, lowered_best}, {"turn", nothing, turn}, {"check", nothing, check}, {"report", nothing, report}, {"pieces", take_apart, check_pieces}, {"judge", take_down, judge}, {"add", all_but_one, add}, {"change", all, change}, {"remove", all, removes}, {"write", all, writes},
+    {"route", nothing, route}, {"best", nothing, best}, {"lowered", nothing, lowered}, {"lowered_best", nothing, lowered_best}, {"turn", nothing, turn}, {"crossing", nothing, crossing}, {"least", nothing, least}, {"check", nothing, check}, {"report", nothing, report}, {"pieces", take_apart, check_pieces}, {"judge", take_down, judge}, {"add", all_but_one, add}, {"change", all, change}, {"remove", all, removes}, {"write", all, writes},
     {"kept", draw, kept}, {"afresh", draw, afresh},
 };
 
@@ -236,16 +261,24 @@ void counted(uint32_t (*call)(void))
     reason = call();
 }
 
-static void tell_turned(void)
+/* The third number is never 0 of the least; of turning the second is not. */
+static void tell_sent(void)
 {
-    if (turned.link == 0) {
+    if (beside[1] == 0 && beside[2] == 0) {
         return;
     }
-    printf("%u %u %u ", (unsigned)turned.peak, (unsigned)turned.link, (unsigned)turned.turns);
-    for (size_t row = 0; row < turned.rows; row++) {
+    printf("%u %u %u ", (unsigned)beside[0], (unsigned)beside[1], (unsigned)beside[2]);
+    for (size_t row = 0; row < rows_sent; row++) {
         putchar(ways[row] == RINGKIT_F ? 'F' : 'B');
     }
     putchar('\n');
+}
+
+static void tell_crossing(void)
+{
+    if (crossed.kind != 0) {
+        printf("%u %u %zu %zu\n", (unsigned)crossed.kind, (unsigned)crossed.bound, crossed.first, crossed.second);
+    }
 }
 
 static void read_text(const char *name)
@@ -267,7 +300,8 @@ int main(int words, char **word)
             JOBS[k].prepare();
             counted(JOBS[k].call);
             fwrite(buffer, 1, written, stdout);
-            tell_turned();
+            tell_sent();
+            tell_crossing();
             if (told != 0) {
                 printf("%u\n", (unsigned)told);
             }

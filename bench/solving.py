@@ -12,7 +12,6 @@ OUT = Path("target/bench")
 TABLE, MODEL, SOLUTION, SAID, CALLS = (str(OUT / name) for name in ("table", "model.lp", "solution", "said", "calls"))
 PLANNER = ["crates/ringplan/out/ringplan"]
 ONCE = str(OUT / "once")
-TURNER = [ONCE, "turn", TABLE]
 SIMPLEX = ["glpsol", "--lp", MODEL, "-w", SOLUTION]
 # as many rows left split as the best choice is sought for
 MOST_SPLIT = 16
@@ -22,6 +21,10 @@ RUNS = 5
 
 class Wrong(Exception):
     """Two programs disagree where they must not."""
+
+
+class Failed(Wrong):
+    """A program ended with another status than 0, as a solver may by a fault of its own."""
 
 
 def must(holds, words):
@@ -37,7 +40,8 @@ def run(words, given=os.devnull):
         child.returncode = os.waitstatus_to_exitcode(status)
         stdout.seek(0)
         said = stdout.read()
-    must(child.returncode == 0, f"{words[0]} ended with status {child.returncode}:\n{said}")
+    if child.returncode != 0:
+        raise Failed(f"{words[0]} ended with status {child.returncode}:\n{said}")
     return said, used.ru_utime + used.ru_stime
 
 
@@ -68,11 +72,16 @@ def plan(table):
     return across, peak
 
 
+def sent_whole(call, table):
+    """The three numbers that a call which writes ways says of the table, the first of them the peak."""
+    *numbers, ways = run([ONCE, call, TABLE])[0].split(" ")
+    must(peak_of(table, {place for place, way in enumerate(ways) if way == "F"}) == int(numbers[0]), f"{call}: the peak is not that of the ways")
+    return [int(number) for number in numbers]
+
+
 def turn(table):
     """The peak where whole circuits are sent one turn at a time."""
-    peak, _, _, *ways = run(TURNER)[0].split()
-    must(peak_of(table, {place for place, way in enumerate("".join(ways)) if way == "F"}) == int(peak), "the peak is not that of the turned ways")
-    return int(peak)
+    return sent_whole("turn", table)[0]
 
 
 def sheet_of(call, table):
@@ -96,8 +105,8 @@ def both_choices(table, by_rule_d, by_choice):
     return split, rule_d, chosen, across, loads
 
 
-def model(table, whole):
-    """The peak z to be made least, in CPLEX's LP format. Of row k the part x_k goes front and the rest back; x_k is 0 or 1 where it has to be whole."""
+def model(table, whole, most=None):
+    """The peak z to be made least, in CPLEX's LP format, or at most so much where that is said. Of row k the part x_k goes front and the rest back; x_k is 0 or 1 where it has to be whole."""
     used = [(place, row) for place, row in enumerate(table.rows) if row[2] > 0]
     lines = ["Minimize", " peak: z", "Subject To"]
     for link in range(1, table.n + 1):
@@ -105,6 +114,8 @@ def model(table, whole):
         back = sum(d for _, (i, j, d) in used if not i <= link < j)
         lines.append(textwrap.fill(f" link{link}: {' '.join(terms)} - z <= {-back}", 120))
     names = [f" x{place}" for place, _ in used]
+    if most is not None:
+        lines += ["Bounds", f" z <= {most}"]
     if whole:
         # where the peak must be whole, the solver is done less than one unit above its bound
         lines += ["Generals", " z", "Binaries", *names]
@@ -140,10 +151,38 @@ def branch(table, limit):
     if not found:
         return None, 0, False, seconds
     values = re.findall(r"\bx(\d+) +(\S+)", Path(SOLUTION).read_text())
-    peak = peak_of(table, {int(place) for place, value in values if float(value) > 0.5})
+    peak = peak_of_values(table, values)
     must(peak == round(float(found[1])), f"cbc says {found[1]}, its ways have the peak {peak}")
     lower = re.search(r"Lower bound: +(\S+)", said)
     return peak, peak if proved else math.ceil(float(lower[1]) - 1e-6), proved, seconds
+
+
+def peak_of_values(table, values):
+    """The peak of the ways that a solver's values say: pairs of a row's place and its x."""
+    return peak_of(table, {int(place) for place, value in values if float(value) > 0.5})
+
+
+def cbc_as_low(table, peak, limit):
+    """How long cbc takes to ways whose peak is at most that, which it is told; it stops at the first. None where it comes to none within the limit, or fails."""
+    Path(MODEL).write_text(model(table, whole=True, most=peak))
+    Path(SOLUTION).unlink(missing_ok=True)
+    try:
+        said, seconds = run(["cbc", MODEL, "sec", str(limit), "maxSolutions", "1", "solve", "solution", SOLUTION])
+    except Failed:
+        return None
+    values = re.findall(r"\bx(\d+) +(\S+)", Path(SOLUTION).read_text()) if re.search(r"Objective value: +\S+", said) else []
+    return seconds if values and peak_of_values(table, values) <= peak else None
+
+
+def glpsol_as_low(table, peak, limit):
+    """The same of glpsol."""
+    Path(MODEL).write_text(model(table, whole=True, most=peak))
+    Path(SOLUTION).unlink(missing_ok=True)
+    _, seconds = run(["glpsol", "--lp", MODEL, "--tmlim", str(limit), "--mipgap", "1000", "-o", SOLUTION])
+    text = Path(SOLUTION).read_text() if Path(SOLUTION).exists() else ""
+    values = re.findall(r"^ +\d+ x(\d+)\s+\*\s+(\d+)", text, re.MULTILINE)
+    found = re.search(r"^Status: +INTEGER", text, re.MULTILINE)
+    return seconds if found and peak_of_values(table, values) <= peak else None
 
 
 def solve(table, limit, counted):

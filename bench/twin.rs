@@ -4,7 +4,8 @@
 //! counted from outside, and writes the sheet, `twin best FILE` does so by the best choice,
 //! `twin lowered FILE` and `twin lowered_best FILE` by lowered rooms;
 //! `twin turn FILE` sends its circuits one turn at a time, and writes peak, link and
-//! turns, and the ways as letters.
+//! turns, and the ways as letters, `twin least FILE` by the rule that comes to the least
+//! peak, and writes peak, floor and rule, and the ways.
 
 #![allow(dead_code)]
 
@@ -16,6 +17,8 @@ mod choice;
 mod family;
 #[path = "../tests/twin/src/gen.rs"]
 mod gen;
+#[path = "../tests/twin/src/least.rs"]
+mod least;
 #[path = "../tests/twin/src/limits.rs"]
 mod limits;
 #[path = "../tests/twin/src/lowered.rs"]
@@ -39,6 +42,7 @@ mod turns;
 #[path = "../tests/twin/src/twin.rs"]
 mod twin;
 
+use least::LeastReply;
 use std::io::Write;
 use turns::{TurnReply, WAYS};
 use twin::{Call, Reply};
@@ -51,6 +55,7 @@ const ROOM: usize = 32_768;
 enum Counted {
     Routed(Reply),
     Turned(TurnReply),
+    Least(LeastReply),
 }
 
 /// As the library's call. It is never inlined, so that it can be counted by name.
@@ -59,6 +64,9 @@ enum Counted {
 fn counted(what: &str, table: &[u8], buffer: &mut [u8]) -> Counted {
     if what == "turn" {
         return Counted::Turned(turns::turn(table, &mut buffer[..WAYS]));
+    }
+    if what == "least" {
+        return Counted::Least(least::least(table, &mut buffer[..WAYS]));
     }
     let call = match what {
         "best" => Call::RouteBest,
@@ -76,6 +84,12 @@ fn resize(rng: &mut rng::Rng, table: &mut table::Table, rows: usize) {
         table.rows.remove(at);
     }
     gen::more_circuits(rng, table, rows);
+}
+
+/// Three numbers, and ways as letters.
+fn whole([one, two, three]: [u32; 3], ways: &[u8]) -> Vec<u8> {
+    let letters = ways.iter().map(|way| if *way == 0 { 'F' } else { 'B' });
+    format!("{one} {two} {three} {}\n", letters.collect::<String>()).into_bytes()
 }
 
 fn main() {
@@ -96,7 +110,7 @@ fn main() {
         out.write_all(&sheet::table_text(&table)).expect("output");
         return;
     }
-    assert!(["route", "best", "lowered", "lowered_best", "turn"].contains(&what));
+    assert!(["route", "best", "lowered", "lowered_best", "turn", "least"].contains(&what));
     let table = std::fs::read(word).expect("a table");
     let mut buffer = vec![0; ROOM];
     let written = match counted(what, &table, &mut buffer) {
@@ -106,10 +120,11 @@ fn main() {
         }
         Counted::Turned(reply) => {
             assert_eq!(reply.reason, 0);
-            let ways = buffer[..reply.rows].iter();
-            let letters: String = ways.map(|way| if *way == 0 { 'F' } else { 'B' }).collect();
-            let (peak, link, turns) = (reply.peak, reply.link, reply.turns);
-            format!("{peak} {link} {turns} {letters}\n").into_bytes()
+            whole([reply.peak, reply.link, reply.turns], &buffer[..reply.rows])
+        }
+        Counted::Least(reply) => {
+            assert_eq!(reply.reason, 0);
+            whole([reply.peak, reply.floor, reply.rule], &buffer[..reply.rows])
         }
     };
     out.write_all(&written).expect("output");

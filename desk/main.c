@@ -1,8 +1,10 @@
 /* The desk: plans a ring and checks plan sheets, and tells a planner what comes of it.
  *
- *   desk plan [--lowered] [--best] [--sheet | --json] [TABLE ...]     the plan of the table in words, or its sheet, or an object of JSON; --lowered with circuits divided by lowered rooms, --best with
- *                                 the best way of sending whole the circuits left divided
+ *   desk plan [--lowered] [--best] [--least] [--sheet | --json] [TABLE ...]     the plan of the table in words, or its sheet, or an object of JSON; --lowered with circuits divided by lowered rooms,
+ *                                 --best with the best way of sending whole the circuits left divided; --least with the peaks of all rules beside it
  *   desk turn [--json] [TABLE ...]    whole circuits sent one turn at a time: often a lower peak than the plan's, and sometimes proved the lowest
+ *   desk crossing [--json] [TABLE ...]    whether all circuits cross each other, and how high the peak of the best choice then is at most
+ *   desk least [--json] [TABLE ...]   whole circuits sent by the rule that comes to the least peak, with the peaks and line sizes of all rules, and how far from the best possible it can be at most
  *   desk check [--json] [SHEET ...]   whether the sheet is accepted
  *   desk picture [--turn | [--lowered] [--best]] [TABLE or SHEET]     the plan, or the accepted sheet, as an SVG picture; --turn with whole circuits sent one turn at a time, --lowered and --best as
  *                                 plan does with these
@@ -24,7 +26,9 @@
 #include <limits.h>
 #include <string.h>
 
+#include "crossing.h"
 #include "fields.h"
+#include "least.h"
 #include "objects.h"
 #include "picture.h"
 #include "plan.h"
@@ -54,6 +58,12 @@ static enum status sheet_of(const struct text *table, struct method method)
 {
     uint8_t sheet[RINGKIT_SHEET_BYTES];
     return pass_on(table, routing_by(method), sheet, sizeof sheet);
+}
+
+static enum status sheet_with_least(const struct text *table, struct method method)
+{
+    enum status status = sheet_of(table, method);
+    return status == FINE ? least_beside_sheet(table, method) : status;
 }
 
 /* What a matrix does not say of its ring. */
@@ -98,14 +108,6 @@ static enum status check_sheet(const struct text *sheet)
     return FINE;
 }
 
-/* Row k stands on line k + 1, behind the R line. */
-static void show_row(const struct text *sheet, size_t row)
-{
-    printf("    row %zu, line %zu: ", row, row + 1);
-    show_line(stdout, line_of(sheet, row + 1));
-    putchar('\n');
-}
-
 static enum status ask_parallel(const struct text *sheet)
 {
     ringkit_pair_reply reply = ringkit_parallel(sheet->bytes, sheet->length);
@@ -127,14 +129,14 @@ static enum status ask_parallel(const struct text *sheet)
 /* ---- what the words ask for */
 
 /* The options, each a bit of its own. */
-enum { SHEET = 1, JSON = 2, TURN = 4, RING = 8, FIBRES = 16, HELP = 32, BEST = 64, LOWERED = 128, TEXT = 256, OF_SDH = 512 };
+enum { SHEET = 1, JSON = 2, TURN = 4, RING = 8, FIBRES = 16, HELP = 32, BEST = 64, LOWERED = 128, TEXT = 256, OF_SDH = 512, LEAST = 1024 };
 
 static const struct option {
     const char *name;
     unsigned bit;
 } OPTIONS[] = {
     {"--sheet", SHEET}, {"--json", JSON}, {"--turn", TURN}, {"--ring", RING}, {"--fibres", FIBRES}, {"--help", HELP}, {"--best", BEST}, {"--lowered", LOWERED},
-    {"--text", TEXT}, {"--sdh", OF_SDH},
+    {"--text", TEXT}, {"--sdh", OF_SDH}, {"--least", LEAST},
 };
 
 struct order {
@@ -217,8 +219,10 @@ static bool order_plan(const struct order *order, enum status *status)
     if (asks_too_much(order)) {
         return false;
     }
-    struct task task = {.tell_plan = order->said & SHEET ? sheet_of : plan_table, .put_plan = plan_object, .method = method_of(order)};
-    *status = each_file(order, task);
+    bool sheet = order->said & SHEET;
+    struct task alone = {.tell_plan = sheet ? sheet_of : plan_table, .put_plan = plan_object, .method = method_of(order)};
+    struct task with_least = {.tell_plan = sheet ? sheet_with_least : plan_with_least, .put_plan = plan_object_with_least, .method = method_of(order)};
+    *status = each_file(order, order->said & LEAST ? with_least : alone);
     return true;
 }
 
@@ -234,6 +238,18 @@ static bool order_report(const struct order *order, enum status *status)
 static bool order_turn(const struct order *order, enum status *status)
 {
     *status = each_file(order, (struct task){.tell = turn_table, .put = turn_object});
+    return true;
+}
+
+static bool order_crossing(const struct order *order, enum status *status)
+{
+    *status = each_file(order, (struct task){.tell = tell_crossing, .put = crossing_object});
+    return true;
+}
+
+static bool order_least(const struct order *order, enum status *status)
+{
+    *status = each_file(order, (struct task){.tell = least_table, .put = least_object});
     return true;
 }
 
@@ -310,8 +326,10 @@ static const struct command {
     int files;        /* that it takes at most */
     bool (*carry_out)(const struct order *, enum status *);
 } COMMANDS[] = {
-    {"plan", LOWERED | BEST | SHEET | JSON, INT_MAX, order_plan},
+    {"plan", LOWERED | BEST | LEAST | SHEET | JSON, INT_MAX, order_plan},
     {"turn", JSON, INT_MAX, order_turn},
+    {"crossing", JSON, INT_MAX, order_crossing},
+    {"least", JSON, INT_MAX, order_least},
     {"check", JSON, INT_MAX, order_check},
     {"picture", TURN | LOWERED | BEST, 1, order_picture},
     {"report", TEXT | JSON, INT_MAX, order_report},
@@ -396,8 +414,10 @@ static bool read_order(struct order *order, int count, char **words)
     return takes_files(order);
 }
 
-static const char USAGE[] = "usage: desk plan [--lowered] [--best] [--sheet | --json] [TABLE ...]\n"
+static const char USAGE[] = "usage: desk plan [--lowered] [--best] [--least] [--sheet | --json] [TABLE ...]\n"
                             "       desk turn [--json] [TABLE ...]\n"
+                            "       desk crossing [--json] [TABLE ...]\n"
+                            "       desk least [--json] [TABLE ...]\n"
                             "       desk check [--json] [SHEET ...]\n"
                             "       desk picture [--turn | [--lowered] [--best]] [TABLE or SHEET]\n"
                             "       desk report [--text | --json] [PLANS ...]\n"

@@ -3,7 +3,9 @@
 #include <errno.h>
 #include <string.h>
 
+#include "crossing.h"
 #include "json.h"
+#include "least.h"
 #include "plan.h"
 #include "refusal.h"
 #include "report.h"
@@ -61,6 +63,17 @@ static enum status put_object(const char *command, const char *file, answering *
     struct text text;
     enum status status = open_answer(&json, &text, command, file);
     return close_answer(&json, status == FINE ? answer(&json, &text) : status);
+}
+
+/* The same of a plan by a method. */
+typedef enum status answering_by(struct json *json, const struct text *table, struct method method);
+
+static enum status put_planned(const char *file, struct method method, answering_by *answer)
+{
+    struct json json;
+    struct text text;
+    enum status status = open_answer(&json, &text, "plan", file);
+    return close_answer(&json, status == FINE ? answer(&json, &text, method) : status);
 }
 
 /* ---- a plan */
@@ -143,13 +156,72 @@ static void put_floor(struct json *json, const struct plan *plan, unsigned peak)
     put_truth(json, "proved_best", peak == floor_of(plan));
 }
 
+/* Puts why no plan of the table was found, where none was. */
+static enum status put_unless_fine(struct json *json, enum status status, struct refusal refusal)
+{
+    return status == REFUSED ? put_refused(json, refusal) : status == TROUBLE ? put_trouble(json, STRANGE_SHEET) : FINE;
+}
+
 /* Finds the plan, or puts why there is none. */
 static enum status plan_or_put(struct json *json, struct plan *plan, const struct text *table, struct method method)
 {
     struct refusal refusal;
     enum status status = find_plan(plan, &refusal, table, method);
-    return status == REFUSED ? put_refused(json, refusal) : status == TROUBLE ? put_trouble(json, STRANGE_SHEET) : FINE;
+    return put_unless_fine(json, status, refusal);
 }
+
+/* ---- the least beside a plan */
+
+static void put_outcome(struct json *json, const char *rule, const struct outcome *outcome)
+{
+    open_object(json, NULL);
+    put_text(json, "rule", rule);
+    if (outcome->found) {
+        put_number(json, "peak", outcome->peak);
+    } else {
+        put_none(json, "peak");
+    }
+    put_number_or_none(json, "size", outcome->size);
+    close_object(json);
+}
+
+static void put_least(struct json *json, const struct least *least, const struct plan *plan)
+{
+    static const char *const RULES[COUNT_OF_RULES + 1] = {
+        [BY_TURNS] = "one_turn_at_a_time", [BY_BEST] = "best_choice", [BY_LOWERED_BEST] = "best_choice_lowered_rooms", [BY_RULE_D] = "rule_d", [BY_LOWERED_RULE_D] = "rule_d_lowered_rooms",
+    };
+    open_object(json, "least");
+    put_truth(json, "saves_size", saves_size(least, plan));
+    put_text(json, "rule", RULES[least->rule]);
+    put_number(json, "peak", least->peak);
+    put_number_or_none(json, "size", least->size);
+    put_number(json, "floor", least->floor);
+    put_number_or_none(json, "floor_size", least->floor_size);
+    put_truth(json, "proved_best", least->peak == least->floor);
+    if (plan->all_cross) {
+        put_number(json, "bound_halves", plan->bound);
+    }
+    open_list(json, "rules");
+    for (enum rule rule = BY_TURNS; rule <= COUNT_OF_RULES; rule++) {
+        put_outcome(json, RULES[rule], &least->outcome[rule]);
+    }
+    close_list(json);
+    close_object(json);
+}
+
+/* Finds the plan and the least, or puts why there is none. */
+static enum status least_or_put(struct json *json, struct plan *plan, struct least *least, const struct text *table, struct method method)
+{
+    struct refusal refusal;
+    enum status status = plan_or_put(json, plan, table, method);
+    if (status == FINE) {
+        status = find_least(least, &refusal, table, plan);
+        put_unless_fine(json, status, refusal);
+    }
+    return status;
+}
+
+/* ---- all of a plan */
 
 /* An object by the four rules has neither key. */
 static void put_method(struct json *json, struct method method)
@@ -162,35 +234,68 @@ static void put_method(struct json *json, struct method method)
     }
 }
 
+/* By the best choice, where all circuits cross each other; elsewhere there is no such key. */
+static void put_bounds(struct json *json, const struct plan *plan)
+{
+    if (plan->method.choice == BEST_CHOICE && plan->all_cross) {
+        open_object(json, "all_cross");
+        put_number(json, "bound_halves", plan->bound);
+        put_number(json, "rule_d_bound_halves", bound_of_rule_d(plan));
+        close_object(json);
+    }
+}
+
+/* All of a plan, with the least beside it where there is one. */
+static void put_plan_whole(struct json *json, const struct plan *plan, const struct least *least)
+{
+    put_ring(json, plan);
+    put_method(json, plan->method);
+    if (least != NULL) {
+        put_least(json, least, plan);
+    }
+    put_circuits(json, plan);
+    put_cut(json, plan);
+    put_links(json, plan);
+    put_peaks(json, plan);
+    put_bounds(json, plan);
+    put_floor(json, plan, plan->peak);
+    put_number_or_none(json, "size", plan->size);
+}
+
 static enum status put_plan(struct json *json, const struct text *table, struct method method)
 {
     struct plan plan;
     enum status status = plan_or_put(json, &plan, table, method);
-    if (status != FINE) {
-        return status;
+    if (status == FINE) {
+        put_plan_whole(json, &plan, NULL);
     }
-    put_ring(json, &plan);
-    put_method(json, method);
-    put_circuits(json, &plan);
-    put_cut(json, &plan);
-    put_links(json, &plan);
-    put_peaks(json, &plan);
-    put_floor(json, &plan, plan.peak);
-    put_number_or_none(json, "size", plan.size);
-    return FINE;
+    return status;
+}
+
+static enum status put_plan_with_least(struct json *json, const struct text *table, struct method method)
+{
+    struct plan plan;
+    struct least least;
+    enum status status = least_or_put(json, &plan, &least, table, method);
+    if (status == FINE) {
+        put_plan_whole(json, &plan, &least);
+    }
+    return status;
 }
 
 enum status plan_object(const char *file, struct method method)
 {
-    struct json json;
-    struct text text;
-    enum status status = open_answer(&json, &text, "plan", file);
-    return close_answer(&json, status == FINE ? put_plan(&json, &text, method) : status);
+    return put_planned(file, method, put_plan);
 }
 
-/* ---- circuits that are turned */
+enum status plan_object_with_least(const char *file, struct method method)
+{
+    return put_planned(file, method, put_plan_with_least);
+}
 
-static void put_turned_circuits(struct json *json, const struct plan *plan, const uint8_t *ways)
+/* ---- circuits that go whole */
+
+static void put_whole_circuits(struct json *json, const struct plan *plan, const uint8_t *ways)
 {
     open_list(json, "circuits");
     for (unsigned k = 0; k < plan->circuits; k++) {
@@ -202,7 +307,7 @@ static void put_turned_circuits(struct json *json, const struct plan *plan, cons
     close_list(json);
 }
 
-static void put_turned_links(struct json *json, const struct plan *plan, const uint8_t *ways)
+static void put_whole_links(struct json *json, const struct plan *plan, const uint8_t *ways)
 {
     open_list(json, "links");
     for (unsigned link = 1; link <= plan->offices; link++) {
@@ -236,8 +341,8 @@ static enum status put_turned(struct json *json, const struct text *table)
         return status;
     }
     put_ring(json, &plan);
-    put_turned_circuits(json, &plan, ways);
-    put_turned_links(json, &plan, ways);
+    put_whole_circuits(json, &plan, ways);
+    put_whole_links(json, &plan, ways);
     put_number(json, "avoided_link", reply.link);
     put_number(json, "turns", reply.turns);
     put_number(json, "peak", reply.peak);
@@ -250,6 +355,52 @@ static enum status put_turned(struct json *json, const struct text *table)
 enum status turn_object(const char *file)
 {
     return put_object("turn", file, put_turned);
+}
+
+/* ---- whether circuits cross each other */
+
+static enum status put_crossing(struct json *json, const struct text *table)
+{
+    static const char *const KINDS[] = {[RINGKIT_ALL_CROSS] = "all_cross", [RINGKIT_PARALLEL] = "parallel", [RINGKIT_MANY] = "too_many"};
+    ringkit_crossing_reply reply = ringkit_crossing(table->bytes, table->length);
+    if (reply.reason != RINGKIT_OK) {
+        return put_refused(json, REFUSAL_OF(reply));
+    }
+    put_text(json, "status", "fine");
+    put_text(json, "kind", KINDS[reply.kind]);
+    if (reply.kind == RINGKIT_ALL_CROSS) {
+        put_number(json, "bound_halves", reply.bound);
+    } else if (reply.kind == RINGKIT_PARALLEL) {
+        put_number(json, "first_row", (unsigned)reply.first);
+        put_number(json, "second_row", (unsigned)reply.second);
+    }
+    return FINE;
+}
+
+enum status crossing_object(const char *file)
+{
+    return put_object("crossing", file, put_crossing);
+}
+
+/* ---- the least that the rules come to */
+
+static enum status put_least_of(struct json *json, const struct text *table)
+{
+    struct plan plan;
+    struct least least;
+    enum status status = least_or_put(json, &plan, &least, table, FOUR_RULES);
+    if (status == FINE) {
+        put_ring(json, &plan);
+        put_least(json, &least, &plan);
+        put_whole_circuits(json, &plan, least.ways);
+        put_whole_links(json, &plan, least.ways);
+    }
+    return status;
+}
+
+enum status least_object(const char *file)
+{
+    return put_object("least", file, put_least_of);
 }
 
 /* ---- a sheet that is checked */

@@ -10,8 +10,17 @@
 /* The plan of the table by that method. */
 enum status plan_object(const char *file, struct method method);
 
+/* The same, and what each rule that sends circuits whole comes to. */
+enum status plan_object_with_least(const char *file, struct method method);
+
 /* The table's circuits sent one turn at a time, beside the plan's own peak. */
 enum status turn_object(const char *file);
+
+/* Whether the table's circuits all cross each other. */
+enum status crossing_object(const char *file);
+
+/* What each rule that sends circuits whole comes to, and where the circuits go by the first that comes to the least peak. */
+enum status least_object(const char *file);
 
 /* Whether the sheet is accepted. */
 enum status check_object(const char *file);

@@ -25,11 +25,6 @@ bool is_cut(const struct plan *plan, unsigned link)
     return link == plan->g || link == plan->h;
 }
 
-bool is_split(const struct circuit *circuit)
-{
-    return circuit->front > 0 && circuit->back > 0;
-}
-
 char letter_of(unsigned drawn)
 {
     return "abcdefghij"[drawn];

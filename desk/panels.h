@@ -50,9 +50,6 @@ int part_of_length(const struct picture *picture, unsigned halves, int length);
 /* Whether the link is one of the cut's two. */
 bool is_cut(const struct plan *plan, unsigned link);
 
-/* Whether the split plan divides the circuit. */
-bool is_split(const struct circuit *circuit);
-
 /* The letter that a drawn circuit has on its path and in the list. */
 char letter_of(unsigned drawn);
 

@@ -1,5 +1,6 @@
 #include "plan.h"
 
+#include "crossing.h"
 #include "fields.h"
 #include "refusal.h"
 
@@ -38,6 +39,7 @@ static bool read_plan(struct plan *plan, const uint8_t *sheet, size_t length)
 {
     struct rest rest = {sheet, sheet + length};
     plan->method = FOUR_RULES;
+    plan->all_cross = false;
     plan->offices = begins(&rest, 'R') ? number(&rest) : 0;
     if (plan->offices < RINGKIT_MIN_OFFICES || plan->offices > RINGKIT_MAX_OFFICES) {
         return false;
@@ -59,6 +61,11 @@ static bool read_plan(struct plan *plan, const uint8_t *sheet, size_t length)
     plan->peak = number(&rest);
     plan->size = number(&rest);
     return rest.at == rest.end;
+}
+
+bool is_split(const struct circuit *circuit)
+{
+    return circuit->front > 0 && circuit->back > 0;
 }
 
 struct units in_units(unsigned halves)
@@ -173,10 +180,21 @@ static void tell_size_at(FILE *out, const struct plan *plan, unsigned peak, unsi
     }
 }
 
+void tell_kept_half(FILE *out)
+{
+    fprintf(out, "On a ring of two fibres half of each line is kept for protection, so the line has room for twice the peak.\n");
+}
+
 void tell_floor(FILE *out, const struct plan *plan, unsigned peak)
 {
+    fprintf(out, "However whole circuits are sent, the peak is at least %u: half of the %u across links %u and %u%s.\n", floor_of(plan), plan->across, plan->g, plan->h,
+            plan->across % 2 == 0 ? "" : ", rounded up");
+    tell_proof(out, plan, peak);
+}
+
+void tell_proof(FILE *out, const struct plan *plan, unsigned peak)
+{
     unsigned least = floor_of(plan);
-    fprintf(out, "However whole circuits are sent, the peak is at least %u: half of the %u across links %u and %u%s.\n", least, plan->across, plan->g, plan->h, plan->across % 2 == 0 ? "" : ", rounded up");
     if (peak == least) {
         fprintf(out, "So %u is proved to be the best there is.\n", peak);
     } else {
@@ -185,16 +203,32 @@ void tell_floor(FILE *out, const struct plan *plan, unsigned peak)
     }
 }
 
-/* What the best choice is the best of. */
-static void tell_choice(FILE *out, const struct plan *plan)
+/* The bound is what the largest cut has across, and twice the largest amount. */
+void tell_bound(FILE *out, const struct plan *plan, const char *peak)
 {
-    if (plan->method.choice == BEST_CHOICE) {
-        fprintf(out, "By the best choice: no other way of sending the divided circuits whole has a lower peak than %u.\n", plan->peak);
+    struct units bound = in_units(plan->bound);
+    unsigned largest = (plan->bound - plan->across) / 2;
+    if (plan->all_cross) {
+        fprintf(out, "All circuits that have an amount cross each other, so %s is at most %u.%u: half of the %u across, and the largest amount, %u.\n", peak, bound.whole, bound.tenths, plan->across,
+                largest);
     }
 }
 
-/* Which way each circuit goes, the cut and what it means, the links' loads, the line size to buy, and how low a peak could be. */
-static void tell_plan(FILE *out, const struct plan *plan)
+/* What the best choice is the best of, and how high it is at most. */
+static void tell_choice(FILE *out, const struct plan *plan)
+{
+    if (plan->method.choice != BEST_CHOICE) {
+        return;
+    }
+    fprintf(out, "By the best choice: no other way of sending the divided circuits whole has a lower peak than %u.\n", plan->peak);
+    tell_bound(out, plan, "this peak");
+    if (plan->all_cross) {
+        struct units by_rule_d = in_units(bound_of_rule_d(plan));
+        fprintf(out, "The bound of rule D is %u.%u.\n", by_rule_d.whole, by_rule_d.tenths);
+    }
+}
+
+void tell_plan(FILE *out, const struct plan *plan)
 {
     tell_ring(out, plan);
     if (plan->circuits > 0) {
@@ -228,6 +262,14 @@ writing *routing_by(struct method method)
     return CALLS[method.rooms][method.choice];
 }
 
+/* What is promised besides of the best choice's peak, and so of the least. */
+static void find_bound(struct plan *plan, const struct text *table)
+{
+    ringkit_crossing_reply reply = ringkit_crossing(table->bytes, table->length);
+    plan->all_cross = reply.kind == RINGKIT_ALL_CROSS;
+    plan->bound = reply.bound;
+}
+
 enum status find_plan(struct plan *plan, struct refusal *refusal, const struct text *table, struct method method)
 {
     uint8_t sheet[RINGKIT_SHEET_BYTES];
@@ -238,18 +280,24 @@ enum status find_plan(struct plan *plan, struct refusal *refusal, const struct t
     }
     bool good = read_plan(plan, sheet, reply.length);
     plan->method = method;
+    find_bound(plan, table);
     return good ? FINE : TROUBLE;
+}
+
+void tell_unless_fine(const struct text *table, enum status status, struct refusal refusal)
+{
+    if (status == REFUSED) {
+        tell_refusal(table, refusal, true);
+    } else if (status == TROUBLE) {
+        fprintf(stderr, "desk: %s\n", STRANGE_SHEET);
+    }
 }
 
 enum status make_plan(struct plan *plan, const struct text *table, struct method method)
 {
     struct refusal refusal;
     enum status status = find_plan(plan, &refusal, table, method);
-    if (status == REFUSED) {
-        tell_refusal(table, refusal, true);
-    } else if (status == TROUBLE) {
-        fprintf(stderr, "desk: %s\n", STRANGE_SHEET);
-    }
+    tell_unless_fine(table, status, refusal);
     return status;
 }
 

@@ -40,6 +40,8 @@ struct plan {
     unsigned g, h, across;
     struct load load[RINGKIT_MAX_OFFICES];
     unsigned peak, size;
+    bool all_cross; /* of a routed table: whether all circuits that have an amount cross each other and are few enough; then */
+    unsigned bound; /* twice the peak of the best choice, and so the least one's, is at most this */
 };
 
 /* A call that writes a text of a text. */
@@ -54,14 +56,23 @@ enum status find_plan(struct plan *plan, struct refusal *refusal, const struct t
 /* What is said of such trouble. */
 extern const char STRANGE_SHEET[];
 
-/* The same, and says on standard error why it cannot. */
+/* Says on standard error why no plan of the table was found, where none was. */
+void tell_unless_fine(const struct text *table, enum status status, struct refusal refusal);
+
+/* Finds the plan, and says on standard error why it cannot. */
 enum status make_plan(struct plan *plan, const struct text *table, struct method method);
 
 /* Takes a sheet apart that the library wrote or accepted. Says on standard error why it cannot. */
 enum status take_apart(struct plan *plan, const uint8_t *sheet, size_t length);
 
-/* Routes the table and tells its plan: which way each circuit goes, the cut and what it means, the links' loads, the line size to buy, and how low a peak could be. */
+/* Tells a plan: which way each circuit goes, the cut and what it means, the links' loads, the line size to buy, and how low a peak could be. */
+void tell_plan(FILE *out, const struct plan *plan);
+
+/* Routes the table and tells its plan. */
 enum status plan_table(const struct text *table, struct method method);
+
+/* Whether the split plan divides the circuit. */
+bool is_split(const struct circuit *circuit);
 
 /* The line size to buy for the plan's ring at a peak; 0 where none is large enough. */
 unsigned line_size(const struct plan *plan, unsigned peak);
@@ -87,5 +98,14 @@ void tell_parted(FILE *out, unsigned g, unsigned h);
 
 /* Tells below what no peak of whole circuits can be, whether that proves this one to be the best there is, and where it does not, whether a lower one could be of use. */
 void tell_floor(FILE *out, const struct plan *plan, unsigned peak);
+
+/* Tells, where all circuits cross, how high a peak is at most, which is that of the best choice or below it. */
+void tell_bound(FILE *out, const struct plan *plan, const char *peak);
+
+/* The floor's sentence without the first of these. */
+void tell_proof(FILE *out, const struct plan *plan, unsigned peak);
+
+/* Tells, of a ring of two fibres, why its line sizes are for twice the peak. */
+void tell_kept_half(FILE *out);
 
 #endif

@@ -155,7 +155,7 @@ static bool tell_rest(FILE *out, struct line line, struct part part, const char 
 
 static const char MISSING[] = "(the text ends before it)";
 
-void show_line(FILE *out, struct line line)
+static void show_line(FILE *out, struct line line)
 {
     if (line.missing) {
         fputs(MISSING, out);
@@ -167,6 +167,14 @@ void show_line(FILE *out, struct line line)
 }
 
 static const char INDENT[] = "    ";
+
+/* Row k stands on line k + 1, behind the R line. */
+void show_row(const struct text *text, size_t row)
+{
+    printf("%srow %zu, line %zu: ", INDENT, row, row + 1);
+    show_line(stdout, line_of(text, row + 1));
+    putchar('\n');
+}
 
 void mark_line(FILE *out, struct line line, size_t byte)
 {

@@ -38,9 +38,9 @@ struct line {
 /* The line of that number, counted from 1. */
 struct line line_of(const struct text *text, size_t number);
 
-/* Writes a line in quotes, so that every byte of it is seen and none reaches the terminal: a tab is |, and any other byte that does not print
- * is \xNN. A long line is cut. Behind it stands what the quotes do not say. */
-void show_line(FILE *out, struct line line);
+/* Writes a row of a table or a sheet on a line of its own: its place, which is counted from 1, and the row in quotes, so that every byte of it is seen and none reaches the terminal: a tab is |, and any
+ * other byte that does not print is \xNN. A long line is cut. Behind it stands what the quotes do not say. */
+void show_row(const struct text *text, size_t row);
 
 /* Writes a line in the same way on a line of its own, below it a mark under that byte, counted from 1, and below that what the quotes do not say: whatever width a
  * terminal has, the mark is where it should be. A byte at the line's LF, or behind all of it, is the place of the closing quote. Of a long line the part about the byte is shown. */

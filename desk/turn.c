@@ -17,23 +17,31 @@ unsigned load_of(const struct plan *plan, const uint8_t *ways, unsigned link)
     return load;
 }
 
-static void tell_ways(const struct plan *plan, const uint8_t *ways)
+static void tell_ways(FILE *out, const struct plan *plan, const uint8_t *ways)
 {
-    printf("\nCircuit   offices  amount  it goes\n");
+    fprintf(out, "\nCircuit   offices  amount  it goes\n");
     for (unsigned k = 0; k < plan->circuits; k++) {
         const struct circuit *c = &plan->circuit[k];
-        printf("%7u   %2u - %2u  %6u  ", k + 1, c->first, c->second, c->amount);
-        tell_way(stdout, c, ways[k] != RINGKIT_F);
+        fprintf(out, "%7u   %2u - %2u  %6u  ", k + 1, c->first, c->second, c->amount);
+        tell_way(out, c, ways[k] != RINGKIT_F);
     }
 }
 
-static void tell_loads(const struct plan *plan, const uint8_t *ways, unsigned peak)
+static void tell_loads(FILE *out, const struct plan *plan, const uint8_t *ways, unsigned peak)
 {
-    printf("\n   Link   offices     load\n");
+    fprintf(out, "\n   Link   offices     load\n");
     for (unsigned k = 1; k <= plan->offices; k++) {
-        printf("%7u   %2u - %2u  %7u\n", k, k, k % plan->offices + 1, load_of(plan, ways, k));
+        fprintf(out, "%7u   %2u - %2u  %7u\n", k, k, k % plan->offices + 1, load_of(plan, ways, k));
     }
-    printf("   Peak            %7u\n", peak);
+    fprintf(out, "   Peak            %7u\n", peak);
+}
+
+void tell_whole(FILE *out, const struct plan *plan, const uint8_t *ways, unsigned peak)
+{
+    if (plan->circuits > 0) {
+        tell_ways(out, plan, ways);
+    }
+    tell_loads(out, plan, ways, peak);
 }
 
 static void tell_beside(const char *what, unsigned peak, unsigned size)
@@ -63,7 +71,7 @@ static void tell_peaks(const struct plan *plan, ringkit_turn_reply reply)
     tell_beside("One turn at a time", reply.peak, line_size(plan, reply.peak));
     tell_beside("By rule D (plan)", plan->peak, plan->size);
     if (plan->fibres == RINGKIT_TWO_FIBRES) {
-        printf("On a ring of two fibres half of each line is kept for protection, so the line has room for twice the peak.\n");
+        tell_kept_half(stdout);
     }
     putchar('\n');
     tell_floor(stdout, plan, reply.peak);
@@ -83,10 +91,7 @@ enum status turn_table(const struct text *table)
         return status;
     }
     tell_ring(stdout, &plan);
-    if (plan.circuits > 0) {
-        tell_ways(&plan, ways);
-    }
-    tell_loads(&plan, ways, reply.peak);
+    tell_whole(stdout, &plan, ways, reply.peak);
     tell_turns(reply);
     tell_peaks(&plan, reply);
     return FINE;

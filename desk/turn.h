@@ -13,4 +13,7 @@ enum status turn_table(const struct text *table);
 /* The load of a link where each circuit goes its way whole. */
 unsigned load_of(const struct plan *plan, const uint8_t *ways, unsigned link);
 
+/* Tells which way each circuit goes whole, and the links' loads, of which the largest is the peak. */
+void tell_whole(FILE *out, const struct plan *plan, const uint8_t *ways, unsigned peak);
+
 #endif

@@ -22,6 +22,8 @@ BEST = "the best choice"
 LOWERED = "lowered rooms"
 REPORT = "a report over many plans"
 FAMILIES = "a second family of line sizes"
+CROSSING = "rings where everything crosses"
+LEAST = "the least of five rules"
 
 # files, as crate/File; the first that fits counts
 FILES = [
@@ -44,12 +46,17 @@ FILES = [
     ("ringkit/Judging", JUDGING),
     ("turns/*", TURNING),
     ("ringkit/Turning", TURNING),
+    ("least/*", LEAST),
+    ("ringkit/LeastPeak", LEAST),
     ("laws/Old", OFFICES),
     ("laws/Digits", OFFICES),
     ("best/*", BEST),
     ("engines/*", LOWERED),
     ("report/*", REPORT),
     ("router/Plans", BEST),
+    ("crossing/Pair", TEXTS),
+    ("crossing/*", CROSSING),
+    ("ringkit/Crossing", CROSSING),
     *((f"{crate}/*", TEXTS) for crate in ("reasons", "text", "lines", "table", "sheet", "judge", "checker", "ringkit", "ringkit_c", "laws")),
 ]
 
@@ -120,14 +127,21 @@ NAMES = {
         "ring/LineSize": ["line_size_of"],
         "ring/Limits": ["marks :"],
         "ring/WithinLimits": ["family :"],
-        "table/RowReasons": ["known :"],
         "laws/Old": ["byte_of_lf", "marked :"],
         "laws/Texts": ["OneRingLine", "RingFaultyIs"],
         "ringkit_c/Replies": ["ring_told"],
     },
+    CROSSING: {
+        "ringkit_c/Replies": ["crossing_reply"],
+        "laws/Calls": ["SheetWithin", "KeepsBound", "CrossedRouted"],
+    },
+    LEAST: {
+        "laws/Calls": ["LeastUpToTurned", "LeastUpToRouted", "TurnedPeak", "WrotePeak", "RoutedTo", "ComesTo", "LeastComesFrom"],
+        "ringkit_c/Replies": ["least_reply"],
+    },
 }
 
-ROWS = [RULES, TEXTS, CIRCUITS, MATRICES, FIBRES, WORKING, BYTE, JUDGING, TURNING, OFFICES, BEST, LOWERED, REPORT, FAMILIES]
+ROWS = [RULES, TEXTS, CIRCUITS, MATRICES, FIBRES, WORKING, BYTE, JUDGING, TURNING, OFFICES, BEST, LOWERED, REPORT, FAMILIES, CROSSING, LEAST]
 
 
 def extent(lines, name):

@@ -1,4 +1,5 @@
-/* ringkit: plans a ring of offices, checks plans, as texts and as values, one by one and many at once, sends whole circuits with a low peak, and keeps a table at work.
+/* ringkit: plans a ring of offices, checks plans, as texts and as values, one by one and many at once, sends whole circuits with a low peak, says whether circuits all cross each other and which of five
+ * rules comes to the least peak, and keeps a table at work.
  * For C11 and C++11, x86-64 Linux.
  *
  * A text is read as a table, as a sheet or as a matrix. Fields are parted by one tab, every line ends with LF, numbers are 1 to 8 digits with no leading
@@ -32,7 +33,7 @@
  *     2^63 bytes of them. Whatever numbers are in them, and whatever the counts are, the call ends with an answer. A count may be 0; its pointer is then not used, and
  *     may be NULL. Nobody writes to rows or links during the call.
  *   - Text and buffer do not overlap, and nobody else writes to either during the call.
- *   - A pointer to ways (of ringkit_turn) names RINGKIT_MAX_ROWS bytes that may be written until the call returns, however few rows there are, so it has no length. They do not overlap
+ *   - A pointer to ways (of ringkit_turn and ringkit_least) names RINGKIT_MAX_ROWS bytes that may be written until the call returns, however few rows there are, so it has no length. They do not overlap
  *     the text, and nobody else reads or writes them during the call.
  *   - A pointer to a working table names a whole struct ringkit_work, whatever bytes are in it. It does not overlap the buffer, and nobody else
  *     writes to it during the call, nor reads it while a call alters it.
@@ -54,7 +55,7 @@ extern "C" {
 #endif
 
 /* Grows by 1 whenever a call, an answer or a limit changes. */
-#define RINGKIT_VERSION 12
+#define RINGKIT_VERSION 14
 
 /* The limits of what is accepted. */
 #define RINGKIT_MAX_TEXT_BYTES 32768
@@ -75,9 +76,23 @@ extern "C" {
 /* The rows left split of which ringkit_route_best and ringkit_route_lowered_best try every way of sending them, at most. */
 #define RINGKIT_MAX_SPLIT 16
 
-/* The way of a row: front or back. Of a row that is held as a struct any number but RINGKIT_F is B; ringkit_turn writes these two. */
+/* What ringkit_crossing answers of the rows of a table whose amounts are above 0: they all cross each other, and are at most RINGKIT_MAX_SPLIT; two of them are parallel; or they all cross each other
+ * and are more. */
+#define RINGKIT_ALL_CROSS 1
+#define RINGKIT_PARALLEL 2
+#define RINGKIT_MANY 3
+
+/* The way of a row: front or back. Of a row that is held as a struct any number but RINGKIT_F is B; ringkit_turn and ringkit_least write these two. */
 #define RINGKIT_F 0
 #define RINGKIT_B 1
+
+/* The rules by which ringkit_least may send whole circuits: as ringkit_turn, ringkit_route_best, ringkit_route_lowered_best, ringkit_route and ringkit_route_lowered do. Of several that
+ * come to the least peak it takes the first in this order. */
+#define RINGKIT_LEAST_TURNS 1
+#define RINGKIT_LEAST_BEST 2
+#define RINGKIT_LEAST_LOWERED_BEST 3
+#define RINGKIT_LEAST_RULE_D 4
+#define RINGKIT_LEAST_LOWERED_RULE_D 5
 
 /* One unit of an amount, a load or a line size, on a ring of either family. */
 #define RINGKIT_SONET_UNIT "STS-1"
@@ -95,8 +110,8 @@ extern "C" {
 /* The same for every report that ringkit_report writes. */
 #define RINGKIT_REPORT_BYTES 82
 
-/* Enough stack for each call, with some to spare for binding memcpy and memset when they are first called: the deepest, turning, takes some 34,700 bytes, and the
- * best choice 34,000. */
+/* Enough stack for each call, with some to spare: the deepest, ringkit_least and the two calls by the best choice, take some 38,000 bytes where they also bind memcpy
+ * and memset, as a program's first call may. */
 #define RINGKIT_STACK_BYTES 57344
 
 /* Why a text, values or a call is refused. Each is given exactly when it holds and nothing before it in this order does: the fibres that a matrix is read with; RINGKIT_TOO_LONG; then line by line,
@@ -194,6 +209,28 @@ typedef struct ringkit_turn_reply {
     size_t rows;     /* the rows of the table, and so many bytes of the ways are written */
 } ringkit_turn_reply;
 
+/* The answer of ringkit_crossing. What the kind does not have is 0. When refused, all but reason, line and byte is 0. */
+typedef struct ringkit_crossing_reply {
+    uint32_t reason; /* as above */
+    uint32_t line;
+    uint32_t byte;
+    uint32_t kind;   /* RINGKIT_ALL_CROSS, RINGKIT_PARALLEL or RINGKIT_MANY; 0 only when refused */
+    uint32_t bound;  /* where all cross: the bound, in halves: twice the unsplit peak of the best choice is at most this; 0 where no row has an amount above 0 */
+    size_t first;    /* where two are parallel: the two rows by their places among all rows, counted from 1, */
+    size_t second;   /* first < second */
+} ringkit_crossing_reply;
+
+/* The answer of ringkit_least. When refused, all but reason, line and byte is 0. */
+typedef struct ringkit_least_reply {
+    uint32_t reason; /* as above */
+    uint32_t line;
+    uint32_t byte;
+    uint32_t peak;   /* the largest load, in units, where every row goes the way that is written: the least that any of the rules comes to, */
+    uint32_t floor;  /* below which no way of sending the rows whole has a peak: half the largest across number, rounded up, in units, */
+    uint32_t rule;   /* and the first of the rules that comes to that peak, RINGKIT_LEAST_TURNS to RINGKIT_LEAST_LOWERED_RULE_D */
+    size_t rows;     /* the rows of the table, and so many bytes of the ways are written */
+} ringkit_least_reply;
+
 /* A table at work, lent by the caller, who makes it by ringkit_work_start: rows at places 1 to 1,024, and kept beside them the largest cut. Its fields
  * are the library's. They are unsigned integers and arrays of them with no padding, so any bytes are a value: copies may be kept and put back, and a call
  * on bytes that no call made still ends, with an answer that the bytes alone decide. A pointer to it is to a whole struct, aligned as C aligns it. */
@@ -261,6 +298,28 @@ ringkit_reply ringkit_route_lowered_best(const uint8_t *table, size_t table_leng
  * No start begins above the largest across number M, that of the C line, and no single turn lowers the answer's peak. It need not be the least there is. But no way of sending the rows has a peak
  * below M / 2, so a peak that is M / 2, rounded up, is. */
 ringkit_turn_reply ringkit_turn(const uint8_t *table, size_t table_length, uint8_t *ways);
+
+/* Whether the rows of a table whose amounts are above 0 all cross each other, and are at most RINGKIT_MAX_SPLIT. Two rows cross where their four nodes are distinct and exactly one node of the one lies
+ * strictly between those of the other; else they are parallel, as rows that share a node are. Rows of amount 0 count for nothing but their places. No row and one row all cross.
+ *
+ * Where they do (RINGKIT_ALL_CROSS), more is promised of the best choice than the bound of rule D: neither ringkit_route_best nor ringkit_route_lowered_best gives RINGKIT_TOO_MANY_SPLIT, and of each sheet
+ * that they write twice the unsplit peak is at most `bound`, which is the largest across number M, that of the C line, plus twice the largest amount. It is not promised of the ways of rule D, with which
+ * ringkit_route and ringkit_route_lowered may pass it. The checker does not ask for it: RINGKIT_OVER_BOUND is given as before.
+ *
+ * Else it names the first two such rows that are parallel, by the first and then by the second (RINGKIT_PARALLEL), however many rows there are; or says that they all cross each other, but are more
+ * than RINGKIT_MAX_SPLIT (RINGKIT_MANY). Refused is only what is no table, for the table's own reasons. */
+ringkit_crossing_reply ringkit_crossing(const uint8_t *table, size_t table_length);
+
+/* Sends every row of a table whole by each of the five rules above, says the least peak that one of them comes to, and writes the ways that have it: the first `rows` bytes become RINGKIT_F or
+ * RINGKIT_B, row by row, and those behind them stay; a refusal, which is one of the table's own, changes no byte. There is no sheet, and so no size.
+ *
+ * The best choice counts where at most RINGKIT_MAX_SPLIT rows are left split, by level rooms and by lowered ones each for itself; where more are it is passed over, and the table is not refused. So
+ * the peak is at most that of each sheet that the four calls of routing write, and at most that of ringkit_turn, and it is one of them. By ringkit_route's it is within the bound of rule D,
+ * and where ringkit_crossing says RINGKIT_ALL_CROSS of the table, twice the peak is at most the `bound` that it says.
+ *
+ * No way of sending the rows, by whatever rule, has a peak below `floor`. Where `peak` is `floor` it is the best there is; elsewhere a lower one may be there or may not, and none is lower by more than
+ * the difference. It takes about as long as the five calls together, and where the rule is not RINGKIT_LEAST_TURNS, as that rule's own call once more. */
+ringkit_least_reply ringkit_least(const uint8_t *table, size_t table_length, uint8_t *ways);
 
 /* Checks a sheet, whatever tool made it: reads all its lines, and then judges what they say. Accepted means that every figure is true, that no division of the demands, however fine, has a lower
  * peak than the split peak, and that the unsplit peak is within the bound of rule D. */

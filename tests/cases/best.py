@@ -177,9 +177,8 @@ def halves(n, rows, sent):
         yield [(ways, before + loads_of(n, [rows[at] for at in some], ways)) for ways in itertools.product("FB", repeat=len(some))]
 
 
-def sought(n, rows, rooms=rules.level_rooms):
+def sought(n, rows, sent):
     """Each way of the first half beside each of the second. They come in the order in which what goes F at the first difference stands first, and of equal ones min takes the first."""
-    sent = rules.sent_by(n, rows, rooms)[1]
     first, second = halves(n, rows, sent)
     every = ((one + other, largest(loads + more, n)) for one, loads in first for other, more in second)
     return sent_whole(sent, min(every, key=lambda one: (one[1], one[0].count("B")))[0])
@@ -191,8 +190,9 @@ FEW = 6
 
 def ways(n, rows, rooms=rules.level_rooms):
     """By the halves, and by the words too where that is soon done."""
-    found = sought(n, rows, rooms)
-    if len(split_places(rules.sent_by(n, rows, rooms)[1])) <= FEW:
+    sent = rules.sent_by(n, rows, rooms)[1]
+    found = sought(n, rows, sent)
+    if len(split_places(sent)) <= FEW:
         assert direct(n, rows, rooms) == found, (n, rows)
     return found
 

@@ -12,6 +12,8 @@
 
 _Static_assert(sizeof(ringkit_row) == 24 && sizeof(ringkit_link) == 12 && sizeof(ringkit_judge_reply) == 8, "numbers of 4 bytes, with no padding");
 _Static_assert(sizeof(ringkit_turn_reply) == 24 + sizeof(size_t), "six numbers of 4 bytes, and the rows");
+_Static_assert(sizeof(ringkit_crossing_reply) == 24 + 2 * sizeof(size_t), "five numbers of 4 bytes and room for another, and two places");
+_Static_assert(sizeof(ringkit_least_reply) == 24 + sizeof(size_t), "six numbers of 4 bytes, and the rows");
 _Static_assert(RINGKIT_SHEET_BYTES == 27 * RINGKIT_MAX_ROWS + 23 * RINGKIT_MAX_OFFICES + 46,
                "so much for each row and each link of the longest sheet, and for the other lines, as in crates/ringkit");
 _Static_assert(RINGKIT_TABLE_BYTES == 13 * RINGKIT_MAX_ROWS + 9, "so much for each row of the longest table, and for its R line");
@@ -397,6 +399,79 @@ static void test_most_split(void)
     judges("17 rows that cross, and one too large, by lowered rooms", ringkit_route_lowered_best, &table, RINGKIT_TOO_MUCH, RINGKIT_MAX_SPLIT + 3, 9);
 }
 
+/* ---- rows that all cross each other */
+
+static bool crosses(ringkit_crossing_reply reply, uint32_t kind, uint32_t bound, size_t first, size_t second)
+{
+    return reply.reason == RINGKIT_OK && reply.line == 0 && reply.byte == 0 && reply.kind == kind && reply.bound == bound && reply.first == first && reply.second == second;
+}
+
+/* The table is refused like this, and nothing is said beside it; or it is accepted. */
+static void crossing_judged(const char *name, uint32_t reason, uint32_t line, uint32_t byte)
+{
+    ringkit_crossing_reply reply = ringkit_crossing(fenced(&table), table.length);
+    expect(reply.reason == reason && reply.line == line && reply.byte == byte, "%s: whether rows cross gives %u on line %u at byte %u", name, (unsigned)reply.reason, (unsigned)reply.line, (unsigned)reply.byte);
+    expect(reason == RINGKIT_OK ? reply.kind != 0 : reply.kind == 0 && reply.bound == 0 && reply.first == 0 && reply.second == 0, "%s: a refusal has something beside it, or an answer no kind", name);
+}
+
+static bool two_cross(const ringkit_row *one, const ringkit_row *two)
+{
+    return one->first < two->first && two->first < one->second && one->second < two->second;
+}
+
+/* What is due of the rows that are held, which are in the order of a table. */
+static ringkit_crossing_reply crossing_of_held(void)
+{
+    uint32_t count = 0, largest = 0;
+    for (size_t k = 0; k < held.row_count; k++) {
+        count += held.rows[k].amount > 0;
+        largest = held.rows[k].amount > largest ? held.rows[k].amount : largest;
+        for (size_t m = k + 1; m < held.row_count; m++) {
+            if (held.rows[k].amount > 0 && held.rows[m].amount > 0 && !two_cross(&held.rows[k], &held.rows[m])) {
+                return (ringkit_crossing_reply){.kind = RINGKIT_PARALLEL, .first = k + 1, .second = m + 1};
+            }
+        }
+    }
+    return count > RINGKIT_MAX_SPLIT ? (ringkit_crossing_reply){.kind = RINGKIT_MANY} : (ringkit_crossing_reply){.kind = RINGKIT_ALL_CROSS, .bound = held.across + 2 * largest};
+}
+
+/* What is answered of the table whose sheet is held. */
+static void test_crossing(const char *name)
+{
+    ringkit_crossing_reply due = crossing_of_held(), reply = ringkit_crossing(fenced(&table), table.length);
+    expect(crosses(reply, due.kind, due.bound, due.first, due.second), "%s: whether rows cross: kind %u, bound %u, rows %zu and %zu", name, (unsigned)reply.kind, (unsigned)reply.bound, reply.first, reply.second);
+}
+
+/* The answer of the table that is there. */
+static void crossing_is(const char *name, uint32_t kind, uint32_t bound, size_t first, size_t second)
+{
+    expect(crosses(ringkit_crossing(fenced(&table), table.length), kind, bound, first, second), "whether rows cross: %s", name);
+}
+
+static void test_kinds(void)
+{
+    crossing_rows(RINGKIT_MAX_SPLIT);
+    route("16 rows that cross");
+    hold(sheet.bytes, sheet.length);
+    test_crossing("16 rows that cross");
+    crossing_rows(RINGKIT_MAX_SPLIT + 1);
+    crossing_is("17 rows", RINGKIT_MANY, 0, 0, 0);
+    add(&table, "D\t17\t34\t0\n");
+    crossing_is("17 rows, and one of amount 0", RINGKIT_MANY, 0, 0, 0);
+    add(&table, "D\t17\t34\t1\n");
+    crossing_is("17 rows, and one that is parallel", RINGKIT_PARALLEL, 0, 17, 19);
+    add(&table, "D\t17\t34\t10000\n");
+    crossing_judged("17 rows, and one too large", RINGKIT_TOO_MUCH, 21, 9);
+    one_row(RINGKIT_MAX_OFFICES, RINGKIT_MAX_AMOUNT);
+    crossing_is("one row of the largest amount", RINGKIT_ALL_CROSS, 3 * RINGKIT_MAX_AMOUNT, 0, 0);
+    add(&table, "D\t1\t2\t0\n");
+    crossing_is("the same with one of amount 0", RINGKIT_ALL_CROSS, 3 * RINGKIT_MAX_AMOUNT, 0, 0);
+    one_row(RINGKIT_MIN_OFFICES, 0);
+    crossing_is("no amount", RINGKIT_ALL_CROSS, 0, 0, 0);
+    crossing_rows(0);
+    crossing_is("no row", RINGKIT_ALL_CROSS, 0, 0, 0);
+}
+
 /* ---- whole circuits, one turn at a time */
 
 /* The lent ways end before the fence. */
@@ -479,6 +554,94 @@ static void test_ways(const char *name)
     expect(!some_turn_lowers(ways, reply.peak), "%s: a turn lowers the peak", name);
 }
 
+/* ---- the least that any of these rules comes to */
+
+static ringkit_least_reply least(const struct text *text)
+{
+    memset(buffer_area, PATTERN, AREA);
+    return ringkit_least(fenced(text), text->length, lent_ways());
+}
+
+static bool least_says(ringkit_least_reply reply, uint32_t reason, uint32_t line, uint32_t byte)
+{
+    return reply.reason == reason && reply.line == line && reply.byte == byte;
+}
+
+/* The table is refused like this, and nothing is said or written beside it; or it is accepted. */
+static void least_judged(const char *name, uint32_t reason, uint32_t line, uint32_t byte)
+{
+    ringkit_least_reply reply = least(&table);
+    expect(least_says(reply, reason, line, byte), "%s: the least gives %u on line %u at byte %u", name, (unsigned)reply.reason, (unsigned)reply.line, (unsigned)reply.byte);
+    if (reason != RINGKIT_OK) {
+        expect(reply.peak == 0 && reply.floor == 0 && reply.rule == 0 && reply.rows == 0, "%s: the least says something beside a refusal", name);
+        expect(untouched(buffer_area, buffer_area + AREA), "%s: a refusal touches the ways", name);
+    }
+}
+
+/* The peak on the sheet that the call of routing writes of the table; UINT32_MAX where too many rows are left split for it. What is held stays. */
+static uint32_t peak_routed(writing *call)
+{
+    static struct held kept;
+    kept = held;
+    ringkit_reply reply = lend(call, &table, RINGKIT_SHEET_BYTES);
+    if (reply.reason != RINGKIT_OK) {
+        expect(reply.reason == RINGKIT_TOO_MANY_SPLIT, "the least: routing is refused with %u", (unsigned)reply.reason);
+        return UINT32_MAX;
+    }
+    hold(buffer_area + AREA - RINGKIT_SHEET_BYTES, reply.length);
+    uint32_t peak = held.peak;
+    held = kept;
+    return peak;
+}
+
+/* The first rule with the least peak by the calls that send so, and that peak. */
+static uint32_t least_by_calls(uint32_t *peak)
+{
+    static writing *const CALLS[] = {
+        [RINGKIT_LEAST_BEST] = ringkit_route_best, [RINGKIT_LEAST_LOWERED_BEST] = ringkit_route_lowered_best,
+        [RINGKIT_LEAST_RULE_D] = ringkit_route, [RINGKIT_LEAST_LOWERED_RULE_D] = ringkit_route_lowered,
+    };
+    uint32_t first = RINGKIT_LEAST_TURNS;
+    *peak = turn(&table).peak;
+    for (uint32_t rule = RINGKIT_LEAST_BEST; rule <= RINGKIT_LEAST_LOWERED_RULE_D; rule++) {
+        uint32_t other = peak_routed(CALLS[rule]);
+        first = other < *peak ? rule : first;
+        *peak = other < *peak ? other : *peak;
+    }
+    return first;
+}
+
+/* What is promised of the least of a table whose sheet is held: it is that of the five calls, its ways have it, and the floor is half the across number, rounded up. */
+static void test_least(const char *name)
+{
+    uint32_t peak, rule = least_by_calls(&peak);
+    ringkit_least_reply reply = least(&table);
+    const uint8_t *ways = lent_ways();
+    expect(least_says(reply, RINGKIT_OK, 0, 0) && reply.rows == held.row_count, "%s: the least gives %u of %u rows", name, (unsigned)reply.reason, (unsigned)reply.rows);
+    expect(reply.peak == peak && reply.rule == rule, "%s: the least is %u by rule %u, and by the calls %u by %u", name, (unsigned)reply.peak, (unsigned)reply.rule, (unsigned)peak, (unsigned)rule);
+    expect(reply.floor == (held.across + 1) / 2 && reply.floor <= reply.peak, "%s: floor %u, across %u", name, (unsigned)reply.floor, (unsigned)held.across);
+    expect(reply.peak == peak_by(ways), "%s: the peak of the least's ways is %u", name, (unsigned)peak_by(ways));
+    expect(untouched(buffer_area, ways) && untouched(ways + reply.rows, buffer_area + AREA), "%s: bytes beside the least's ways", name);
+}
+
+/* Of 17 rows that cross there is no best choice, which refuses no table here; rule D may then be the first with the least peak, as of 17 that are equal. */
+static void test_least_of_crossing(void)
+{
+    crossing_rows(RINGKIT_MAX_SPLIT + 1);
+    route("17 rows that cross");
+    hold(sheet.bytes, sheet.length);
+    test_least("17 rows that cross");
+    table.length = 0;
+    add(&table, "R\t34\t4\n");
+    for (unsigned k = 1; k <= RINGKIT_MAX_SPLIT + 1; k++) {
+        add(&table, "D\t%u\t%u\t1\n", k, k + RINGKIT_MAX_SPLIT + 1);
+    }
+    route("17 equal rows that cross");
+    hold(sheet.bytes, sheet.length);
+    test_least("17 equal rows that cross");
+    expect(least(&table).rule == RINGKIT_LEAST_RULE_D, "17 equal rows that cross: rule %u", (unsigned)least(&table).rule);
+}
+
 /* ---- values */
 
 static bool judged(ringkit_judge_reply reply, uint32_t reason, uint32_t place)
@@ -549,7 +712,9 @@ static void test_table(const char *name)
     test_report_of_two(name);
     test_best(name, ringkit_route_best);
     test_lowered(name);
+    test_crossing(name);
     test_ways(name);
+    test_least(name);
     test_values(name);
 }
 
@@ -926,7 +1091,7 @@ static void test_work(void)
 
 /* ---- what the header says of limits, and of no text at all */
 
-/* The calls that route, rewrite or turn give the table that reason, line and byte. */
+/* The calls that route, rewrite or turn, and those that ask whether rows cross or for the least, give the table that reason, line and byte. */
 static void table_judged(const char *name, uint32_t reason, uint32_t line, uint32_t byte)
 {
     writing *calls[] = {ringkit_route, ringkit_route_best, ringkit_route_lowered, ringkit_route_lowered_best, ringkit_rewrite_table};
@@ -934,6 +1099,8 @@ static void table_judged(const char *name, uint32_t reason, uint32_t line, uint3
         judges(name, calls[k], &table, reason, line, byte);
     }
     turn_judged(name, reason, line, byte);
+    crossing_judged(name, reason, line, byte);
+    least_judged(name, reason, line, byte);
 }
 
 static void test_limits(void)
@@ -1084,6 +1251,9 @@ static void test_no_text(void)
     expect(says(ringkit_rewrite_table(NULL, 0, NULL, 0), RINGKIT_MISSHAPEN, 1, 1, 0), "rewrite a table: no text");
     expect(says(ringkit_rewrite_sheet(NULL, 0, NULL, 0), RINGKIT_MISSHAPEN, 1, 1, 0), "rewrite a sheet: no text");
     expect(turn_says(ringkit_turn(NULL, 0, lent_ways()), RINGKIT_MISSHAPEN, 1, 1), "turn: no text");
+    ringkit_crossing_reply crossing = ringkit_crossing(NULL, 0);
+    expect(crossing.reason == RINGKIT_MISSHAPEN && crossing.line == 1 && crossing.byte == 1 && crossing.kind == 0, "whether rows cross: no text");
+    expect(least_says(ringkit_least(NULL, 0, lent_ways()), RINGKIT_MISSHAPEN, 1, 1), "the least: no text");
     expect(says(ringkit_read_matrix(NULL, 0, 4, RINGKIT_SONET, NULL, 0), RINGKIT_MISSHAPEN, 1, 1, 0), "read a matrix: no text");
     expect(says(ringkit_write_matrix(NULL, 0, NULL, 0), RINGKIT_MISSHAPEN, 1, 1, 0), "write a matrix: no text");
 }
@@ -1111,6 +1281,8 @@ static void *test_texts(void *unused)
     test_report_of_families();
     test_longest_plans();
     test_most_split();
+    test_kinds();
+    test_least_of_crossing();
     test_limits();
     test_bytes();
     test_marks();

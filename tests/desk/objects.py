@@ -2,7 +2,7 @@
 """Holds what the desk writes with --json, and what it says of several files, to what it says without: `objects.py DESK`, from the tree's root.
 
 Each object is one line of ASCII that a parser of JSON reads, and has the shape that docs/desk.schema.json says. Figures of a plan, written as a sheet, are the bytes of
-`desk plan --sheet`, with --best and --lowered too; those of turning are worked out again from the ways, and held to the stored cases (tests/cases/turning.calls); those of a report are what checking each plan by itself says; a refusal is the sentence that is said on standard error. The module
+`desk plan --sheet`, with --best and --lowered too; those of turning are worked out again from the ways, and held to the stored cases (tests/cases/turning.calls), as whether circuits cross is to its own (tests/cases/crossing.calls); those of the least are the other commands' own, and held to its stored cases (tests/cases/least.calls); those of a report are what checking each plan by itself says; a refusal is the sentence that is said on standard error. The module
 jsonschema reads the schema where it is there; shape.py does in any case, and the first line says which of them did. The last line is 'N passed, M failed'."""
 import json
 import os
@@ -171,6 +171,42 @@ def split_of(one):
     return [(c["front_halves"], c["back_halves"], c["way"] if 0 in (c["front_halves"], c["back_halves"]) else None) for c in one["circuits"]]
 
 
+def crossing_of(plan):
+    """What is due of a plan's circuits, in the order of their rows: the words of its kind, and the rest of the object."""
+    there = [(place, c["first"], c["second"]) for place, c in enumerate(plan["circuits"], 1) if c["amount"] > 0]
+    pair = next(((a, b) for k, (a, *one) in enumerate(there) for b, *two in there[k + 1:] if not one[0] < two[0] < one[1] < two[1]), None)
+    if pair is not None:
+        return {"kind": "parallel", "first_row": pair[0], "second_row": pair[1]}
+    return {"kind": "too_many"} if len(there) > 16 else {"kind": "all_cross", "bound_halves": plan["cut"]["across"] + 2 * max((c["amount"] for c in plan["circuits"]), default=0)}
+
+
+def hold_crossing(names, planned):
+    """Whether circuits cross, by the circuits of the plan; the words say the same. Gives the kinds that are met."""
+    for name, one, plan in zip(names, ask("crossing", names)[0], planned):
+        due = crossing_of(plan)
+        written = said("crossing", name)[0].decode("ascii")
+        check({key: one.get(key) for key in due} == due, f"crossing {name}: {one}, and {due} is due")
+        words = {"parallel": f": rows {one.get('first_row')} and {one.get('second_row')} have amounts and are parallel", "too_many": "but are more than 16", "all_cross": f"at most {in_units(one.get('bound_halves', 0))} units:"}
+        check([kind for kind, some in words.items() if some in written] == [one["kind"]], f"crossing {name}: the words are {written}")
+        yield one["kind"]
+
+
+def in_units(halves):
+    return f"{halves // 2}.{halves % 2 * 5}"
+
+
+def hold_bounds(name, one, what):
+    """The bounds stand where all circuits cross, and no peak is above the tighter one."""
+    due = crossing_of(one)
+    split = [c["amount"] for c in one["circuits"] if c["front_halves"] > 0 and c["back_halves"] > 0]
+    bounds = {"bound_halves": due.get("bound_halves"), "rule_d_bound_halves": one["cut"]["across"] + 3 * max(split, default=0)}
+    check(one.get("all_cross") == (bounds if due["kind"] == "all_cross" else None), f"{what}: the bounds are {one.get('all_cross')}")
+    check("all_cross" not in one or 2 * one["peaks"]["unsplit"] <= bounds["bound_halves"] <= bounds["rule_d_bound_halves"], f"{what}: a peak is above its bound")
+    words = said("plan", "--best", *(["--lowered"] if "lowered_rooms" in one else []), name)[0].decode("ascii")
+    tells = f"so this peak is at most {in_units(bounds['bound_halves'] or 0)}: " in words and f"The bound of rule D is {in_units(bounds['rule_d_bound_halves'])}." in words
+    check(tells == ("all_cross" in one), f"{what}: the bounds are not told as in the object")
+
+
 def hold_best(names, planned, words=()):
     """By the best choice: the object is that of its sheet, has the key that says so, and differs from the plan's, with the same words, in nothing that is not sent whole; its peak is never above the plan's. A refusal is 23, on
     no line. Gives how many peaks were lower, and how many were refused."""
@@ -188,6 +224,7 @@ def hold_best(names, planned, words=()):
         hold_plan(one, sheet.decode("ascii"), what)
         check(split_of(one) == split_of(plan), f"{what}: another split plan, or a circuit that is not divided goes otherwise")
         check(one["cut"] == plan["cut"] and one["peaks"]["unsplit"] <= plan["peaks"]["unsplit"], f"{what}: another cut, or a higher peak")
+        hold_bounds(name, one, what)
         lower += one["peaks"]["unsplit"] < plan["peaks"]["unsplit"]
     return lower, refused
 
@@ -206,6 +243,41 @@ def hold_lowered(names, planned):
         check(loads == full or any(a < b for a, b in zip(loads, full)), f"{what}: no link is lighter than by level rooms, and one is heavier")
         lighter += any(a < b for a, b in zip(loads, full))
     return found, lighter
+
+
+RULES = "one_turn_at_a_time", "best_choice", "best_choice_lowered_rooms", "rule_d", "rule_d_lowered_rooms"
+
+
+def rules_of(turn, *plans):
+    """What the rules come to, as the objects of turning and of plans by the other rules have it, in their order."""
+    found = [(turn["peak"], turn["size"])] + [(plan["peaks"]["unsplit"], plan["size"]) if plan["status"] == "fine" else (None, None) for plan in plans]
+    return [{"rule": rule, "peak": peak, "size": size} for rule, (peak, size) in zip(RULES, found)]
+
+
+def hold_least(names, planned, turned):
+    """The least is that of the rules, each as its own command has it, the first of several; its circuits and loads are those of the command by that rule. Beside a plan, whichever rule that is made by, it is the same, and the
+    rest of the object is the plan's. Gives the rules that were the least."""
+    by_words = {words: ask("plan", names, words=words)[0] for words in (("--best",), ("--lowered", "--best"), ("--lowered",))}
+    for name, one, turn, *plans in zip(names, ask("least", names)[0], turned, by_words["--best",], by_words["--lowered", "--best"], planned, by_words["--lowered",]):
+        what, least, plan = f"the least of {os.path.basename(name).decode('ascii')}", one["least"], plans[2]
+        rules = rules_of(turn, *plans)
+        first = min((rule for rule in rules if rule["peak"] is not None), key=lambda rule: rule["peak"])
+        whole = [turn, *plans][rules.index(first)]
+        check(least["rules"] == rules and {key: least[key] for key in first} == first, f"{what}: another rule, or another peak or size of one")
+        check([c["way"] for c in one["circuits"]] == [c["way"] for c in whole["circuits"]], f"{what}: the ways are another's")
+        check([k["load"] for k in one["links"]] == [k.get("load", k.get("unsplit")) for k in whole["links"]], f"{what}: the loads are another's")
+        check(all(least[key] == turn[key] for key in ("floor",)) and least["proved_best"] is (least["peak"] == least["floor"]), f"{what}: floor or proof is false")
+        check(least["saves_size"] is (least["size"] != plan["size"]), f"{what}: it saves a size, or does not")
+        bound = crossing_of(plan).get("bound_halves")
+        check(least.get("bound_halves") == bound and (bound is None or 2 * least["peak"] <= bound), f"{what}: the bound is {least.get('bound_halves')}")
+        check((f"so the least peak is at most {in_units(bound or 0)}: " in said("least", name)[0].decode("ascii")) == (bound is not None), f"{what}: the bound is not told as in the object")
+        check(all(one[key] == plan[key] for key in ("offices", "fibres", "family", "unit")), f"{what}: another ring")
+        yield first["rule"], least["saves_size"], least["proved_best"]
+    for words, plans in {(): planned, **by_words}.items():
+        for name, one, plan in zip(names, ask("plan", names, words=[*words, "--least"])[0], plans):
+            what, least = f"the least beside a plan of {os.path.basename(name).decode('ascii')} {' '.join(words)}", one.pop("least", None)
+            check(one == plan and (least is None) == (plan["status"] != "fine"), f"{what}: the rest is not the plan's")
+            check(least is None or least["saves_size"] is (least["size"] != plan["size"]), f"{what}: it saves a size, or does not")
 
 
 def hold(names):
@@ -236,14 +308,15 @@ def made(folder):
     return names
 
 
-CROSSING = [(34, 17), (64, 32), (33, 16)]
+# offices, circuits, and how many amounts they have: of those that are equal rule D is the least
+CROSSING = [(34, 17, 4), (64, 32, 4), (33, 16, 4), (38, 19, 1)]
 
 
 def crossing(folder):
     """Tables of circuits that all cross each other, more than may be chosen for and as many as that."""
-    for offices, count in CROSSING:
+    for offices, count, kinds in CROSSING:
         name = os.path.join(folder, b"crossing-%d.table" % count)
-        pathlib.Path(os.fsdecode(name)).write_text(lines_of([("R", offices, 4), *(("D", k, k + offices // 2, 3 + k % 4) for k in range(1, count + 1))]), encoding="ascii")
+        pathlib.Path(os.fsdecode(name)).write_text(lines_of([("R", offices, 4), *(("D", k, k + offices // 2, 3 + k % kinds) for k in range(1, count + 1))]), encoding="ascii")
         yield name
 
 
@@ -258,12 +331,12 @@ def covered(planned, turned):
     check(any(c["front_halves"] % 2 for o in planned for c in o["circuits"]), "no half is met")
 
 
-# ---- stored cases of turning
+# ---- stored cases
 
 
-def stored_cases():
+def stored_cases(calls):
     """What is due, by the words of the line, and the text."""
-    rest = (root / "tests/cases/turning.calls").read_bytes()
+    rest = (root / f"tests/cases/{calls}.calls").read_bytes()
     while rest:
         head, rest = rest.split(b"\n", 1)
         length, *due = head.decode("ascii").split(" ")[1:]
@@ -271,21 +344,36 @@ def stored_cases():
         rest = rest[int(length) :]
 
 
+def figures_of(one):
+    """The three numbers of the answer that the object says."""
+    if one["command"] == "turn":
+        return [one[key] for key in ("peak", "avoided_link", "turns")]
+    return [one["least"]["peak"], one["least"]["floor"], 1 + RULES.index(one["least"]["rule"])]
+
+
 def answer_of(one):
-    """The words that the object of turning makes."""
+    """The words that the object makes."""
     if one["status"] == "refused":
         return [str(one["reason"]), str(one["line"] or 0), str(one["byte"] or 0), "0", "0", "0", "0", "-"]
     ways = "".join(c["way"] for c in one["circuits"])
-    return ["0", "0", "0", *(str(one[key]) for key in ("peak", "avoided_link", "turns")), str(len(ways)), ways or "-"]
+    return ["0", "0", "0", *map(str, figures_of(one)), str(len(ways)), ways or "-"]
 
 
-def hold_stored(folder):
-    cases = list(stored_cases())
+def crossing_answer_of(one):
+    """The words that the object of whether circuits cross makes; the peaks behind them are of other calls."""
+    if one["status"] == "refused":
+        return [str(one["reason"]), str(one["line"] or 0), str(one["byte"] or 0), "0", "0", "0", "0"]
+    return ["0", "0", "0", str(1 + ("all_cross", "parallel", "too_many").index(one["kind"])), *(str(one.get(key, 0)) for key in ("bound_halves", "first_row", "second_row"))]
+
+
+def hold_stored(folder, command, calls, answer, words):
+    """So many first words of what is stored are those of the object."""
+    cases = list(stored_cases(calls))
     names = [os.path.join(folder, b"stored-%d" % k) for k in range(len(cases))]
     for name, (_, text) in zip(names, cases):
         pathlib.Path(os.fsdecode(name)).write_bytes(text)
-    for name, (due, _), one in zip(names, cases, ask("turn", names)[0]):
-        check(answer_of(one) == due, f"turning {name}: {answer_of(one)}, and stored is {due}")
+    for name, (due, _), one in zip(names, cases, ask(command, names)[0]):
+        check(answer(one) == due[:words], f"{command} {name}: {answer(one)}, and stored is {due}")
 
 
 # ---- refusals
@@ -330,7 +418,7 @@ OF_SHEETS = OF_BOTH + [
 
 def hold_refused(folder):
     """Each reason that a command can give, in the object and in words."""
-    for command, texts in (("plan", OF_TABLES), ("turn", OF_TABLES), ("check", OF_SHEETS)):
+    for command, texts in (("plan", OF_TABLES), ("turn", OF_TABLES), ("crossing", OF_TABLES), ("least", OF_TABLES), ("check", OF_SHEETS)):
         names = [os.path.join(folder, b"refused-%s-%d" % (command.encode("ascii"), k)) for k in range(len(texts))]
         for name, (text, *due) in zip(names, texts):
             pathlib.Path(os.fsdecode(name)).write_bytes(text)
@@ -343,7 +431,7 @@ def hold_refused(folder):
         check({due[0] for _, *due in texts} == {*range(1, 8), 16, 20, *(range(8, 15) if command == "check" else [])}, f"{command}: not each reason is met")
         found, status = ask(command, names)
         if command == "plan":
-            for words in (["--best"], ["--lowered"], ["--best", "--lowered"]):
+            for words in (["--best"], ["--lowered"], ["--best", "--lowered"], ["--least"]):
                 check(ask(command, names, words=words) == (found, status), f"plan {' '.join(words)}: what is no table is refused otherwise")
         check(status == 1 and [one.get("reason") for one in found] == [due[0] for _, *due in texts], f"{command}: refused one after the other they are others")
 
@@ -425,7 +513,7 @@ def hold_names(folder):
     os.mkdir(home)
     # a name has no slash and no NUL in it
     names = [os.path.join(home, name.replace(b"/", b"|")) for name in ODD] + [os.path.join(home, bytes([byte])) for byte in range(1, 256) if byte not in b"/."]
-    for command, text in (("plan", table), ("turn", table), ("check", sheet), ("report", sheet)):
+    for command, text in (("plan", table), ("least", table), ("turn", table), ("check", sheet), ("report", sheet)):
         for name in names:
             pathlib.Path(os.fsdecode(name)).write_bytes(text)
         found, status = ask(command, names)
@@ -451,13 +539,13 @@ def together(command, names, typed=b""):
 def hold_several(folder):
     table, sheet = b"examples/square.table", b"examples/square.sheet"
     refused, missing, other = os.path.join(folder, b"refused-plan-2"), os.path.join(folder, b"missing"), b"examples/five-offices.table"
-    for command, good, also, piped in (("plan", table, other, table), ("turn", table, other, table), ("check", sheet, b"examples/circuits.sheet", sheet), ("report", b"examples/region.plans", sheet, b"examples/region.plans")):
+    for command, good, also, piped in (("plan", table, other, table), ("turn", table, other, table), ("crossing", table, other, table), ("least", table, other, table), ("check", sheet, b"examples/circuits.sheet", sheet), ("report", b"examples/region.plans", sheet, b"examples/region.plans")):
         typed = (root / os.fsdecode(piped)).read_bytes()
         for names in ([good, also], [good, refused, also], [missing, good], [refused, missing, good], [good, b"-", also], [b"-", refused], [b"examples", good, good]):
             written, _, status = said(command, *names, typed=typed, together=True)
             check((written, status) == together(command, names, typed), f"{command} {names}: together they are not what each is alone")
             check(status == ask(command, names, typed)[1], f"{command} {names}: another exit status with --json")
-        check(said(command, good) == said(command, typed=typed) or command in ("check", "report"), f"{command}: a file and standard input differ")
+        check(said(command, good) == said(command, typed=typed) or command in ("crossing", "check", "report"), f"{command}: a file and standard input differ")
         check(b"==>" not in said(command, good)[0] + said(command, typed=typed)[0], f"{command}: a heading of one file")
         one = ask(command, [], typed)
         check(one == ask(command, [b"-"], typed) and one[1] == 0, f"{command}: no name and - differ")
@@ -470,12 +558,17 @@ def hold_several(folder):
 # ---- the schema itself
 
 
+def may_lack(found, key):
+    """Bytes of a name are there where it needs them, and the bound of the least where all circuits cross."""
+    return key == "file_hex" or (key == "bound_halves" and "rules" in found)
+
+
 def damaged(found):
     """The values that differ from one at one place: of each object a key less, a key more, and of each other value one that cannot stand there."""
     if isinstance(found, dict):
         yield {**found, "strange": 1}
         for key, value in found.items():
-            if key != "file_hex":
+            if not may_lack(found, key):
                 yield {name: other for name, other in found.items() if name != key}
             for changed in damaged(value):
                 yield {**found, key: changed}
@@ -493,7 +586,8 @@ def damaged(found):
 
 def hold_schema(folder):
     """The schema takes no object that is damaged."""
-    texts = ("plan", "refused-plan-2", "missing"), ("turn", "refused-turn-2", "missing\udcff"), ("check", "refused-check-5", "missing"), ("report", "many.plans", "missing")
+    kinds = str(root / "examples/five-offices.table"), "crossing-17.table"
+    texts = ("plan", "refused-plan-2", "missing"), ("turn", "refused-turn-2", "missing\udcff"), ("crossing", "refused-crossing-2", "missing", *kinds), ("least", "refused-least-2", "missing"), ("check", "refused-check-5", "missing"), ("report", "many.plans", "missing")
     for command, *rest in texts:
         names = [{"check": b"examples/square.sheet", "report": b"examples/region.plans"}.get(command, b"examples/square.table"), *(os.path.join(folder, os.fsencode(name)) for name in rest)]
         for one in ask(command, names)[0]:
@@ -520,10 +614,17 @@ with tempfile.TemporaryDirectory() as scratch:
     covered(*(a + b for a, b in zip(of_examples, of_made)))
     lower, refused = map(sum, zip(hold_best(examples, of_examples[0]), hold_best(tables, of_made[0])))
     check(lower > 0 and refused >= 2, "no peak of the best choice is lower, or no table is refused for it")
+    kinds = {*hold_crossing(examples, of_examples[0]), *hold_crossing(tables, of_made[0])}
+    check(kinds == {"all_cross", "parallel", "too_many"}, f"whether circuits cross: only {kinds} are met")
     lowered, lighter = hold_lowered(examples + tables, of_examples[0] + of_made[0])
     lower, refused = hold_best(examples + tables, lowered, ["--lowered"])
     check(lighter > 0 and lower > 0 and refused >= 2, "by lowered rooms no link is lighter, no peak of the best choice lower, or no table is refused for it")
-    hold_stored(here)
+    leasts = [*hold_least(examples, *of_examples), *hold_least(tables, *of_made)]
+    check({"one_turn_at_a_time", "rule_d"} <= {rule for rule, _, _ in leasts}, f"no rule but {sorted({rule for rule, _, _ in leasts})} is the least")
+    check({saves for _, saves, _ in leasts} == {proved for _, _, proved in leasts} == {True, False}, "no line size is saved, or no peak is proved the best, or each is")
+    hold_stored(here, "turn", "turning", answer_of, 8)
+    hold_stored(here, "crossing", "crossing", crossing_answer_of, 7)
+    hold_stored(here, "least", "least", answer_of, 8)
     hold_refused(here)
     hold_reports(here)
     hold_names(here)

@@ -47,6 +47,16 @@ static uint32_t turn(void)
     return ringkit_turn(text, length, ways).reason;
 }
 
+static uint32_t crossing(void)
+{
+    return ringkit_crossing(text, length).reason;
+}
+
+static uint32_t least(void)
+{
+    return ringkit_least(text, length, ways).reason;
+}
+
 static uint32_t rewrite_table(void)
 {
     return ringkit_rewrite_table(text, length, buffer, sizeof buffer).reason;
@@ -127,6 +137,8 @@ static const struct named {
     {"ringkit_route_lowered", route_lowered, TABLE},
     {"ringkit_route_lowered_best", route_lowered_best, TABLE},
     {"ringkit_turn", turn, TABLE},
+    {"ringkit_crossing", crossing, TABLE},
+    {"ringkit_least", least, TABLE},
     {"ringkit_rewrite_table", rewrite_table, TABLE},
     {"ringkit_rewrite_sheet", rewrite_sheet, SHEET},
     {"ringkit_check", check, SHEET},

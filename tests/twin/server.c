@@ -16,17 +16,18 @@ struct answer {
     uint64_t reason, line, byte, numbers[4];
 };
 
-/* A call has one of four forms, those of the working table a fifth, judging values a sixth, and turning circuits a seventh. */
+/* A call has one of four forms, those of the working table a fifth, judging values a sixth, sending circuits whole a seventh, and asking whether they cross an eighth. */
 typedef ringkit_reply writing(const uint8_t *, size_t, uint8_t *, size_t);
 typedef ringkit_reply telling(const uint8_t *, size_t, uint32_t, uint32_t, uint8_t *, size_t);
 typedef ringkit_reply judging(const uint8_t *, size_t);
 typedef ringkit_pair_reply finding(const uint8_t *, size_t);
+typedef ringkit_crossing_reply crossing(const uint8_t *, size_t);
 typedef struct answer working(ringkit_work *, const uint64_t told[4], uint8_t *, size_t);
 typedef struct answer holding(const struct request *, const uint8_t *);
-typedef struct answer turning(const struct request *, const uint8_t *, uint8_t *);
+typedef struct answer sending(const uint8_t *, size_t, uint8_t *);
 
 static holding judge_values;
-static turning turn_circuits;
+static sending turn_circuits, send_least;
 static working work_start, work_add, work_change, work_remove, work_row, work_write;
 
 static const struct call {
@@ -35,8 +36,9 @@ static const struct call {
     telling *tell;
     judging *judge;
     finding *find;
+    crossing *cross;
     holding *hold;
-    turning *turn;
+    sending *send;
     working *work;
 } CALLS[] = {
     {.name = "Route", .write = ringkit_route},
@@ -51,7 +53,9 @@ static const struct call {
     {.name = "WriteMatrix", .write = ringkit_write_matrix},
     {.name = "Report", .write = ringkit_report},
     {.name = "Judge", .hold = judge_values},
-    {.name = "Turn", .turn = turn_circuits},
+    {.name = "Turn", .send = turn_circuits},
+    {.name = "Crossing", .cross = ringkit_crossing},
+    {.name = "Least", .send = send_least},
     {.name = "WorkStart", .work = work_start},
     {.name = "WorkAdd", .work = work_add},
     {.name = "WorkChange", .work = work_change},
@@ -84,6 +88,11 @@ static struct answer reply(ringkit_reply reply)
 static struct answer pair(ringkit_pair_reply pair)
 {
     return (struct answer){pair.reason, pair.line, pair.byte, {pair.first, pair.second}};
+}
+
+static struct answer crossed(ringkit_crossing_reply reply)
+{
+    return (struct answer){reply.reason, reply.line, reply.byte, {reply.kind, reply.bound, reply.first, reply.second}};
 }
 
 static struct answer cut(ringkit_work_reply reply)
@@ -140,13 +149,25 @@ static struct answer judge_values(const struct request *r, const uint8_t *text)
     return (struct answer){judged.reason, 0, 0, {judged.place}};
 }
 
-static struct answer turn_circuits(const struct request *r, const uint8_t *text, uint8_t *area)
+static struct answer turn_circuits(const uint8_t *text, size_t length, uint8_t *ways)
+{
+    ringkit_turn_reply turned = ringkit_turn(text, length, ways);
+    return (struct answer){turned.reason, turned.line, turned.byte, {turned.peak, turned.link, turned.turns, turned.rows}};
+}
+
+static struct answer send_least(const uint8_t *text, size_t length, uint8_t *ways)
+{
+    ringkit_least_reply least = ringkit_least(text, length, ways);
+    return (struct answer){least.reason, least.line, least.byte, {least.peak, least.floor, least.rule, least.rows}};
+}
+
+/* The ways in the area. */
+static uint8_t *lent_ways(const struct request *r, uint8_t *area)
 {
     if (r->end - r->begin != RINGKIT_MAX_ROWS) {
         fail("the twin's ways have another size than the library's");
     }
-    ringkit_turn_reply turned = ringkit_turn(text, r->text_length, area + r->begin);
-    return (struct answer){turned.reason, turned.line, turned.byte, {turned.peak, turned.link, turned.turns, turned.rows}};
+    return area + r->begin;
 }
 
 /* The working table in what is handed over as a text, with as many bytes behind it as before it. */
@@ -166,8 +187,11 @@ static struct answer make(const struct call *call, const struct request *r, uint
     if (call->hold != NULL) {
         return call->hold(r, text);
     }
-    if (call->turn != NULL) {
-        return call->turn(r, text, area);
+    if (call->send != NULL) {
+        return call->send(text, r->text_length, lent_ways(r, area));
+    }
+    if (call->cross != NULL) {
+        return crossed(call->cross(text, r->text_length));
     }
     if (call->write != NULL) {
         return reply(call->write(text, r->text_length, area + r->begin, r->end - r->begin));

@@ -8,7 +8,7 @@
 // and for P the two places. Any other letter ends the run.
 ghost use Rattle.std.specs.Prelude.{◌<◌};
 
-use checker::Pair;
+use crossing::Pair;
 use family::Family;
 use reasons::Refusal;
 use std::alloc::Global;

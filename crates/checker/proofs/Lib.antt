@@ -4,6 +4,3 @@ pub mod CheckSteps
 pub mod LowerChecks
 pub mod Promised
 pub mod CasesHold
-pub mod PairSteps
-pub mod PairLaws
-pub mod OurPair

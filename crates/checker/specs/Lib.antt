@@ -1,5 +1,3 @@
-pub mod Pair
-pub mod FindPair
 pub mod Check
 pub mod Says
 pub mod Printed

@@ -1,4 +1,5 @@
--- What routing writes for a table that the rule takes is the sheet of its plan, which checking accepts, and judging too; and a report counts it as accepted.
+-- What routing writes for a table that the rule takes is the sheet of its plan, which checking accepts, and judging too; a report counts it as accepted; and where all rows with amounts
+-- cross, that of the best choice keeps to their bound.
 use Prim.Native.Nat.{ℕ}
 use mathlib.Core.List.{List, [], ◌∷◌, map}
 use mathlib.Core.Path.{◌≡◌, refl}
@@ -10,11 +11,13 @@ use Rattle.ring.proofs.Lists.{each}
 use Rattle.rows.specs.SheetRow.{routed_row}
 use Rattle.rows.specs.declared.sheet_row.SheetRow.{SheetRow}
 use Rattle.sheet.proofs.SheetLines.{way_back}
-use Rattle.ringkit.proofs.PlanCalls.{some-plan, due-short, due-sheet, due-within}
+use Rattle.router.specs.Plans.{best_choice}
+use Rattle.ringkit.proofs.CrossingCalls.{bounded}
+use Rattle.ringkit.proofs.PlanCalls.{some-plan, due-short, due-sheet, due-within, few-not-23}
 use Rattle.checker.specs.Says.{Accepted}
 use Rattle.ringkit.proofs.SheetCalls.{sheet-accepted}
 use Rattle.ringkit.proofs.ReportCalls.{all-counted}
-use Rattle.laws.specs.Calls.{RoutedChecked, RoutedJudged, WroteSheet, RoutedCounted}
+use Rattle.laws.specs.Calls.{RoutedChecked, RoutedJudged, WroteSheet, RoutedCounted, CrossedRouted}
 
 pub routed-checked : RoutedChecked
 routed-checked engine rule t old new r p a takes room =
@@ -64,3 +67,13 @@ wrote-accepted sheet w = let due = ((w.routes.succeeds sheet).0 w.success).0 in 
 
 pub routed-counted : RoutedCounted
 routed-counted sheets wrote t joined old new r p = all-counted t sheets joined (each wrote-accepted wrote) old new r p
+
+pub crossed-routed : CrossedRouted
+crossed-routed t bound answer promise is engine old new r p =
+    let w = bounded t engine bound ((promise.all_cross bound).0 is) in
+    record {
+      few = few-not-23 engine t old new r p.cases w.few;
+      sheet = λ text success.
+          let due = ((p.succeeds text).0 success).0 in
+          record { x = due.x; of = due-sheet engine best_choice t text due; peak = w.peak text due };
+    }

@@ -4,3 +4,4 @@ mod OfTables
 mod Promised
 mod Figures
 mod OldDesk
+mod LeastOfCalls

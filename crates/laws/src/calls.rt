@@ -1,7 +1,8 @@
 // Laws over several calls.
 ghost use Rattle.ringkit.specs.Back.{TableThereAndBack, MatrixToTableToMatrix, TableToMatrixToTable};
 ghost use Rattle.ringkit.specs.WorkCalls.{RoutedAsNamed};
-ghost use Rattle.laws.specs.Calls.{SheetThereAndBack, RoutedChecked, RoutedJudged, RoutedCounted};
+ghost use Rattle.laws.specs.Calls.{SheetThereAndBack, RoutedChecked, RoutedJudged, RoutedCounted, CrossedRouted};
+ghost use Rattle.laws.specs.Calls.{LeastUpToTurned, LeastUpToRouted, LeastComesFrom};
 
 /// A table there and back: an accepted table is read and written as the same bytes, values in range as a text of these values only.
 pub fn table_there_and_back()
@@ -41,4 +42,16 @@ pub fn routed_judged()
 /// A report over sheets that calls of routing wrote, one behind the other and within its limit, counts all of them as accepted.
 pub fn routed_counted()
     ensures { RoutedCounted }
+{}
+
+/// Where all rows with amounts are said to cross within a bound, routing by the best choice, with either engine, is not refused by 23, and each sheet that it writes has twice its unsplit peak at most the bound.
+pub fn crossed_routed()
+    ensures { CrossedRouted }
+{}
+
+/// The peak of the least of five rules is at most that of turning and of each sheet that routing writes for the same table, and is that of the call of its rule.
+pub fn least_of_calls()
+    ensures turned { LeastUpToTurned }
+    ensures routed { LeastUpToRouted }
+    ensures comes_from { LeastComesFrom }
 {}

@@ -6,8 +6,9 @@ mod texts; // what texts are, and what holds of all sheets
 mod calls; // over several calls
 
 pub use calls::{
-    matrix_to_table_to_matrix, routed_as_named, routed_checked, routed_counted, routed_judged,
-    sheet_there_and_back, table_there_and_back, table_to_matrix_to_table,
+    crossed_routed, least_of_calls, matrix_to_table_to_matrix, routed_as_named, routed_checked,
+    routed_counted, routed_judged, sheet_there_and_back, table_there_and_back,
+    table_to_matrix_to_table,
 };
 pub use old::{old_desk, same_bytes};
 pub use rules::{

@@ -6,7 +6,7 @@ use mathlib.Core.Path.{◌≡◌, refl, sym, ap, ◌∙◌}
 use native.Mathlib.Omega.{arith}
 use Rattle.report.specs.Pieces.{pieces}
 use Rattle.report.specs.Damage.{alone, IsPiece, BeforeFirst, MayReplace, SameAround, share, OnlyShare, OnlyItsShare, DamageStays, PiecesStand}
-use Rattle.report.specs.Anywhere.{Harmless, OthersSame, DamageAnywhere}
+use Rattle.report.specs.Anywhere.{Inside, OthersSame, DamageAnywhere}
 use Rattle.report.proofs.Anywhere.{damage-anywhere}
 use Rattle.report.proofs.Damage.{damage, is-piece, split-at}
 use Rattle.report.specs.declared.outcome.Outcome.{Outcome}
@@ -60,20 +60,15 @@ around : (a front v back b u w : List ℕ) → a ++ front ≡ u → back ++ b �
 around a front v back b u w e f =
     rw (← e, ← f, append_assoc front (v ++ back) b, append_assoc v back b, append_assoc a front (v ++ (back ++ b))) refl
 
-pub others-same : (gives : List ℕ → Outcome) (u v w y : List ℕ) → Harmless u v w y → OthersSame gives u v w y
-others-same gives u v w y h =
-    let i = damage-anywhere u v w y h in
+pub others-same : (gives : List ℕ → Outcome) {u v w y : List ℕ} (i : Inside u v w y) → OthersSame gives i
+others-same gives {u} {v} {w} {y} i =
     record {
-      before = outcomes gives i.a;
-      behind = outcomes gives i.b;
-      piece = i.front ++ (v ++ i.back);
-      other = i.front ++ (y ++ i.back);
       was = sym (ap (outcomes gives) (around i.a i.front v i.back i.b u w i.before i.behind)) ∙ between gives i.a (i.front ++ (v ++ i.back)) i.b i.same.as_it_was;
       is = sym (ap (outcomes gives) (around i.a i.front y i.back i.b u w i.before i.behind)) ∙ between gives i.a (i.front ++ (y ++ i.back)) i.b i.same.damaged;
     }
 
 pub anywhere-stays : DamageAnywhere
-anywhere-stays u v w y h = (damage-anywhere u v w y h, λ gives. others-same gives u v w y h)
+anywhere-stays u v w y h = let i = damage-anywhere u v w y h in record { inside = i; others = λ gives. others-same gives i }
 
 -- the report of a text is of what its pieces give, between those of a and of b
 of-between : (a z b : List ℕ) (r : Report) → ReportIs (a ++ (z ++ b)) r → outcomes checked (a ++ (z ++ b)) ≡ outcomes checked a ++ (map checked (alone z) ++ outcomes checked b)

@@ -37,16 +37,16 @@ pub record Inside (u v w y : List ℕ) : Type 0 where
   pub behind : back ++ b ≡ w
   pub same : SameAround a (front ++ (v ++ back)) b (front ++ (y ++ back))
 
--- all pieces but one give what they gave
-pub record OthersSame (gives : List ℕ → Outcome) (u v w y : List ℕ) : Type 0 where
-  pub before : List Outcome
-  pub behind : List Outcome
-  pub piece : List ℕ
-  pub other : List ℕ
-  pub was : outcomes gives (u ++ (v ++ w)) ≡ before ++ (map gives (alone piece) ++ behind)
-  pub is : outcomes gives (u ++ (y ++ w)) ≡ before ++ (map gives (alone other) ++ behind)
+-- each piece of a and of b gives what it gave; between them the one gives what it does with v, and with y
+pub record OthersSame (gives : List ℕ → Outcome) {u v w y : List ℕ} (i : Inside u v w y) : Type 0 where
+  pub was : outcomes gives (u ++ (v ++ w)) ≡ outcomes gives i.a ++ (map gives (alone (i.front ++ (v ++ i.back))) ++ outcomes gives i.b)
+  pub is : outcomes gives (u ++ (y ++ w)) ≡ outcomes gives i.a ++ (map gives (alone (i.front ++ (y ++ i.back))) ++ outcomes gives i.b)
+
+-- v and y stay in one piece, and all others give what they gave
+pub record StaysInside (u v w y : List ℕ) : Type 0 where
+  pub inside : Inside u v w y
+  pub others : (gives : List ℕ → Outcome) → OthersSame gives inside
 
 -- so it is with all harmless damage
 abbrev pub DamageAnywhere : Type 0
-DamageAnywhere = (u v w y : List ℕ) → Harmless u v w y →
-    Inside u v w y × ((gives : List ℕ → Outcome) → OthersSame gives u v w y)
+DamageAnywhere = (u v w y : List ℕ) → Harmless u v w y → StaysInside u v w y

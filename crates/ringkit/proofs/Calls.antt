@@ -63,7 +63,7 @@ module _ {Due : List ℕ → Type 0} {Given : Reason → ℕ → ℕ → Type 0}
 -- ---- so each answer says one thing
 
 -- two texts that stand at the start of one buffer, as long as each other, are one
-same_start : (a b x y : List ℕ) → length a ≡ length b → a ++ x ≡ b ++ y → a ≡ b
+pub same_start : (a b x y : List ℕ) → length a ≡ length b → a ++ x ≡ b ++ y → a ≡ b
 same_start a b x y long e = sym (take-append_seam a x) ∙ ap (λ k. take k (a ++ x)) long ∙ ap (take (length b)) e ∙ take-append_seam b y
 
 -- success is no refusal, and two refusals that answer alike are one

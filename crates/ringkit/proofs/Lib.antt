@@ -13,3 +13,5 @@ pub mod JudgeCalls
 pub mod TurnCalls
 pub mod PlanCalls
 pub mod ReportCalls
+pub mod CrossingCalls
+pub mod LeastCalls

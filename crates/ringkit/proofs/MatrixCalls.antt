@@ -37,7 +37,8 @@ use Rattle.matrix.proofs.Rooms.{room-for-matrix, matrix-in-range}
 use Rattle.matrix.proofs.SumsGiven.{SumsJudged, sums_pass, sums_fit, sums-judged, one-passing}
 use Rattle.matrix.proofs.OneEach.{one-each-fit}
 use Rattle.ringkit.specs.Outcome.{Fills}
-use Rattle.ringkit.specs.MatrixCalls.{table_of_matrix, on_call, matrix_read, matrix_of_table, matrix_written}
+use Rattle.reasons.specs.Verdict.{refused_at}
+use Rattle.ringkit.specs.MatrixCalls.{table_of_matrix, matrix_read, matrix_of_table, matrix_written}
 use Rattle.ringkit.specs.Says.{Answer, CallPromise, Only}
 use Rattle.ringkit.specs.Back.{MatrixToTableToMatrix, TableToMatrixToTable}
 use Rattle.ringkit.specs.Texts.{TableOf, MatrixOf, SomeMatrix, MatrixDue, MatrixGiven, of_fibres, of_matrix, SumsDue, SumsFit, SumsGiven, of_the_table, of_sums}
@@ -70,7 +71,7 @@ module _ (fibres : ℕ) (family : Family) (t : List ℕ) where
   decided f (Err r) e = is_given (of_matrix f ((given desk t r).0 e))
 
   all-decided : Decided (MatrixDue fibres family t) (MatrixGiven fibres t) (matrix_read fibres family t)
-  unfolding matrix_read check_fibres on_call
+  unfolding matrix_read check_fibres refused_at
   all-decided = go (fibred fibres)
     where
       go : Fibred fibres → Decided (MatrixDue fibres family t) (MatrixGiven fibres t) (matrix_read fibres family t)

@@ -15,7 +15,7 @@ use Rattle.ring.specs.Sheet.{sents, demands}
 use Rattle.ring.proofs.Small.{demands-length}
 use Rattle.reasons.specs.AndThen.{and_then}
 use Rattle.reasons.specs.Judge.{check_fibres}
-use Rattle.reasons.specs.Verdict.{Verdict}
+use Rattle.reasons.specs.Verdict.{Verdict, refused_at}
 use Rattle.table.specs.Table.{write_table}
 use Rattle.reasons.specs.declared.reason.Refusal.{Refusal}
 use Rattle.matrix.specs.Matrix.{write_matrix}
@@ -27,12 +27,12 @@ use Rattle.matrix.proofs.MatrixText.{desk-possible, matrix-text}
 use Rattle.matrix.proofs.ReasonsGiven.{given}
 use Rattle.ringkit.specs.Says.{Answer}
 use Rattle.ringkit.specs.Outcome.{Fills}
-use Rattle.ringkit.specs.MatrixCalls.{table_of_matrix, on_call, matrix_read, matrix_of_table}
+use Rattle.ringkit.specs.MatrixCalls.{table_of_matrix, matrix_read, matrix_of_table}
 use Rattle.ringkit.proofs.FillSteps.{refuses, same-fills}
 
 -- ---- reading a matrix, on a ring of so many fibres
 
-module _ (s old : List ℕ) (fibres : ℕ) (family : Family) (v : Verdict) (ev : v ≡ check_fibres fibres) (found : MatrixVerdict) (ef : found ≡ on_call v) where
+module _ (s old : List ℕ) (fibres : ℕ) (family : Family) (v : Verdict) (ev : v ≡ check_fibres fibres) (found : MatrixVerdict) (ef : found ≡ refused_at v 0 0) where
   read-is : matrix_read fibres family s ≡ and_then found (λ u. table_of_matrix fibres family (matrix_of desk s))
   unfolding matrix_read
   read-is = rw (ef, ev)

@@ -33,8 +33,8 @@ use Rattle.sheet.specs.WriteSheet.{write_sheet}
 use Rattle.sheet.proofs.Short.{desk-fits, true-short, true-in-range}
 use Rattle.router.specs.Plans.{Rule, rule_D, best_choice, PlanBy, NoPlanBy, too_many_split}
 use Rattle.router.proofs.PlansBy.{one-plan, plan-or-none, plan-ring, plan-cut, plan-sents, planned-demands, planned-true, planned-no-higher, rule-D-plan}
-use Rattle.checker.proofs.OurPair.{divided-no-pair}
-use Rattle.checker.proofs.PairLaws.{no-pair-is}
+use Rattle.crossing.proofs.OurPair.{divided-no-pair}
+use Rattle.crossing.proofs.PairLaws.{no-pair-is}
 use Rattle.ringkit.specs.Outcome.{Fills}
 use Rattle.ringkit.specs.Says.{Answer, CallSays, with_room, without_room, none_due, Only}
 use Rattle.engines.specs.Minimal.{Minimal}

@@ -20,10 +20,11 @@ use Rattle.checker.specs.Check.{check}
 use Rattle.checker.specs.Says.{ReadTo, Given, Accepted}
 use Rattle.checker.proofs.Reasons.{read-as, given, accepted-is, check-text, accepted-if-true, one-given, not-both, not-15}
 use Rattle.sheet.specs.WriteSheet.{write_sheet}
-use Rattle.checker.specs.FindPair.{first_pair}
-use Rattle.checker.specs.declared.pair.Pair.{Pair}
-use Rattle.checker.specs.declared.pair.Pair.TheVariants.{Are, None}
-use Rattle.checker.proofs.PairLaws.{low, first-pair-is, no-pair-is}
+use Rattle.crossing.specs.FindPair.{first_pair}
+use Rattle.crossing.specs.declared.pair.Pair.{Pair}
+use Rattle.crossing.specs.declared.pair.Pair.TheVariants.{Are, None}
+use Rattle.crossing.proofs.FirstPairs.{low}
+use Rattle.crossing.proofs.PairLaws.{first-pair-is, no-pair-is}
 use Rattle.ringkit.specs.Outcome.{Fills}
 use Rattle.ringkit.specs.SheetCalls.{sheet_checked, sheet_parallel, sheet_afresh}
 use Rattle.ringkit.specs.Says.{Answer, CallPromise, Only}

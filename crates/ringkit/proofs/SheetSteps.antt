@@ -16,8 +16,8 @@ use Rattle.sheet.specs.WriteSheet.{write_sheet}
 use Rattle.sheet.specs.Range.{InRange}
 use Rattle.ring.specs.declared.types.Figures.{Figures}
 use Rattle.checker.specs.Check.{check}
-use Rattle.checker.specs.FindPair.{first_pair}
-use Rattle.checker.specs.declared.pair.Pair.{Pair}
+use Rattle.crossing.specs.FindPair.{first_pair}
+use Rattle.crossing.specs.declared.pair.Pair.{Pair}
 use Rattle.checker.proofs.Reasons.{check-text}
 use Rattle.ringkit.specs.Says.{Answer}
 use Rattle.ringkit.specs.Outcome.{Fills}

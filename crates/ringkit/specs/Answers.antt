@@ -5,10 +5,10 @@ use Rattle.ring.specs.Sheet.{Sheet, sents}
 use Rattle.reasons.specs.declared.reason.Reason.{Reason}
 use Rattle.reasons.specs.declared.reason.Refusal.{Refusal}
 use Rattle.reasons.specs.Refusals.{refuse}
-use Rattle.checker.specs.Pair.{FirstPair, NoPair}
+use Rattle.crossing.specs.Pair.{FirstPair, NoPair}
 use Rattle.checker.specs.Says.{Given, Accepted}
-use Rattle.checker.specs.declared.pair.Pair.{Pair}
-use Rattle.checker.specs.declared.pair.Pair.TheVariants.{Are, None}
+use Rattle.crossing.specs.declared.pair.Pair.{Pair}
+use Rattle.crossing.specs.declared.pair.Pair.TheVariants.{Are, None}
 use Rattle.ringkit.specs.Texts.{SheetOf, SomeSheet}
 
 -- ---- checking

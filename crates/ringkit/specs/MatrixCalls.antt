@@ -1,5 +1,5 @@
 -- Internal: the outcome of the calls that read or write a matrix: the text's refusals, and of a table 19 (then 15); or the text that is due.
-use Rattle.std.specs.Prelude.{ℕ, List, Result, Ok, Err}
+use Rattle.std.specs.Prelude.{ℕ, List, Ok}
 use Rattle.family.specs.declared.family.Family.{Family}
 use Rattle.ring.specs.Limits.{desk}
 use Rattle.ring.specs.Ring.{ring_of}
@@ -7,11 +7,9 @@ use Rattle.ring.specs.declared.types.Ring.{Ring}
 use Rattle.ring.specs.declared.types.Demand.{Demand}
 use Rattle.reasons.specs.AndThen.{and_then}
 use Rattle.reasons.specs.Judge.{check_fibres}
-use Rattle.reasons.specs.Verdict.{Verdict}
+use Rattle.reasons.specs.Verdict.{refused_at}
 use Rattle.table.specs.Table.{write_table}
 use Rattle.table.specs.ReadTable.{table_of}
-use Rattle.reasons.specs.declared.reason.Refusal.{Refusal}
-use Rattle.reasons.specs.Refusals.{refuse}
 use Rattle.matrix.specs.Matrix.{write_matrix}
 use Rattle.matrix.specs.Demands.{rows_of_matrix, matrix_of_rows}
 use Rattle.matrix.specs.Read.{SquareRead, matrix_of}
@@ -22,15 +20,10 @@ use Rattle.ringkit.specs.Outcome.{Outcome}
 unfoldable pub table_of_matrix : ℕ → Family → SquareRead → Outcome
 table_of_matrix fibres family m = and_then m λ s. Ok (write_table (ring_of s.0 fibres family) (rows_of_matrix s.0 s.1))
 
--- what is found against the fibres refuses the call as a whole
-unfoldable pub on_call : Verdict → Result Unit Refusal
-on_call (Ok tt) = Ok tt
-on_call (Err reason) = refuse reason 0 0
-
--- reading a matrix and writing its table: 20 is tried first of all
+-- reading a matrix and writing its table: 20 is tried first of all, and refuses the call as a whole
 unfoldable pub matrix_read : ℕ → Family → List ℕ → Outcome
-unfolding table_of_matrix check_fibres on_call
-matrix_read fibres family t = and_then (on_call (check_fibres fibres)) λ u. table_of_matrix fibres family (matrix_of desk t)
+unfolding table_of_matrix check_fibres refused_at
+matrix_read fibres family t = and_then (refused_at (check_fibres fibres) 0 0) λ u. table_of_matrix fibres family (matrix_of desk t)
 
 -- the matrix of a table's rows; or 19, where a pair's sum passes the limit
 abbrev pub matrix_of_table : Ring → List Demand → Outcome

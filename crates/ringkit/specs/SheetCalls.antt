@@ -4,7 +4,7 @@ use Rattle.ring.specs.Limits.{desk}
 use Rattle.ring.specs.Sheet.{sents}
 use Rattle.reasons.specs.AndThen.{and_then}
 use Rattle.checker.specs.Check.{check}
-use Rattle.checker.specs.FindPair.{first_pair}
+use Rattle.crossing.specs.FindPair.{first_pair}
 use Rattle.sheet.specs.WriteSheet.{write_sheet}
 use Rattle.ringkit.specs.Answers.{Checked, Asked}
 use Rattle.ringkit.specs.Outcome.{Outcome}

@@ -1,6 +1,8 @@
 #![tactic(auto)]
 //! The public calls: byte slices, numbers and records in, a `Result` by value out. No call has a `requires`. `ringkit_c` gives them to C.
+mod all_cross; // the call that asks whether all rows cross
 mod judging; // the call that judges values
+mod least_peak; // the call that says the least of five rules
 mod reporting; // the call that makes a report over many plans
 mod texts; // the calls that read a text
 mod turning; // the call that turns rows
@@ -18,7 +20,9 @@ ghost use Rattle.sheet.specs.Range.{longest};
 ghost use Rattle.report.specs.Checked.{report_room};
 ghost use Rattle.ringkit.specs.Outcome.{ask_room, Fills};
 
+pub use all_cross::ringkit_crossing;
 pub use judging::ringkit_judge;
+pub use least_peak::{LeastTable, ringkit_least};
 use reasons::{Reason, Refusal};
 pub use reporting::ringkit_report;
 use ring::{BYTES, Figures, LINKS, Link, ROWS, Ring};

@@ -27,7 +27,7 @@ ghost use Rattle.ringkit.specs.SheetCalls.{sheet_checked, sheet_parallel, sheet_
 
 use crate::{put_matrix, put_sheet, put_table};
 use arrayvec::ArrayVec;
-use checker::Pair;
+use crossing::Pair;
 use engines::Engine;
 use family::Family;
 use reasons::{Reason, Refusal};
@@ -257,7 +257,7 @@ fn first_parallel(sheet: &[u8]) -> Result<Pair, Refusal>
     let mut rows = Columns::new();
     let mut links = ArrayVec::new();
     checker::check_sheet(sheet, &mut rows, &mut links)?;
-    Ok(checker::first_pair(&rows))
+    Ok(crossing::first_pair(&rows))
 }
 
 /// The first pair of split rows of a sheet that are parallel, by their places, counted from 1, or that there is none; or why the sheet is refused, as

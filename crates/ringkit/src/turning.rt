@@ -20,7 +20,7 @@ pub struct TurnedTable {
 }
 
 // The ways of rows are put into the first bytes.
-fn put_ways<R: Rows>(ways: &mut [u8; ROWS], rows: &R)
+pub(crate) fn put_ways<R: Rows>(ways: &mut [u8; ROWS], rows: &R)
     requires { length (R.rows rows.now) ≤ desk.rows }
     ensures { ways.new ≡ ways_of (R.rows rows.now) ++ drop (length (R.rows rows.now)) ways.old }
 {

@@ -1,7 +1,7 @@
 -- What a call answers, told of the reply: by the answer's two cases, and since no reason's number is 0.
 use Prim.Native.Nat.{ℕ, ◌≤◌}
 use mathlib.Core.List.{List}
-use mathlib.Core.Path.{◌≡◌, ap, ◌∙◌, sym, subst}
+use mathlib.Core.Path.{◌≡◌, refl, ap, ◌∙◌, sym, subst}
 use native.Mathlib.Omega.{arith}
 use Rattle.std.specs.Prelude.{Ok, Err, IsOk, IfOk, IfErr, ◌≢◌}
 use Rattle.reasons.specs.Reasons.{number_of}
@@ -9,8 +9,13 @@ use Rattle.reasons.specs.declared.reason.Reason.{Reason}
 use Rattle.reasons.proofs.ReasonNumbers.{no-reason-0, same-reason}
 use Rattle.ringkit.specs.Says.{Answer, Only}
 use Rattle.ringkit.specs.Answers.{Checked, yes}
-use Rattle.ringkit_c.specs.Replies.{reply_of, checked_reply, Told}
+use Rattle.crossing.specs.declared.crossing.Crossing.TheVariants.{All, Parallel, Many}
+use Rattle.ringkit.specs.Crossing.{CrossingAnswer, all_cross}
+use Rattle.ringkit.specs.LeastPeak.{LeastAnswer}
+use Rattle.ringkit_c.specs.Replies.{reply_of, checked_reply, crossing_reply, least_reply, Told}
+use Rattle.ringkit_c.specs.declared.replies.LeastReply.{LeastReply}
 use Rattle.ringkit_c.specs.declared.replies.Reply.{Reply}
+use Rattle.ringkit_c.specs.declared.replies.CrossingReply.{CrossingReply}
 
 -- no other buffer and no other reply is told
 pub told-only : {A R : Type 0} {reply : A → R} {P : List ℕ → A → Type 0} {new : List ℕ} (a : A) (r : R) → r ≡ reply a → Only P new a → Only (λ buffer. Told reply (P buffer)) new r
@@ -49,3 +54,23 @@ pub told-yes : (a : Checked) (r : Reply) → r ≡ checked_reply a → r.reason 
 unfolding checked_reply reply_of
 told-yes (Ok tt) r is e = λ i. yes
 told-yes (Err x) r is e = absurd (omega (arith, e, ap (λ (r : Reply). r.reason) is, no-reason-0 x.reason))
+
+-- of whether all rows cross, kind 1 is a bound
+pub told-bound : {P : ℕ → Type 0} (a : CrossingAnswer) (r : CrossingReply) → r ≡ crossing_reply a → ((bound : ℕ) → a ≡ all_cross bound → P bound) → r.kind ≡ 1 → P r.bound
+unfolding crossing_reply
+told-bound {P} (Ok (All bound)) r is h e = subst P (sym (ap (λ (r : CrossingReply). r.bound) is)) (h bound refl)
+told-bound (Ok (Parallel p q)) r is h e = absurd (omega (arith, e, ap (λ (r : CrossingReply). r.kind) is))
+told-bound (Ok Many) r is h e = absurd (omega (arith, e, ap (λ (r : CrossingReply). r.kind) is))
+told-bound (Err x) r is h e = absurd (omega (arith, e, ap (λ (r : CrossingReply). r.kind) is))
+
+-- of the least of five rules, what holds of its figures holds of those that C gets, where the reason is 0
+pub told-least : (P : ℕ → ℕ → ℕ → Type 0) (a : LeastAnswer) (r : LeastReply) → r ≡ least_reply a → IfOk a (λ x. P x.least.peak x.least.floor x.rows) → r.reason ≡ 0 → P r.peak r.floor r.rows
+unfolding least_reply
+told-least P (Ok x) r is h e = subst (λ (r : LeastReply). P r.peak r.floor r.rows) (sym is) h
+told-least P (Err x) r is h e = absurd (omega (arith, e, ap (λ (r : LeastReply). r.reason) is, no-reason-0 x.reason))
+
+-- and a success has reason 0
+pub told-given : (a : LeastAnswer) (r : LeastReply) → r ≡ least_reply a → IsOk a → r.reason ≡ 0
+unfolding least_reply
+told-given (Ok x) r is h = ap (λ (r : LeastReply). r.reason) is
+told-given (Err x) r is h = absurd (cc)

@@ -8,15 +8,21 @@ use Rattle.ring.specs.Sheet.{Sheet}
 use Rattle.ring.specs.declared.types.Link.{Link}
 use Rattle.rows.specs.declared.sheet_row.SheetRow.{SheetRow}
 use Rattle.reasons.specs.Reasons.{number_of}
-use Rattle.checker.specs.declared.pair.Pair.TheVariants.{Are, None}
+use Rattle.crossing.specs.declared.pair.Pair.TheVariants.{Are, None}
+use Rattle.crossing.specs.declared.crossing.Crossing.TheVariants.{All, Parallel, Many}
 use Rattle.ringkit.specs.Says.{Answer}
 use Rattle.ringkit.specs.Answers.{Checked, Asked}
 use Rattle.ringkit.specs.Judging.{Judged, sheet_given}
 use Rattle.ringkit.specs.Turning.{TurnAnswer}
+use Rattle.ringkit.specs.Crossing.{CrossingAnswer}
+use Rattle.least.specs.Rule.{rule_number}
+use Rattle.ringkit.specs.LeastPeak.{LeastAnswer}
 use Rattle.ringkit_c.specs.declared.replies.Reply.{Reply}
 use Rattle.ringkit_c.specs.declared.replies.PairReply.{PairReply}
 use Rattle.ringkit_c.specs.declared.replies.JudgeReply.{JudgeReply}
 use Rattle.ringkit_c.specs.declared.replies.TurnReply.{TurnReply}
+use Rattle.ringkit_c.specs.declared.replies.CrossingReply.{CrossingReply}
+use Rattle.ringkit_c.specs.declared.replies.LeastReply.{LeastReply}
 
 -- of a call that fills a buffer
 unfoldable pub reply_of : Answer → Reply
@@ -44,6 +50,18 @@ judge_reply (Err f) = record { reason = number_of f.reason; place = f.place }
 unfoldable pub turn_reply : TurnAnswer → TurnReply
 turn_reply (Ok x) = record { reason = 0; line = 0; byte = 0; peak = x.turned.peak; link = x.turned.link; turns = x.turned.turns; rows = x.rows }
 turn_reply (Err r) = record { reason = number_of r.reason; line = r.line; byte = r.byte; peak = 0; link = 0; turns = 0; rows = 0 }
+
+-- of whether all rows with amounts cross: kind 1 has the bound, kind 2 the two places, which are counted from 1, and kind 3 neither
+unfoldable pub crossing_reply : CrossingAnswer → CrossingReply
+crossing_reply (Ok (All bound)) = record { reason = 0; line = 0; byte = 0; kind = 1; bound = bound; first = 0; second = 0 }
+crossing_reply (Ok (Parallel p q)) = record { reason = 0; line = 0; byte = 0; kind = 2; bound = 0; first = p; second = q }
+crossing_reply (Ok Many) = record { reason = 0; line = 0; byte = 0; kind = 3; bound = 0; first = 0; second = 0 }
+crossing_reply (Err r) = record { reason = number_of r.reason; line = r.line; byte = r.byte; kind = 0; bound = 0; first = 0; second = 0 }
+
+-- of the least of five rules
+unfoldable pub least_reply : LeastAnswer → LeastReply
+least_reply (Ok x) = record { reason = 0; line = 0; byte = 0; peak = x.least.peak; floor = x.least.floor; rule = rule_number x.least.rule; rows = x.rows }
+least_reply (Err r) = record { reason = number_of r.reason; line = r.line; byte = r.byte; peak = 0; floor = 0; rule = 0; rows = 0 }
 
 -- the ring that C tells in numbers: family 0 is SONET, any other number SDH
 abbrev pub ring_told : ℕ → ℕ → ℕ → Ring

@@ -8,11 +8,14 @@ mod texts; // the calls that read a text
 mod working; // the calls of the working table
 
 pub use judging::ringkit_judge;
-pub use replies::{JudgeReply, PairReply, Reply, RowReply, TurnReply, WorkReply};
+pub use replies::{
+    CrossingReply, JudgeReply, LeastReply, PairReply, Reply, RowReply, TurnReply, WorkReply,
+};
 pub use texts::{
-    ringkit_check, ringkit_parallel, ringkit_read_matrix, ringkit_report, ringkit_rewrite_sheet,
-    ringkit_rewrite_table, ringkit_route, ringkit_route_best, ringkit_route_lowered,
-    ringkit_route_lowered_best, ringkit_turn, ringkit_write_matrix,
+    ringkit_check, ringkit_crossing, ringkit_least, ringkit_parallel, ringkit_read_matrix,
+    ringkit_report, ringkit_rewrite_sheet, ringkit_rewrite_table, ringkit_route,
+    ringkit_route_best, ringkit_route_lowered, ringkit_route_lowered_best, ringkit_turn,
+    ringkit_write_matrix,
 };
 pub use working::{
     ringkit_work_add, ringkit_work_change, ringkit_work_remove, ringkit_work_row,

@@ -1,13 +1,13 @@
 //! C's structs of numbers, each with what makes it of a call's answer.
 ghost use Rattle.std.specs.Prelude.{◌≡◌, ◌≤◌, ◌+◌, IfErr};
 ghost use Rattle.ring.specs.Limits.{desk};
-ghost use Rattle.ringkit_c.specs.Replies.{reply_of, checked_reply, pair_reply, judge_reply, turn_reply};
+ghost use Rattle.ringkit_c.specs.Replies.{reply_of, checked_reply, pair_reply, judge_reply, turn_reply, crossing_reply, least_reply};
 ghost use Rattle.ringkit_c.specs.Working.{work_reply, row_reply};
 
-use checker::Pair;
+use crossing::{Crossing, Pair};
 use reasons::{Finding, Reason, Refusal};
 use ring::Demand;
-use ringkit::TurnedTable;
+use ringkit::{LeastTable, TurnedTable};
 use work::Placed;
 
 /// The answer of a call that fills a buffer, or that checks a sheet. Reason 0 is success. On a refusal every field but reason, line and byte is 0; line and
@@ -148,6 +148,97 @@ impl From<Result<TurnedTable, Refusal>> for TurnReply {
                 line: refusal.line,
                 byte: refusal.byte,
                 ..TurnReply::default()
+            },
+        }
+    }
+}
+
+/// Of the answer whether all rows with amounts cross: they do, and there is a bound.
+const ALL_CROSS: u32 = 1;
+
+/// Two of them are parallel.
+const PARALLEL: u32 = 2;
+
+/// They all cross, and are too many.
+const MANY: u32 = 3;
+
+/// The answer whether all rows with amounts cross. Reason 0 is success: its kind, 1 to 3, with the bound in halves where that is 1, and two rows by their places, counted from 1, where it is 2.
+/// What a kind does not have is 0; on a refusal all four are 0.
+#[repr(C)]
+#[derive(Default, Drop)]
+pub struct CrossingReply {
+    pub reason: u32,
+    pub line: u32,
+    pub byte: u32,
+    pub kind: u32,
+    pub bound: u32,
+    pub first: usize,
+    pub second: usize,
+}
+
+impl From<Result<Crossing, Refusal>> for CrossingReply {
+    ghost from_gives = { λ answer reply. reply ≡ crossing_reply answer };
+
+    #[tactic(auto, unfolding(crate::specs::Replies::crossing_reply))]
+    fn from(answer: Result<Crossing, Refusal>) -> CrossingReply {
+        match answer {
+            Ok(Crossing::All { bound }) => CrossingReply {
+                kind: ALL_CROSS,
+                bound,
+                ..CrossingReply::default()
+            },
+            Ok(Crossing::Parallel { first, second }) => CrossingReply {
+                kind: PARALLEL,
+                first,
+                second,
+                ..CrossingReply::default()
+            },
+            Ok(Crossing::Many) => CrossingReply {
+                kind: MANY,
+                ..CrossingReply::default()
+            },
+            Err(refusal) => CrossingReply {
+                reason: refusal.reason.number(),
+                line: refusal.line,
+                byte: refusal.byte,
+                ..CrossingReply::default()
+            },
+        }
+    }
+}
+
+/// The answer of the call that says the least of five rules. Reason 0 is success: the least peak and the floor in units, the number of the rule that has the peak, 1 to
+/// 5, and how many rows there are; all four are 0 on a refusal.
+#[repr(C)]
+#[derive(Default, Drop)]
+pub struct LeastReply {
+    pub reason: u32,
+    pub line: u32,
+    pub byte: u32,
+    pub peak: u32,
+    pub floor: u32,
+    pub rule: u32,
+    pub rows: usize,
+}
+
+impl From<Result<LeastTable, Refusal>> for LeastReply {
+    ghost from_gives = { λ answer reply. reply ≡ least_reply answer };
+
+    #[tactic(auto, unfolding(crate::specs::Replies::least_reply))]
+    fn from(answer: Result<LeastTable, Refusal>) -> LeastReply {
+        match answer {
+            Ok(table) => LeastReply {
+                peak: table.least.peak,
+                floor: table.least.floor,
+                rule: table.least.rule.number(),
+                rows: table.rows,
+                ..LeastReply::default()
+            },
+            Err(refusal) => LeastReply {
+                reason: refusal.reason.number(),
+                line: refusal.line,
+                byte: refusal.byte,
+                ..LeastReply::default()
             },
         }
     }

@@ -1,9 +1,10 @@
 // The calls that read a text.
-ghost use Rattle.std.specs.Prelude.{ℕ, ◌≡◌, ◌≢◌, ◌≤◌, List, length, take};
+ghost use Rattle.std.specs.Prelude.{ℕ, ◌-◌, ◌≡◌, ◌≢◌, ◌≤◌, List, length, take};
 ghost use Rattle.family.specs.Sizes.{family_of};
 ghost use Rattle.ring.specs.Limits.{desk};
 ghost use Rattle.ring.specs.LineSize.{IsFibres};
 ghost use Rattle.ring.specs.Lists.{Each};
+ghost use Rattle.engines.specs.declared.Engine.{Engine};
 ghost use Rattle.engines.specs.declared.Engine.TheVariants.{Level, Lowered};
 ghost use Rattle.table.specs.Table.{table_room};
 ghost use Rattle.table.specs.Says.{Accepted as AcceptedTable};
@@ -29,9 +30,12 @@ ghost use Rattle.ringkit.specs.SheetCalls.{sheet_checked, sheet_parallel, sheet_
 ghost use Rattle.table.specs.ReadTable.{table_of};
 ghost use Rattle.ringkit.specs.Turning.{TurnPromise, TurnedWell};
 ghost use Rattle.ringkit.specs.TurnCalls.{TurnsTable};
-ghost use Rattle.ringkit_c.specs.Replies.{checked_reply, pair_reply, turn_reply, Told, Replies};
+ghost use Rattle.ringkit.specs.Crossing.{CrossingPromise, WithinBound};
+ghost use Rattle.ringkit.specs.CrossingCalls.{CrossingAsked};
+ghost use Rattle.ringkit.specs.LeastPeak.{LeastPromise, SentWhole, NoneBelow, NoneLowerBy, WithinRuleD, WithinCrossed};
+ghost use Rattle.ringkit_c.specs.Replies.{checked_reply, pair_reply, turn_reply, crossing_reply, least_reply, Told, Replies};
 
-use crate::replies::{PairReply, Reply, TurnReply};
+use crate::replies::{CrossingReply, LeastReply, PairReply, Reply, TurnReply};
 use family::Family;
 use ring::ROWS;
 
@@ -206,6 +210,42 @@ pub extern "C" fn ringkit_turn(table: &[u8], ways: &mut [u8; ROWS]) -> TurnReply
         Told turn_reply (TurnsTable read ways.old ways.new) result }
 {
     TurnReply::from(ringkit::ringkit_turn(table, ways))
+}
+
+/// Whether all rows of a table with amounts above 0 cross. The reply has kind 1 where they do and are at most 16, with the bound, in halves, of the unsplit peak of the best choice; kind 2 where two are parallel, with
+/// the places of the first two, counted from 1 among all rows; kind 3 where they all cross and are more than 16; or the table's first reason with its line and byte.
+#[unsafe(no_mangle)]
+pub extern "C" fn ringkit_crossing(table: &[u8]) -> CrossingReply
+    ensures promise { Told crossing_reply (CrossingPromise table.now) result }
+    ensures only { (other : CrossingReply) → Told crossing_reply (CrossingPromise table.now) other →
+        other ≡ result }
+    ensures bound { result.kind ≡ 1 →
+        (engine : Engine) → WithinBound engine result.bound table.now }
+    ensures value { let read = table_of desk table.now in
+        Told crossing_reply (CrossingAsked read) result }
+{
+    CrossingReply::from(ringkit::ringkit_crossing(table))
+}
+
+/// Says the least of five rules of a table, and puts the ways of its rows at their places, 0 for F and 1 for B. The reply has the least peak and the floor in units, the
+/// number of the rule that has the peak, and how many rows there are; or the table's first reason with its line and byte, and then no byte of the ways has changed.
+#[unsafe(no_mangle)]
+pub extern "C" fn ringkit_least(table: &[u8], ways: &mut [u8; ROWS]) -> LeastReply
+    ensures promise { Told least_reply (LeastPromise table.now ways.old ways.new) result }
+    ensures only { Only (λ new. Told least_reply (LeastPromise table.now ways.old new)) ways.new
+        result }
+    ensures accepted { AcceptedTable desk table.now → result.reason ≡ 0 }
+    ensures sent { result.reason ≡ 0 →
+        SentWhole table.now (take result.rows ways.new) result.peak }
+    ensures floor { result.reason ≡ 0 → NoneBelow table.now result.floor }
+    ensures proved_best { result.reason ≡ 0 → result.peak ≡ result.floor →
+        NoneBelow table.now result.peak }
+    ensures within { result.reason ≡ 0 →
+        NoneLowerBy table.now result.peak (result.peak - result.floor) }
+    ensures bound { result.reason ≡ 0 → WithinRuleD table.now result.peak }
+    ensures crossed { result.reason ≡ 0 → WithinCrossed table.now result.peak }
+{
+    LeastReply::from(ringkit::ringkit_least(table, ways))
 }
 
 /// Makes a report over a text of many plans and writes its lines. The reply has its length in bytes; or 24, where the text is over 65,536 bytes, or 15, and then no byte

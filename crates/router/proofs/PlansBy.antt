@@ -19,11 +19,11 @@ use Rattle.router.proofs.FourRules.{directed}
 -- ---- the ways of rows
 
 module _ {n : ℕ} {ss : List Sent} where
-  go-sents : {rule : Rule} {ways : List Routed} → GoBy n ss rule ways → sents ways ≡ ss
+  pub go-sents : {rule : Rule} {ways : List Routed} → GoBy n ss rule ways → sents ways ≡ ss
   go-sents by_rule_D = directed ss
   go-sents (by_best_choice few best) = best.choice.same
 
-  one-way : {rule : Rule} {a b : List Routed} → GoBy n ss rule a → GoBy n ss rule b → a ≡ b
+  pub one-way : {rule : Rule} {a b : List Routed} → GoBy n ss rule a → GoBy n ss rule b → a ≡ b
   one-way by_rule_D by_rule_D = refl
   one-way (by_best_choice few best) (by_best_choice few' best') = best-unique n ss _ _ best best'
 

@@ -92,7 +92,7 @@ data Walked (limits : Limits) (t : List ℕ) : ℕ → State → Type 0 where
 module _ {limits : Limits} {t : List ℕ} where
   walked : {line : ℕ} {s : State} → At limits t line s → Walked limits t line s
   walked at_start = at_first
-  walked (behind_ring r) = on_from at_first r.text (by_ring r)
+  walked (behind_ring r) = on_from at_first r.first (by_ring r)
   walked (behind_row at r) = on_from (walked at) r.text (by_row r)
   walked (behind_cut at c) = on_from (walked at) c.text (by_cut c)
   walked (behind_link at few l) = on_from (walked at) l.text (by_link few l)

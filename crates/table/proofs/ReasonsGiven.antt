@@ -126,7 +126,7 @@ module _ {limits : Limits} {t : List ℕ} where
 
   lines-right : length t ≤ limits.bytes → (ls : List (List ℕ)) → LinesFrom (lines t) 1 ls → Right limits t (table_lines limits ls)
   unfolding table_lines ring_on values_on ring_found
-  lines-right short [] from = wrong-given (clean-start (row-laws limits t) short) (no_ring refl (λ ring x. omega (arith, no-line-left from x.text))) (ring_due refl (line_missing (λ l is. omega (arith, no-line-left from is))))
+  lines-right short [] from = wrong-given (clean-start (row-laws limits t) short) (no_ring refl (λ ring x. omega (arith, no-line-left from x.first))) (ring_due refl (line_missing (λ l is. omega (arith, no-line-left from is))))
   lines-right short (l ∷ ls) from = go (as-ring limits l)
     where
       next : Ring → Result Table Refusal

@@ -38,14 +38,14 @@ row_first limits i j d h =
 
 -- the first line of a text, by what it says
 pub ring-said : {limits : Limits} {t : List ℕ} {ring : Ring} {l : List ℕ} → RingIs limits t ring → LineIs (lines t) 1 l → RingLineIs limits.marks limits.digits l ring
-ring-said p here = record { known = p.known; text = line-one here p.text refl; nodes = p.spelled.0; fibres = p.spelled.1 }
+ring-said {limits} {ring = ring} p here = subst (λ s. RingLineIs limits.marks limits.digits s ring) (line-one p.first here refl) p.is
 
 -- and back
 pub ring-is : {limits : Limits} {t : List ℕ} {ring : Ring} {l : List ℕ} → LineIs (lines t) 1 l → RingLineIs limits.marks limits.digits l ring → RingIs limits t ring
-ring-is {t} here h = record { text = subst (LineIs (lines t) 1) h.text here; known = h.known; spelled = (h.nodes, h.fibres) }
+ring-is {l = l} here h = record { line = l; first = here; is = h }
 
 pub ring-one : {limits : Limits} {t : List ℕ} {r s : Ring} → RingIs limits t r → RingIs limits t s → r ≡ s
-ring-one {limits} p q = one-ring limits.digits limits.countable limits.marks _ (ring-said p p.text) (ring-said q p.text)
+ring-one {limits} p q = one-ring limits.digits limits.countable limits.marks _ (ring-said p p.first) (ring-said q p.first)
 
 pub row-one : {limits : Limits} {t : List ℕ} {line : ℕ} {r s : Demand} → RowIs limits t line r → RowIs limits t line s → r ≡ s
 row-one {limits} p q = ap demand_in (one-line limits.digits limits.countable row_shape _ _ (row-in-range limits _ _ _ p.spelled) (row-in-range limits _ _ _ q.spelled) (line-one p.text q.text refl))

@@ -1,10 +1,8 @@
 -- To believe: what each reason says of a text whose first line is a ring and whose rows each stand on a line behind it, as in a table and in a sheet (Rules, reasons), by
 -- its lines and the writer alone; and which byte of the line goes with it.
 use Rattle.std.specs.Prelude.{ℕ, ◌+◌, ◌≤◌, ◌<◌, List, ◌⊎◌, ◌≡◌, length}
-use Rattle.text.specs.Number.{limit}
 use Rattle.text.specs.FieldByte.{row_byte}
-use Rattle.text.specs.RingLine.{ring_line, ring_byte}
-use Rattle.family.specs.Sizes.{Known}
+use Rattle.text.specs.RingLine.{ring_byte, RingLineIs}
 use Rattle.ring.specs.Limits.{Limits}
 use Rattle.ring.specs.declared.types.Ring.{Ring}
 use Rattle.ring.specs.declared.types.Demand.{Demand}
@@ -15,11 +13,11 @@ use Rattle.reasons.specs.declared.reason.Reason.{Reason}
 use Rattle.reasons.specs.declared.reason.Reason.TheVariants.{TooLong, Misshapen, RingSize, Fibres, NoSuchNode, NotBelow, OutOfOrder, TooMany, TooMuch}
 use Rattle.reasons.specs.RowFindings.{NoNode}
 
--- the first line is R n fibres, and M behind that where the ring is an SDH ring
+-- the first line is the R line of this ring
 pub record RingIs (limits : Limits) (t : List ℕ) (ring : Ring) : Type 0 where
-  pub text : LineIs (lines t) 1 (ring_line ring)
-  pub known : Known limits.marks ring.family
-  pub spelled : (ring.nodes < limit limits.digits) × (ring.fibres < limit limits.digits)
+  pub line : List ℕ
+  pub first : LineIs (lines t) 1 line
+  pub is : RingLineIs limits.marks limits.digits line ring
 
 -- by what it is for a line to hold a row of this demand, and what 2 says of a line
 module _ (limits : Limits) (t : List ℕ) (Row : ℕ → Demand → Type 0) (WrongLine : ℕ → Type 0) where

@@ -139,7 +139,7 @@ pub fn too_many(rng: &mut Rng, _: u64) -> Option<Case> {
 }
 
 /// Few sizes, so that many ways have the same peak.
-fn equal_peaks(rng: &mut Rng, _: u64) -> Option<Case> {
+pub fn equal_peaks(rng: &mut Rng, _: u64) -> Option<Case> {
     let count = rng.between(2, 8) as usize;
     let (n, most) = (rng.between(2 * count as i64, 20), rng.pick(&[1, 1, 2, 3]));
     let table = crossed(rng, n, count, most);

@@ -3,9 +3,13 @@
 //! the library is not linked but asked in a process of its own.
 
 use crate::check::Finding;
+use crate::crossing::CrossingReply;
+use crate::least::LeastReply;
 use crate::mutant::Mutant;
 #[cfg(remote)]
-use crate::remote::{library, library_judge, library_turn, library_work};
+use crate::remote::{
+    library, library_crossing, library_judge, library_least, library_turn, library_work,
+};
 use crate::turns::TurnReply;
 use crate::twin::{Call, Said};
 #[cfg(not(any(mock, remote)))]
@@ -54,6 +58,22 @@ impl Kit {
         match self {
             Kit::Library => library_turn(text, area, lent),
             Kit::Mutant(mutant) => mutant.turn(text, &mut area[lent]),
+        }
+    }
+
+    /// Whether the circuits of a table all cross each other.
+    pub fn crossing(self, text: &mut [u8]) -> CrossingReply {
+        match self {
+            Kit::Library => library_crossing(text),
+            Kit::Mutant(mutant) => mutant.crossing(text),
+        }
+    }
+
+    /// The least of five rules; the lent ways are the part `lent` of `area`.
+    pub fn least(self, text: &mut [u8], area: &mut [u8], lent: Range<usize>) -> LeastReply {
+        match self {
+            Kit::Library => library_least(text, area, lent),
+            Kit::Mutant(mutant) => mutant.least(text, &mut area[lent]),
         }
     }
 
@@ -131,6 +151,8 @@ extern "C" {
         buffer_len: usize,
     ) -> Reply;
     fn ringkit_turn(table_ptr: *const u8, table_len: usize, ways_ptr: *mut u8) -> TurnReply;
+    fn ringkit_crossing(table_ptr: *const u8, table_len: usize) -> CrossingReply;
+    fn ringkit_least(table_ptr: *const u8, table_len: usize, ways_ptr: *mut u8) -> LeastReply;
     fn ringkit_judge(
         rows_ptr: *const HeldRow,
         rows_len: usize,
@@ -215,14 +237,35 @@ fn library_work(ask: &Ask, words: &mut [u32], area: &mut [u8], lent: Range<usize
     }
 }
 
+/// A call that reads a table and writes ways.
 #[cfg(not(any(mock, remote)))]
-fn library_turn(text: &mut [u8], area: &mut [u8], lent: Range<usize>) -> TurnReply {
+type WaysWriting<R> = unsafe extern "C" fn(*const u8, usize, *mut u8) -> R;
+
+#[cfg(not(any(mock, remote)))]
+fn ways_of<R>(call: WaysWriting<R>, text: &mut [u8], area: &mut [u8], lent: Range<usize>) -> R {
     let ways = &mut area[lent];
     let (text_ptr, text_len) = (text.as_mut_ptr().cast_const(), text.len());
     // SAFETY: the text's pointer comes from a slice of the length given, that of the
     // ways from one of as many bytes as rows may be; both live through the call and
     // do not overlap.
-    unsafe { ringkit_turn(text_ptr, text_len, ways.as_mut_ptr()) }
+    unsafe { call(text_ptr, text_len, ways.as_mut_ptr()) }
+}
+
+#[cfg(not(any(mock, remote)))]
+fn library_turn(text: &mut [u8], area: &mut [u8], lent: Range<usize>) -> TurnReply {
+    ways_of(ringkit_turn, text, area, lent)
+}
+
+#[cfg(not(any(mock, remote)))]
+fn library_least(text: &mut [u8], area: &mut [u8], lent: Range<usize>) -> LeastReply {
+    ways_of(ringkit_least, text, area, lent)
+}
+
+#[cfg(not(any(mock, remote)))]
+fn library_crossing(text: &mut [u8]) -> CrossingReply {
+    // SAFETY: the pointer comes from a slice of the length given, which lives through
+    // the call.
+    unsafe { ringkit_crossing(text.as_mut_ptr().cast_const(), text.len()) }
 }
 
 #[cfg(not(any(mock, remote)))]
@@ -251,6 +294,16 @@ fn library_judge(values: &mut Values) -> Finding {
 #[cfg(mock)]
 fn library_turn(text: &mut [u8], area: &mut [u8], lent: Range<usize>) -> TurnReply {
     crate::turns::turn(text, &mut area[lent])
+}
+
+#[cfg(mock)]
+fn library_crossing(text: &mut [u8]) -> CrossingReply {
+    crate::crossing::ask(text)
+}
+
+#[cfg(mock)]
+fn library_least(text: &mut [u8], area: &mut [u8], lent: Range<usize>) -> LeastReply {
+    crate::least::least(text, &mut area[lent])
 }
 
 #[cfg(mock)]

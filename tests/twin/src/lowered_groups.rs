@@ -76,7 +76,7 @@ fn full(rng: &mut Rng, case: u64) -> Option<Case> {
 
 /// Rows that cross beside others as large, so that by level rooms there are often more
 /// split rows or fewer.
-fn about_sixteen(rng: &mut Rng, _: u64) -> Option<Case> {
+pub fn about_sixteen(rng: &mut Rng, _: u64) -> Option<Case> {
     let (n, count, most) = (
         rng.between(34, 64),
         rng.between(15, 18),
@@ -91,7 +91,7 @@ fn about_sixteen(rng: &mut Rng, _: u64) -> Option<Case> {
     )
 }
 
-fn neither(rng: &mut Rng, case: u64) -> Option<Case> {
+pub fn neither(rng: &mut Rng, case: u64) -> Option<Case> {
     if case % 2 == 0 {
         matrices::any(rng, case)
     } else {

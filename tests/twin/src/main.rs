@@ -21,13 +21,17 @@
 //! --judging-mutants [SEED [COUNT]]` lists which of its faults are caught; `twin
 //! --turning` and `twin --turning-mutants` do so of sending circuits one turn at a time,
 //! `twin --choosing` and `twin --choosing-mutants` of the best choice, `twin --lowering`
-//! and `twin --lowering-mutants` of lowered rooms, and `twin --reporting` and `twin
-//! --reporting-mutants` of reports.
+//! and `twin --lowering-mutants` of lowered rooms, `twin --crossing` and `twin
+//! --crossing-mutants` of whether circuits cross, `twin --least` and `twin --least-mutants`
+//! of the least of five rules, and `twin --reporting` and `twin --reporting-mutants` of
+//! reports.
 //!
 //! `twin --cases` answers the stored cases given on standard input by itself,
 //! without the library, so that its reading is compared with the one that wrote
-//! their answers; `twin --judged` judges the stored values given there, and `twin
-//! --turned` sends the circuits of the stored tables.
+//! their answers; `twin --judged` judges the stored values given there, `twin --turned`
+//! sends the circuits of the stored tables one turn at a time, `twin --leasts` by the rule
+//! that comes to the least peak, and `twin --crossed` says of others whether their circuits
+//! cross.
 
 mod bars;
 mod byte_faults;
@@ -43,6 +47,11 @@ mod choice_run;
 mod choice_selfcheck;
 mod compare;
 mod count;
+mod crossing;
+mod crossing_faults;
+mod crossing_groups;
+mod crossing_run;
+mod crossing_selfcheck;
 mod family;
 mod family_faults;
 mod foreign;
@@ -53,6 +62,11 @@ mod judging_groups;
 mod judging_run;
 mod judging_selfcheck;
 mod kit;
+mod least;
+mod least_faults;
+mod least_groups;
+mod least_run;
+mod least_selfcheck;
 mod lends;
 mod limits;
 mod lowered;
@@ -92,6 +106,7 @@ mod turning_selfcheck;
 mod turns;
 mod twin;
 mod values;
+mod ways_call;
 mod working;
 mod working_bytes;
 mod working_compare;
@@ -103,8 +118,10 @@ mod working_stand_in;
 
 use choice_run::ChoiceTally;
 use count::{outcomes, Count};
+use crossing_run::CrossingTally;
 use judging_run::JudgingTally;
 use kit::Kit;
+use least_run::LeastTally;
 use lowered_run::LoweredTally;
 use mutant::{faults, same, Mutant};
 use part::{part, Run};
@@ -144,7 +161,8 @@ fn self_checks_of_texts(seed: u64) -> Count {
     ])
 }
 
-/// What the twin shows of turns, the best choice, lowered rooms and reports by itself.
+/// What the twin shows of turns, the best choice, lowered rooms, whether circuits cross, the
+/// least of five rules and reports by itself.
 fn self_checks_of_plans(seed: u64) -> Count {
     outcomes(&[
         (
@@ -164,6 +182,19 @@ fn self_checks_of_plans(seed: u64) -> Count {
         (
             "self-check: theorems of lowered rooms",
             lowered_selfcheck::random_theorems(seed),
+        ),
+        (
+            "self-check: whether circuits cross",
+            crossing_selfcheck::by_hand(),
+        ),
+        (
+            "self-check: theorems of circuits that cross",
+            crossing_selfcheck::random_theorems(seed),
+        ),
+        ("self-check: the least", least_selfcheck::by_hand()),
+        (
+            "self-check: theorems of the least",
+            least_selfcheck::random_theorems(seed),
         ),
         ("self-check: reports", report_selfcheck::by_hand()),
         (
@@ -208,6 +239,10 @@ fn places(mutant: &'static Mutant, seed: u64, count: u64) -> (usize, usize) {
         part::places::<ChoiceTally>(run)
     } else if mutant.of_lowering() {
         part::places::<LoweredTally>(run)
+    } else if mutant.of_crossing() {
+        part::places::<CrossingTally>(run)
+    } else if mutant.of_least() {
+        part::places::<LeastTally>(run)
     } else if mutant.of_reporting() {
         part::places::<ReportTally>(run)
     } else {
@@ -268,15 +303,19 @@ struct Asked {
     count: Option<u64>,
 }
 
-const MODES: [&str; 18] = [
+const MODES: [&str; 24] = [
     "--cases",
     "--judged",
     "--turned",
+    "--crossed",
+    "--leasts",
     "--working",
     "--judging",
     "--turning",
     "--choosing",
     "--lowering",
+    "--crossing",
+    "--least",
     "--reporting",
     "--mutants",
     "--working-mutants",
@@ -284,6 +323,8 @@ const MODES: [&str; 18] = [
     "--turning-mutants",
     "--choosing-mutants",
     "--lowering-mutants",
+    "--crossing-mutants",
+    "--least-mutants",
     "--reporting-mutants",
     "--byte-mutants",
     "--family-mutants",
@@ -324,6 +365,8 @@ fn compared(run: Run) -> Count {
         part::<TurningTally>(run),
         part::<ChoiceTally>(run),
         part::<LoweredTally>(run),
+        part::<CrossingTally>(run),
+        part::<LeastTally>(run),
         part::<ReportTally>(run),
     ];
     counts.into_iter().sum()
@@ -333,39 +376,60 @@ fn status(good: bool) -> ExitCode {
     ExitCode::from(u8::from(!good))
 }
 
+/// The faults that a mode lists, and what they are called behind their number; None of a mode
+/// that lists none.
+fn faults_of(mode: &str) -> Option<(&'static str, Kind)> {
+    Some(match mode {
+        "--mutants" => ("", |_| true),
+        "--working-mutants" => (" of the working table", Mutant::of_working),
+        "--judging-mutants" => (" of the judging of values", Mutant::of_judging),
+        "--turning-mutants" => (" of the turning of circuits", Mutant::of_turning),
+        "--choosing-mutants" => (" of the best choice", Mutant::of_choosing),
+        "--lowering-mutants" => (" of lowered rooms", Mutant::of_lowering),
+        "--crossing-mutants" => (" of whether circuits cross", Mutant::of_crossing),
+        "--least-mutants" => (" of the least of five rules", Mutant::of_least),
+        "--reporting-mutants" => (" of reports", Mutant::of_reporting),
+        "--byte-mutants" => (" of the byte", Mutant::of_bytes),
+        "--family-mutants" => (" of the families", Mutant::of_families),
+        _ => return None,
+    })
+}
+
+/// What a mode compares, or answers by itself.
+fn carried_out(mode: &str, run: Run) -> ExitCode {
+    match mode {
+        "--cases" => status(stored::answer_all()),
+        "--judged" => status(stored::judge_all()),
+        "--turned" => status(stored::turn_all()),
+        "--crossed" => status(stored::cross_all()),
+        "--leasts" => status(stored::least_all()),
+        "--working" => part::<WorkTally>(run).end(),
+        "--judging" => part::<JudgingTally>(run).end(),
+        "--turning" => part::<TurningTally>(run).end(),
+        "--choosing" => part::<ChoiceTally>(run).end(),
+        "--lowering" => part::<LoweredTally>(run).end(),
+        "--crossing" => part::<CrossingTally>(run).end(),
+        "--least" => part::<LeastTally>(run).end(),
+        "--reporting" => part::<ReportTally>(run).end(),
+        _ => compared(run).end(),
+    }
+}
+
 fn main() -> ExitCode {
     let Some(asked) = asked() else {
-        eprintln!("usage: twin --cases | twin --judged | twin --turned | twin [--working | --judging | --turning | --choosing | --lowering | --reporting | --mutants | --working-mutants | --judging-mutants | --turning-mutants | --choosing-mutants | --lowering-mutants | --reporting-mutants | --byte-mutants | --family-mutants | --mutant K] [SEED [COUNT]]");
+        eprintln!("usage: twin --cases | twin --judged | twin --turned | twin --crossed | twin --leasts | twin [--working | --judging | --turning | --choosing | --lowering | --crossing | --least | --reporting | --mutants | --working-mutants | --judging-mutants | --turning-mutants | --choosing-mutants | --lowering-mutants | --crossing-mutants | --least-mutants | --reporting-mutants | --byte-mutants | --family-mutants | --mutant K] [SEED [COUNT]]");
         return ExitCode::from(2);
     };
     let (kit, seed) = (asked.kit, asked.seed);
+    if let Some((of, kind)) = faults_of(&asked.mode) {
+        let count = asked.count.unwrap_or(MUTANT_COUNT);
+        return status(mutants(seed, count, of, kind));
+    }
     let run = Run {
         kit,
         seed,
         count: asked.count.unwrap_or(COUNT),
         describing: true,
     };
-    let caught =
-        |of: &str, kind: Kind| status(mutants(seed, asked.count.unwrap_or(MUTANT_COUNT), of, kind));
-    match asked.mode.as_str() {
-        "--cases" => status(stored::answer_all()),
-        "--judged" => status(stored::judge_all()),
-        "--turned" => status(stored::turn_all()),
-        "--mutants" => caught("", |_| true),
-        "--working-mutants" => caught(" of the working table", Mutant::of_working),
-        "--judging-mutants" => caught(" of the judging of values", Mutant::of_judging),
-        "--turning-mutants" => caught(" of the turning of circuits", Mutant::of_turning),
-        "--choosing-mutants" => caught(" of the best choice", Mutant::of_choosing),
-        "--lowering-mutants" => caught(" of lowered rooms", Mutant::of_lowering),
-        "--reporting-mutants" => caught(" of reports", Mutant::of_reporting),
-        "--byte-mutants" => caught(" of the byte", Mutant::of_bytes),
-        "--family-mutants" => caught(" of the families", Mutant::of_families),
-        "--working" => part::<WorkTally>(run).end(),
-        "--judging" => part::<JudgingTally>(run).end(),
-        "--turning" => part::<TurningTally>(run).end(),
-        "--choosing" => part::<ChoiceTally>(run).end(),
-        "--lowering" => part::<LoweredTally>(run).end(),
-        "--reporting" => part::<ReportTally>(run).end(),
-        _ => compared(run).end(),
-    }
+    carried_out(&asked.mode, run)
 }

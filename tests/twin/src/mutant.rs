@@ -6,9 +6,13 @@ use crate::check::{self, Finding, Question, Questions, Sheet, QUESTIONS};
 use crate::checking_faults::*;
 use crate::choice;
 use crate::choice_faults::{CHOICE_FAULTS, CHOICE_SAME};
+use crate::crossing::{self, CrossingReply};
+use crate::crossing_faults::{CROSSING_FAULTS, CROSSING_SAME};
 use crate::family_faults::FAMILY_FAULTS;
 use crate::foreign::cuts;
 use crate::judging_faults::JUDGING_FAULTS;
+use crate::least::{self, LeastReply};
+use crate::least_faults::{LEAST_FAULTS, LEAST_SAME};
 use crate::limits::{ROWS, TEXT};
 use crate::lowered;
 use crate::lowered_faults::{LOWERED_FAULTS, LOWERED_SAME};
@@ -67,11 +71,22 @@ enum How {
     Choose(choice::Sentences),
     /// Another reading of a sentence of lowered rooms.
     Lower(lowered::Sentences),
+    /// Another reading of a sentence of whether circuits cross.
+    Cross(crossing::Sentences),
+    /// Another reply to that question.
+    Ask(fn(CrossingReply) -> CrossingReply),
+    /// Another reading of a sentence of the least of five rules.
+    Least(least::Sentences),
+    /// Another reply to it, which may look at the text, or other ways.
+    LeastWays(LeastReplying),
     /// Another reading of a sentence of a report.
     Report(report::Sentences),
     /// Another reply to one call, which may look at the text.
     Reply(Call, Replying),
 }
+
+/// The reply to a text in the place of the twin's.
+pub type LeastReplying = fn(&[u8], LeastReply, &mut [u8]) -> LeastReply;
 
 /// The reply to a text and to what the twin answers of it.
 pub type Replying = fn(&[u8], &Answer, &mut [u8]) -> Reply;
@@ -131,6 +146,36 @@ impl Mutant {
         }
     }
 
+    /// Whether the circuits of a table all cross each other.
+    pub fn crossing(&self, text: &[u8]) -> CrossingReply {
+        let sentences = match &self.how {
+            How::Cross(sentences) => sentences,
+            _ => &crossing::SENTENCES,
+        };
+        let table = self.read_table(text);
+        let answer = table.map(|table| crossing::answer_read(&table, sentences));
+        let reply = crossing::reply(&answer);
+        match self.how {
+            How::Ask(change) => change(reply),
+            _ => reply,
+        }
+    }
+
+    /// The least of five rules of a table.
+    pub fn least(&self, text: &[u8], ways: &mut [u8]) -> LeastReply {
+        let sentences = match &self.how {
+            How::Least(sentences) => sentences,
+            _ => &least::SENTENCES,
+        };
+        let table = self.read_table(text);
+        let answer = table.map(|table| least::answer_read(&table, sentences));
+        let reply = least::reply(&answer, ways);
+        match self.how {
+            How::LeastWays(change) => change(text, reply, ways),
+            _ => reply,
+        }
+    }
+
     /// The refusal with the byte that the fault gives it.
     fn point(&self, call: Call, text: &[u8], refusal: Refusal) -> Refusal {
         let How::Point(point) = self.how else {
@@ -165,6 +210,11 @@ impl Mutant {
         matches!(self.how, How::Turn(_) | How::Ways(_))
     }
 
+    /// Whether the fault lies in whether circuits cross.
+    pub fn of_crossing(&self) -> bool {
+        matches!(self.how, How::Cross(_) | How::Ask(_))
+    }
+
     /// Whether the fault lies in the best choice.
     pub fn of_choosing(&self) -> bool {
         matches!(self.how, How::Choose(_) | How::Reply(Call::RouteBest, _))
@@ -173,6 +223,11 @@ impl Mutant {
     /// Whether the fault lies in a report.
     pub fn of_reporting(&self) -> bool {
         matches!(self.how, How::Report(_) | How::Reply(Call::Report, _))
+    }
+
+    /// Whether the fault lies in the least of five rules.
+    pub fn of_least(&self) -> bool {
+        matches!(self.how, How::Least(_) | How::LeastWays(_))
     }
 
     /// Whether the fault lies in lowered rooms.
@@ -282,7 +337,8 @@ impl Mutant {
 
 /// All faults, those of a matrix behind the others, then those of the byte, those of
 /// judging values, those of one turn at a time, those of the best choice, those of lowered
-/// rooms, those of reports, those of the working table, and those of the families last.
+/// rooms, those of whether circuits cross, those of the least of five rules, those of
+/// reports, those of the working table, and those of the families last.
 pub fn faults() -> Vec<&'static Mutant> {
     let texts = FAULTS.iter().chain(&MATRIX_FAULTS).chain(&BYTE_FAULTS);
     texts
@@ -290,6 +346,8 @@ pub fn faults() -> Vec<&'static Mutant> {
         .chain(&TURNING_FAULTS)
         .chain(&CHOICE_FAULTS)
         .chain(&LOWERED_FAULTS)
+        .chain(&CROSSING_FAULTS)
+        .chain(&LEAST_FAULTS)
         .chain(&REPORT_FAULTS)
         .chain(&WORKING_FAULTS)
         .chain(&FAMILY_FAULTS)
@@ -297,10 +355,11 @@ pub fn faults() -> Vec<&'static Mutant> {
 }
 
 /// All changes that come to the same, those of one turn at a time, of the best choice, of
-/// lowered rooms and of reports last.
+/// lowered rooms, of whether circuits cross, of the least of five rules and of reports last.
 pub fn same() -> Vec<&'static Mutant> {
     let same = SAME.iter().chain(&TURNING_SAME);
     let same = same.chain(&CHOICE_SAME).chain(&LOWERED_SAME);
+    let same = same.chain(&CROSSING_SAME).chain(&LEAST_SAME);
     same.chain(&REPORT_SAME).collect()
 }
 
@@ -322,6 +381,16 @@ pub const fn answering(
     Mutant { name, how }
 }
 
+pub const fn crossing(name: &'static str, sentences: crossing::Sentences) -> Mutant {
+    let how = How::Cross(sentences);
+    Mutant { name, how }
+}
+
+pub const fn asking(name: &'static str, change: fn(CrossingReply) -> CrossingReply) -> Mutant {
+    let how = How::Ask(change);
+    Mutant { name, how }
+}
+
 pub const fn choosing(name: &'static str, sentences: choice::Sentences) -> Mutant {
     let how = How::Choose(sentences);
     Mutant { name, how }
@@ -339,6 +408,16 @@ pub const fn reporting(name: &'static str, sentences: report::Sentences) -> Muta
 
 pub const fn lowering(name: &'static str, sentences: lowered::Sentences) -> Mutant {
     let how = How::Lower(sentences);
+    Mutant { name, how }
+}
+
+pub const fn least(name: &'static str, sentences: least::Sentences) -> Mutant {
+    let how = How::Least(sentences);
+    Mutant { name, how }
+}
+
+pub const fn saying(name: &'static str, change: LeastReplying) -> Mutant {
+    let how = How::LeastWays(change);
     Mutant { name, how }
 }
 

@@ -4,6 +4,8 @@
 
 use crate::check::Finding;
 use crate::compare::words_of;
+use crate::crossing::CrossingReply;
+use crate::least::LeastReply;
 use crate::table::Refusal;
 use crate::turns::TurnReply;
 use crate::twin::{Call, Pair, Reply, Said};
@@ -55,6 +57,23 @@ pub fn library_turn(text: &mut [u8], area: &mut [u8], lent: Range<usize>) -> Tur
         server.made("Turn", [0; 4], (text, 0), area, lent)
     });
     TurnReply::of(said.map(|number| number as u32))
+}
+
+/// Whether the circuits of a table all cross each other; the text comes back as the library
+/// left it.
+pub fn library_crossing(text: &mut [u8]) -> CrossingReply {
+    let said = answered("asking whether circuits cross".to_owned(), |server| {
+        server.made("Crossing", [0; 4], (text, 0), &mut [], 0..0)
+    });
+    CrossingReply::of(said.map(|number| number as u32))
+}
+
+/// The least of five rules; the same of text and area.
+pub fn library_least(text: &mut [u8], area: &mut [u8], lent: Range<usize>) -> LeastReply {
+    let said = answered("asking for the least".to_owned(), |server| {
+        server.made("Least", [0; 4], (text, 0), area, lent)
+    });
+    LeastReply::of(said.map(|number| number as u32))
 }
 
 /// One judging of values, which come back as the library left them.

@@ -2,13 +2,21 @@
 //! letter of the call, the text's length and the buffer's in five digits each,
 //! LF) and the text. Each is answered by a line. And stored values, which are judged
 //! by the twin alone: lines that say how the values change, and what is then found.
-//! And stored tables whose circuits are sent one turn at a time: lines that say how long
-//! a table is, what is answered and the ways, each with its table behind it.
+//! And stored tables whose circuits are sent whole, one turn at a time or by the rule that
+//! comes to the least peak: lines that say how long a table is, what is answered and the
+//! ways, each with its table behind it; and such tables of which it is asked whether their
+//! circuits cross.
 
 use crate::check::Finding;
+use crate::choice;
+use crate::crossing::{ask, CrossingReply, ALL_CROSS};
+use crate::least::{least, LeastReply};
+use crate::rules;
+use crate::table::{self, Table};
 use crate::turns::{turn, TurnReply, WAYS};
 use crate::twin::{self, Call, Said};
 use crate::values::{self, HeldLink, HeldRow, Values};
+use std::fmt::Debug;
 use std::io::{Read, Write};
 
 /// The buffer before a call, of which the case lends the beginning: as in crates/cases.
@@ -174,46 +182,118 @@ fn put_link(values: &mut Values, numbers: &str) -> Option<()> {
     Some(())
 }
 
-/// Sends the circuits of the tables of standard input, and says where the answer or
-/// the ways are another than what is stored. False where that is so, or where a case
-/// is not spelled as it should be.
+/// Sends the circuits of the stored tables one turn at a time.
 pub fn turn_all() -> bool {
+    send_all("turn ", turn, TurnReply::of)
+}
+
+/// Sends them by the rule that comes to the least peak.
+pub fn least_all() -> bool {
+    send_all("least ", least, LeastReply::of)
+}
+
+/// Sends the circuits of the tables of standard input, each behind a line that begins with
+/// that word, by a call whose reply is made of its numbers.
+fn send_all<R: PartialEq + Debug>(
+    word: &str,
+    send: fn(&[u8], &mut [u8]) -> R,
+    of: fn([u32; 7]) -> R,
+) -> bool {
+    hold_all(|rest| {
+        let (due, ways, text, after) = next_table(word, rest)?;
+        let mut lent = [PATTERN; WAYS];
+        let (reply, due) = (send(text, &mut lent), of(due));
+        let held = held(text, reply == due && lent == ways, &reply, &due);
+        Some((held, after))
+    })
+}
+
+/// Says of the tables of standard input whether their circuits cross, and where they do what
+/// the peaks are.
+pub fn cross_all() -> bool {
+    hold_all(|rest| {
+        let (due, text, after) = next_crossing(rest)?;
+        let reply = ask(text);
+        let answer = (reply, peaks(text, reply));
+        Some((held(text, answer == due, &answer, &due), after))
+    })
+}
+
+/// Where a table is answered otherwise than it should be, the two answers.
+fn held<A: Debug>(text: &[u8], good: bool, answer: &A, due: &A) -> Result<(), String> {
+    let text = String::from_utf8_lossy(text);
+    good.then_some(())
+        .ok_or_else(|| format!("{text}: {answer:?}, not {due:?}"))
+}
+
+/// Answers the tables of standard input, one after the other, and says where the answer is
+/// another than what is stored. False where that is so, or where a case is not spelled as
+/// it should be. Of a table it is told whether it is answered well, and what follows it.
+fn hold_all(next: impl Fn(&[u8]) -> Option<(Result<(), String>, &[u8])>) -> bool {
     let mut cases = Vec::new();
     if std::io::stdin().read_to_end(&mut cases).is_err() {
         return false;
     }
     let (mut rest, mut passed, mut failed) = (cases.as_slice(), 0, 0);
-    while let Some((due, ways, text, after)) = next_table(rest) {
-        let mut lent = [PATTERN; WAYS];
-        let reply = turn(text, &mut lent);
-        if reply == due && lent == ways {
-            passed += 1;
-        } else {
-            println!(
-                "error: {}: {reply:?}, not {due:?}",
-                String::from_utf8_lossy(text)
-            );
-            failed += 1;
+    while let Some((held, after)) = next(rest) {
+        match held {
+            Ok(()) => passed += 1,
+            Err(wrong) => {
+                println!("error: {wrong}");
+                failed += 1;
+            }
         }
         rest = after;
     }
-    println!(
-        "{passed} passed, {failed} failed, {} bytes left",
-        rest.len()
-    );
-    rest.is_empty() && failed == 0 && passed > 0
+    let left = rest.len();
+    println!("{passed} passed, {failed} failed, {left} bytes left");
+    left == 0 && failed == 0 && passed > 0
 }
 
-/// The next table: the answer and the ways that are due, its text, and what follows.
-fn next_table(cases: &[u8]) -> Option<(TurnReply, [u8; WAYS], &[u8], &[u8])> {
+/// The first line of these bytes, and what follows.
+fn next_line(cases: &[u8]) -> Option<(&str, &[u8])> {
     let end = cases.iter().position(|byte| *byte == b'\n')?;
     let line = std::str::from_utf8(&cases[..end]).ok()?;
-    let (numbers, letters) = line.strip_prefix("turn ")?.rsplit_once(' ')?;
+    Some((line, &cases[end + 1..]))
+}
+
+/// The next table: the numbers of the answer and the ways that are due, its text, and what
+/// follows.
+type NextTable<'a> = ([u32; 7], [u8; WAYS], &'a [u8], &'a [u8]);
+
+fn next_table<'a>(word: &str, cases: &'a [u8]) -> Option<NextTable<'a>> {
+    let (line, rest) = next_line(cases)?;
+    let (numbers, letters) = line.strip_prefix(word)?.rsplit_once(' ')?;
     let [length, reply @ ..]: [u32; 8] = numbers_of(numbers)?;
-    let (text, after) = cases[end + 1..].split_at_checked(length as usize)?;
+    let (text, after) = rest.split_at_checked(length as usize)?;
     let mut ways = [PATTERN; WAYS];
     for (way, letter) in ways.iter_mut().zip(letters.trim_matches('-').bytes()) {
         *way = u8::from(letter == b'B');
     }
-    Some((TurnReply::of(reply), ways, text, after))
+    Some((reply, ways, text, after))
+}
+
+/// Where all cross, the peaks of rule D and of the best choice; else 0. Rows of amount 0 add
+/// nothing to any load.
+fn peaks(text: &[u8], reply: CrossingReply) -> [i64; 2] {
+    match table::read(text) {
+        Ok(mut table) if reply.kind == ALL_CROSS => {
+            table.rows.retain(|row| row.amount > 0);
+            let best = |table: &Table| choice::plan(table).map_or(0, |plan| plan.peak);
+            [rules::plan(&table).peak, best(&table)]
+        }
+        _ => [0, 0],
+    }
+}
+
+/// The next table: the answer and the two peaks that are due, its text, and what follows.
+type NextCrossing<'a> = ((CrossingReply, [i64; 2]), &'a [u8], &'a [u8]);
+
+fn next_crossing(cases: &[u8]) -> Option<NextCrossing<'_>> {
+    let (line, rest) = next_line(cases)?;
+    let [length, reply @ .., rule_d, best]: [u32; 10] =
+        numbers_of(line.strip_prefix("crossing ")?)?;
+    let (text, after) = rest.split_at_checked(length as usize)?;
+    let peaks = [rule_d, best].map(i64::from);
+    Some(((CrossingReply::of(reply), peaks), text, after))
 }

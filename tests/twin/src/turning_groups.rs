@@ -62,7 +62,7 @@ fn by_hand(_: &mut Rng, case: u64) -> Option<Case> {
 
 /// All pairs of 8, 16, 20 and 32 offices, with amounts of every kind; the larger of
 /// them are dear. Of 64 as many as there may be rows, few of which have an amount.
-fn full(rng: &mut Rng, case: u64) -> Option<Case> {
+pub fn full(rng: &mut Rng, case: u64) -> Option<Case> {
     let mixed = [Amounts::UpTo(9_999), Amounts::Mixed, Amounts::UpTo(9)];
     let even = [Amounts::Always(9_999), Amounts::Always(1), Amounts::Ends];
     let kinds = [mixed, even].concat();
@@ -88,7 +88,7 @@ fn mostly_nothing(rng: &mut Rng, n: i64) -> Table {
 }
 
 /// 1,024 circuits of one pair, of two opposite ones, of neighbours, and of few pairs.
-fn most_circuits(rng: &mut Rng, case: u64) -> Option<Case> {
+pub fn most_circuits(rng: &mut Rng, case: u64) -> Option<Case> {
     let n = [2, 3, 8, 16][case as usize % 4];
     let half = (n / 2).max(1);
     let pairs = match case {
@@ -137,7 +137,7 @@ fn nothing_sent(rng: &mut Rng, _: u64) -> Option<Case> {
     alone(&table)
 }
 
-fn shaped(rng: &mut Rng, _: u64) -> Option<Case> {
+pub fn shaped(rng: &mut Rng, _: u64) -> Option<Case> {
     let n = rng.between(2, 24);
     let mut table = gen::shaped(rng, n);
     table.rows.truncate(80);
@@ -155,7 +155,7 @@ fn thin(rng: &mut Rng, _: u64) -> Option<Case> {
 }
 
 /// A table of a size that is soon turned, damaged once or several times.
-fn damaged(rng: &mut Rng, _: u64) -> Option<Case> {
+pub fn damaged(rng: &mut Rng, _: u64) -> Option<Case> {
     let (n, count) = (rng.between(2, 64), rng.between(0, 30));
     let mut made = alone(&gen::circuits(rng, n, count as usize))?;
     for _ in 0..rng.pick(&[1, 1, 2, 4]) {
@@ -164,7 +164,7 @@ fn damaged(rng: &mut Rng, _: u64) -> Option<Case> {
     Some(made)
 }
 
-fn damaged_rows(rng: &mut Rng, _: u64) -> Option<Case> {
+pub fn damaged_rows(rng: &mut Rng, _: u64) -> Option<Case> {
     let (n, count) = (rng.between(2, 64), rng.between(1, 30));
     let mut made = alone(&gen::circuits(rng, n, count as usize))?;
     gen::damage_row(rng, &mut made.text);
@@ -172,7 +172,7 @@ fn damaged_rows(rng: &mut Rng, _: u64) -> Option<Case> {
 }
 
 /// Sheets are no tables, whichever tool made them.
-fn of_sheets(rng: &mut Rng, case: u64) -> Option<Case> {
+pub fn of_sheets(rng: &mut Rng, case: u64) -> Option<Case> {
     let makes = [sheets::ours, sheets::foreign_small, sheets::foreign_large];
     makes[case as usize % makes.len()](rng, case)
 }

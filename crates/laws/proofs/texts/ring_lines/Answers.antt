@@ -5,7 +5,6 @@ use Rattle.std.specs.Prelude.{Result}
 use Rattle.ring.specs.Limits.{Limits}
 use Rattle.ring.specs.declared.types.Ring.{Ring}
 use Rattle.text.specs.RingLine.{RingLineIs, RingFault}
-use Rattle.text.specs.ReadRing.{read_ring}
 use Rattle.text.proofs.Apart.{clash}
 use Rattle.text.proofs.RingLaws.{one-ring, ring-good, ring-bad, RingRead, is_ring, no_ring, ring-read}
 use Rattle.laws.proofs.texts.ring_lines.Goals as goal

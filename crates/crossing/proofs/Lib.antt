@@ -1,0 +1,12 @@
+pub mod FirstPairs
+pub mod PairLaws
+pub mod PairSteps
+pub mod OurPair
+pub mod AmountPairs
+pub mod Walk
+pub mod Halved
+pub mod HalfWays
+pub mod Crossed
+pub mod ThreeRows
+pub mod OneAnswer
+pub mod Steps

@@ -1,0 +1,5 @@
+pub mod Pair
+pub mod FindPair
+pub mod AllCross
+pub mod Crossing
+pub mod Laws
