@@ -25,6 +25,30 @@ add_up() {
     fi
 }
 
+# What runs beside each other, in the order in which it was begun: its name, and behind a blank its process.
+begun=()
+
+# Begins a run of tests whose last line is 'N passed, M failed', the words behind its name, and goes on; what it says is kept in the folder $logs.
+begin() {
+    "${@:2}" <&0 >"$logs/$1" 2>&1 &
+    begun+=("$1 $!")
+}
+
+# Waits for all that was begun, and adds it up. What a run said is shown where it failed, or wherever a word is given.
+join() {
+    local run name status
+    for run in "${begun[@]}"; do
+        name=${run% *} status=0
+        wait "${run##* }" || status=$?
+        [[ $status -eq 0 && -z ${1:-} ]] || cat "$logs/$name"
+        add_up "$logs/$name" "$status" "$name"
+    done
+    begun=()
+}
+
+# Ends what was begun and still runs.
+end_begun() { [ ${#begun[@]} -eq 0 ] || kill "${begun[@]##* }" 2>/dev/null || true; }
+
 # The last line. Fails where anything has.
 end() {
     echo "$passed passed, $failed failed"

@@ -15,9 +15,6 @@ fi
 library=crates/ringkit_c/out/libringkit_c.a
 program_of() { echo "crates/$1/out/$1"; }
 
-# Proves and builds the archive; rt does again only what has changed.
-make_library() { (cd crates/ringkit_c && rt lib); }
-
 # Whether programs for x86-64 are emulated here.
 emulated() { [ ${#emulator[@]} -gt 0 ]; }
 

@@ -1,5 +1,5 @@
 # shellcheck shell=bash
-# Sourced by ./plan and ./build in the tree's root, behind host.sh: proves crates one after another, and says on standard error which one it is at and how many
+# Sourced by scripts in the tree's root, behind host.sh: proves crates one after another, and says on standard error which one it is at and how many
 # seconds each took. What is proved already, and has not changed since, is passed in silence.
 
 # What rt says of each crate is kept here, and of what each product was built.
@@ -70,3 +70,22 @@ is_built() {
 note_built() {
     made_of "$1" "$2" >"$proofs/$1.built"
 }
+
+# What a crate is built to, of which something is built.
+product_of() { if [ "$1" = ringkit_c ]; then echo "$library"; else program_of "$1"; fi; }
+
+# Proves and builds what the crates behind the script that wants it are built to, where that is not there or not built of what is there now.
+make_products() {
+    local crate stale=()
+    for crate in "${@:2}"; do
+        is_built "$crate" "$(product_of "$crate")" || stale+=("$crate")
+    done
+    [ ${#stale[@]} -gt 0 ] || return 0
+    prove "$1" "${stale[@]}" || return
+    for crate in "${stale[@]}"; do
+        note_built "$crate" "$(product_of "$crate")"
+    done
+}
+
+# The archive, for tests and benchmarks. Where it is built already it stays as it is, so that who reads it meanwhile is not disturbed.
+make_library() { make_products library ringkit_c; }
