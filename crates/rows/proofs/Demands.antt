@@ -16,15 +16,22 @@ demands-get rs k r e = slice_get-map (λ (s : Sent). s.demand) (sents rs) k ∙ 
 
 -- ---- rows of which nothing is sent
 
-pub demands-unsent : (ds : List Demand) → demands (sents (map unsent ds)) ≡ ds
+demands-unsent : (ds : List Demand) → demands (sents (map unsent ds)) ≡ ds
 demands-unsent [] = refl
 demands-unsent (d ∷ ds) = ap (λ (l : List Demand). d ∷ l) (demands-unsent ds)
 
-pub unsent-append : (ds es : List Demand) → map unsent (ds ++ es) ≡ map unsent ds ++ map unsent es
+-- rows that are told by some demands have these, and no others
+pub demands-told : (rs : List Routed) (ds : List Demand) → rs ≡ map unsent ds → demands (sents rs) ≡ ds
+demands-told rs ds e = ap (λ (l : List Routed). demands (sents l)) e ∙ demands-unsent ds
+
+pub unsent-told : (rs : List Routed) (ds : List Demand) → rs ≡ map unsent ds → rs ≡ map unsent (demands (sents rs))
+unsent-told rs ds e = e ∙ ap (λ (l : List Demand). map unsent l) (sym (demands-told rs ds e))
+
+unsent-append : (ds es : List Demand) → map unsent (ds ++ es) ≡ map unsent ds ++ map unsent es
 unsent-append [] es = refl
 unsent-append (d ∷ ds) es = ap (λ (l : List Routed). unsent d ∷ l) (unsent-append ds es)
 
--- one more behind rows that are told by their demands
+-- one more behind rows that are told by theirs
 pub unsent-more : (rs new : List Routed) (d : Demand) → rs ≡ map unsent (demands (sents rs)) → new ≡ rs ++ unsent d ∷ [] → new ≡ map unsent (demands (sents new))
 unsent-more rs new d e more =
     let f : demands (sents new) ≡ demands (sents rs) ++ d ∷ [] = ap (λ (l : List Routed). demands (sents l)) more ∙ demands-more rs (unsent d) in
