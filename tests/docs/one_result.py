@@ -1,30 +1,60 @@
-"""One content of what is lent, by the text of the contracts: of each public function of each crate, each `&mut` parameter, `&mut self` among them, is fixed in every case
-of the answer, or docs/PROMISES.md lists it with its ground under "What is left open". An entry of that list that is not needed any more is a fault too.
+"""One content of what is lent, by the text of the contracts: of each public function of each crate,
+each `&mut` parameter, `&mut self` among them, is fixed in every case of the answer, or
+docs/PROMISES.md lists it with its ground under "What is left open". An entry of that list that is
+not needed any more is a fault too.
 
-A fact fixes what is lent in one of four forms, where x stands for x.new, x.new.items or the rows of x.new:
+A fact fixes what is lent in one of four forms, where x is x.new, x.new.items or the rows of x.new:
   x ≡ E, either way round, where E does not name x.new;
   E ≡ first ∷ x, since a list has one tail;
-  R .. x .., of a relation R that one content alone meets: those that the page names in the sentence below "Public functions";
-  f .. x .. result ≡ E, of a reader f of `READERS`: it fixes x where the answer is Ok, and nothing where it is Err.
-Where a fact `x ≡ F (G x.new)` stands too, so that G x.new tells all of x, a fact of these forms about G x.new counts as one about x.
-Facts are what a clause says: both sides of ×, behind `let .. in`, and in IfOk, IfErr, IfSome, IfNone, MatchOption and their like for that case alone. A fact behind a
-premise (→) counts for nothing, so each clause that is counted holds of every input that the function takes.
+  R .. x .., of a relation R that one content alone meets: those that the page names in the first
+    sentence below "Public functions";
+  f .. x .. result ≡ E, of a reader f of `READERS`: it fixes x where the answer is Ok, and nothing
+    where it is Err.
+Where a fact x ≡ F (G x.new) stands too, so that G x.new tells all of x, a fact of these forms about
+G x.new counts as one about x. Facts are what a clause says: both sides of ×, what follows
+`let .. in`, and what stands in IfOk, IfErr, IfSome, IfNone, MatchOption and their like, for that
+case alone. A fact that has a premise (→) counts for nothing, so what is counted holds of every
+input that the function takes.
 
-What this cannot see: whether one content alone does meet a relation (the page names the theorem), whether a clause is true (the check says so), and what is
-changed through a value that holds a `&mut`. A function counts as public where `pub fn` stands in front of it and its type is public, or its trait is."""
+What this cannot see: whether one content alone does meet a relation (the page names the theorem),
+whether a clause is true (the check says so), and what is changed through a value that holds a
+`&mut`. A function counts as public where `pub fn` stands in front of it and its type is public, or
+where its trait is."""
 import re
 
 # what is answered, with what stands beside it, is what E says: nothing is said beside an Err
 READERS = {"with_rows", "with_values"}
 # a fact for one case of the answer, or for each
-CASES = {"IfOk": ["Ok"], "OnOk": ["Ok"], "IfErr": ["Err"], "OnErr": ["Err"], "IfSome": ["Some"], "OnSome": ["Some"], "IfNone": ["None"], "MatchResult": ["Ok", "Err"], "MatchOption": ["None", "Some"]}
+CASES = {
+    "IfOk": ["Ok"],
+    "OnOk": ["Ok"],
+    "IfErr": ["Err"],
+    "OnErr": ["Err"],
+    "IfSome": ["Some"],
+    "OnSome": ["Some"],
+    "IfNone": ["None"],
+    "MatchResult": ["Ok", "Err"],
+    "MatchOption": ["None", "Some"],
+}
 # how the page names a case that is left open
-SAID = {"Ok": "where it succeeds", "Err": "where it is refused", "Some": "where something is answered", "None": "where nothing is answered", "": "in every case"}
+SAID = {
+    "Ok": "where it succeeds",
+    "Err": "where it is refused",
+    "Some": "where something is answered",
+    "None": "where nothing is answered",
+    "": "in every case",
+}
 OPEN, CLOSE = "([{", ")]}"
+LENT = re.compile(r"&(?:'\w+ )?mut (self)$|(\w+): &(?:'\w+ )?mut ")
+BLOCK = re.compile(r"(pub trait|impl\b(?:<[^>]*>)?)(?: .* for)? &?(?:'a )?\[?(\w+)")
+HEAD = re.compile(r" *(pub )?(?:const )?(?:extern \"C\" )?fn (\w+)")
+ANSWER = re.compile(r"\s*(?:-> ([^\n{;]*?))?(?=\s*(?:[{;\n]))")
+CLAUSE = re.compile(r"\s*(?://[^\n]*|(requires|ensures)\*?(?: \w+)? (?=\{))")
+ENTRY = re.compile(r"^\| `(\w+)` \(crates/(\w+)\) \| `(\w+)` ([^:|]*):")
 
 
 def closing(text, at):
-    """The place behind the bracket that closes the one at a place."""
+    """The place after the bracket that closes the one at a place."""
     depth = 0
     for k in range(at, len(text)):
         depth += (text[k] in OPEN) - (text[k] in CLOSE)
@@ -58,6 +88,11 @@ def bare(text):
             return text
 
 
+def terms_of(text):
+    """A word and what it is applied to."""
+    return [bare(term) for term in split_at(text, " ")]
+
+
 def facts(clause):
     """The facts that a clause says without a premise, each with its case, or with '' for all."""
     text = bare(clause)
@@ -76,25 +111,25 @@ def facts(clause):
 
 
 def fixes(fact, view, lent, relations):
-    """Whether a fact fixes what is seen of a lent value: the cases in which it does, '' for all; or None."""
+    """The cases in which a fact fixes what is seen of a lent value, '' for all; None for none."""
     sides = [bare(side) for side in split_at(fact, "≡")]
-    if len(sides) == 2:
-        for one, other in (sides, sides[::-1]):
-            if one == view and lent not in other:
-                return ""
-            tail = split_at(one, "∷")
-            if len(tail) > 1 and tail[-1] == view and lent not in other:
-                return ""
-            terms = [bare(term) for term in split_at(one, " ")]
-            if terms[0] in READERS and terms[-1] == "result" and view in terms and lent not in other:
-                return "Ok"
-        return None
-    terms = [bare(term) for term in split_at(fact, " ")]
-    return "" if terms[0] in relations and view in terms else None
+    if len(sides) != 2:
+        terms = terms_of(fact)
+        return "" if terms[0] in relations and view in terms else None
+    for one, other in (sides, sides[::-1]):
+        if lent in other:
+            continue
+        tail = split_at(one, "∷")
+        if one == view or len(tail) > 1 and tail[-1] == view:
+            return ""
+        terms = terms_of(one)
+        if terms[0] in READERS and terms[-1] == "result" and view in terms:
+            return "Ok"
+    return None
 
 
 def tells(fact, views, lent):
-    """What is told of a lent value by `x ≡ F (G x.new)`: G x.new; or None."""
+    """What tells all of a lent value by a fact x ≡ F (G x.new): G x.new; None for any other."""
     sides = [bare(side) for side in split_at(fact, "≡")]
     if len(sides) != 2 or sides[0] not in views:
         return None
@@ -104,36 +139,36 @@ def tells(fact, views, lent):
 
 def left_open(name, answer, clauses, relations):
     """The cases of an answer in which the clauses do not fix a lent value."""
-    cases = {"Result": ["Ok", "Err"], "Option": ["Some", "None"]}.get(re.match(r"\w*", answer).group(), [""])
+    kind = re.match(r"\w*", answer).group()
+    cases = {"Result": ["Ok", "Err"], "Option": ["Some", "None"]}.get(kind, [""])
+    within = {case: {case} for case in cases} | {"": set(cases)}
     lent = f"{name}.new"
     said = [fact for clause in clauses for fact in facts(clause)]
-    views = {view: set(cases) for view in (lent, f"{lent}.items", f"R.rows {lent}", f"Self.rows {lent}")}
+    whole = (lent, f"{lent}.items", f"R.rows {lent}", f"Self.rows {lent}")
+    views = {view: set(cases) for view in whole}
     for case, fact in said:
-        if told := tells(fact, views, lent):
-            views.setdefault(told, set()).update([case] if case else cases)
+        if told := tells(fact, whole, lent):
+            views.setdefault(told, set()).update(within.get(case, set()))
     fixed = set()
     for case, fact in said:
-        for view, within in views.items():
+        for view, told in views.items():
             when = fixes(fact, view, lent, relations)
             if when is not None:
-                fixed |= within & (set([case]) if case else set(cases)) & (set([when]) if when else set(cases))
+                fixed |= told & within.get(case, set()) & within.get(when, set())
     return [case for case in cases if case not in fixed]
 
 
 def head_of(text, at):
     """Parameters, answer and clauses of the function whose name ends at a place."""
-    if text[at] == "<":
-        depth = 0
-        while True:
-            depth += (text[at] == "<") - (text[at] == ">" and text[at - 1] != "-")
-            at += 1
-            if depth == 0:
-                break
+    depth = 0
+    while depth > 0 or text[at] == "<":
+        depth += (text[at] == "<") - (text[at] == ">" and text[at - 1] != "-")
+        at += 1
     end = closing(text, at)
     parameters = split_at(text[at + 1 : end - 1], ",")
-    found = re.compile(r"\s*(?:-> ([^\n{;]*?))?(?=\s*(?:[{;\n]))").match(text, end)
+    found = ANSWER.match(text, end)
     answer, at, clauses = (found[1] or "").strip(), found.end(), []
-    while found := re.compile(r"\s*(?://[^\n]*|(requires|ensures)\*?(?: \w+)? (?=\{))").match(text, at):
+    while found := CLAUSE.match(text, at):
         at = found.end()
         if found[1]:
             end = closing(text, at)
@@ -144,43 +179,53 @@ def head_of(text, at):
 
 
 def functions(crate):
-    """The public functions of a crate: the name of each, its parameters, its answer and its clauses."""
-    texts = [file.read_text(encoding="utf-8") for file in sorted((crate / "src").glob("**/*.rt"))]
-    types = {name for text in texts for name in re.findall(r"^pub (?:struct|enum|trait) (\w+)", text, re.MULTILINE)}
+    """The public functions of a crate: name, parameters, answer and clauses of each."""
+    files = sorted((crate / "src").glob("**/*.rt"))
+    texts = [file.read_text(encoding="utf-8") for file in files]
+    public = re.compile(r"^pub (?:struct|enum|trait) (\w+)", re.MULTILINE)
+    types = {name for text in texts for name in public.findall(text)}
     for text in texts:
         of = None
         for line in re.finditer(r"^.*$", text, re.MULTILINE):
-            if block := re.match(r"(pub trait|impl\b(?:<[^>]*>)?)(?: .* for)? &?(?:'a )?\[?(\w+)", line.group()):
+            if block := BLOCK.match(line.group()):
                 of = block
             elif line.group().startswith("}"):
                 of = None
-            head = re.match(r" *(pub )?(?:const )?(?:extern \"C\" )?fn (\w+)", line.group())
-            if head and (head[1] or of and of[1] == "pub trait") and (of is None or of[2] in types):
+            head = HEAD.match(line.group())
+            known = head and (head[1] or of and of[1] == "pub trait")
+            if known and (of is None or of[2] in types):
                 yield head[2], *head_of(text, line.start() + head.end())
 
 
 def listed(page):
     """What the page lists as left open: crate, function, parameter and case of each entry."""
     begin = page.index("### What is left open")
-    lines = page[begin : page.index("\n## ", begin)].splitlines()
-    for line in lines:
-        for name, crate, lent, case in re.findall(r"^\| `(\w+)` \(crates/(\w+)\) \| `(\w+)` ([^:|]*):", line):
-            yield crate, name, lent, next((key for key, said in SAID.items() if said == case), case)
+    cases = {said: case for case, said in SAID.items()}
+    for line in page[begin : page.index("\n## ", begin)].splitlines():
+        if found := ENTRY.match(line):
+            name, crate, lent, said = found.groups()
+            yield crate, name, lent, cases.get(said, said)
 
 
 def compared(root, page):
-    """How many lent values there are, and what is wrong: those that are left open and not listed, and those that are listed and fixed."""
+    """How many lent values there are, and what is wrong: each that is left open and not listed, and
+    each that is listed and fixed."""
     sentence = re.search(r"a relation that one result alone meets \(([^)]*)\)", page)
     relations = set(re.findall(r"`(\w+)`", sentence[1]))
     count, there = 0, set()
-    for crate in sorted(path for path in root.glob("crates/*") if (path / "src").is_dir()):
+    for crate in sorted(path.parent for path in root.glob("crates/*/src")):
         for name, parameters, answer, clauses in functions(crate):
-            for parameter in parameters:
-                if found := re.match(r"&(?:'\w+ )?mut (self)$|(\w+): &(?:'\w+ )?mut ", parameter):
-                    count += 1
-                    lent = found[1] or found[2]
-                    there.update((crate.name, name, lent, case) for case in left_open(lent, answer, clauses, relations))
+            for found in filter(None, map(LENT.match, parameters)):
+                lent = found[1] or found[2]
+                count += 1
+                for case in left_open(lent, answer, clauses, relations):
+                    there.add((crate.name, name, lent, case))
     said = set(listed(page))
-    faults = [f"{name} (crates/{crate}) leaves {lent} open {SAID[case]}, which docs/PROMISES.md does not list" for crate, name, lent, case in sorted(there - said)]
-    faults += [f"docs/PROMISES.md lists {lent} of {name} (crates/{crate}) as open {SAID.get(case, case)}, and it is not" for crate, name, lent, case in sorted(said - there)]
+    faults = []
+    for crate, name, lent, case in sorted(there ^ said):
+        what = f"{lent} of {name} (crates/{crate}) {SAID.get(case, case)}"
+        if (crate, name, lent, case) in there:
+            faults.append(f"no clause fixes {what}, and docs/PROMISES.md does not list it")
+        else:
+            faults.append(f"docs/PROMISES.md lists {what} as left open, and it is not")
     return count, faults

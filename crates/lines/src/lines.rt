@@ -158,7 +158,8 @@ impl<'a> Lines<'a> {
         self.next_line().ok_or(Refusal::misshapen(number, 0))
     }
 
-    /// That no line is left; or that the next one, which has this number, is left over, and so misshapen at its first byte. The lines behind it are then left.
+    /// That no line is left; or that the next one, which has this number, is left over, and so
+    /// misshapen at its first byte. The lines behind it are then left.
     pub fn end(&mut self, number: u32) -> Result<(), Refusal>
         ensures read { IfOk result (λ _. self.old ≡ []) }
         ensures left_over { IfErr result (λ r. (r ≡ refusal Reason.Misshapen number 1)

@@ -24,7 +24,8 @@ pub(crate) fn count_rows(square: &Square) -> usize
     count
 }
 
-/// Fills columns that hold no row with a row for each pair whose entry is above 0, in table order, of which nothing is sent yet; these are at most 1,024.
+/// Fills columns that hold no row with a row for each pair whose entry is above 0, in table order, of
+/// which nothing is sent yet; these are at most 1,024.
 pub(crate) fn fill(square: &Square, rows: &mut Columns)
     requires empty { rows.old ≡ [] }
     requires few { length (rows_of_matrix (length square.now) square.now) ≤ desk.rows }

@@ -53,9 +53,11 @@ fn read_lines(lines: &mut Lines, square: &mut Square) -> Result<(), Refusal>
     lines.end(nodes + 1)
 }
 
-/// Reads a matrix into columns: a row for each pair of nodes whose entry is above 0, in table order; nothing of it is sent yet, and its way is the front. It
-/// answers how many nodes the ring has; of its fibres a matrix says nothing. A text is refused by the first reason that holds, with its line and byte; then the
-/// columns hold no row. Not made one with its caller, whose stack would hold the square before the columns are made and after they are filled.
+/// Reads a matrix into columns: a row for each pair of nodes whose entry is above 0, in table order;
+/// nothing of it is sent yet, and its way is the front. It answers how many nodes the ring has; of
+/// its fibres a matrix says nothing. A text is refused by the first reason that holds, with its line
+/// and byte; then the columns hold no row. Not made one with its caller, whose stack would hold the
+/// square before the columns are made and after they are filled.
 #[inline(never)]
 pub fn read_matrix(text: &[u8], rows: &mut Columns) -> Result<u32, Refusal>
     ensures accepted { IfOk result (λ n. IsMatrix text.now n (demands (sents rows.new))) }

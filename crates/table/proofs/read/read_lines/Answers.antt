@@ -24,11 +24,10 @@ returns-in_err-ring-clause-value c =
     ring-refused _ c.in_ok-lines.ensures.read.1 _ _ (sym c.in_ok-lines.ensures.read.0 ∙ c.in_ok-due.ensures.read) _ c.ring_on.ensures.value _ _ _ c.in_err-ring.was (rw (p.1, p.2))
 
 pub loop-line-init : goal.loop-line-init
-loop-line-init c =
-    (
-      ring-read _ c.in_ok-lines.ensures.read.1 _ _ (sym c.in_ok-lines.ensures.read.0 ∙ c.in_ok-due.ensures.read) _ c.ring_on.ensures.value _ c.in_ok-ring.was _ (search rules),
-      rw c.clear.ensures refl,
-    )
+loop-line-init c = (
+  ring-read _ c.in_ok-lines.ensures.read.1 _ _ (sym c.in_ok-lines.ensures.read.0 ∙ c.in_ok-due.ensures.read) _ c.ring_on.ensures.value _ c.in_ok-ring.was _ (search rules),
+  rw c.clear.ensures refl,
+)
 
 pub returns-in_err-row-clause-value : goal.returns-in_err-row-clause-value
 returns-in_err-row-clause-value c =
@@ -41,12 +40,11 @@ push_unsent-requires c =
     omega (arith, room _ _ _ _ c.loop-line.invariant.0 _ _ c.in-Some.ensures _ c.row_on.ensures _ c.in_ok-row.was)
 
 pub loop-line-preserved : goal.loop-line-preserved
-loop-line-preserved c =
-    (
-      row-read _ _ _ _ c.loop-line.invariant.0 _ _ c.in-Some.ensures _ c.row_on.ensures _ _ c.in_ok-row.was
+loop-line-preserved c = (
+  row-read _ _ _ _ c.loop-line.invariant.0 _ _ c.in-Some.ensures _ c.row_on.ensures _ _ c.in_ok-row.was
       (ap (λ (l : List Routed). demands (sents l)) c.push_unsent.ensures ∙ demands-more _ _),
-      unsent-more _ _ _ c.loop-line.invariant.1 c.push_unsent.ensures,
-    )
+  unsent-more _ _ _ c.loop-line.invariant.1 c.push_unsent.ensures,
+)
 
 pub returns-clause-value : goal.returns-clause-value
 returns-clause-value c = all_read _ _ _ _ c.loop-line.invariant.0 c.in_default.ensures.0
