@@ -17,9 +17,9 @@ case alone. A fact that has a premise (→) counts for nothing, so what is count
 input that the function takes.
 
 What this cannot see: whether one content alone does meet a relation (the page names the theorem),
-whether a clause is true (the check says so), and what is changed through a value that holds a
-`&mut`. A function counts as public where `pub fn` stands in front of it and its type is public, or
-where its trait is."""
+whether a clause is true (the check says so), what is changed through a value that holds a `&mut`,
+and what a trait of std promises of a type, as of an iterator's `next`. A function counts as public
+where `pub fn` stands in front of it and its type is public, or where its trait is."""
 import re
 
 # what is answered, with what stands beside it, is what E says: nothing is said beside an Err
