@@ -21,7 +21,7 @@ bool is_shown(uint32_t code)
 }
 
 /* A byte that begins a character, by the bits that tell how many bytes follow it, and the least
- * code that wants so many. */
+ * code that is spelled by that many. */
 static const struct lead {
     uint8_t mask, bits;
     uint32_t least;
