@@ -25,26 +25,26 @@ returns-in_err-ring-clause-value c =
 
 pub loop-line-init : goal.loop-line-init
 loop-line-init c = (
-  ring-read _ c.in_ok-lines.ensures.read.1 _ _ (sym c.in_ok-lines.ensures.read.0 ∙ c.in_ok-due.ensures.read) _ c.ring_on.ensures.value _ c.in_ok-ring.was _ (search rules),
   rw c.clear.ensures refl,
+  ring-read _ c.in_ok-lines.ensures.read.1 _ _ (sym c.in_ok-lines.ensures.read.0 ∙ c.in_ok-due.ensures.read) _ c.ring_on.ensures.value _ c.in_ok-ring.was _ (search rules),
 )
 
 pub returns-in_err-row-clause-value : goal.returns-in_err-row-clause-value
 returns-in_err-row-clause-value c =
     let p = err_from_is_err_and c.from_residual-in_err-row.result c.from_residual-in_err-row.ensures.1 in
-    row-refused _ _ _ _ c.loop-line.invariant.0 _ _ c.in-Some.ensures _ c.row_on.ensures _ _ _ c.in_err-row.was (rw (p.1, p.2))
+    row-refused _ _ _ _ c.loop-line.invariant.1 _ _ c.in-Some.ensures _ c.row_on.ensures _ _ _ c.in_err-row.was (rw (p.1, p.2))
 
 pub push_unsent-requires : goal.push_unsent-requires
 push_unsent-requires c =
     let l = demands-length c.loop-line.rows in
-    omega (arith, room _ _ _ _ c.loop-line.invariant.0 _ _ c.in-Some.ensures _ c.row_on.ensures _ c.in_ok-row.was)
+    omega (arith, room _ _ _ _ c.loop-line.invariant.1 _ _ c.in-Some.ensures _ c.row_on.ensures _ c.in_ok-row.was)
 
 pub loop-line-preserved : goal.loop-line-preserved
 loop-line-preserved c = (
-  row-read _ _ _ _ c.loop-line.invariant.0 _ _ c.in-Some.ensures _ c.row_on.ensures _ _ c.in_ok-row.was
+  unsent-more _ _ _ c.loop-line.invariant.0 c.push_unsent.ensures,
+  row-read _ _ _ _ c.loop-line.invariant.1 _ _ c.in-Some.ensures _ c.row_on.ensures _ _ c.in_ok-row.was
       (ap (λ (l : List Routed). demands (sents l)) c.push_unsent.ensures ∙ demands-more _ _),
-  unsent-more _ _ _ c.loop-line.invariant.1 c.push_unsent.ensures,
 )
 
 pub returns-clause-value : goal.returns-clause-value
-returns-clause-value c = all_read _ _ _ _ c.loop-line.invariant.0 c.in_default.ensures.0
+returns-clause-value c = all_read _ _ _ _ c.loop-line.invariant.1 c.in_default.ensures.0
