@@ -39,7 +39,7 @@ use Rattle.ringkit.specs.Texts.{PlanDue}
 use Rattle.ringkit.proofs.TableCalls.{read_is}
 use Rattle.ringkit.proofs.PlanCalls.{one-due}
 use Rattle.laws.specs.OldText.{table_lines, sheet_lines, LinesSpelled}
-use Rattle.laws.specs.Old.{RoutedBefore, SameText, SameBytes, byte_of_lf, AcceptedAs, BeyondOld, OldAccepted, OldRefused}
+use Rattle.laws.specs.Old.{RoutedBefore, SameBytes, byte_of_lf, AcceptedAs, BeyondOld, OldAccepted, OldRefused}
 use Rattle.laws.proofs.OldText.{one-text, table-spelled, sheet-spelled}
 
 pub old-spelled : LimitsSpelled old
