@@ -30,7 +30,8 @@ use Rattle.sheet.proofs.Short.{old-fits, plan-within}
 use Rattle.checker.specs.Check.{check}
 use Rattle.checker.proofs.LowerChecks.{old-marked, old-nodes, old-rows, old-same, old-accepted, old-refused}
 use Rattle.checker.proofs.Reasons.{given-by, accepted-by}
-use Rattle.engines.specs.Engine.{Level, plan_by}
+use Rattle.engines.specs.declared.Engine.TheVariants.{Level}
+use Rattle.engines.specs.Engine.{plan_by}
 use Rattle.engines.proofs.Engines.{as-before}
 use Rattle.router.specs.Plans.{rule_D}
 use Rattle.router.proofs.PlansBy.{rule-D-plan}
@@ -38,7 +39,7 @@ use Rattle.ringkit.specs.Texts.{PlanDue}
 use Rattle.ringkit.proofs.TableCalls.{read_is}
 use Rattle.ringkit.proofs.PlanCalls.{one-due}
 use Rattle.laws.specs.OldText.{table_lines, sheet_lines, LinesSpelled}
-use Rattle.laws.specs.Old.{RoutedBefore, SameText, SameBytes, byte_of_lf, AcceptedAs, BeyondOld, OldAccepted, OldRefused}
+use Rattle.laws.specs.Old.{RoutedBefore, SameBytes, byte_of_lf, AcceptedAs, BeyondOld, OldAccepted, OldRefused}
 use Rattle.laws.proofs.OldText.{one-text, table-spelled, sheet-spelled}
 
 pub old-spelled : LimitsSpelled old
@@ -110,6 +111,7 @@ routed-before t ring rs reads =
     }
 
 pub same-text : SameBytes
+unfolding routed-before
 same-text t a =
     let reads = (accepted-is old t).1 a in
     let before = routed-before t reads.ring reads.rs reads.is in

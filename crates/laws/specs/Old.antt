@@ -15,7 +15,7 @@ use Rattle.reasons.specs.declared.reason.Reason.{Reason}
 use Rattle.reasons.specs.declared.reason.Reason.TheVariants.{Misshapen, RingSize, TooMany}
 use Rattle.judge.specs.Findings.{findings}
 use Rattle.checker.specs.Says.{ReadTo, Given}
-use Rattle.engines.specs.Engine.{Level}
+use Rattle.engines.specs.declared.Engine.TheVariants.{Level}
 use Rattle.router.specs.Plans.{rule_D}
 use Rattle.ringkit.specs.Texts.{PlanDue}
 use Rattle.laws.specs.OldText.{table_lines, sheet_lines, LinesSpelled}
