@@ -160,8 +160,16 @@ def refusals(rng):
 
 def cases(written, refused, room):
     """Letters, texts and buffers for both calls: `l` with rule D, `m` with the best choice."""
-    small = [*stated(), *deciding(random.Random(11)), *random_tables(random.Random("tables for lowered rooms"))]
-    large = [*counted(random.Random("split by lowered rooms")), *about_sixteen(random.Random("sixteen by one way")), *full()]
+    small = [
+        *stated(),
+        *deciding(random.Random(11)),
+        *random_tables(random.Random("tables for lowered rooms")),
+    ]
+    large = [
+        *counted(random.Random("split by lowered rooms")),
+        *about_sixteen(random.Random("sixteen by one way")),
+        *full(),
+    ]
     tables = list(dict.fromkeys([*small, *large]))
     for n, rows in small:
         holds(n, rows)

@@ -239,7 +239,8 @@ def by_chance(rng, k, text):
 
 
 def to_route():
-    """Tables to route: the stated cases with their figures (Rules, stated cases), with buffers of every kind, and refusals."""
+    """Tables to route: the stated cases with their figures (Rules, stated cases), with buffers of
+    every kind, and refusals."""
     stated = [
         (t("R|4|4", "D|1|3|1", "D|2|4|1"), t("C|1|3|2", "L|1|2|2", "L|2|2|1", "L|3|2|0", "L|4|2|1", "Z|2|3")),
         (t("R|2|4"), t("C|1|2|0", "L|1|0|0", "L|2|0|0", "Z|0|3")),
@@ -335,8 +336,14 @@ def of_matrices():
 def drawn():
     """The groups of cases by name, in the order in which they are stored, each with its calls."""
     of = functools.partial
-    tables = {"by hand": tables_by_hand(), "drawn": tables_drawn(), "of circuits": tables_of_circuits(), "of circuits drawn": circuits_drawn()}
-    yield from ((f"tables {name}", [("T", text, min(room, ROOM)) for text, room in some]) for name, some in tables.items())
+    tables = {
+        "tables by hand": tables_by_hand(),
+        "tables drawn": tables_drawn(),
+        "tables of circuits": tables_of_circuits(),
+        "tables of circuits drawn": circuits_drawn(),
+    }
+    for name, some in tables.items():
+        yield name, [("T", text, min(room, ROOM)) for text, room in some]
     routes = {
         "routes by hand": to_route(),
         "full rings routed": full_rings_routed(),
@@ -353,17 +360,23 @@ def drawn():
     yield "fibres", fibres.cases(of(written, "R"), ROOM)
     yield "families", families.cases(written, ROOM)
     yield "bytes", columns.cases(refused, ROOM)
-    yield "the best choice", [("B", *case) for case in chosen.cases(of(written, "B"), of(refused, "B"), ROOM)]
+    best_cases = chosen.cases(of(written, "B"), of(refused, "B"), ROOM)
+    yield "the best choice", [("B", *case) for case in best_cases]
     yield "lowered rooms", lowering.cases(written, refused, ROOM)
     yield "reports", [("M", *case) for case in reported.cases()]
+
+
+def of_calls(name):
+    """Whether a group's cases stand in a file of calls, which is not made here."""
+    return name.endswith(".calls")
 
 
 def grouped():
     """Each group with its cases: those that are stored, and behind them those that are drawn and
     stored nowhere. A group that is drawn no more comes last, with its stored cases."""
     there = {stored.sum_of(stored.written(*case)): case for case in stored.cases()}
-    sums = {name: sums for name, (_, sums) in stored.listed().items() if not name.endswith(".calls")}
-    cases = {name: [there[one] for one in mine] for name, mine in sums.items()}
+    listed = stored.listed().items()
+    cases = {name: [there[one] for one in sums] for name, (_, sums) in listed if not of_calls(name)}
     known = {case for mine in cases.values() for case in mine}
     groups = {}
     for name, calls in drawn():
@@ -385,11 +398,11 @@ def main():
     groups = grouped()
     cases = [case for mine in groups.values() for case in mine]
     assert all(room <= ROOM for _, _, room in cases)
-    due = [letter + " %s\n" % " ".join(map(str, answer(letter, text, room))) for letter, text, room in cases]
+    due = [case[0] + " %s\n" % " ".join(map(str, answer(*case))) for case in cases]
     stored.STDIN.write_bytes(b"".join(stored.written(*case) for case in cases))
     stored.STDIN.with_name("stdout").write_text("".join(line[2:] for line in due))
-    of_calls = {name: sums for name, (_, sums) in stored.listed().items() if name.endswith(".calls")}
-    stored.store({name: [stored.sum_of(stored.written(*case)) for case in mine] for name, mine in groups.items()} | of_calls)
+    others = {name: sums for name, (_, sums) in stored.listed().items() if of_calls(name)}
+    stored.store({name: stored.sums_of(mine) for name, mine in groups.items()} | others)
     count(due)
 
 

@@ -217,7 +217,8 @@ def drawn(rng):
 
 def lists():
     """Each by itself, so that a change to one changes the calls of no other."""
-    return [misspelled(), misshapen(), many_fields(), ring_sizes(), two_faults(), mirrored(), large(), too_many(), drawn(random.Random(18))]
+    by_hand = [misspelled(), misshapen(), many_fields(), ring_sizes(), two_faults(), mirrored()]
+    return [*by_hand, large(), too_many(), drawn(random.Random(18))]
 
 
 def sums_to(total, count):

@@ -172,7 +172,13 @@ def rooms(text, k):
 
 def cases():
     large = [*longest(), *long_pieces()]
-    small = [*stated(), *checked(), *ties(random.Random(12)), *mixed(random.Random("plans of both families")), *many(random.Random("texts of many plans"))]
+    small = [
+        *stated(),
+        *checked(),
+        *ties(random.Random(12)),
+        *mixed(random.Random("plans of both families")),
+        *many(random.Random("texts of many plans")),
+    ]
     yield from ((text, room) for k, text in enumerate(dict.fromkeys(small)) for room in rooms(text, k))
     yield from ((text, room) for k, text in enumerate(large) for room in rooms(text, 0 if len(text) > LONGEST else k + 1)[:2])
     # 24 is given before the buffer is looked at

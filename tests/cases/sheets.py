@@ -468,4 +468,15 @@ def rewritten_often():
     yield rules.sheet(MOST_OFFICES, tuple(drawn(random.Random(15), MOST_OFFICES, 30)))
 
 
-LISTS = (numbers_to_try, shapes, rows_refused, figures_refused, two_faults, bounds, of_other_tools, longest, damaged_sheets, full_rings)
+LISTS = (
+    numbers_to_try,
+    shapes,
+    rows_refused,
+    figures_refused,
+    two_faults,
+    bounds,
+    of_other_tools,
+    longest,
+    damaged_sheets,
+    full_rings,
+)

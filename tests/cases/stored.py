@@ -21,9 +21,13 @@ def sum_of(asked):
 
 
 def written(letter, text, room):
-    """A case as crates/cases/stdin has it: five digits say how long the text is, five the buffer."""
+    """A case as crates/cases/stdin has it, behind the lengths of its text and its buffer."""
     assert len(text) < 100000 and room < 100000
     return b"%c%05d%05d\n" % (ord(letter), len(text), room) + text
+
+
+def sums_of(cases):
+    return [sum_of(written(*case)) for case in cases]
 
 
 def cases():
@@ -46,13 +50,14 @@ def of_texts(name):
 
 def of_working():
     """Each sequence's calls, without its title and the replies."""
-    for sequence in re.split(r"^# .*\n", (FOLDER / "working.calls").read_text(), flags=re.MULTILINE):
+    lines = (FOLDER / "working.calls").read_text()
+    for sequence in re.split(r"^# .*\n", lines, flags=re.MULTILINE):
         if sequence:
             yield re.sub(r" = .*", "", sequence).encode()
 
 
 def of_judging():
-    """All that says what the values are, from where they begin afresh up to where they are judged."""
+    """All that says what the values are, from where they begin afresh to where they are judged."""
     since = []
     for line in (FOLDER / "judging.calls").read_text().splitlines():
         if line.startswith("ring "):
@@ -85,4 +90,5 @@ def listed():
 
 def store(groups):
     """Writes the sums of each group below its name."""
-    GROUPS.write_text("".join(f"{name}: {len(sums)}\n" + "".join(f"{one}\n" for one in sums) for name, sums in groups.items()))
+    lines = [line for name, sums in groups.items() for line in (f"{name}: {len(sums)}", *sums)]
+    GROUPS.write_text("".join(line + "\n" for line in lines))

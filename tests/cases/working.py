@@ -380,8 +380,8 @@ def played(lines):
 def kept(made):
     """What is stored and made by no function any more: it stays, so that another limit takes no
     sequence away."""
-    stored = re.split(r"^(?=# )", pathlib.Path(STORED).read_text(encoding="utf-8"), flags=re.MULTILINE)
     known = [calls_of(s.lines) for s in made]
+    stored = re.split(r"^(?=# )", pathlib.Path(STORED).read_text(), flags=re.MULTILINE)
     sequences = [text.splitlines() for text in stored if text]
     return [played(lines) for lines in sequences if calls_of(lines) not in known]
 
