@@ -160,7 +160,7 @@ def many(rng):
 
 def checked():
     """The sheets that are checked one by one, some at a time."""
-    texts = list(dict.fromkeys([*sheets.numbers_to_try(), *itertools.islice(sheets.shapes(), 0, None, 9), *itertools.islice(sheets.rows_refused(), 0, None, 5)]))
+    texts = list(dict.fromkeys([*sheets.all_stated(), *itertools.islice(sheets.shapes(), 0, None, 9), *itertools.islice(sheets.rows_refused(), 0, None, 5)]))
     yield from (b"".join(texts[k:k + 9]) for k in range(0, len(texts), 9))
 
 

@@ -109,7 +109,7 @@ def asserted(stated):
         yield text
 
 
-def numbers_to_try():
+def all_stated():
     return asserted(stated() + by_hand() + two_fibres())
 
 
@@ -469,7 +469,7 @@ def rewritten_often():
 
 
 LISTS = (
-    numbers_to_try,
+    all_stated,
     shapes,
     rows_refused,
     figures_refused,
