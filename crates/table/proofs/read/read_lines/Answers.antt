@@ -1,11 +1,11 @@
 -- Each way on and each way out is one law of `ReadSteps`.
-use Rattle.std.proofs.Common.{List, refl, ap, arith, sym, ◌∙◌, rules}
+use Rattle.std.proofs.Common.{List, ap, arith, sym, ◌∙◌, rules}
 use Rattle.std.proofs.lemmas.Result.{err_from_is_err_and}
 use Rattle.ring.specs.declared.types.Routed.{Routed}
 use Rattle.ring.specs.Sheet.{sents, demands}
 use Rattle.ring.proofs.Small.{demands-length}
 use Rattle.rows.proofs.Demands.{demands-more, unsent-more}
-use Rattle.table.proofs.ReadSteps.{too_long, no_line, ring-refused, ring-read, row-refused, room, row-read, all_read}
+use Rattle.table.proofs.ReadSteps.{none-sent, too_long, no_line, ring-refused, ring-read, row-refused, room, row-read, all_read}
 use Rattle.table.proofs.read.read_lines.Goals as goal
 
 pub returns-in_err-lines-clause-value : goal.returns-in_err-lines-clause-value
@@ -25,7 +25,7 @@ returns-in_err-ring-clause-value c =
 
 pub loop-line-init : goal.loop-line-init
 loop-line-init c = (
-  rw c.clear.ensures refl,
+  none-sent _ (search rules),
   ring-read _ c.in_ok-lines.ensures.read.1 _ _ (sym c.in_ok-lines.ensures.read.0 ∙ c.in_ok-due.ensures.read) _ c.ring_on.ensures.value _ c.in_ok-ring.was _ (search rules),
 )
 
