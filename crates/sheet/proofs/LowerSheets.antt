@@ -10,7 +10,7 @@ use lib.ListN.{length, length-append}
 use borrow.Author.Tests.{le-ltb}
 use Rattle.std.specs.Prelude.{Bool, true, false, cond, ltb, Option, Result, Ok, Err}
 use Rattle.std.specs.List.{flat_map}
-use Rattle.ring.specs.Limits.{Limits, desk}
+use Rattle.ring.specs.Limits.{Limits}
 use Rattle.ring.specs.LineSize.{IsFibres}
 use Rattle.ring.specs.Lists.{Each, none, more}
 use Rattle.family.specs.declared.family.Family.TheVariants.{Sonet, Sdh}
