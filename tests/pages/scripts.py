@@ -20,13 +20,13 @@ ringkit_c staticlib: middle
 RT = r"""#!/usr/bin/env bash
 [ "$1" != version ] || { echo stand-in; exit; }
 name=$(basename "$PWD")
-echo "$1 $name" >>../../asked
+echo "$1 $name" >>TREE/asked
 [ ! -e out/proved ] || exit 0
 echo "rt: chose --jobs 4 for $name"
 echo "fn $name::one: proved"
-[ ! -e fails ] || { echo "fn $name::two: not proved"; exit 1; }
+[ ! -e src/fails ] || { echo "fn $name::two: not proved"; exit 1; }
 mkdir -p out && touch out/proved
-cp ../../program "out/$name" && cp ../../empty.a out/libringkit_c.a
+cp TREE/program "out/$name" && cp TREE/empty.a out/libringkit_c.a
 """
 
 PROGRAM = r"""#!/usr/bin/env bash
@@ -45,13 +45,13 @@ def make_tools():
     shutil.rmtree(tools, ignore_errors=True)
     tools.mkdir(parents=True)
     compiler = run('. ./host.sh; echo "$x86_cc"').stdout.strip()
-    for name in "bash env awk basename cat cp dirname find grep head id install ld as mkdir mv readlink rm sed sha256sum sort touch xargs tee tr chmod diff mktemp tail wc python3 nm size pkg-config rustc git man valgrind gcc g++".split():
+    for name in "bash env awk basename cat cp cut dirname find flock grep head id install ld as ln mkdir mv nproc readlink rm sed sha256sum sleep sort stty touch xargs tee tr chmod diff mktemp tail wc python3 nm size pkg-config rustc git man valgrind gcc g++".split():
         found = shutil.which(compiler if name == "gcc" else name)
         if found:
             write(tools / name, f'#!{shutil.which("bash")}\nexec {found} "$@"\n', 0o755)
     # on every processor the tree is that of a machine whose programs need no emulator
     write(tools / "uname", f"#!{shutil.which('bash')}\necho x86_64\n", 0o755)
-    write(tools / "rt", RT.replace("/usr/bin/env bash", shutil.which("bash")), 0o755)
+    write(tools / "rt", RT.replace("/usr/bin/env bash", shutil.which("bash")).replace("TREE", str(tree)), 0o755)
 
 
 def make_tree():
@@ -143,7 +143,7 @@ def asks_again():
 def of_failures():
     """A crate that is not proved ends it: its complaints are shown, and what was proved is not."""
     make_tree()
-    write(tree / "crates/middle/fails", "")
+    write(tree / "crates/middle/src/fails", "")
     for name, status in (("plan", 2), ("check", 2), ("build", 1)):
         wrote, complained, ended = says(f"./{name} </dev/null")
         told(f"{name}: the status", (wrote, ended), ("", status))
@@ -151,7 +151,7 @@ def of_failures():
         told(f"{name}: what is not proved is shown", "fn middle::two: not proved\n" in complained, True)
         told(f"{name}: what is proved is not", "middle::one" in complained, False)
     told("what rt is asked", set(asked()), {"lib low", "lib middle"})
-    (tree / "crates/middle/fails").unlink()
+    (tree / "crates/middle/src/fails").unlink()
     told("once it is mended", says("echo R | ./plan")[::2], ("R\n", 0))
 
 
