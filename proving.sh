@@ -134,7 +134,8 @@ begin_crates() {
         [ "$number" -le "$most" ] || return 0
         jobs=(--jobs 1)
         [ $((${#ready[@]} + ${#process[@]})) -gt 1 ] || [ "$most" -eq 1 ] || jobs=()
-        work_at "$name" "$number" "${jobs[@]}" </dev/null >"$proofs/$name.log" 2>&1 &
+        : >"$proofs/$name.log"
+        work_at "$name" "$number" "${jobs[@]}" </dev/null >>"$proofs/$name.log" 2>&1 &
         process[$name]=$! taken[number]=$name state[$name]=works since[$name]=$SECONDS
     done
 }
@@ -142,7 +143,7 @@ begin_crates() {
 # Waits until one of them ends, at most a second.
 wait_a_while() {
     sleep 1 <&- >&- 2>&- {turn}>&- &
-    wait -n "${process[@]}" $! || true
+    wait -n "${process[@]}" $! 2>/dev/null || true
 }
 
 # Takes what has ended.

@@ -1,7 +1,13 @@
 """What ./plan, ./check, ./build and .ci/run say, and what they end with. Proving is tried in a small tree of three crates, with a stand-in for rt that says of a crate
 what rt would, and of one that it proved before nothing."""
+import os
 import pathlib
+import pty
+import re
 import shutil
+import signal
+import subprocess
+import time
 
 from told import root, run, told
 
@@ -22,7 +28,9 @@ RT = r"""#!/usr/bin/env bash
 name=$(basename "$PWD")
 echo "$1 $name" >>TREE/asked
 [ ! -e out/proved ] || exit 0
+[ ! -e TREE/killed ] || { rm TREE/killed; kill -9 $$; }
 echo "rt: chose --jobs 4 for $name"
+[ ! -e TREE/slow ] || sleep 2
 echo "fn $name::one: proved"
 [ ! -e src/fails ] || { echo "fn $name::two: not proved"; exit 1; }
 mkdir -p out && touch out/proved
@@ -73,13 +81,13 @@ def make_tree():
 def says(command, cwd=tree, **environment):
     """What a command writes, complains of and ends with, seconds left out, on a path of the tools alone where the tree is the small one."""
     if cwd == tree:
-        environment = {"PATH": str(tools), "CC": "gcc", **environment}
+        environment = {"PATH": str(tools), "CC": "gcc", "RT_JOBS": "4", **environment}
     done = run(command, cwd=cwd, **environment)
     return done.stdout, done.stderr, done.returncode
 
 
 def without_seconds(text):
-    return "".join(line.rsplit(" ", 2)[0] + "\n" if line.endswith(" s") else line + "\n" for line in text.splitlines())
+    return re.sub(r"\b\d+ s\b", "N s", text)
 
 
 def asked():
@@ -113,12 +121,18 @@ def of_refusals():
     told("the output cannot be written", says("./plan examples/square.table >/dev/full", cwd=root)[2], 2)
 
 
+def steps(script, *names, of=3):
+    """What a script says as it proves these, one after another, the last of so many."""
+    first = of - len(names)
+    lines = [f"{script}: {first + number} of {of} crates done, N s, proving {name}" for number, name in enumerate(names)]
+    return "".join(line + "\n" for line in (*lines, f"{script}: {of} of {of} crates done, N s"))
+
+
 def of_proving():
-    """Each crate is told of as it is proved, those alone that are needed; what is proved already is passed in silence."""
+    """It is told which crate is at work, those alone that are needed; what is proved already is passed in silence."""
     make_tree()
-    lines = ["plan: proving low, 1 of 3 ...", "plan: proving middle, 2 of 3 ...", "plan: proving ringplan, 3 of 3 ..."]
     wrote, complained, status = says("echo R | ./plan")
-    told("the first plan", (wrote, without_seconds(complained).splitlines(), status), ("R\n", lines, 0))
+    told("the first plan", (wrote, without_seconds(complained), status), ("R\n", steps("plan", "low", "middle", "ringplan"), 0))
     told("what rt is asked for it", asked(), ["lib low", "lib middle", "run ringplan"])
     told("the second plan", says("echo R | ./plan"), ("R\n", "", 0))
     told("what rt is asked for it", asked(), [])
@@ -126,7 +140,7 @@ def of_proving():
     told("a plan without rt, once all is built", says("echo R | ./plan"), ("R\n", "", 0))
     (tools / "aside").rename(tools / "rt")
     wrote, complained, status = says("echo Y | ./check")
-    told("the first check", (wrote, without_seconds(complained), status), ("Y\n", "check: proving ringcheck, 3 of 3 ...\n", 0))
+    told("the first check", (wrote, without_seconds(complained), status), ("Y\n", steps("check", "ringcheck"), 0))
     told("a program that cannot write", says("sed -i 's/^cat/exit 1/' crates/ringplan/out/ringplan; ./plan </dev/null")[2], 2)
     asks_again()
 
@@ -155,13 +169,66 @@ def of_failures():
     told("once it is mended", says("echo R | ./plan")[::2], ("R\n", 0))
 
 
+def of_several():
+    """Crates that do not name each other are proved at a time, as many as there may be; on standard error that is a terminal in one line."""
+    make_tree()
+    write(tree / "slow", "")
+    wrote, complained, status = says("./build", RT_JOBS="3")
+    told("three at a time", (without_seconds(complained).splitlines()[2], status), ("build: 2 of 5 crates done, N s, proving ringplan ringcheck ringkit_c", 0))
+    make_tree()
+    write(tree / "slow", "")
+    ours, theirs = pty.openpty()
+    done = subprocess.run(["./plan"], cwd=tree, env={"PATH": str(tools), "RT_JOBS": "4", "TERM": "linux"}, stdin=subprocess.DEVNULL, stderr=theirs, capture_output=False, stdout=subprocess.DEVNULL, check=False)
+    line = os.read(ours, 10000).decode()
+    told("one line at a terminal", (line.count("\n"), "\r\x1b[Kplan: 1 of 3 crates done, " in line, done.returncode), (1, True, 0))
+    make_tree()
+    write(tools / "nproc", f"#!{shutil.which('bash')}\necho 1000\n", 0o755)
+    told("little memory", re.sub(r"\d+", "N", says("./plan", RT_JOBS="")[1].splitlines()[0]), "plan: there is memory for N at a time, on N processors")
+    (tools / "nproc").unlink()
+    make_tools()
+
+
+def begun(command):
+    """A command that runs by itself, once rt is asked something for it."""
+    made = subprocess.Popen(command, cwd=tree, env={"PATH": str(tools), "RT_JOBS": "4"}, stdin=subprocess.DEVNULL, stdout=subprocess.DEVNULL, stderr=subprocess.PIPE, encoding="utf-8", start_new_session=True)
+    for _ in range(200):
+        if (tree / "asked").exists():
+            break
+        time.sleep(0.05)
+    return made
+
+
+def of_disturbances():
+    """A run that is stopped leaves what was kept, one beside another waits for it, and what is killed for memory is proved with fewer beside it."""
+    make_tree()
+    write(tree / "slow", "")
+    write(tree / "crates/low/out/kept", "")
+    one = begun(["./plan"])
+    os.killpg(one.pid, signal.SIGINT)
+    complained = one.communicate()[1]
+    told("a run that is stopped", (complained.splitlines()[-1:], one.returncode), (["plan: stopped; what is proved is kept"], -signal.SIGINT))
+    told("what was kept is there", ((tree / "crates/low/out/kept").exists(), list(tree.glob("target/proofs/place-*/at-work"))), (True, []))
+    one = begun(["./plan"])
+    one.kill()
+    one.communicate()
+    told("what a killed run had moved is put back", (says("./plan")[::2], (tree / "crates/low/out/kept").exists()), (("", 0), True))
+    make_tree()
+    write(tree / "slow", "")
+    one = begun(["./plan"])
+    other = says("./plan")
+    told("a run beside another", (one.wait(), other), (0, ("", "plan: another run proves in this tree: this one waits for it, and takes what it proves\n", 0)))
+    one.communicate()
+    make_tree()
+    write(tree / "killed", "")
+    told("killed for memory", without_seconds(says("./plan")[1]), "plan: rt was killed at low, most likely for memory: once more, with at most 2 at a time\n" + steps("plan", "low", "middle", "ringplan"))
+
+
 def of_building():
     """./build proves what it is made of, and on a second run says nothing of it."""
     make_tree()
     wrote, complained, status = says("./build")
-    proved = [line.split()[2] for line in complained.splitlines() if " proving " in line]
-    told("the first build", (proved, status), (["low,", "middle,", "ringplan,", "ringcheck,", "ringkit_c,"], 0))
-    asked()
+    told("the first build", (sorted(asked()), status), (["lib low", "lib middle", "lib ringkit_c", "run ringcheck", "run ringplan"], 0))
+    told("what it says at its end", without_seconds(complained).splitlines()[-2], "build: 5 of 5 crates done, N s")
     wrote, complained, status = says("./build")
     told("the second build", (wrote, complained.startswith("build: dist has "), len(complained.splitlines()), status), ("", True, 1, 0))
     told("what rt is asked for it", asked(), [])
@@ -224,6 +291,8 @@ def all_of_them():
     of_refusals()
     of_proving()
     of_failures()
+    of_several()
+    of_disturbances()
     of_building()
     of_missing_tools()
     of_the_gate()
