@@ -24,8 +24,12 @@ ringkit_c staticlib: middle
 """
 
 RT = r"""#!/usr/bin/env bash
-[ "$1" != version ] || { echo stand-in; exit; }
+case $1 in
+version) echo stand-in; exit ;;
+ci) echo "3 passed, 0 failed"; exit ;;
+esac
 name=$(basename "$PWD")
+[ "$1" != check ] || { echo "logic=proved "; [ "$name" != aside ] || echo " libc::read reached"; exit; }
 echo "$1 $name" >>TREE/asked
 [ ! -e out/proved ] || exit 0
 [ ! -e TREE/killed ] || { rm TREE/killed; kill -9 $$; }
@@ -53,7 +57,7 @@ def make_tools():
     shutil.rmtree(tools, ignore_errors=True)
     tools.mkdir(parents=True)
     compiler = run('. ./host.sh; echo "$x86_cc"').stdout.strip()
-    for name in "bash env awk basename cat cp cut dirname find flock grep head id install ld as ln mkdir mv nproc readlink rm sed sha256sum sleep sort stty touch xargs tee tr chmod diff mktemp tail wc python3 nm size pkg-config rustc git man valgrind gcc g++".split():
+    for name in "bash env awk basename cat cp cut date dirname find flock grep head id install ld as ln mkdir mv nice nproc readlink rm sed sha256sum sleep sort stat stty touch xargs tee tr chmod diff mktemp tail wc python3 nm size pkg-config rustc git man valgrind gcc g++".split():
         found = shutil.which(compiler if name == "gcc" else name)
         if found:
             write(tools / name, f'#!{shutil.which("bash")}\nexec {found} "$@"\n', 0o755)
@@ -283,6 +287,37 @@ def of_the_gate():
     for tool, package in packages.items():
         told(f".ci/run without {tool}", [package in line for line in lines if line.startswith(f"error: there is no {tool}")], [True])
     told("the end of .ci/run without rt", (lines[-1:], status), (["0 passed, 7 failed"], 1))
+    of_installing()
+    make_tools()
+    of_its_sums()
+
+
+def of_installing():
+    """A superuser of a machine with apt-get is given what is missing; nobody else is."""
+    for command, names in ((".ci/run", "python3 g++ binutils pkg-config rustc valgrind"), ("./build", "python3 gcc libc6-dev")):
+        for user, due in (("0", [f"install -y {names}"]), ("1000", [])):
+            make_tree()
+            make_tools()
+            for tool in ("rt", *({"./build": ("python3", "gcc")}.get(command, ("python3", "g++", "nm", "pkg-config", "rustc", "valgrind")))):
+                (tools / tool).unlink(missing_ok=True)
+            write(tools / "id", f"#!{shutil.which('bash')}\necho {user}\n", 0o755)
+            write(tools / "apt-get", f"#!{shutil.which('bash')}\n[ $1 = update ] || echo \"$*\" >>{tree}/asked\n", 0o755)
+            _, complained, status = says(f"{command} </dev/null")
+            told(f"what {command} has installed for {user}", (asked(), status), (due, 1))
+            (tools / "apt-get").unlink()
+
+
+def of_its_sums():
+    """.ci/run asks each crate what it assumes, and no line but the last looks like the last."""
+    make_tree()
+    for test in ("one", "twin"):
+        write(tree / f"tests/{test}/run", f"#!{shutil.which('bash')}\necho 2 passed, 0 failed\n", 0o755)
+    wrote, complained, status = says(".ci/run", RT_JOBS="1")
+    lines = wrote.splitlines()
+    told("lines that look like the last", ([number for number, line in enumerate(lines) if re.match(r"\d+ passed, \d+ failed", line)], status), ([len(lines) - 1], 1))
+    for name in ("rt ci: 3", "tests/one/run: 2", "twin: 2", "assumptions: 3"):
+        told(f"a sum of {name}", sum(line.startswith(f"{name} passed, ") for line in lines), 1)
+    told("what crates assume", [line.split()[1] for line in lines if " assumes of C" in line], ["aside", "ringplan", "ringcheck"])
 
 
 def all_of_them():
