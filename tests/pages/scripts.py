@@ -294,7 +294,7 @@ def of_the_gate():
 
 def of_installing():
     """A superuser of a machine with apt-get is given what is missing; nobody else is."""
-    for command, names in ((".ci/run", "python3 g++ binutils pkg-config rustc valgrind"), ("./build", "python3 gcc libc6-dev")):
+    for command, names in ((".ci/run", "binutils g++ pkg-config python3 rustc valgrind"), ("./build", "gcc python3 libc6-dev")):
         for user, due in (("0", [f"install -y {names}"]), ("1000", [])):
             make_tree()
             make_tools()
