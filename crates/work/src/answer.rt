@@ -1,6 +1,7 @@
 //! What a change answers, how many nodes it reckons with, and the step that every change ends in.
 ghost use Rattle.std.specs.Prelude.{◌≡◌};
-ghost use Rattle.work.specs.Changes.{ring_size, recut_in};
+ghost use Rattle.work.specs.Bytes.{ring_size};
+ghost use Rattle.work.specs.Changes.{recut_in};
 
 use crate::Work;
 use across::largest_cut;
