@@ -25,7 +25,8 @@ add_up() {
     fi
 }
 
-# Passes on what a run says, with what it is before its last line, so that nobody takes that for the last line of all.
+# Passes on what a run says, with what it is before its last line, so that nobody takes that for the
+# last line of all.
 of() { sed -u "s|^[0-9]* passed, [0-9]* failed|$1: &|"; }
 
 # What runs beside each other, in the order in which it was begun: its name, and behind a blank its process.

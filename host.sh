@@ -54,7 +54,8 @@ need() {
     return 1
 }
 
-# Gives a superuser of a Debian machine the packages of these tools that are missing, as the script that is named first; for anybody else it does nothing.
+# Gives a superuser of a Debian machine the packages of these tools that are missing, as the script
+# that is named first; for anybody else it does nothing.
 install_missing() {
     local script=$1 tool packages
     mapfile -t packages < <(for tool in "${@:2}"; do

@@ -1,11 +1,14 @@
 # shellcheck shell=bash
-# Sourced by scripts in the tree's root, behind host.sh: proves crates, several at a time, each as soon as those that it names are, and says in one line on
-# standard error which are at work, how many are done and the seconds. What is proved already, and has not changed since, is passed in silence.
+# Sourced by scripts in the tree's root, behind host.sh: proves crates, several at a time, each as
+# soon as those that it names are, and says in one line on standard error which are at work, how
+# many are done and the seconds. What is proved already, and has not changed since, is passed in
+# silence.
 
 # What rt says of each crate is kept here, and of what each product was built.
 proofs=target/proofs
 
-# The crates of crates.txt that are named, and those that they stand on, each above those that name it: first those with most crates one on the other above them.
+# The crates of crates.txt that are named, and those that they stand on, each above those that name
+# it: first those with most crates one on the other above them.
 crates_for() {
     awk -v named="$*" '
         BEGIN { split(named, first, " "); for (k in first) wanted[first[k]] = 1 }
@@ -14,7 +17,10 @@ crates_for() {
         END {
             for (k = count; k > 0; k--) if (name[k] in wanted) {
                 split(below[k], each, " ")
-                for (m in each) { wanted[each[m]] = 1; if (above[each[m]] <= above[name[k]]) above[each[m]] = above[name[k]] + 1 }
+                for (m in each) {
+                    wanted[each[m]] = 1
+                    if (above[each[m]] <= above[name[k]]) above[each[m]] = above[name[k]] + 1
+                }
             }
             for (k = 1; k <= count; k++) if (name[k] in wanted) print above[name[k]] + 0, name[k]
         }' crates.txt | sort -s -k1,1nr | cut -d ' ' -f 2
@@ -25,10 +31,12 @@ lines_for() {
     awk -v named="$*" '
         BEGIN { split(named, each, " "); for (k in each) wanted[each[k]] = 1 }
         { sub(/#.*/, "") }
-        /:/ { split($0, side, ":"); split(side[1], left, " "); if (left[1] in wanted) print }' crates.txt
+        /:/ { split($0, side, ":"); split(side[1], left, " "); if (left[1] in wanted) print }
+    ' crates.txt
 }
 
-# How many crates are proved at a time: as many as there are processors, each of which wants this much memory, in kilobytes; or what RT_JOBS says, by which rt ci goes too.
+# How many crates are proved at a time: as many as there are processors, each of which wants this
+# much memory, in kilobytes; or what RT_JOBS says, by which rt ci goes too.
 memory_of_one=2500000
 at_a_time() {
     local most room
@@ -44,8 +52,10 @@ complaints() {
     grep -vE ': proved( where its callers give what it asks)?$|^(statements|library|crate) [a-z_0-9]*: modules|^(logic|axioms) |^rt: (chose|[a-z_]*: begins with)|^so far: ' "$1" || true
 }
 
-# ---- Places. rt works at one crate at a time in the folders that it reads. So what is at work has a place of its own, with the folders of all crates as they stand,
-# by second names of their files, or copies where there can be none; the work that was kept of a crate is moved there, and back behind it.
+# ---- Places. rt works at one crate at a time in the folders that it reads. So what is at work has
+# a place of its own, with the folders of all crates as they stand, by second names of their files,
+# or copies where there can be none; the work that was kept of a crate is moved there, and back
+# behind it.
 
 place() { echo "$proofs/place-$1"; }
 
@@ -105,15 +115,16 @@ hand_on() {
 
 # ---- Crates. In a run of `prove` each has a state: it waits, works or is done.
 
-# Becomes rt that proves and builds a crate at a place, by the words behind them. Until it ends no other rt works in the crate's own folder. A program is run by
-# rt as well, here on an empty text.
+# Becomes rt that proves and builds a crate at a place, by the words behind them. Until it ends no
+# other rt works in the crate's own folder. A program is run by rt as well, here on an empty text.
 work_at() {
     local at name=$1 verb=lib held
     at=$(place "$2")
     [ ! -f "crates/$name/src/main.rt" ] || verb=run
     exec {held}<"crates/$name" && flock "$held"
     echo "$name" >"$at/at-work" && mkdir -p "crates/$name/out" && rm -rf "$at/crates/$name/out" &&
-        mv "crates/$name/out" "$at/crates/$name/out" && cd "$at/crates/$name" && exec rt "$verb" "${@:3}"
+        mv "crates/$name/out" "$at/crates/$name/out" && cd "$at/crates/$name" &&
+        exec rt "$verb" "${@:3}"
 }
 
 # Whether a crate waits for nothing but its turn.
@@ -157,7 +168,8 @@ end_crates() {
     done
 }
 
-# Takes a crate that has ended with this status. One that was killed is proved once more, with fewer beside it.
+# Takes a crate that has ended with this status. One that was killed is proved once more, with fewer
+# beside it.
 end_crate() {
     local name=$1 number
     unset "process[$name]"
@@ -177,7 +189,8 @@ end_crate() {
         sed -i "s|$PWD/$proofs/place-[0-9]*/|$PWD/|g" "$proofs/$name.log"
         say
         complaints "$proofs/$name.log" >&2
-        say "the crate $name is not proved and built; $proofs/$name.log has all that rt says of it, and above is what it complains of"
+        say "the crate $name is not proved and built; $proofs/$name.log has all that rt says of it," \
+            "and above is what it complains of"
         return 1
     fi
 }
@@ -185,7 +198,8 @@ end_crate() {
 # Ends what is at work, and puts back what was kept of it.
 stop_crates() {
     local number
-    [ ${#process[@]} -eq 0 ] || { kill "${process[@]}" && wait "${process[@]}"; } 2>/dev/null || true
+    [ ${#process[@]} -eq 0 ] || { kill "${process[@]}" && wait "${process[@]}"; } 2>/dev/null ||
+        true
     for number in "${!taken[@]}"; do clear_place "$number"; done
 }
 
@@ -207,8 +221,8 @@ say() {
     [ $# -eq 0 ] || echo "$script: $*" >&2
 }
 
-# Says how many are done and what is at work: at a terminal over what was said last, and else where other crates are at work than then. A crate of which rt says
-# nothing is passed in silence.
+# Says how many are done and what is at work: at a terminal over what was said last, and else where
+# other crates are at work than then. A crate of which rt says nothing is passed in silence.
 tell() {
     local name working=() words
     for name in "${crates[@]}"; do
@@ -216,7 +230,7 @@ tell() {
         [ ! -s "$proofs/$name.log" ] && [ $((SECONDS - since[$name])) -lt 2 ] || working+=("$name")
     done
     [ ${#working[@]} -gt 0 ] || return 0
-    words="$script: $finished of ${#crates[@]} crates done, $((SECONDS - begun_at)) s, proving ${working[*]}"
+    words="$(how_far), proving ${working[*]}"
     if is_terminal; then
         printf '\r\e[K%s' "${words:0:$(($(columns) - 1))}" >&2
     elif [ "${working[*]}" != "$told" ]; then
@@ -224,6 +238,8 @@ tell() {
     fi
     told=${working[*]}
 }
+
+how_far() { echo "$script: $finished of ${#crates[@]} crates done, $((SECONDS - begun_at)) s"; }
 
 # How many letters a line of the terminal has.
 columns() {
@@ -235,7 +251,7 @@ columns() {
 tell_end() {
     [ -n "$told" ] || return 0
     ! is_terminal || printf '\r\e[K' >&2
-    echo "$script: $finished of ${#crates[@]} crates done, $((SECONDS - begun_at)) s" >&2
+    how_far >&2
 }
 
 # ---- Runs
@@ -256,7 +272,8 @@ prove() {
     mkdir -p "$proofs"
     take_turn
     most=$(at_a_time)
-    [ -n "${RT_JOBS:-}" ] || [ "$most" -eq "$(nproc)" ] || say "there is memory for $most at a time, on $(nproc) processors"
+    [ -n "${RT_JOBS:-}" ] || [ "$most" -eq "$(nproc)" ] ||
+        say "there is memory for $most at a time, on $(nproc) processors"
     lay_out_places
     prove_all || { status=1; stop_crates; }
     trap - INT TERM HUP
@@ -276,7 +293,10 @@ prove_all() {
     trap "stop_at HUP" HUP
     while [ "$finished" -lt ${#crates[@]} ]; do
         begin_crates
-        [ ${#process[@]} -gt 0 ] || { say "no crate of crates.txt stands on those that are done alone"; return 1; }
+        if [ ${#process[@]} -eq 0 ]; then
+            say "no crate of crates.txt stands on those that are done alone"
+            return 1
+        fi
         tell
         wait_a_while
         end_crates || return
