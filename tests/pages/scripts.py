@@ -128,15 +128,17 @@ def of_refusals():
 def steps(script, *names, of=3):
     """What a script says as it proves these, one after another, the last of so many."""
     first = of - len(names)
-    lines = [f"{script}: {first + number} of {of} crates done, N s, proving {name}" for number, name in enumerate(names)]
-    return "".join(line + "\n" for line in (*lines, f"{script}: {of} of {of} crates done, N s"))
+    far = f"{script}: {{}} of {of} crates done, N s"
+    lines = [f"{far.format(first + number)}, proving {name}" for number, name in enumerate(names)]
+    return "".join(line + "\n" for line in (*lines, far.format(of)))
 
 
 def of_proving():
     """It is told which crate is at work, those alone that are needed; what is proved already is passed in silence."""
     make_tree()
     wrote, complained, status = says("echo R | ./plan")
-    told("the first plan", (wrote, without_seconds(complained), status), ("R\n", steps("plan", "low", "middle", "ringplan"), 0))
+    due = "R\n", steps("plan", "low", "middle", "ringplan"), 0
+    told("the first plan", (wrote, without_seconds(complained), status), due)
     told("what rt is asked for it", asked(), ["lib low", "lib middle", "run ringplan"])
     told("the second plan", says("echo R | ./plan"), ("R\n", "", 0))
     told("what rt is asked for it", asked(), [])
@@ -144,7 +146,8 @@ def of_proving():
     told("a plan without rt, once all is built", says("echo R | ./plan"), ("R\n", "", 0))
     (tools / "aside").rename(tools / "rt")
     wrote, complained, status = says("echo Y | ./check")
-    told("the first check", (wrote, without_seconds(complained), status), ("Y\n", steps("check", "ringcheck"), 0))
+    due = "Y\n", steps("check", "ringcheck"), 0
+    told("the first check", (wrote, without_seconds(complained), status), due)
     told("a program that cannot write", says("sed -i 's/^cat/exit 1/' crates/ringplan/out/ringplan; ./plan </dev/null")[2], 2)
     asks_again()
 
@@ -174,27 +177,36 @@ def of_failures():
 
 
 def of_several():
-    """Crates that do not name each other are proved at a time, as many as there may be; on standard error that is a terminal in one line."""
+    """Crates that do not name each other are proved at a time, as many as there may be; at a
+    terminal that is told in one line."""
     make_tree()
     write(tree / "slow", "")
     wrote, complained, status = says("./build", RT_JOBS="3")
-    told("three at a time", (without_seconds(complained).splitlines()[2], status), ("build: 2 of 5 crates done, N s, proving ringplan ringcheck ringkit_c", 0))
+    due = "build: 2 of 5 crates done, N s, proving ringplan ringcheck ringkit_c"
+    told("three at a time", (without_seconds(complained).splitlines()[2], status), (due, 0))
     make_tree()
     write(tree / "slow", "")
     ours, theirs = pty.openpty()
-    done = subprocess.run(["./plan"], cwd=tree, env={"PATH": str(tools), "RT_JOBS": "4", "TERM": "linux"}, stdin=subprocess.DEVNULL, stderr=theirs, capture_output=False, stdout=subprocess.DEVNULL, check=False)
+    alone = {"PATH": str(tools), "RT_JOBS": "4", "TERM": "linux"}
+    null = subprocess.DEVNULL
+    done = subprocess.run(["./plan"], cwd=tree, env=alone, stdin=null, stdout=null, stderr=theirs, check=False)
     line = os.read(ours, 10000).decode()
-    told("one line at a terminal", (line.count("\n"), "\r\x1b[Kplan: 1 of 3 crates done, " in line, done.returncode), (1, True, 0))
+    is_over = "\r\x1b[Kplan: 1 of 3 crates done, " in line
+    told("one line at a terminal", (line.count("\n"), is_over, done.returncode), (1, True, 0))
     make_tree()
     write(tools / "nproc", f"#!{shutil.which('bash')}\necho 1000\n", 0o755)
-    told("little memory", re.sub(r"\d+", "N", says("./plan", RT_JOBS="")[1].splitlines()[0]), "plan: there is memory for N at a time, on N processors")
+    first = says("./plan", RT_JOBS="")[1].splitlines()[0]
+    due = "plan: there is memory for N at a time, on N processors"
+    told("little memory", re.sub(r"\d+", "N", first), due)
     (tools / "nproc").unlink()
     make_tools()
 
 
 def begun(command):
     """A command that runs by itself, once rt is asked something for it."""
-    made = subprocess.Popen(command, cwd=tree, env={"PATH": str(tools), "RT_JOBS": "4"}, stdin=subprocess.DEVNULL, stdout=subprocess.DEVNULL, stderr=subprocess.PIPE, encoding="utf-8", start_new_session=True)
+    alone = {"PATH": str(tools), "RT_JOBS": "4"}
+    streams = {"stdin": subprocess.DEVNULL, "stdout": subprocess.DEVNULL, "stderr": subprocess.PIPE}
+    made = subprocess.Popen(command, cwd=tree, env=alone, **streams, encoding="utf-8", start_new_session=True)
     for _ in range(200):
         if (tree / "asked").exists():
             break
@@ -203,35 +215,43 @@ def begun(command):
 
 
 def of_disturbances():
-    """A run that is stopped leaves what was kept, one beside another waits for it, and what is killed for memory is proved with fewer beside it."""
+    """A run that is stopped leaves what was kept, one beside another waits for it, and what is
+    killed for memory is proved with fewer beside it."""
     make_tree()
     write(tree / "slow", "")
-    write(tree / "crates/low/out/kept", "")
+    kept = tree / "crates/low/out/kept"
+    write(kept, "")
     one = begun(["./plan"])
     os.killpg(one.pid, signal.SIGINT)
-    complained = one.communicate()[1]
-    told("a run that is stopped", (complained.splitlines()[-1:], one.returncode), (["plan: stopped; what is proved is kept"], -signal.SIGINT))
-    told("what was kept is there", ((tree / "crates/low/out/kept").exists(), list(tree.glob("target/proofs/place-*/at-work"))), (True, []))
+    last = one.communicate()[1].splitlines()[-1:]
+    due = ["plan: stopped; what is proved is kept"], -signal.SIGINT
+    told("a run that is stopped", (last, one.returncode), due)
+    at_work = list(tree.glob("target/proofs/place-*/at-work"))
+    told("what was kept is there", (kept.exists(), at_work), (True, []))
     one = begun(["./plan"])
     one.kill()
     one.communicate()
-    told("what a killed run had moved is put back", (says("./plan")[::2], (tree / "crates/low/out/kept").exists()), (("", 0), True))
+    told("what a killed run had moved", (says("./plan")[::2], kept.exists()), (("", 0), True))
     make_tree()
     write(tree / "slow", "")
     one = begun(["./plan"])
     other = says("./plan")
-    told("a run beside another", (one.wait(), other), (0, ("", "plan: another run proves in this tree: this one waits for it, and takes what it proves\n", 0)))
+    due = "plan: another run proves in this tree: this one waits for it, and takes what it proves\n"
+    told("a run beside another", (one.wait(), other), (0, ("", due, 0)))
     one.communicate()
     make_tree()
     write(tree / "killed", "")
-    told("killed for memory", without_seconds(says("./plan")[1]), "plan: rt was killed at low, most likely for memory: once more, with at most 2 at a time\n" + steps("plan", "low", "middle", "ringplan"))
+    due = "plan: rt was killed at low, most likely for memory: once more, with at most 2 at a time\n"
+    due += steps("plan", "low", "middle", "ringplan")
+    told("killed for memory", without_seconds(says("./plan")[1]), due)
 
 
 def of_building():
     """./build proves what it is made of, and on a second run says nothing of it."""
     make_tree()
     wrote, complained, status = says("./build")
-    told("the first build", (sorted(asked()), status), (["lib low", "lib middle", "lib ringkit_c", "run ringcheck", "run ringplan"], 0))
+    due = ["lib low", "lib middle", "lib ringkit_c", "run ringcheck", "run ringplan"]
+    told("the first build", (sorted(asked()), status), (due, 0))
     told("what it says at its end", without_seconds(complained).splitlines()[-2], "build: 5 of 5 crates done, N s")
     wrote, complained, status = says("./build")
     told("the second build", (wrote, complained.startswith("build: dist has "), len(complained.splitlines()), status), ("", True, 1, 0))
@@ -294,15 +314,19 @@ def of_the_gate():
 
 def of_installing():
     """A superuser of a machine with apt-get is given what is missing; nobody else is."""
-    for command, names in ((".ci/run", "binutils g++ pkg-config python3 rustc valgrind"), ("./build", "gcc python3 libc6-dev")):
+    bash = f"#!{shutil.which('bash')}\n"
+    for command, lacking, names in (
+        (".ci/run", "g++ nm pkg-config python3 rustc", "binutils g++ pkg-config python3 rustc"),
+        ("./build", "gcc python3", "gcc python3 libc6-dev"),
+    ):
         for user, due in (("0", [f"install -y {names}"]), ("1000", [])):
             make_tree()
             make_tools()
-            for tool in ("rt", *({"./build": ("python3", "gcc")}.get(command, ("python3", "g++", "nm", "pkg-config", "rustc", "valgrind")))):
-                (tools / tool).unlink(missing_ok=True)
-            write(tools / "id", f"#!{shutil.which('bash')}\necho {user}\n", 0o755)
-            write(tools / "apt-get", f"#!{shutil.which('bash')}\n[ $1 = update ] || echo \"$*\" >>{tree}/asked\n", 0o755)
-            _, complained, status = says(f"{command} </dev/null")
+            for tool in ("rt", *lacking.split()):
+                (tools / tool).unlink()
+            write(tools / "id", f"{bash}echo {user}\n", 0o755)
+            write(tools / "apt-get", f'{bash}[ $1 = update ] || echo "$*" >>{tree}/asked\n', 0o755)
+            status = says(command)[2]
             told(f"what {command} has installed for {user}", (asked(), status), (due, 1))
             (tools / "apt-get").unlink()
 
@@ -311,13 +335,16 @@ def of_its_sums():
     """.ci/run asks each crate what it assumes, and no line but the last looks like the last."""
     make_tree()
     for test in ("one", "twin"):
-        write(tree / f"tests/{test}/run", f"#!{shutil.which('bash')}\necho 2 passed, 0 failed\n", 0o755)
-    wrote, complained, status = says(".ci/run", RT_JOBS="1")
+        run_it = f"#!{shutil.which('bash')}\necho 2 passed, 0 failed\n"
+        write(tree / f"tests/{test}/run", run_it, 0o755)
+    wrote, _, status = says(".ci/run", RT_JOBS="1")
     lines = wrote.splitlines()
-    told("lines that look like the last", ([number for number, line in enumerate(lines) if re.match(r"\d+ passed, \d+ failed", line)], status), ([len(lines) - 1], 1))
+    alike = [n for n, line in enumerate(lines) if re.match(r"\d+ passed, \d+ failed", line)]
+    told("lines that look like the last", (alike, status), ([len(lines) - 1], 1))
     for name in ("rt ci: 3", "tests/one/run: 2", "twin: 2", "assumptions: 3"):
         told(f"a sum of {name}", sum(line.startswith(f"{name} passed, ") for line in lines), 1)
-    told("what crates assume", [line.split()[1] for line in lines if " assumes of C" in line], ["aside", "ringplan", "ringcheck"])
+    assuming = [line.split()[1] for line in lines if " assumes of C" in line]
+    told("what crates assume", assuming, ["aside", "ringplan", "ringcheck"])
 
 
 def all_of_them():
