@@ -90,13 +90,19 @@ clear_place() {
     rm -f "$at/at-work"
 }
 
-# Lays out the places, once what a run that was killed has left there is put back.
-lay_out_places() {
-    local at number
+# Removes the places, since rt ci takes a tree for one with files that nobody proves while they are
+# there. What a run that was killed has left in them is put back.
+remove_places() {
+    local at
     for at in "$proofs"/place-*; do
         clear_place "${at##*-}"
         rm -rf "$at"
     done
+}
+
+lay_out_places() {
+    local number
+    remove_places
     ln -f "$proofs/lock" "$proofs/linked" 2>/dev/null || rm -f "$proofs/linked"
     for ((number = 1; number <= most; number++)); do
         lay_out_place "$number"
@@ -195,17 +201,16 @@ end_crate() {
     fi
 }
 
-# Ends what is at work, and puts back what was kept of it.
+# Ends what is at work.
 stop_crates() {
-    local number
     [ ${#process[@]} -eq 0 ] || { kill "${process[@]}" && wait "${process[@]}"; } 2>/dev/null ||
         true
-    for number in "${!taken[@]}"; do clear_place "$number"; done
 }
 
 stop_at() {
     trap - INT TERM HUP
     stop_crates
+    remove_places
     say "stopped; what is proved is kept"
     kill -s "$1" $$
 }
@@ -277,6 +282,7 @@ prove() {
     lay_out_places
     prove_all || { status=1; stop_crates; }
     trap - INT TERM HUP
+    remove_places
     exec {turn}>&-
     return "$status"
 }

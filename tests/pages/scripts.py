@@ -202,8 +202,14 @@ def of_several():
     make_tools()
 
 
+def places():
+    """The folders at which crates are proved, in which rt ci would find files that nobody proves."""
+    return list(tree.glob("target/proofs/place-*"))
+
+
 def begun(command):
     """A command that runs by itself, once rt is asked something for it."""
+    asked()
     alone = {"PATH": str(tools), "RT_JOBS": "4"}
     streams = {"stdin": subprocess.DEVNULL, "stdout": subprocess.DEVNULL, "stderr": subprocess.PIPE}
     made = subprocess.Popen(command, cwd=tree, env=alone, **streams, encoding="utf-8", start_new_session=True)
@@ -226,12 +232,12 @@ def of_disturbances():
     last = one.communicate()[1].splitlines()[-1:]
     due = ["plan: stopped; what is proved is kept"], -signal.SIGINT
     told("a run that is stopped", (last, one.returncode), due)
-    at_work = list(tree.glob("target/proofs/place-*/at-work"))
-    told("what was kept is there", (kept.exists(), at_work), (True, []))
+    told("what was kept is there", (kept.exists(), places()), (True, []))
     one = begun(["./plan"])
     one.kill()
     one.communicate()
-    told("what a killed run had moved", (says("./plan")[::2], kept.exists()), (("", 0), True))
+    told("a killed run leaves places", places() != [], True)
+    told("what it had moved", (says("./plan")[::2], kept.exists(), places()), (("", 0), True, []))
     make_tree()
     write(tree / "slow", "")
     one = begun(["./plan"])
@@ -332,8 +338,10 @@ def of_installing():
 
 
 def of_its_sums():
-    """.ci/run asks each crate what it assumes, and no line but the last looks like the last."""
+    """.ci/run asks each crate what it assumes, and no line but the last looks like the last. It
+    clears what a killed run has left."""
     make_tree()
+    write(tree / "target/proofs/place-1/crates/low/src/lib.rt", "")
     for test in ("one", "twin"):
         run_it = f"#!{shutil.which('bash')}\necho 2 passed, 0 failed\n"
         write(tree / f"tests/{test}/run", run_it, 0o755)
@@ -345,6 +353,7 @@ def of_its_sums():
         told(f"a sum of {name}", sum(line.startswith(f"{name} passed, ") for line in lines), 1)
     assuming = [line.split()[1] for line in lines if " assumes of C" in line]
     told("what crates assume", assuming, ["aside", "ringplan", "ringcheck"])
+    told("what a killed run has left", places(), [])
 
 
 def all_of_them():
