@@ -25,6 +25,10 @@ add_up() {
     fi
 }
 
+# Passes on what a run says, with what it is before its last line, so that nobody takes that for the
+# last line of all.
+of() { sed -u "s|^[0-9]* passed, [0-9]* failed|$1: &|"; }
+
 # What runs beside each other, in the order in which it was begun: its name, and behind a blank its process.
 begun=()
 
@@ -40,7 +44,7 @@ join() {
     for run in "${begun[@]}"; do
         name=${run% *} status=0
         wait "${run##* }" || status=$?
-        [[ $status -eq 0 && -z ${1:-} ]] || cat "$logs/$name"
+        [[ $status -eq 0 && -z ${1:-} ]] || of "$name" <"$logs/$name"
         add_up "$logs/$name" "$status" "$name"
     done
     begun=()

@@ -54,6 +54,20 @@ need() {
     return 1
 }
 
+# Gives a superuser of a Debian machine the packages of these tools that are missing, as the script
+# that is named first; for anybody else it does nothing.
+install_missing() {
+    local script=$1 tool packages
+    mapfile -t packages < <(for tool in "${@:2}"; do
+        [ "$tool" = rt ] || command -v "$tool" >/dev/null || package_of "$tool"
+    done | sort -u)
+    [ ${#packages[@]} -gt 0 ] && [ "$(id -u)" -eq 0 ] && command -v apt-get >/dev/null || return 0
+    # a compiler compiles nothing without the headers, which gcc only recommends
+    [[ " ${packages[*]} " != *" gcc "* ]] || packages+=(libc6-dev)
+    echo "$script: installs what is missing here: ${packages[*]}" >&2
+    { apt-get update && DEBIAN_FRONTEND=noninteractive apt-get install -y "${packages[@]}"; } >&2
+}
+
 # The packages that tests want on another processor than x86-64, and whose tools are not here.
 missing_packages() {
     local tool

@@ -33,6 +33,7 @@ FILES = [
     ("laws/Rules", RULES),
     ("laws/Papers", RULES),
     ("matrix/*", MATRICES),
+    ("matrix_calls/*", MATRICES),
     ("across/*", WORKING),
     ("work/HeldRing", FAMILIES),
     ("work/*", WORKING),
@@ -53,6 +54,7 @@ FILES = [
     ("best/*", BEST),
     ("engines/*", LOWERED),
     ("report/*", REPORT),
+    ("report_calls/*", REPORT),
     ("router/Plans", BEST),
     ("crossing/Pair", TEXTS),
     ("crossing/*", CROSSING),
@@ -74,9 +76,6 @@ NAMES = {
         "table/Table": ["table_room"],
         "text/Shapes": ["numbers", "numbers_line"],
         "reasons/Reasons": [f"{word} {reason}" for word in ("number_of", "rank_of") for reason in ("NotZero", "NotSymmetric", "SumTooMuch")],
-        "ringkit/Texts": ["MatrixOf", "SomeMatrix", "MatrixDue", "MatrixGiven", "SumsDue", "SumsFit", "SumsGiven"],
-        "ringkit/Promises": ["ReadMatrixPromise", "WriteMatrixPromise"],
-        "ringkit/Back": ["MatrixToTableToMatrix", "TableToMatrixToTable"],
         "laws/Texts": ["AcceptedMatrixIs"],
     },
     FIBRES: {
@@ -116,9 +115,6 @@ NAMES = {
     },
     REPORT: {
         "reasons/Reasons": ["number_of PlansTooLong", "rank_of PlansTooLong"],
-        "ringkit/Texts": ["ReportDue", "ReportGiven"],
-        "ringkit/Promises": ["ReportPromise"],
-        "ringkit/Sheets": ["Joined", "AllCounted"],
         "laws/Calls": ["WroteSheet", "RoutedCounted"],
     },
     FAMILIES: {

@@ -1,7 +1,13 @@
 """What ./plan, ./check, ./build and .ci/run say, and what they end with. Proving is tried in a small tree of three crates, with a stand-in for rt that says of a crate
 what rt would, and of one that it proved before nothing."""
+import os
 import pathlib
+import pty
+import re
 import shutil
+import signal
+import subprocess
+import time
 
 from told import root, run, told
 
@@ -18,15 +24,21 @@ ringkit_c staticlib: middle
 """
 
 RT = r"""#!/usr/bin/env bash
-[ "$1" != version ] || { echo stand-in; exit; }
+case $1 in
+version) echo stand-in; exit ;;
+ci) echo "3 passed, 0 failed"; exit ;;
+esac
 name=$(basename "$PWD")
-echo "$1 $name" >>../../asked
+[ "$1" != check ] || { echo "logic=proved "; [ "$name" != aside ] || echo " libc::read reached"; exit; }
+echo "$1 $name" >>TREE/asked
 [ ! -e out/proved ] || exit 0
+[ ! -e TREE/killed ] || { rm TREE/killed; kill -9 $$; }
 echo "rt: chose --jobs 4 for $name"
+[ ! -e TREE/slow ] || sleep 2
 echo "fn $name::one: proved"
-[ ! -e fails ] || { echo "fn $name::two: not proved"; exit 1; }
+[ ! -e src/fails ] || { echo "fn $name::two: not proved"; exit 1; }
 mkdir -p out && touch out/proved
-cp ../../program "out/$name" && cp ../../empty.a out/libringkit_c.a
+cp TREE/program "out/$name" && cp TREE/empty.a out/libringkit_c.a
 """
 
 PROGRAM = r"""#!/usr/bin/env bash
@@ -45,13 +57,13 @@ def make_tools():
     shutil.rmtree(tools, ignore_errors=True)
     tools.mkdir(parents=True)
     compiler = run('. ./host.sh; echo "$x86_cc"').stdout.strip()
-    for name in "bash env awk basename cat cp dirname find grep head id install ld as mkdir mv readlink rm sed sha256sum sort touch xargs tee tr chmod diff mktemp tail wc python3 nm size pkg-config rustc git man valgrind gcc g++".split():
+    for name in "bash env awk basename cat cp cut date dirname find flock grep head id install ld as ln mkdir mv nice nproc readlink rm sed sha256sum sleep sort stat stty touch xargs tee tr chmod diff mktemp tail wc python3 nm size pkg-config rustc git man valgrind gcc g++".split():
         found = shutil.which(compiler if name == "gcc" else name)
         if found:
             write(tools / name, f'#!{shutil.which("bash")}\nexec {found} "$@"\n', 0o755)
     # on every processor the tree is that of a machine whose programs need no emulator
     write(tools / "uname", f"#!{shutil.which('bash')}\necho x86_64\n", 0o755)
-    write(tools / "rt", RT.replace("/usr/bin/env bash", shutil.which("bash")), 0o755)
+    write(tools / "rt", RT.replace("/usr/bin/env bash", shutil.which("bash")).replace("TREE", str(tree)), 0o755)
 
 
 def make_tree():
@@ -73,13 +85,13 @@ def make_tree():
 def says(command, cwd=tree, **environment):
     """What a command writes, complains of and ends with, seconds left out, on a path of the tools alone where the tree is the small one."""
     if cwd == tree:
-        environment = {"PATH": str(tools), "CC": "gcc", **environment}
+        environment = {"PATH": str(tools), "CC": "gcc", "RT_JOBS": "4", **environment}
     done = run(command, cwd=cwd, **environment)
     return done.stdout, done.stderr, done.returncode
 
 
 def without_seconds(text):
-    return "".join(line.rsplit(" ", 2)[0] + "\n" if line.endswith(" s") else line + "\n" for line in text.splitlines())
+    return re.sub(r"\b\d+ s\b", "N s", text)
 
 
 def asked():
@@ -113,12 +125,20 @@ def of_refusals():
     told("the output cannot be written", says("./plan examples/square.table >/dev/full", cwd=root)[2], 2)
 
 
+def steps(script, *names, of=3):
+    """What a script says as it proves these, one after another, the last of so many."""
+    first = of - len(names)
+    far = f"{script}: {{}} of {of} crates done, N s"
+    lines = [f"{far.format(first + number)}, proving {name}" for number, name in enumerate(names)]
+    return "".join(line + "\n" for line in (*lines, far.format(of)))
+
+
 def of_proving():
-    """Each crate is told of as it is proved, those alone that are needed; what is proved already is passed in silence."""
+    """It is told which crate is at work, those alone that are needed; what is proved already is passed in silence."""
     make_tree()
-    lines = ["plan: proving low, 1 of 3 ...", "plan: proving middle, 2 of 3 ...", "plan: proving ringplan, 3 of 3 ..."]
     wrote, complained, status = says("echo R | ./plan")
-    told("the first plan", (wrote, without_seconds(complained).splitlines(), status), ("R\n", lines, 0))
+    due = "R\n", steps("plan", "low", "middle", "ringplan"), 0
+    told("the first plan", (wrote, without_seconds(complained), status), due)
     told("what rt is asked for it", asked(), ["lib low", "lib middle", "run ringplan"])
     told("the second plan", says("echo R | ./plan"), ("R\n", "", 0))
     told("what rt is asked for it", asked(), [])
@@ -126,7 +146,8 @@ def of_proving():
     told("a plan without rt, once all is built", says("echo R | ./plan"), ("R\n", "", 0))
     (tools / "aside").rename(tools / "rt")
     wrote, complained, status = says("echo Y | ./check")
-    told("the first check", (wrote, without_seconds(complained), status), ("Y\n", "check: proving ringcheck, 3 of 3 ...\n", 0))
+    due = "Y\n", steps("check", "ringcheck"), 0
+    told("the first check", (wrote, without_seconds(complained), status), due)
     told("a program that cannot write", says("sed -i 's/^cat/exit 1/' crates/ringplan/out/ringplan; ./plan </dev/null")[2], 2)
     asks_again()
 
@@ -143,7 +164,7 @@ def asks_again():
 def of_failures():
     """A crate that is not proved ends it: its complaints are shown, and what was proved is not."""
     make_tree()
-    write(tree / "crates/middle/fails", "")
+    write(tree / "crates/middle/src/fails", "")
     for name, status in (("plan", 2), ("check", 2), ("build", 1)):
         wrote, complained, ended = says(f"./{name} </dev/null")
         told(f"{name}: the status", (wrote, ended), ("", status))
@@ -151,17 +172,93 @@ def of_failures():
         told(f"{name}: what is not proved is shown", "fn middle::two: not proved\n" in complained, True)
         told(f"{name}: what is proved is not", "middle::one" in complained, False)
     told("what rt is asked", set(asked()), {"lib low", "lib middle"})
-    (tree / "crates/middle/fails").unlink()
+    (tree / "crates/middle/src/fails").unlink()
     told("once it is mended", says("echo R | ./plan")[::2], ("R\n", 0))
+
+
+def of_several():
+    """Crates that do not name each other are proved at a time, as many as there may be; at a
+    terminal that is told in one line."""
+    make_tree()
+    write(tree / "slow", "")
+    wrote, complained, status = says("./build", RT_JOBS="3")
+    due = "build: 2 of 5 crates done, N s, proving ringplan ringcheck ringkit_c"
+    told("three at a time", (without_seconds(complained).splitlines()[2], status), (due, 0))
+    make_tree()
+    write(tree / "slow", "")
+    ours, theirs = pty.openpty()
+    alone = {"PATH": str(tools), "RT_JOBS": "4", "TERM": "linux"}
+    null = subprocess.DEVNULL
+    done = subprocess.run(["./plan"], cwd=tree, env=alone, stdin=null, stdout=null, stderr=theirs, check=False)
+    line = os.read(ours, 10000).decode()
+    is_over = "\r\x1b[Kplan: 1 of 3 crates done, " in line
+    told("one line at a terminal", (line.count("\n"), is_over, done.returncode), (1, True, 0))
+    make_tree()
+    write(tools / "nproc", f"#!{shutil.which('bash')}\necho 1000\n", 0o755)
+    first = says("./plan", RT_JOBS="")[1].splitlines()[0]
+    due = "plan: there is memory for N at a time, on N processors"
+    told("little memory", re.sub(r"\d+", "N", first), due)
+    (tools / "nproc").unlink()
+    make_tools()
+
+
+def places():
+    """The folders at which crates are proved, in which rt ci would find files that nobody proves."""
+    return list(tree.glob("target/proofs/place-*"))
+
+
+def begun(command):
+    """A command that runs by itself, once rt is asked something for it."""
+    asked()
+    alone = {"PATH": str(tools), "RT_JOBS": "4"}
+    streams = {"stdin": subprocess.DEVNULL, "stdout": subprocess.DEVNULL, "stderr": subprocess.PIPE}
+    made = subprocess.Popen(command, cwd=tree, env=alone, **streams, encoding="utf-8", start_new_session=True)
+    for _ in range(200):
+        if (tree / "asked").exists():
+            break
+        time.sleep(0.05)
+    return made
+
+
+def of_disturbances():
+    """A run that is stopped leaves what was kept, one beside another waits for it, and what is
+    killed for memory is proved with fewer beside it."""
+    make_tree()
+    write(tree / "slow", "")
+    kept = tree / "crates/low/out/kept"
+    write(kept, "")
+    one = begun(["./plan"])
+    os.killpg(one.pid, signal.SIGINT)
+    last = one.communicate()[1].splitlines()[-1:]
+    due = ["plan: stopped; what is proved is kept"], -signal.SIGINT
+    told("a run that is stopped", (last, one.returncode), due)
+    told("what was kept is there", (kept.exists(), places()), (True, []))
+    one = begun(["./plan"])
+    one.kill()
+    one.communicate()
+    told("a killed run leaves places", places() != [], True)
+    told("what it had moved", (says("./plan")[::2], kept.exists(), places()), (("", 0), True, []))
+    make_tree()
+    write(tree / "slow", "")
+    one = begun(["./plan"])
+    other = says("./plan")
+    due = "plan: another run proves in this tree: this one waits for it, and takes what it proves\n"
+    told("a run beside another", (one.wait(), other), (0, ("", due, 0)))
+    one.communicate()
+    make_tree()
+    write(tree / "killed", "")
+    due = "plan: rt was killed at low, most likely for memory: once more, with at most 2 at a time\n"
+    due += steps("plan", "low", "middle", "ringplan")
+    told("killed for memory", without_seconds(says("./plan")[1]), due)
 
 
 def of_building():
     """./build proves what it is made of, and on a second run says nothing of it."""
     make_tree()
     wrote, complained, status = says("./build")
-    proved = [line.split()[2] for line in complained.splitlines() if " proving " in line]
-    told("the first build", (proved, status), (["low,", "middle,", "ringplan,", "ringcheck,", "ringkit_c,"], 0))
-    asked()
+    due = ["lib low", "lib middle", "lib ringkit_c", "run ringcheck", "run ringplan"]
+    told("the first build", (sorted(asked()), status), (due, 0))
+    told("what it says at its end", without_seconds(complained).splitlines()[-2], "build: 5 of 5 crates done, N s")
     wrote, complained, status = says("./build")
     told("the second build", (wrote, complained.startswith("build: dist has "), len(complained.splitlines()), status), ("", True, 1, 0))
     told("what rt is asked for it", asked(), [])
@@ -216,6 +313,47 @@ def of_the_gate():
     for tool, package in packages.items():
         told(f".ci/run without {tool}", [package in line for line in lines if line.startswith(f"error: there is no {tool}")], [True])
     told("the end of .ci/run without rt", (lines[-1:], status), (["0 passed, 7 failed"], 1))
+    of_installing()
+    make_tools()
+    of_its_sums()
+
+
+def of_installing():
+    """A superuser of a machine with apt-get is given what is missing; nobody else is."""
+    bash = f"#!{shutil.which('bash')}\n"
+    for command, lacking, names in (
+        (".ci/run", "g++ nm pkg-config python3 rustc", "binutils g++ pkg-config python3 rustc"),
+        ("./build", "gcc python3", "gcc python3 libc6-dev"),
+    ):
+        for user, due in (("0", [f"install -y {names}"]), ("1000", [])):
+            make_tree()
+            make_tools()
+            for tool in ("rt", *lacking.split()):
+                (tools / tool).unlink()
+            write(tools / "id", f"{bash}echo {user}\n", 0o755)
+            write(tools / "apt-get", f'{bash}[ $1 = update ] || echo "$*" >>{tree}/asked\n', 0o755)
+            status = says(command)[2]
+            told(f"what {command} has installed for {user}", (asked(), status), (due, 1))
+            (tools / "apt-get").unlink()
+
+
+def of_its_sums():
+    """.ci/run asks each crate what it assumes, and no line but the last looks like the last. It
+    clears what a killed run has left."""
+    make_tree()
+    write(tree / "target/proofs/place-1/crates/low/src/lib.rt", "")
+    for test in ("one", "twin"):
+        run_it = f"#!{shutil.which('bash')}\necho 2 passed, 0 failed\n"
+        write(tree / f"tests/{test}/run", run_it, 0o755)
+    wrote, _, status = says(".ci/run", RT_JOBS="1")
+    lines = wrote.splitlines()
+    alike = [n for n, line in enumerate(lines) if re.match(r"\d+ passed, \d+ failed", line)]
+    told("lines that look like the last", (alike, status), ([len(lines) - 1], 1))
+    for name in ("rt ci: 3", "tests/one/run: 2", "twin: 2", "assumptions: 3"):
+        told(f"a sum of {name}", sum(line.startswith(f"{name} passed, ") for line in lines), 1)
+    assuming = [line.split()[1] for line in lines if " assumes of C" in line]
+    told("what crates assume", assuming, ["aside", "ringplan", "ringcheck"])
+    told("what a killed run has left", places(), [])
 
 
 def all_of_them():
@@ -224,6 +362,8 @@ def all_of_them():
     of_refusals()
     of_proving()
     of_failures()
+    of_several()
+    of_disturbances()
     of_building()
     of_missing_tools()
     of_the_gate()

@@ -109,10 +109,10 @@ fn filled(call: Filling, text: &[u8], buffer: &mut [u8]) -> Result<usize, Refusa
         Filling::RouteLowered => ringkit::ringkit_route_lowered(text, buffer),
         Filling::RouteLoweredBest => ringkit::ringkit_route_lowered_best(text, buffer),
         Filling::RewriteSheet => ringkit::ringkit_rewrite_sheet(text, buffer),
-        Filling::WriteMatrix => ringkit::ringkit_write_matrix(text, buffer),
-        Filling::Report => ringkit::ringkit_report(text, buffer),
+        Filling::WriteMatrix => matrix_calls::ringkit_write_matrix(text, buffer),
+        Filling::Report => report_calls::ringkit_report(text, buffer),
         Filling::ReadMatrix(fibres, family) => {
-            ringkit::ringkit_read_matrix(text, fibres, family, buffer)
+            matrix_calls::ringkit_read_matrix(text, fibres, family, buffer)
         }
     }
 }

@@ -16,7 +16,7 @@ use Rattle.ringkit.proofs.CrossingCalls.{bounded}
 use Rattle.ringkit.proofs.PlanCalls.{some-plan, due-short, due-sheet, due-within, few-not-23}
 use Rattle.checker.specs.Says.{Accepted}
 use Rattle.ringkit.proofs.SheetCalls.{sheet-accepted}
-use Rattle.ringkit.proofs.ReportCalls.{all-counted}
+use Rattle.report_calls.proofs.ReportCalls.{all-counted}
 use Rattle.laws.specs.Calls.{RoutedChecked, RoutedJudged, WroteSheet, RoutedCounted, CrossedRouted}
 
 pub routed-checked : RoutedChecked

@@ -17,8 +17,8 @@ use Rattle.ringkit.specs.LeastPeak.{LeastAnswer, least_table, LeastPromise}
 use Rattle.ringkit.specs.Turning.{TurnAnswer, turned_table, TurnPromise}
 use Rattle.turns.specs.declared.Turned.{Turned}
 use Rattle.ringkit.specs.Texts.{SheetOf, Takes}
-use Rattle.ringkit.specs.Promises.{PlanPromise, RewriteSheetPromise, ReportPromise}
-use Rattle.ringkit.specs.Sheets.{Joined, AllCounted}
+use Rattle.ringkit.specs.Promises.{PlanPromise, RewriteSheetPromise}
+use Rattle.report_calls.specs.Reports.{ReportPromise, Joined, AllCounted}
 use Rattle.reasons.specs.declared.reason.Reason.TheVariants.{TooManySplit}
 use Rattle.ringkit.specs.Answers.{Checked, yes, CheckPromise}
 use Rattle.ringkit.specs.Crossing.{CrossingAnswer, all_cross, CrossingPromise}

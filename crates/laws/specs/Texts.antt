@@ -12,7 +12,8 @@ use Rattle.reasons.specs.Reasons.{number_of}
 use Rattle.reasons.specs.declared.reason.Reason.{Reason}
 use Rattle.matrix.specs.Says as matrix
 use Rattle.sheet.specs.Says as sheet
-use Rattle.ringkit.specs.Texts.{SomeForm, SomeMatrix}
+use Rattle.ringkit.specs.Texts.{SomeForm}
+use Rattle.matrix_calls.specs.Matrices.{SomeMatrix}
 
 -- within any limits bytes spell a number exactly where it is below the least that has too many digits, and they are its digits: the desk's 1 to 8 digits with
 -- no leading zero but 0 itself leave each number one spelling

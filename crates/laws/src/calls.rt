@@ -1,5 +1,6 @@
 // Laws over several calls.
-ghost use Rattle.ringkit.specs.Back.{TableThereAndBack, MatrixToTableToMatrix, TableToMatrixToTable};
+ghost use Rattle.ringkit.specs.Back.{TableThereAndBack};
+ghost use Rattle.matrix_calls.specs.Matrices.{MatrixToTableToMatrix, TableToMatrixToTable};
 ghost use Rattle.ringkit.specs.WorkCalls.{RoutedAsNamed};
 ghost use Rattle.laws.specs.Calls.{SheetThereAndBack, RoutedChecked, RoutedJudged, RoutedCounted, CrossedRouted};
 ghost use Rattle.laws.specs.Calls.{LeastUpToTurned, LeastUpToRouted, LeastComesFrom};

@@ -1,17 +1,14 @@
 pub mod FillSteps
 pub mod TableSteps
-pub mod MatrixSteps
 pub mod RouteSteps
 pub mod SheetSteps
 pub mod Calls
 pub mod TableCalls
 pub mod SheetCalls
-pub mod MatrixCalls
 pub mod WorkSteps
 pub mod WorkCalls
 pub mod JudgeCalls
 pub mod TurnCalls
 pub mod PlanCalls
-pub mod ReportCalls
 pub mod CrossingCalls
 pub mod LeastCalls

@@ -1,14 +1,12 @@
 -- To believe: there and back: what one call wrote, read by another, gives what was there before.
 use Rattle.std.specs.Prelude.{ℕ, ◌≤◌, List, ◌≡◌, length}
-use Rattle.family.specs.declared.family.Family.{Family}
 use Rattle.ring.specs.Limits.{desk}
 use Rattle.ring.specs.declared.types.Ring.{Ring}
 use Rattle.ring.specs.declared.types.Demand.{Demand}
 use Rattle.table.specs.Says.{Accepted}
-use Rattle.matrix.specs.Demands.{OneEach}
 use Rattle.ringkit.specs.Says.{Answer, Success}
 use Rattle.ringkit.specs.Texts.{TableOf}
-use Rattle.ringkit.specs.Promises.{RewriteTablePromise, ReadMatrixPromise, WriteMatrixPromise}
+use Rattle.ringkit.specs.Promises.{RewriteTablePromise}
 
 -- a text is the table of some values
 pub record SomeTable (t : List ℕ) : Type 0 where
@@ -28,21 +26,3 @@ pub record TableThereAndBack : Type 0 where
   -- the call that reads a table and writes its values afresh gives, with room, the same bytes
   pub rewritten : (t old new : List ℕ) (r : Answer) → RewriteTablePromise t old new r
       → Accepted desk t → length t ≤ length old → Success t old new r
-
--- matrix to table to matrix: reading a matrix wrote a table, whatever the fibres and the family; writing the matrix of that table gives, with room, the bytes of the matrix
--- that was read
-abbrev pub MatrixToTableToMatrix : Type 0
-MatrixToTableToMatrix =
-    (fibres : ℕ) (family : Family) (t text old new : List ℕ) (r : Answer) → ReadMatrixPromise fibres family t old new r
-    → Success text old new r
-    → (other after : List ℕ) (q : Answer) → WriteMatrixPromise text other after q
-    → length t ≤ length other → Success t other after q
-
--- table to matrix to table, of a table with at most one row for a pair and none of amount 0: writing its matrix wrote a text; reading that with the table's own fibres
--- and family gives, with room, the bytes of the table
-abbrev pub TableToMatrixToTable : Type 0
-TableToMatrixToTable =
-    (t : List ℕ) (ring : Ring) (rs : List Demand) → TableOf t ring rs → OneEach rs
-    → (text old new : List ℕ) (r : Answer) → WriteMatrixPromise t old new r → Success text old new r
-    → (other after : List ℕ) (q : Answer) → ReadMatrixPromise ring.fibres ring.family text other after q
-    → length t ≤ length other → Success t other after q

@@ -1,13 +1,12 @@
 -- To believe: what each call promises that reads a text and fills a buffer, by what is due to the text and which refusal is given to it.
 use Rattle.std.specs.Prelude.{ℕ, List}
-use Rattle.family.specs.declared.family.Family.{Family}
 use Rattle.ring.specs.Limits.{desk}
 use Rattle.checker.specs.Says as sheet
 use Rattle.engines.specs.declared.Engine.{Engine}
 use Rattle.router.specs.Plans.{Rule}
 use Rattle.table.specs.Says as table
 use Rattle.ringkit.specs.Says.{Answer, CallPromise}
-use Rattle.ringkit.specs.Texts.{Itself, PlanDue, PlanGiven, MatrixDue, MatrixGiven, SumsDue, SumsGiven, ReportDue, ReportGiven}
+use Rattle.ringkit.specs.Texts.{Itself, PlanDue, PlanGiven}
 
 -- routing a table by a rule: the sheet of that plan; or the table's first reason, or, of the best choice, 23
 abbrev pub PlanPromise : Engine → Rule → List ℕ → List ℕ → List ℕ → Answer → Type 0
@@ -20,15 +19,3 @@ RewriteTablePromise t = CallPromise (Itself (table.Accepted desk t) t) (table.Gi
 -- reading a sheet and writing its values afresh: the same bytes, or the sheet's first reason
 abbrev pub RewriteSheetPromise : List ℕ → List ℕ → List ℕ → Answer → Type 0
 RewriteSheetPromise t = CallPromise (Itself (sheet.Accepted desk t) t) (sheet.Given desk t)
-
--- reading a matrix on a ring of so many fibres, of a family: its table, or 20, or the matrix's first reason
-abbrev pub ReadMatrixPromise : ℕ → Family → List ℕ → List ℕ → List ℕ → Answer → Type 0
-ReadMatrixPromise fibres family t = CallPromise (MatrixDue fibres family t) (MatrixGiven fibres t)
-
--- writing the matrix of a table: its sums, or the table's first reason, or 19
-abbrev pub WriteMatrixPromise : List ℕ → List ℕ → List ℕ → Answer → Type 0
-WriteMatrixPromise t = CallPromise (SumsDue t) (SumsGiven t)
-
--- making a report over a text of many plans: its lines, or 24
-abbrev pub ReportPromise : List ℕ → List ℕ → List ℕ → Answer → Type 0
-ReportPromise t = CallPromise (ReportDue t) (ReportGiven t)

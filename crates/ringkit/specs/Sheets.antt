@@ -1,6 +1,5 @@
--- To believe: what holds of sheets that are well-formed, accepted or routed, and of many in one text (Rules, promises).
+-- To believe: what holds of sheets that are well-formed, accepted or routed (Rules, promises).
 use Rattle.std.specs.Prelude.{ℕ, ◌*◌, ◌≤◌, List, ◌↔◌, ◌≡◌, length}
-use mathlib.Core.List.{flatten}
 use Rattle.ring.specs.Division.{Divides}
 use Rattle.ring.specs.Limits.{desk}
 use Rattle.ring.specs.Paper.{PaperFigures}
@@ -15,9 +14,6 @@ use Rattle.engines.specs.declared.Engine.TheVariants.{Lowered}
 use Rattle.engines.specs.Engine.{plan_by}
 use Rattle.engines.specs.Minimal.{Minimal}
 use Rattle.router.specs.Plans.{Rule}
-use Rattle.report.specs.declared.totals.Report.{Report}
-use Rattle.report.specs.Report.{most_bytes, report_text}
-use Rattle.report.specs.Checked.{ReportIs, all_accepted}
 use Rattle.checker.specs.Says.{Accepted}
 use Rattle.ringkit.specs.Answers.{Checked, yes, NoPairOf}
 use Rattle.ringkit.specs.Says.{Answer, Success}
@@ -52,16 +48,3 @@ pub record RoutedWell (engine : Engine) (rule : Rule) (t old new : List ℕ) (r 
 -- of the sheet that is due by lowered rooms: no split routing of the table's rows, however finely they are divided, is at most as large on every link and smaller on one
 abbrev pub NothingBelowSheet : Rule → List ℕ → Type 0
 NothingBelowSheet rule t = (sheet : List ℕ) → (due : PlanDue Lowered rule t sheet) → Minimal due.ring.nodes due.rs (sents due.x.rows)
-
--- t is these plans, one behind the other, within the limit of a report
-pub record Joined (plans : List (List ℕ)) (t : List ℕ) : Type 0 where
-  pub text : t ≡ flatten plans
-  pub within : length t ≤ most_bytes
-
--- the report of t counts so many plans as accepted, of both families together, and none as refused; with room for its lines, they are written
-pub record AllCounted (t : List ℕ) (count : ℕ) (old new : List ℕ) (r : Answer) : Type 0 where
-  pub report : Report
-  pub of : ReportIs t report
-  pub accepted : all_accepted report ≡ count
-  pub refused : report.refused ≡ 0
-  pub written : length (report_text report) ≤ length old → Success (report_text report) old new r

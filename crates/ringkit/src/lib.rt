@@ -1,9 +1,9 @@
 #![tactic(auto)]
-//! The public calls: byte slices, numbers and records in, a `Result` by value out. No call has a `requires`. `ringkit_c` gives them to C.
+//! The public calls: byte slices, numbers and records in, a `Result` by value out. No call has a `requires`. Those of matrices and of reports
+//! are in `matrix_calls` and `report_calls`. `ringkit_c` gives them all to C.
 mod all_cross; // the call that asks whether all rows cross
 mod judging; // the call that judges values
 mod least_peak; // the call that says the least of five rules
-mod reporting; // the call that makes a report over many plans
 mod texts; // the calls that read a text
 mod turning; // the call that turns rows
 mod working; // the calls of the working table
@@ -11,26 +11,20 @@ mod working; // the calls of the working table
 ghost use Rattle.std.specs.Prelude.{◌+◌, ◌≡◌, ◌≤◌, length, Result, Ok};
 ghost use Rattle.ring.specs.Limits.{desk};
 ghost use Rattle.ring.specs.Sheet.{sheet_in, sents, demands};
-ghost use Rattle.table.specs.Table.{InRange, write_table, table_room};
-ghost use Rattle.matrix.specs.Matrix.{write_matrix};
-ghost use Rattle.matrix.specs.Demands.{matrix_of_rows};
-ghost use Rattle.matrix.specs.Room.{matrix_room};
+ghost use Rattle.table.specs.Table.{write_table, table_room};
 ghost use Rattle.sheet.specs.WriteSheet.{write_sheet};
 ghost use Rattle.sheet.specs.Range.{longest};
-ghost use Rattle.report.specs.Checked.{report_room};
 ghost use Rattle.ringkit.specs.Outcome.{ask_room, Fills};
 
 pub use all_cross::ringkit_crossing;
 pub use judging::ringkit_judge;
 pub use least_peak::{LeastTable, ringkit_least};
 use reasons::{Reason, Refusal};
-pub use reporting::ringkit_report;
 use ring::{BYTES, Figures, LINKS, Link, ROWS, Ring};
 use rows::Rows;
 pub use texts::{
-    ringkit_check, ringkit_parallel, ringkit_read_matrix, ringkit_rewrite_sheet,
-    ringkit_rewrite_table, ringkit_route, ringkit_route_best, ringkit_route_lowered,
-    ringkit_route_lowered_best, ringkit_write_matrix,
+    ringkit_check, ringkit_parallel, ringkit_rewrite_sheet, ringkit_rewrite_table, ringkit_route,
+    ringkit_route_best, ringkit_route_lowered, ringkit_route_lowered_best,
 };
 pub use turning::{TurnedTable, ringkit_turn};
 pub use working::{
@@ -61,24 +55,9 @@ pub const fn table_bytes() -> usize
     9 + 13 * ROWS
 }
 
-/// A buffer of so many bytes has room for every matrix that is made of a table: each entry has at most 4 digits, and the byte behind them.
-pub const fn matrix_bytes() -> usize
-    ensures { result ≡ matrix_room desk }
-{
-    5 * LINKS * LINKS
-}
-
-/// A buffer of so many bytes has room for every report: for each family the letter and its byte, a count of at most 5 digits, a sum and a twice-peak of at most 9, an
-/// across number of at most 8, and the byte behind each; then another letter with its byte, and a count of at most 5 digits with the byte behind it.
-pub const fn report_bytes() -> usize
-    ensures { result ≡ report_room }
-{
-    82
-}
-
-// Whether the buffer has room for so many bytes.
+/// Whether the buffer has room for so many bytes.
 #[tactic(auto, unfolding(crate::specs::Outcome::ask_room))]
-fn ask_room(buffer: &[u8], size: usize) -> Result<(), Refusal>
+pub fn ask_room(buffer: &[u8], size: usize) -> Result<(), Refusal>
     ensures { result ≡ ask_room (length buffer.now) size }
 {
     if buffer.len() < size {
@@ -87,24 +66,14 @@ fn ask_room(buffer: &[u8], size: usize) -> Result<(), Refusal>
     Ok(())
 }
 
-// Writes the table of a ring and of the demands of rows.
-fn put_table<R: Rows>(buffer: &mut [u8], ring: Ring, rows: &R) -> Result<usize, Refusal>
+/// Writes the table of a ring and of the demands of rows, at most 1,024, at the start of the buffer; or 15.
+pub fn put_table<R: Rows>(buffer: &mut [u8], ring: Ring, rows: &R) -> Result<usize, Refusal>
     requires { length (R.rows rows.now) ≤ desk.rows }
     ensures { let demands = demands (sents (R.rows rows.now)) in
         Fills (Ok (write_table ring demands)) buffer.old buffer.new result }
 {
     ask_room(buffer, table::table_length(ring, rows))?;
     Ok(table::write_table(buffer, ring, rows))
-}
-
-// Writes the matrix of a table's rows.
-fn put_matrix<R: Rows>(buffer: &mut [u8], ring: Ring, rows: &R) -> Result<usize, Refusal>
-    requires { InRange desk ring (demands (sents (R.rows rows.now))) }
-    ensures { let demands = demands (sents (R.rows rows.now)) in
-        Fills (Ok (write_matrix (matrix_of_rows ring.nodes demands))) buffer.old buffer.new result }
-{
-    ask_room(buffer, matrix::matrix_length(ring, rows))?;
-    Ok(matrix::write_matrix(buffer, ring, rows))
 }
 
 // Writes a sheet.

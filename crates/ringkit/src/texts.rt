@@ -1,35 +1,29 @@
 //! The calls that read a text: a table, a matrix or a sheet.
-ghost use Rattle.std.specs.Prelude.{ℕ, ◌≡◌, ◌≤◌, List, length, take, Result, Ok, IsOk, IfOk, IfErr, ◌≢◌};
+ghost use Rattle.std.specs.Prelude.{ℕ, ◌≡◌, ◌≤◌, List, length, Result, Ok, IsOk, IfOk, IfErr, ◌≢◌};
 ghost use Rattle.ring.specs.Limits.{desk};
-ghost use Rattle.ring.specs.LineSize.{IsFibres};
 ghost use Rattle.ring.specs.Sheet.{sents, demands};
 ghost use Rattle.engines.specs.Engine.{plan_by};
 ghost use Rattle.engines.specs.declared.Engine.TheVariants.{Level, Lowered};
-ghost use Rattle.table.specs.Table.{InRange, table_room};
+ghost use Rattle.table.specs.Table.{InRange};
 ghost use Rattle.table.specs.Says.{Accepted as AcceptedTable};
 ghost use Rattle.reasons.specs.declared.reason.Reason.TheVariants.{TooManySplit};
-ghost use Rattle.matrix.specs.Matrix.{write_matrix};
-ghost use Rattle.matrix.specs.Room.{matrix_room};
-ghost use Rattle.matrix.specs.Says.{Accepted as AcceptedMatrix};
 ghost use Rattle.sheet.specs.WriteSheet.{write_sheet};
 ghost use Rattle.sheet.specs.Range.{longest};
 ghost use Rattle.sheet.specs.Says.{WellFormed};
 ghost use Rattle.router.specs.Plans.{rule_D, best_choice};
 ghost use Rattle.ringkit.specs.Says.{CallSays, Only};
-ghost use Rattle.ringkit.specs.Texts.{TableOf, PlanDue, PlanGiven, FewSplit, OnRingUpTo, SumsFit};
-ghost use Rattle.ringkit.specs.Promises.{PlanPromise, RewriteTablePromise, RewriteSheetPromise, ReadMatrixPromise, WriteMatrixPromise};
+ghost use Rattle.ringkit.specs.Texts.{TableOf, PlanDue, PlanGiven, FewSplit, OnRingUpTo};
+ghost use Rattle.ringkit.specs.Promises.{PlanPromise, RewriteTablePromise, RewriteSheetPromise};
 ghost use Rattle.ringkit.specs.Answers.{yes, Checked, Asked, CheckPromise, PairPromise};
 ghost use Rattle.ringkit.specs.Sheets.{FormedSheet, BestSheet, RoutedWell, NothingBelowSheet};
 ghost use Rattle.ringkit.specs.Outcome.{Fills};
 ghost use Rattle.ringkit.specs.TableCalls.{table_afresh, table_routed};
-ghost use Rattle.ringkit.specs.MatrixCalls.{matrix_read, matrix_written};
 ghost use Rattle.ringkit.specs.SheetCalls.{sheet_checked, sheet_parallel, sheet_afresh};
 
-use crate::{put_matrix, put_sheet, put_table};
+use crate::{put_sheet, put_table};
 use arrayvec::ArrayVec;
 use crossing::Pair;
 use engines::Engine;
-use family::Family;
 use reasons::{Reason, Refusal};
 use ring::Ring;
 use rows::Columns;
@@ -87,72 +81,6 @@ pub fn ringkit_rewrite_table(table: &[u8], buffer: &mut [u8]) -> Result<usize, R
     ensures value { Fills (table_afresh table.now) buffer.old buffer.new result }
 {
     rewrite_table(table, buffer)
-}
-
-fn read_matrix(
-    matrix: &[u8],
-    fibres: u32,
-    family: Family,
-    buffer: &mut [u8],
-) -> Result<usize, Refusal>
-    ensures { Fills (matrix_read fibres family matrix.now) buffer.old buffer.new result }
-{
-    reasons::check_fibres(fibres).map_err(Refusal::whole)?;
-    let mut rows = Columns::new();
-    let nodes = matrix::read_matrix(matrix, &mut rows)?;
-    put_table(
-        buffer,
-        Ring {
-            nodes,
-            fibres,
-            family,
-        },
-        &rows,
-    )
-}
-
-/// Reads a matrix and writes its table, on a ring of so many fibres, 2 or 4, and of a family, which a matrix does not say. Answers the table's length, at most
-/// `table_bytes()`. Else the buffer stays as it was, and the refusal is 20 of the fibres, which is tried before the text is read, with line 0; or the matrix's first reason,
-/// with its line and byte; or 15.
-pub fn ringkit_read_matrix(
-    matrix: &[u8],
-    fibres: u32,
-    family: Family,
-    buffer: &mut [u8],
-) -> Result<usize, Refusal>
-    ensures promise { ReadMatrixPromise fibres family matrix.now buffer.old buffer.new result }
-    ensures only { Only (ReadMatrixPromise fibres family matrix.now buffer.old) buffer.new result }
-    ensures accepted { IfOk result (λ length. AcceptedTable desk (take length buffer.new)) }
-    ensures fits { IfOk result (λ length. length ≤ table_room desk) }
-    ensures room { IsFibres fibres → AcceptedMatrix desk matrix.now →
-        table_room desk ≤ length buffer.old →
-        IsOk result }
-    ensures value { Fills (matrix_read fibres family matrix.now) buffer.old buffer.new result }
-{
-    read_matrix(matrix, fibres, family, buffer)
-}
-
-fn write_matrix(table: &[u8], buffer: &mut [u8]) -> Result<usize, Refusal>
-    ensures { Fills (matrix_written table.now) buffer.old buffer.new result }
-{
-    let mut rows = Columns::new();
-    let ring = table::read_table(table, &mut rows)?;
-    matrix::judge_sums(&rows)?;
-    put_matrix(buffer, ring, &rows)
-}
-
-/// Reads a table and writes its matrix, in which rows of the same two nodes add up. Answers the matrix's length, at most `matrix_bytes()`. Else the buffer
-/// stays as it was, and the refusal is the table's first reason, with its line and byte; or 19, with the line of the first row at which a pair's sum passes
-/// 9,999 units; or 15.
-pub fn ringkit_write_matrix(table: &[u8], buffer: &mut [u8]) -> Result<usize, Refusal>
-    ensures promise { WriteMatrixPromise table.now buffer.old buffer.new result }
-    ensures only { Only (WriteMatrixPromise table.now buffer.old) buffer.new result }
-    ensures accepted { IfOk result (λ length. AcceptedMatrix desk (take length buffer.new)) }
-    ensures fits { IfOk result (λ length. length ≤ matrix_room desk) }
-    ensures room { SumsFit table.now → matrix_room desk ≤ length buffer.old → IsOk result }
-    ensures value { Fills (matrix_written table.now) buffer.old buffer.new result }
-{
-    write_matrix(table, buffer)
 }
 
 fn route(engine: Engine, table: &[u8], buffer: &mut [u8]) -> Result<usize, Refusal>

@@ -19,13 +19,15 @@ ghost use Rattle.checker.specs.Says.{Accepted as AcceptedSheet};
 ghost use Rattle.report.specs.Report.{most_bytes};
 ghost use Rattle.report.specs.Checked.{report_room};
 ghost use Rattle.ringkit.specs.Says.{Only};
-ghost use Rattle.ringkit.specs.Texts.{FewSplit, OnRingUpTo, SumsFit};
-ghost use Rattle.ringkit.specs.Promises.{PlanPromise, RewriteTablePromise, RewriteSheetPromise, ReadMatrixPromise, WriteMatrixPromise, ReportPromise};
+ghost use Rattle.ringkit.specs.Texts.{FewSplit, OnRingUpTo};
+ghost use Rattle.ringkit.specs.Promises.{PlanPromise, RewriteTablePromise, RewriteSheetPromise};
 ghost use Rattle.ringkit.specs.Answers.{CheckPromise, PairPromise};
-ghost use Rattle.ringkit.specs.Sheets.{FormedSheet, BestSheet, RoutedWell, NothingBelowSheet, Joined, AllCounted};
+ghost use Rattle.ringkit.specs.Sheets.{FormedSheet, BestSheet, RoutedWell, NothingBelowSheet};
 ghost use Rattle.ringkit.specs.Outcome.{Fills};
 ghost use Rattle.ringkit.specs.TableCalls.{table_afresh, table_routed};
-ghost use Rattle.ringkit.specs.MatrixCalls.{matrix_read, matrix_written};
+ghost use Rattle.matrix_calls.specs.Matrices.{SumsFit, ReadMatrixPromise, WriteMatrixPromise};
+ghost use Rattle.matrix_calls.specs.MatrixCalls.{matrix_read, matrix_written};
+ghost use Rattle.report_calls.specs.Reports.{ReportPromise, Joined, AllCounted};
 ghost use Rattle.ringkit.specs.SheetCalls.{sheet_checked, sheet_parallel, sheet_afresh};
 ghost use Rattle.table.specs.ReadTable.{table_of};
 ghost use Rattle.ringkit.specs.Turning.{TurnPromise, TurnedWell};
@@ -73,7 +75,7 @@ pub extern "C" fn ringkit_read_matrix(
         Replies (Fills (matrix_read fibres family matrix.now) buffer.old) buffer.new result }
 {
     let family = Family::of(family);
-    Reply::from(ringkit::ringkit_read_matrix(matrix, fibres, family, buffer))
+    Reply::from(matrix_calls::ringkit_read_matrix(matrix, fibres, family, buffer))
 }
 
 /// Reads a table and writes its matrix. The reply has the matrix's length in bytes; or the table's first reason or 19, with line and byte, or 15, and then no
@@ -87,7 +89,7 @@ pub extern "C" fn ringkit_write_matrix(table: &[u8], buffer: &mut [u8]) -> Reply
     ensures room { SumsFit table.now → matrix_room desk ≤ length buffer.old → result.reason ≡ 0 }
     ensures value { Replies (Fills (matrix_written table.now) buffer.old) buffer.new result }
 {
-    Reply::from(ringkit::ringkit_write_matrix(table, buffer))
+    Reply::from(matrix_calls::ringkit_write_matrix(table, buffer))
 }
 
 /// Routes a table and writes its sheet. The reply has the sheet's length in bytes; or the table's first reason with its line and byte, or 15, and then no byte
@@ -261,5 +263,5 @@ pub extern "C" fn ringkit_report(sheets: &[u8], buffer: &mut [u8]) -> Reply
     ensures room { length sheets.now ≤ most_bytes → report_room ≤ length buffer.old →
         result.reason ≡ 0 }
 {
-    Reply::from(ringkit::ringkit_report(sheets, buffer))
+    Reply::from(report_calls::ringkit_report(sheets, buffer))
 }

@@ -1,5 +1,5 @@
 -- Accepted matrices (`matrix-accepted`).
-use Rattle.ringkit.proofs.MatrixCalls.{matrix-accepted}
+use Rattle.matrix_calls.proofs.MatrixCalls.{matrix-accepted}
 use Rattle.laws.proofs.texts.accepted_matrix.Goals as goal
 
 pub returns : goal.returns

@@ -1,0 +1,2 @@
+pub mod MatrixSteps
+pub mod MatrixCalls
