@@ -134,8 +134,8 @@ module _ {w : Work} where
   one-answered {c} (accepted k m ea ex) (refused j h eb ey) = absurd (none-given (findings (table_within w) c) j h k)
   one-answered (accepted k m ea ex) (accepted h l eb ey) = let e = one-struct l m in ((rw (e.0, e.1) at eb) ∙ sym ea, (rw e.1 at ey) ∙ sym ex)
 
-  pub only-answered : {c : Call} {a : WorkAnswer} {x : Work} → Answered w c a x → OnlyBytes (Answered w c) a x
-  only-answered p = record { answer = λ b y q. (one-answered p q).0; bytes = λ b y q. (one-answered p q).1 }
+  one-of : {c : Call} {a : WorkAnswer} {x : Work} → Answered w c a x → OnlyBytes (Answered w c) a x
+  one-of p = record { answer = λ b y q. (one-answered p q).0; bytes = λ b y q. (one-answered p q).1 }
 
 pub answered-start : (w : Work) (ring : Ring) {done : Result Changed Reason} {a : WorkAnswer} {x : Work} → done ≡ started_in ring → a ≡ placed_of done → x ≡ work_after w done
     → Answered w (start ring) a x
@@ -144,3 +144,11 @@ answered-start w ring = answered-by (start-ends w ring)
 pub answered : (w : Work) → Sized w → (c : Call) {done : Result Changed Reason} {a : WorkAnswer} {x : Work} → done ≡ called_in w c → a ≡ placed_of done → x ≡ work_after w done
     → Answered w c a x
 answered w s c = answered-by (call_ends w s c)
+
+pub only-start : (w : Work) (ring : Ring) {done : Result Changed Reason} {a : WorkAnswer} {x : Work} → done ≡ started_in ring → a ≡ placed_of done → x ≡ work_after w done
+    → OnlyBytes (Answered w (start ring)) a x
+only-start w ring is ea ex = one-of (answered-start w ring is ea ex)
+
+pub only-answered : (w : Work) → Sized w → (c : Call) {done : Result Changed Reason} {a : WorkAnswer} {x : Work} → done ≡ called_in w c → a ≡ placed_of done → x ≡ work_after w done
+    → OnlyBytes (Answered w c) a x
+only-answered w s c is ea ex = one-of (answered w s c is ea ex)

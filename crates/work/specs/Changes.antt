@@ -1,5 +1,5 @@
--- Internal: what each call answers and leaves, for every value of the struct; what a call promises is said over the list of places (Places, Calls, Promises),
--- and names none of this.
+-- Internal: what each call answers and leaves, for every value of the struct, as the code goes; what a call promises is said over the list of places (Places,
+-- Calls, Promises), and of every struct byte by byte (Bytes, Answered), and names none of this.
 use Rattle.std.specs.Prelude.{ℕ, ◌+◌, ◌-◌, ◌≤◌, ◌<◌, Bool, cond, ◌&&◌, Option, Some, None, Result, Ok, Err, List, ◌≡◌, length, ltb, eqb, get_or}
 use Rattle.std.specs.List.{position}
 use Rattle.ring.specs.Limits.{desk}

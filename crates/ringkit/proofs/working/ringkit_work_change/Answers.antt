@@ -8,7 +8,7 @@ pub returns-clause-any : goal.returns-clause-any
 returns-clause-any c = answered _ c.changed.ensures.columns (change _ _) c.changed.ensures.value c.take_over.ensures.value c.take_over.ensures.table
 
 pub returns-clause-only_any : goal.returns-clause-only_any
-returns-clause-only_any c = only-answered (returns-clause-any c)
+returns-clause-only_any c = only-answered _ c.changed.ensures.columns (change _ _) c.changed.ensures.value c.take_over.ensures.value c.take_over.ensures.table
 
 pub returns-clause-promise : goal.returns-clause-promise
 returns-clause-promise c = λ calls m. called-promise m (change _ _) c.changed.ensures.value c.take_over.ensures.value c.take_over.ensures.table

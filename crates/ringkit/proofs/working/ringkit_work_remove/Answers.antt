@@ -8,7 +8,7 @@ pub returns-clause-any : goal.returns-clause-any
 returns-clause-any c = answered _ c.removed.ensures.columns (remove _) c.removed.ensures.value c.take_over.ensures.value c.take_over.ensures.table
 
 pub returns-clause-only_any : goal.returns-clause-only_any
-returns-clause-only_any c = only-answered (returns-clause-any c)
+returns-clause-only_any c = only-answered _ c.removed.ensures.columns (remove _) c.removed.ensures.value c.take_over.ensures.value c.take_over.ensures.table
 
 pub returns-clause-promise : goal.returns-clause-promise
 returns-clause-promise c = λ calls m. called-promise m (remove _) c.removed.ensures.value c.take_over.ensures.value c.take_over.ensures.table
