@@ -130,14 +130,19 @@ fn answer_check<W: Write>(output: &mut W, text: &[u8]) -> io::Result<()> {
     writeln!(output, "{reason} {line} {byte}")
 }
 
+// The two places, or 0 and 0 where no two rows are parallel or the sheet is refused.
 fn answer_parallel<W: Write>(output: &mut W, text: &[u8]) -> io::Result<()> {
-    let answer = ringkit::ringkit_parallel(text);
-    let (first, second) = match answer {
-        Ok(Pair::Are(first, second)) => (first, second),
-        _ => (0, 0),
+    let pair = match ringkit::ringkit_parallel(text) {
+        Ok(pair) => pair,
+        Err(refusal) => {
+            let (reason, line, byte) = told(Some(refusal));
+            return writeln!(output, "{reason} {line} {byte} 0 0");
+        }
     };
-    let (reason, line, byte) = told(answer.err());
-    writeln!(output, "{reason} {line} {byte} {first} {second}")
+    let Pair::Are(first, second) = pair else {
+        return writeln!(output, "0 0 0 0 0");
+    };
+    writeln!(output, "0 0 0 {first} {second}")
 }
 
 // The call is lent so much of a buffer that is filled with the pattern; the sum is over all of it.
