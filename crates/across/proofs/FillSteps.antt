@@ -193,15 +193,15 @@ module _ (n : ℕ) (rs : List Routed) (fit : DemandsFit n (demands (sents rs))) 
           size = step.size ∙ s.size;
           done = λ x y a b c d. elim (ℕ_discrete y j) [
             | yes q ↦ rw q (
-              let u : x < j = omega arith in
-              omega (
-                arith,
-                step.within x a u,
-                ends-are x u,
-                s.done x (j + 1) a (omega arith) (omega arith) (omega arith),
-                total-adds n (holding x j) (ending x j) (holding x (j + 1)) (λ r g. holds-more x j r) (demands (sents rs)) fit.each,
-                few (holding x j),
-              ))
+                let u : x < j = omega arith in
+                omega (
+                  arith,
+                  step.within x a u,
+                  ends-are x u,
+                  s.done x (j + 1) a (omega arith) (omega arith) (omega arith),
+                  total-adds n (holding x j) (ending x j) (holding x (j + 1)) (λ r g. holds-more x j r) (demands (sents rs)) fit.each,
+                  few (holding x j),
+                ))
             | no q ↦ step.outside x y a b (λ o. q o.0) ∙ s.done x y a b (omega arith) d
           ];
           left = λ x y a b c. step.outside x y a b (λ o. omega (arith, o.0)) ∙ s.left x y a b (omega arith);
