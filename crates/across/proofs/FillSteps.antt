@@ -1,6 +1,6 @@
 -- The triangle under the loops that fill it: sums over the rows that a test lets pass. Those at a pair of nodes, summed up along a line, are those that end there;
 -- and with those that end later they are those of which the front holds both links. No sum comes near the type's end.
-use Rattle.std.proofs.Common.{◌≡◌, ℕ, zero, suc, ◌+◌, ◌*◌, ◌-◌, ◌<◌, ◌≤◌, Bool, cond, ◌&&◌, List, [], ◌∷◌, length, replicate, refl, sym, ap, ◌∙◌, leb, eqb, arith}
+use Rattle.std.proofs.Common.{◌≡◌, ℕ, ◌+◌, ◌*◌, ◌-◌, ◌<◌, ◌≤◌, Bool, cond, ◌&&◌, List, [], ◌∷◌, length, replicate, refl, sym, ap, ◌∙◌, leb, eqb, arith}
 use mathlib.Core.Bool.{xor}
 use native.Mathlib.Decide.{ℕ_discrete}
 use Rattle.std.proofs.lemmas.List.{length-replicate}
@@ -18,9 +18,9 @@ use Rattle.ring.proofs.Totals.{part_small, total-most, across-total}
 use Rattle.across.specs.Triangle.{place_of, at}
 use Rattle.across.specs.Step.{raised}
 use Rattle.across.specs.Cells.{most_places, FromMeans}
-use Rattle.across.specs.Lines.{PutAt, LineStep, LineFits, sum_to, next_sum}
+use Rattle.across.specs.Lines.{PutAt, Holds}
 use Rattle.across.specs.Filled.{DemandFits, DemandsFit, TriangleOf}
-use Rattle.across.proofs.LineSteps.{Lining, line-turn}
+use Rattle.across.proofs.LineSteps.{seen-so, one-more}
 
 -- no pair has more than all rows' amounts across
 pub across-few : (rs : List Demand) (g h : ℕ) (n : ℕ) → Each (DemandFits n) rs → across rs g h ≤ desk.amount * length rs
@@ -32,7 +32,7 @@ across-few rs g h n e = total-most {sum = λ rs. across rs g h} (across-total g 
 abbrev halves : (Demand → Bool) → Demand → ℕ
 halves p r = cond (p r) (2 * r.amount) 0
 
-abbrev total : (Demand → Bool) → List Demand → ℕ
+abbrev pub total : (Demand → Bool) → List Demand → ℕ
 total p [] = 0
 total p (r ∷ rs) = halves p r + total p rs
 
@@ -50,7 +50,7 @@ module _ (n : ℕ) where
 abbrev between : ℕ → ℕ → Demand → Bool
 between i j r = eqb r.first i && eqb r.second j
 
-abbrev ending : ℕ → ℕ → Demand → Bool
+abbrev pub ending : ℕ → ℕ → Demand → Bool
 ending i j r = leb r.first i && eqb r.second j
 
 abbrev holding : ℕ → ℕ → Demand → Bool
@@ -59,8 +59,8 @@ holding i j r = leb r.first i && leb j r.second
 holds-more : (i j : ℕ) (r : Demand) → halves (holding i j) r ≡ halves (ending i j) r + halves (holding i (j + 1)) r
 holds-more i j r = grind (arith, nat_tests)
 
-ends-more : (i j : ℕ) (r : Demand) → halves (ending (suc i) j) r ≡ halves (ending i j) r + halves (between (suc i) j) r
-ends-more i j r = grind (arith, nat_tests)
+ends-more : (i j : ℕ) (r : Demand) → 1 ≤ i → halves (ending i j) r ≡ halves (ending (i - 1) j) r + halves (between i j) r
+ends-more i j r l = grind (arith, nat_tests)
 
 ends-none : (j : ℕ) (r : Demand) → 1 ≤ r.first → halves (ending 0 j) r ≡ 0
 ends-none j r a = grind (arith, nat_tests)
@@ -81,31 +81,6 @@ unfolding across
 sums-across g h l [] = refl
 sums-across g h l (r ∷ rs) = omega (arith, row-across g h r l, sums-across g h l rs)
 
--- ---- a line is summed up
-
--- where the loop stands: of the numbers before i each has its sum, and they sum to this
-pub record Adding (old now : List ℕ) (j i sum : ℕ) : Type 0 where
-  pub line : Lining (λ i y. next_sum old j i) j 1 j old now i
-  pub is : sum ≡ sum_to old j (i - 1)
-
-pub add_start : (old : List ℕ) (j sum : ℕ) → 1 ≤ j → sum ≡ 0 → Adding old old j 1 sum
-unfolding sum_to
-add_start old j sum l e = record { line = record { past = omega arith; left = λ l. absurd (omega arith); so_far = record { size = refl; within = λ x a b. absurd (omega arith); outside = λ x y a b o. refl } }; is = e }
-
-module _ (old now : List ℕ) (j i sum : ℕ) (s : Adding old now j i sum) (f : LineFits j 1 j old) (l : i < j) (x y : ℕ) (ex : x ≡ at now i j) (ey : y ≡ at now i (j + 1)) where
-  pub add-more : raised sum x ≡ sum_to old j i
-  unfolding sum_to
-  add-more =
-      let up : i ≡ suc (i - 1) = omega (arith, s.line.past) in
-      let was : at now i j ≡ at old i j = s.line.so_far.outside i j s.line.past l (λ o. omega (arith, o.2)) in
-      rw up (rw (s.is, ex, was) (rw (← up) refl))
-
-  pub add-turn : (new : List ℕ) → PutAt i j (raised (raised sum x) y) now new → Adding old new j (i + 1) (raised sum x)
-  add-turn new p =
-      let next : at now i (j + 1) ≡ at old i (j + 1) = s.line.so_far.outside i (j + 1) s.line.past (omega arith) (λ o. omega (arith, o.0)) in
-      let back : (i + 1) - 1 ≡ i = omega arith in
-      record { line = line-turn _ _ _ _ _ _ _ s.line new _ f l p (rw (add-more, ey, next)); is = rw back add-more }
-
 -- ---- the rows
 
 -- where the loop over them stands: with those that are left the triangle's numbers are all halves between two nodes
@@ -114,11 +89,13 @@ pub record Filling (n : ℕ) (rs left : List Routed) (t : List ℕ) : Type 0 whe
   pub size : length t ≡ most_places
   pub is : (x y : ℕ) → 1 ≤ x → x < y → at t x y + total (between x y) (demands (sents left)) ≡ total (between x y) (demands (sents rs))
 
--- where the loop over lines stands: from that of j on they are summed up
-pub record Summing (n : ℕ) (rs : List Routed) (t : List ℕ) (j : ℕ) : Type 0 where
-  pub size : length t ≡ most_places
-  pub done : (x y : ℕ) → 1 ≤ x → x < y → j ≤ y → y ≤ n + 1 → at t x y ≡ total (holding x y) (demands (sents rs))
-  pub left : (x y : ℕ) → 1 ≤ x → x < y → y < j → at t x y ≡ total (between x y) (demands (sents rs))
+-- the pairs behind position 66 j + i that rows can have
+abbrev pub Summed : (n j i : ℕ) → ℕ → ℕ → Type 0
+Summed n j i x y = (y ≤ n + 1) × (66 * j + x < 66 * y + i)
+
+-- where the loops over lines stand: those of the pairs passed are summed up
+abbrev pub Summing : (n : ℕ) (rs : List Routed) (j i : ℕ) (t : List ℕ) → Type 0
+Summing n rs j i t = Holds (Summed n j i) (λ x y. total (holding x y) (demands (sents rs))) (λ x y. total (between x y) (demands (sents rs))) most_places t
 
 pub fill_start : (n : ℕ) (rs left : List Routed) (t : List ℕ) → DemandsFit n (demands (sents rs)) → t ≡ replicate most_places 0 → left ≡ rs → Filling n rs left t
 fill_start n rs left t fit e l =
@@ -163,62 +140,54 @@ module _ (n : ℕ) (rs : List Routed) (fit : DemandsFit n (demands (sents rs))) 
   nothing : (p : Demand → Bool) → ((r : Demand) → DemandFits n r → halves p r ≡ 0) → total p (demands (sents rs)) ≡ 0
   nothing p z = omega (arith, total-adds n p p p (λ r f. omega (arith, z r f)) (demands (sents rs)) fit.each)
 
-  pub sum_start : (left : List Routed) (t : List ℕ) → left ≡ [] → Filling n rs left t → Summing n rs t (n + 1)
+  pub sum_start : (left : List Routed) (t : List ℕ) → left ≡ [] → Filling n rs left t → Summing n rs (n + 1) (n + 1) t
   sum_start left t e before =
       let f = rw e at before in
       record {
         size = f.size;
-        done = λ x y a b c d.
-            let top : y ≡ n + 1 = omega arith in
+        within = λ x y a b c q.
+            let top : y ≡ n + 1 = omega (arith, q.0, q.1) in
             rw top (omega (arith, rw top at (f.is x y a b), nothing (between x (n + 1)) (λ r g. between-none x n r g.on.high), nothing (holding x (n + 1)) (λ r g. holds-none x n r g.on.high)));
-        left = λ x y a b c. omega (arith, f.is x y a b);
+        outside = λ x y a b c q. omega (arith, f.is x y a b);
       }
 
-  module _ (t : List ℕ) (j : ℕ) (high : j ≤ n) (s : Summing n rs t (j + 1)) where
-    ends-are : (x : ℕ) → x < j → sum_to t j x ≡ total (ending x j) (demands (sents rs))
-    unfolding sum_to
-    ends-are zero l = sym (nothing (ending 0 j) (λ r g. ends-none j r g.on.low))
-    ends-are (suc x) l =
-        omega (
-          arith,
-          ends-are x (omega arith),
-          s.left (suc x) j (omega arith) l (omega arith),
-          total-adds n (ending (suc x) j) (ending x j) (between (suc x) j) (λ r g. ends-more x j r) (demands (sents rs)) fit.each,
-          few (ending (suc x) j),
-        )
+  module _ (t : List ℕ) (j i : ℕ) (high : j ≤ n) where
+    pub sum-enter : Summing n rs (j + 1) (j + 1) t → Summing n rs j 1 t
+    sum-enter s = seen-so s (λ x y a b c q. (q.0, omega (arith, q.1, fit.links))) (λ x y a b c q. (q.0, omega (arith, q.1, fit.links)))
 
-    pub sum-turn : (new : List ℕ) → LineStep (λ i y. next_sum t j i) j 1 j t new → Summing n rs new j
-    sum-turn new step =
-        record {
-          size = step.size ∙ s.size;
-          done = λ x y a b c d. elim (ℕ_discrete y j) [
-            | yes q ↦ rw q (
-                let u : x < j = omega arith in
-                omega (
-                  arith,
-                  step.within x a u,
-                  ends-are x u,
-                  s.done x (j + 1) a (omega arith) (omega arith) (omega arith),
-                  total-adds n (holding x j) (ending x j) (holding x (j + 1)) (λ r g. holds-more x j r) (demands (sents rs)) fit.each,
-                  few (holding x j),
-                ))
-            | no q ↦ step.outside x y a b (λ o. q o.0) ∙ s.done x y a b (omega arith) d
-          ];
-          left = λ x y a b c. step.outside x y a b (λ o. omega (arith, o.0)) ∙ s.left x y a b (omega arith);
-        }
+    pub no-sum : 0 ≡ total (ending 0 j) (demands (sents rs))
+    no-sum = sym (nothing (ending 0 j) (λ r g. ends-none j r g.on.low))
 
-  pub fill_done : (t new : List ℕ) (j : ℕ) → j ≤ 2 → Summing n rs t j → FromMeans n t new → TriangleOf n (demands (sents rs)) new
+    module _ (s : Summing n rs j i t) (sum : ℕ) (e : sum ≡ total (ending (i - 1) j) (demands (sents rs))) (low : 1 ≤ i) (order : i < j) (x : ℕ) (ex : x ≡ at t i j) where
+      pub sum-next : raised sum x ≡ total (ending ((i + 1) - 1) j) (demands (sents rs))
+      sum-next =
+          let back : (i + 1) - 1 ≡ i = omega arith in
+          let was = s.outside i j low order (omega (arith, fit.links)) (λ q. omega (arith, q.1)) in
+          let more = total-adds n (ending i j) (ending (i - 1) j) (between i j) (λ r g. ends-more i j r low) (demands (sents rs)) fit.each in
+          rw back (omega (arith, was, more, few (ending i j)))
+
+      pub sum-turn : (y : ℕ) (new : List ℕ) → y ≡ at t i (j + 1) → PutAt i j (raised (raised sum x) y) t new → Summing n rs j (i + 1) new
+      sum-turn y new ey p =
+          let back : (i + 1) - 1 ≡ i = omega arith in
+          let so = rw back at sum-next in
+          let next = s.within i (j + 1) low (omega arith) (omega (arith, fit.links)) (omega arith, omega arith) in
+          let more = total-adds n (holding i j) (ending i j) (holding i (j + 1)) (λ r g. holds-more i j r) (demands (sents rs)) fit.each in
+          one-more s i j _ new order (omega (arith, fit.links)) p (omega (arith, so, next, more, few (holding i j)))
+          (λ v w a b c q. (q.0.0, omega (arith, q.0.1, q.1))) (λ v w a b c q. (q.0, omega (arith, q.1))) (omega arith, omega arith)
+
+  pub fill_done : (t new : List ℕ) (j : ℕ) → j ≤ 2 → Summing n rs j j t → FromMeans n t new → TriangleOf n (demands (sents rs)) new
   fill_done t new j l s m =
       record {
         size = m.size ∙ s.size;
         is = λ g h a b c.
+            let sum : (x y : ℕ) → 1 ≤ x → x < y → y ≤ n + 1 → at t x y ≡ total (holding x y) (demands (sents rs)) = λ x y d k o. s.within x y d k (omega (arith, fit.links)) (o, omega arith) in
             omega (
               arith,
               m.pairs g h a b c,
               sums-across g h b (demands (sents rs)),
-              s.done g (g + 1) a (omega arith) (omega arith) (omega arith),
-              s.done h (h + 1) (omega arith) (omega arith) (omega arith) (omega arith),
-              s.done g (h + 1) a (omega arith) (omega arith) (omega arith),
+              sum g (g + 1) a (omega arith) (omega arith),
+              sum h (h + 1) (omega arith) (omega arith) (omega arith),
+              sum g (h + 1) a (omega arith) (omega arith),
               few (holding g (g + 1)),
               few (holding h (h + 1)),
             );

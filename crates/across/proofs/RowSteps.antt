@@ -1,5 +1,5 @@
 -- A row of the working table: the two blocks of lines are its share of every number.
-use Rattle.std.proofs.Common.{◌≡◌, ℕ, ◌+◌, ◌-◌, Bool, true, false, not, cond, List, length, get_or, min, sym, ap, ◌∙◌, arith, w32, Fits, le-leb, nat_le, ◌%◌}
+use Rattle.std.proofs.Common.{◌≡◌, ℕ, ◌+◌, ◌-◌, ◌<◌, ◌≤◌, Bool, true, false, not, cond, List, length, get_or, min, sym, ap, ◌∙◌, arith, w32, Fits, le-leb, nat_le, ◌%◌}
 use mathlib.Core.Bool.{xor}
 use native.Mathlib.Decide.{dec_le}
 use borrow.Author.Tests.{lt-leb}
@@ -10,7 +10,7 @@ use Rattle.ring.proofs.Side.{Side, before, within, after, side}
 use Rattle.ring.specs.Limits.{desk}
 use Rattle.across.specs.Triangle.{place_of, at}
 use Rattle.across.specs.Step.{triangle, type_end, raised, lowered, stepped, step_row}
-use Rattle.across.specs.Lines.{most_pairs, Pairwise, BlockStep}
+use Rattle.across.specs.Lines.{most_pairs, BlockStep}
 use Rattle.across.proofs.Places.{triangle-length, triangle-at, triangle-is, all-pairs}
 use Rattle.across.proofs.LineSteps.{raised-none}
 
@@ -31,30 +31,35 @@ module _ (n : ℕ) (r : Demand) (old mid new : List ℕ) (fits : (x : ℕ) → F
   none g h true p q = rw (part_of r g h true true p q) (sym (raised-none (at old g h) (omega (arith, fits (place_of g h)))))
   none g h false p q = rw (part_of r g h false false p q) (sym (raised-none (at old g h) (omega (arith, fits (place_of g h)))))
 
-  on-ring : Pairwise n (λ g h. at new g h ≡ raised (at old g h) (part r g h))
-  on-ring g h a b c = go (side r g) (side r h)
-    where
-      go : Side r g → Side r h → at new g h ≡ raised (at old g h) (part r g h)
-      go (before u p) (within v w q) =
-          second.outside g h a b (λ o. omega (arith, o.2)) ∙ first.within g h v (omega arith) a u b ∙ across-row g h false p q
-      go (within u v p) (after w q) =
-          second.within g h w (omega arith) u v b ∙ ap (λ y. raised y r.amount) (first.outside g h a b (λ o. omega (arith, o.3))) ∙ across-row g h true p q
-      go (within u v p) (within w z q) = second.outside g h a b (λ o. omega (arith, o.0)) ∙ first.outside g h a b (λ o. omega (arith, o.3)) ∙ none g h true p q
-      go (within u v p) (before w q) = absurd (omega arith)
-      go (before u p) (before v q) = second.outside g h a b (λ o. omega (arith, o.2)) ∙ first.outside g h a b (λ o. omega (arith, o.0)) ∙ none g h false p q
-      go (before u p) (after v q) = second.outside g h a b (λ o. omega (arith, o.2)) ∙ first.outside g h a b (λ o. omega (arith, o.1)) ∙ none g h false p q
-      go (after u p) (before v q) = second.outside g h a b (λ o. omega (arith, o.3)) ∙ first.outside g h a b (λ o. omega (arith, o.1)) ∙ none g h false p q
-      go (after u p) (within v w q) = absurd (omega arith)
-      go (after u p) (after v q) = second.outside g h a b (λ o. omega (arith, o.3)) ∙ first.outside g h a b (λ o. omega (arith, o.1)) ∙ none g h false p q
+  module _ (few : n ≤ desk.nodes) (g h : ℕ) (a : 1 ≤ g) (b : g < h) where
+    -- a pair of neither block
+    kept : h ≤ desk.nodes → ((r.second ≤ h) × (h < n + 1) × (r.first ≤ g) × (g < r.second) → ⊥) → ((r.first ≤ h) × (h < min r.second (n + 1)) × (1 ≤ g) × (g < r.first) → ⊥) → at new g h ≡ at old g h
+    kept c o q = second.outside g h a b (omega arith) o ∙ first.outside g h a b (omega arith) q
 
-  pub rows-done : new ≡ step_row raised n r old
+    on-ring : h ≤ n → at new g h ≡ raised (at old g h) (part r g h)
+    on-ring c = go (side r g) (side r h)
+      where
+        go : Side r g → Side r h → at new g h ≡ raised (at old g h) (part r g h)
+        go (before u p) (within v w q) =
+            second.outside g h a b (omega arith) (λ o. omega (arith, o.2)) ∙ first.within g h a b (omega arith) (v, omega arith, a, u) ∙ across-row g h false p q
+        go (within u v p) (after w q) =
+            second.within g h a b (omega arith) (w, omega arith, u, v) ∙ ap (λ y. raised y r.amount) (first.outside g h a b (omega arith) (λ o. omega (arith, o.3))) ∙ across-row g h true p q
+        go (within u v p) (within w z q) = kept (omega arith) (λ o. omega (arith, o.0)) (λ o. omega (arith, o.3)) ∙ none g h true p q
+        go (within u v p) (before w q) = absurd (omega arith)
+        go (before u p) (before v q) = kept (omega arith) (λ o. omega (arith, o.2)) (λ o. omega (arith, o.0)) ∙ none g h false p q
+        go (before u p) (after v q) = kept (omega arith) (λ o. omega (arith, o.2)) (λ o. omega (arith, o.1)) ∙ none g h false p q
+        go (after u p) (before v q) = kept (omega arith) (λ o. omega (arith, o.3)) (λ o. omega (arith, o.1)) ∙ none g h false p q
+        go (after u p) (within v w q) = absurd (omega arith)
+        go (after u p) (after v q) = kept (omega arith) (λ o. omega (arith, o.3)) (λ o. omega (arith, o.1)) ∙ none g h false p q
+
+  pub rows-done : n ≤ desk.nodes → new ≡ step_row raised n r old
   unfolding step_row
-  rows-done =
+  rows-done few =
       triangle-is (stepped raised n r old) desk.nodes new (second.size ∙ first.size ∙ size ∙ sym all-pairs)
       (λ g h a b c.
       elim (dec_le h n) [
-        | yes l ↦ rw (le-leb h n l) (on-ring g h a b l)
-        | no l ↦ rw (lt-leb h n (omega arith)) (second.outside g h a b (λ o. omega (arith, o.1)) ∙ first.outside g h a b (λ o. omega (arith, o.1)))
+        | yes l ↦ rw (le-leb h n l) (on-ring few g h a b l)
+        | no l ↦ rw (lt-leb h n (omega arith)) (kept few g h a b c (λ o. omega (arith, o.1)) (λ o. omega (arith, o.1)))
       ])
 
 -- ---- a row is taken off

@@ -21,5 +21,5 @@ from_mean one other number = lowered (raised one other / 2) number
 -- of n links each pair's is; own numbers stay
 pub record FromMeans (n : ℕ) (old new : List ℕ) : Type 0 where
   pub size : length new ≡ length old
-  pub own : (g : ℕ) → 1 ≤ g → cell new g g ≡ cell old g g
+  pub own : (g : ℕ) → 1 ≤ g → g ≤ desk.nodes → cell new g g ≡ cell old g g
   pub pairs : Pairwise n (λ g h. cell new g h ≡ from_mean (cell old g g) (cell old h h) (cell old g h))

@@ -1,9 +1,8 @@
-//! A triangle's numbers, raised on a line and on a block of lines.
-ghost use Rattle.std.specs.Prelude.{◌≡◌, ◌+◌, ◌≤◌, suc, length};
-ghost use Rattle.ring.specs.Limits.{desk};
-ghost use Rattle.across.specs.Triangle.{offset, at};
+//! A triangle's numbers, raised one by one and on a block of lines.
+ghost use Rattle.std.specs.Prelude.{length};
+ghost use Rattle.across.specs.Triangle.{at};
 ghost use Rattle.across.specs.Step.{raised};
-ghost use Rattle.across.specs.Lines.{PairIn, PutAt, LineStep, LineFits, BlockStep, BlockFits};
+ghost use Rattle.across.specs.Lines.{PairIn, PutAt, BlockStep, BlockFits};
 
 use crate::place::{number, put};
 
@@ -13,16 +12,6 @@ pub(crate) fn raise(triangle: &mut [u32], i: usize, j: usize, by: u32)
     ensures { PutAt i j (raised (at triangle.old i j) by) triangle.old triangle.new }
 {
     put(triangle, i, j, number(triangle, i, j).wrapping_add(by));
-}
-
-// On the line of j the numbers of `low` up to `high` are raised.
-fn raise_line(triangle: &mut [u32], j: usize, low: usize, high: usize, by: u32)
-    requires { LineFits j low high triangle.old }
-    ensures { LineStep (λ x y. raised y by) j low high triangle.old triangle.new }
-{
-    for i in low..high {
-        raise(triangle, i, j, by);
-    }
 }
 
 /// On the lines from `first` up to `end` the numbers of `low` up to `high` are raised, of each line those below it. By 0 nothing changes.
@@ -41,6 +30,8 @@ pub(crate) fn raise_block(
         return;
     }
     for j in first..end {
-        raise_line(triangle, j, low, high.min(j), by);
+        for i in low..high.min(j) {
+            raise(triangle, i, j, by);
+        }
     }
 }

@@ -34,7 +34,7 @@ pub fn raise_back(triangle: &mut [u32; PLACES], n: usize, row: Demand, by: u32)
     raise_block(triangle, j + 1, n + 2, j, n + 1, by);
 }
 
-/// The least of the numbers of the pairs on its front.
+/// The least of the numbers of the pairs on its front. None is less than 0, so no more of them are looked at where that is found.
 pub fn least_over(triangle: &[u32; PLACES], n: usize, row: Demand) -> u32
     requires few { n ≤ desk.nodes }
     requires on { OnRing n row }
@@ -44,6 +44,9 @@ pub fn least_over(triangle: &[u32; PLACES], n: usize, row: Demand) -> u32
     let j = row.second as usize;
     let mut least = get(triangle, i, i);
     for h in i..j {
+        if least == 0 {
+            return 0;
+        }
         for g in i..h + 1 {
             least = least.min(get(triangle, g, h));
         }

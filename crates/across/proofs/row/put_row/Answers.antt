@@ -11,4 +11,4 @@ pub raise_block-requires-2 : goal.raise_block-requires-2
 raise_block-requires-2 c = block_in _ _ _ (search rules) (omega arith) (omega arith)
 
 pub returns : goal.returns
-returns c = rows-done _ _ _ _ _ (λ x. search rules) (search rules) (rw c.min.ensures at c.raise_block.ensures) c.raise_block-2.ensures
+returns c = rows-done _ _ _ _ _ (λ x. search rules) (search rules) (rw c.min.ensures at c.raise_block.ensures) c.raise_block-2.ensures c.requires.few

@@ -1,6 +1,6 @@
 -- The least of the pairs passed.
 use Rattle.std.proofs.Common.{arith}
-use Rattle.across.proofs.WaySteps.{least_start, least-turn, least-line, least-done}
+use Rattle.across.proofs.WaySteps.{least_start, least-turn, least-line, none-less, least-done}
 use Rattle.across.proofs.ways.least_over.Goals as goal
 
 pub loop-h-init : goal.loop-h-init
@@ -11,6 +11,9 @@ loop-g-preserved c = least-turn _ _ _ _ _ c.loop-g.invariant _ _ c.loop-g.auto.g
 
 pub loop-h-preserved : goal.loop-h-preserved
 loop-h-preserved c = least-line _ _ _ _ _ c.loop-g.invariant c.loop-g-test.false
+
+pub returns-then-least-eq0 : goal.returns-then-least-eq0
+returns-then-least-eq0 c = none-less _ _ _ _ _ c.loop-h.invariant c.if-least-eq0.true
 
 pub returns : goal.returns
 returns c = least-done _ _ _ _ _ c.loop-h.invariant c.loop-h-test.false

@@ -14,4 +14,4 @@ pub raise_block-requires-3 : goal.raise_block-requires-3
 raise_block-requires-3 c = block-fits _ _ _ (search rules) (omega (arith, c.requires.on.low, c.requires.on.order)) (omega arith)
 
 pub returns : goal.returns
-returns c = back-raised _ _ c.requires.on _ _ _ _ _ c.raise_block.ensures c.raise_block-2.ensures c.raise_block-3.ensures
+returns c = back-raised _ c.requires.few _ c.requires.on _ _ _ _ _ c.raise_block.ensures c.raise_block-2.ensures c.raise_block-3.ensures

@@ -8,4 +8,4 @@ pub raise_block-requires : goal.raise_block-requires
 raise_block-requires c = block-fits _ _ _ (search rules) c.requires.on.low (omega (arith, c.requires.on.high))
 
 pub returns : goal.returns
-returns c = front-raised _ _ c.requires.on _ _ _ c.raise_block.ensures
+returns c = front-raised _ c.requires.few _ c.requires.on _ _ _ c.raise_block.ensures
