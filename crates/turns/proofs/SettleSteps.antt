@@ -15,11 +15,11 @@ use Rattle.turns.proofs.RowsFit.{peak-most}
 
 -- ---- the definition's next turn, and its end
 
-settle-next : (n far turns : ℕ) (rs : List Routed) (p : PlacedRow) → choice n rs ≡ Some p → settle n (suc far) turns rs ≡ settle n far (suc turns) (turn_at p.place rs)
+pub settle-next : (n far turns : ℕ) (rs : List Routed) (p : PlacedRow) → choice n rs ≡ Some p → settle n (suc far) turns rs ≡ settle n far (suc turns) (turn_at p.place rs)
 unfolding settle
 settle-next n far turns rs p e = rw (e, settle)
 
-settle-end : (n far turns : ℕ) (rs : List Routed) → choice n rs ≡ None → settle n far turns rs ≡ record { rows = rs; turns = turns }
+pub settle-end : (n far turns : ℕ) (rs : List Routed) → choice n rs ≡ None → settle n far turns rs ≡ record { rows = rs; turns = turns }
 unfolding settle
 settle-end n zero turns rs e = refl
 settle-end n (suc far) turns rs e = rw (e, settle)

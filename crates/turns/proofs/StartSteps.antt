@@ -34,7 +34,7 @@ use Rattle.turns.specs.Settles.{SettlesTo}
 use Rattle.turns.specs.Starts.{lower_of, meets, SmallAmounts, across_between}
 use Rattle.turns.specs.TurnedLoads.{Carries}
 use Rattle.turns.proofs.PickSteps.{top_peak}
-use Rattle.turns.proofs.SameStarts.{same-start}
+use Rattle.turns.proofs.SameStarts.{same-peaks}
 use Rattle.turns.proofs.Starts.{start-loads, start-peak, ways-floor}
 use Rattle.turns.proofs.Ends.{start-demands, FromStart, each-start, starts-end, no-lower, Least, least-is}
 
@@ -197,10 +197,9 @@ module _ (n : ℕ) (rs : List Demand) where
         }
 
     pub starts_skip : link < n → meets (link + 1) (demands (sents now)) ≡ false → Starting now best last (link + 1)
-    unfolding from_start lower
+    unfolding lower
     starts_skip l e =
-        let same : start (link + 1) rs ≡ start link rs = same-start rs link (rw keeps at e) in
-        let peak : (from_start n rs (link + 1)).figures.peak ≡ (from_start n rs link).figures.peak = rw same in
+        let peak : (from_start n rs (link + 1)).figures.peak ≡ (from_start n rs link).figures.peak = same-peaks n rs link (rw keeps at e) in
         let stays : lower o.answer (from_start n rs (link + 1)) ≡ o.answer = rw (le-ltb (from_start n rs (link + 1)).figures.peak o.answer.figures.peak (omega (arith, peak, o.beats))) in
         record {
           low = omega arith;

@@ -87,7 +87,8 @@ struct Tried {
 }
 
 // Start after start; the rows keep the ways of the last one made. No peak is below M/2: where one reaches that, rounded up, no later start takes its place.
-// Where no row ends at the node between two links, the start that avoids the later one is that of the earlier, and is not made.
+// Where no row with an amount ends at the node between two links, their starts differ in rows of amount 0 alone, which no turn touches: the later start comes to
+// the peak of the earlier, and is not made.
 fn try_starts<R: RowsMut>(triangle: &[u32; PAIRS], n: usize, rows: &mut R) -> Tried
     requires two { desk.fewest ≤ n }
     requires fit { DemandsFit n (demands_of (R.rows rows.old)) }
