@@ -12,5 +12,6 @@ pub mod PickSteps
 pub mod TurnSteps
 pub mod SettleSteps
 pub mod SameStarts
+pub mod KnownSteps
 pub mod StartSteps
 pub mod CasesHold

@@ -19,7 +19,7 @@ use Rattle.turns.proofs.SettleSteps.{settle-next, settle-end}
 
 -- ---- rows that differ where nothing is sent
 
-data Alike : List Routed → List Routed → Type 0 where
+pub data Alike : List Routed → List Routed → Type 0 where
   ended : Alike [] []
   same : (r : Routed) {k l : List Routed} → Alike k l → Alike (r ∷ k) (r ∷ l)
   nothing : (q r : Routed) {k l : List Routed} → q.sent.demand.amount ≡ 0 → r.sent.demand.amount ≡ 0 → Alike k l → Alike (q ∷ k) (r ∷ l)
@@ -37,7 +37,7 @@ alike-load ended h = refl
 alike-load (same r {k = k} {l = l} o) h = omega (arith, alike-load o h)
 alike-load (nothing q r {k = k} {l = l} a b o) h = omega (arith, over-nothing q h a, over-nothing r h b, alike-load o h)
 
-alike-peak : (n : ℕ) {k l : List Routed} → Alike k l → peak_of n k ≡ peak_of n l
+pub alike-peak : (n : ℕ) {k l : List Routed} → Alike k l → peak_of n k ≡ peak_of n l
 unfolding peak_of
 alike-peak n o = ap (λ (f : ℕ → ℕ). peak f n) (fun_ext (alike-load o))
 
@@ -92,7 +92,7 @@ alike-choice n {k = k} {l = l} o =
     same-lowers : (p : PlacedRow) → lowers n k p ≡ lowers n l p
     same-lowers p = unfold lowers in rw (alike-peak n (alike-turn o p.place), alike-peak n o) refl
 
-alike-settle : (n most turns : ℕ) {k l : List Routed} → Alike k l → Alike (settle n most turns k).rows (settle n most turns l).rows
+pub alike-settle : (n most turns : ℕ) {k l : List Routed} → Alike k l → Alike (settle n most turns k).rows (settle n most turns l).rows
 unfolding settle
 alike-settle n zero turns o = o
 alike-settle n (suc most) turns {k = k} {l = l} o = go (choice n k) refl (sym (alike-choice n o)) (λ p. alike-settle n most (suc turns) (alike-turn o p))
