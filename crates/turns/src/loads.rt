@@ -4,7 +4,7 @@ ghost use Rattle.ring.specs.Demand.{OnRing};
 ghost use Rattle.ring.specs.Routing.{peak};
 ghost use Rattle.ring.specs.Limits.{desk};
 ghost use Rattle.weight.specs.LinkSteps.{link_at};
-ghost use Rattle.turns.specs.Choosing.{off_top, span_top, path_key, rank_weight};
+ghost use Rattle.turns.specs.Choosing.{off_top, span_top, path_key, rank_weight, all_weights};
 ghost use Rattle.turns.specs.TurnedLoads.{Carries, RoomFor, PathCarries, LoadsTurned};
 ghost use Rattle.turns.specs.Starts.{across_between};
 
@@ -157,13 +157,15 @@ impl Loads {
         }
     }
 
-    /// One below the weight of a link that carries the peak: each row whose turn lowers the peak has such a link on its path, so that its key is above this.
+    /// What the weights of all links are above that of a link with the peak: each row whose turn lowers the peak has all such links on its path, so that its key is
+    /// above this.
     #[tactic(auto, using(crate::proofs::KeySteps::below_laws))]
     pub fn below_keys(&self, largest: u32) -> u64
         requires some { 1 ≤ length self.now }
         requires largest { largest ≡ peak (link_at self.now) (length self.now) }
-        ensures { result + 1 ≡ rank_weight (length self.now) (link_at self.now) largest }
+        ensures { result + rank_weight (length self.now) (link_at self.now) largest
+            ≡ all_weights (length self.now) (link_at self.now) }
     {
-        rank_weight(self.seen(), largest) - 1
+        self.keys[self.links] - rank_weight(self.seen(), largest)
     }
 }
