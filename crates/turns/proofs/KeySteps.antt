@@ -8,7 +8,7 @@ use lib.Pow.{pow_mono, shl_exact}
 use borrow.Author.Tests.{lt-ltb, lt-leb}
 use Rattle.ring.specs.declared.types.Demand.{Demand}
 use Rattle.ring.specs.Demand.{in_front, OnRing}
-use Rattle.ring.specs.Routing.{peak, Attains}
+use Rattle.ring.specs.Routing.{peak}
 use Rattle.ring.specs.Sheet.{numbers_from}
 use Rattle.ring.proofs.Peaks.{peak-above, peak-attained}
 use Rattle.ring.proofs.Side.{in-front, before-front, after_front}
@@ -18,10 +18,10 @@ use Rattle.ring.specs.declared.types.Routed.{Routed}
 use Rattle.ring.specs.declared.types.Way.TheVariants.{Front, Back}
 use Rattle.turns.specs.declared.loads.Loads.TheInside.{Inside}
 use Rattle.turns.specs.Turns.{on_path}
-use Rattle.turns.specs.Choosing.{rank_weight_in, rank_weight, sum_to, off_top, path_key, LoadOf, Keys}
+use Rattle.turns.specs.Choosing.{rank_weight_in, rank_weight, sum_to, off_top, path_key, all_weights, LoadOf, Keys}
 use Rattle.turns.specs.Loads.{loads_in, Figured}
 use Rattle.turns.proofs.LoadsSteps.{links_are, keys_are}
-use Rattle.turns.proofs.Weights.{sum-to, weights-below, some-weight}
+use Rattle.turns.proofs.Weights.{sum-to, weights-below}
 
 -- ---- a load's weight
 
@@ -249,28 +249,76 @@ module _ (s : Inside) (now : List ℕ) (is : loads_in s ≡ now) (all : Figured 
 pub peak_load : (loads : List ℕ) (top : ℕ) → 1 ≤ length loads → top ≡ peak (link_at loads) (length loads) → LoadOf loads top
 peak_load loads top some e = let a = peak-attained (link_at loads) (length loads) some in record { place = a.link - 1; within = omega (arith, a.low, a.high); is = a.is ∙ sym e }
 
-pub weighs_some : (loads : List ℕ) (v w : ℕ) → w ≡ rank_weight (length loads) (link_at loads) v → 1 ≤ w
-weighs_some loads v w e = omega (arith, some-weight (length loads) (link_at loads) v)
-
 sum-above : (f : ℕ → ℕ) (k m : ℕ) → 1 ≤ k → k ≤ m → f k ≤ sum_to f m
 unfolding sum_to
 sum-above f k zero a b = absurd (omega arith)
 sum-above f k (suc m) a b = elim (ℕ_discrete k (suc m)) [ yes e ↦ rw e (omega arith) | no e ↦ omega (arith, sum-above f k m a (omega arith)) ]
 
--- where no link off a row's path has the peak, one of its path has
-pub heavy-path : (n : ℕ) (load : ℕ → ℕ) (r : Routed) → 1 ≤ n → off_top n load r < peak load n → rank_weight n load (peak load n) ≤ path_key n load r
-unfolding off_top path_key
-heavy-path n load r some less = go (on_path r top.link) refl
-  where
-    top : Attains load n
-    top = peak-attained load n some
+module _ (s : Inside) (now : List ℕ) (is : loads_in s ≡ now) (all : Figured s) (top : ℕ) (some : 1 ≤ length now) (t : top ≡ peak (link_at now) (length now)) (w : ℕ) (e : w ≡ rank_weight (length now) (link_at now) top) where
+  every : get_or s.keys s.links 0 ≡ all_weights (length now) (link_at now)
+  every = rw (links_are s now is all) ((keys_are s now is all).is (length now) (omega arith))
 
-    go : (b : Bool) → on_path r top.link ≡ b → rank_weight n load (peak load n) ≤ path_key n load r
-    go true e = let h = rw (e, top.is) at (sum-above (λ k. cond (on_path r k) (rank_weight n load (load k)) 0) top.link n top.low top.high) in h
-    go false e = let h = rw e at (peak-above (λ k. cond (on_path r k) 0 (load k)) n top.link top.low top.high) in absurd (omega (arith, top.is))
+  within : w ≤ all_weights (length now) (link_at now)
+  within =
+      let a = peak-attained (link_at now) (length now) some in
+      let h = rw (a.is, ← t, ← e) at (sum-above (weight_at now) a.link (length now) a.low a.high) in
+      h
+
+  pub peak_fits : w ≤ get_or s.keys s.links 0
+  peak_fits = omega (arith, every, within)
+
+  pub peak_left : (get_or s.keys s.links 0 - w) + w ≡ all_weights (length now) (link_at now)
+  peak_left = omega (arith, every, within)
+
+sum-most-to : (f g : ℕ → ℕ) (m : ℕ) → ((k : ℕ) → 1 ≤ k → k ≤ m → f k ≤ g k) → sum_to f m ≤ sum_to g m
+unfolding sum_to
+sum-most-to f g zero h = omega arith
+sum-most-to f g (suc m) h = omega (arith, sum-most-to f g m (λ k a b. h k a (omega arith)), h (suc m) (omega arith) (omega arith))
+
+-- a figure's sum over links with a property, and over all others
+sum-apart : (f : ℕ → ℕ) (has : ℕ → Bool) (m : ℕ) → sum_to (λ k. cond (has k) (f k) 0) m + sum_to (λ k. cond (has k) 0 (f k)) m ≡ sum_to f m
+unfolding sum_to
+sum-apart f has zero = refl
+sum-apart f has (suc m) = go (has (suc m)) (sum-apart f has m)
+  where
+    some : ℕ
+    some = sum_to (λ k. cond (has k) (f k) 0) m
+
+    others : ℕ
+    others = sum_to (λ k. cond (has k) 0 (f k)) m
+
+    go : (b : Bool) → some + others ≡ sum_to f m → (some + cond b (f (suc m)) 0) + (others + cond b 0 (f (suc m))) ≡ sum_to f m + f (suc m)
+    go true on = omega arith
+    go false on = omega arith
+
+-- where no link off a row's path has the peak, the weights off it are together below that of the peak
+pub heavy-path : (n : ℕ) (load : ℕ → ℕ) (r : Routed) → off_top n load r < peak load n → all_weights n load < path_key n load r + rank_weight n load (peak load n)
+unfolding off_top path_key sum_to
+heavy-path n load r less =
+    let e : 0 + n ≡ n = omega arith in
+    let s = rw e at (sum-to below 0 n) in
+    omega (arith, sum-apart w (on_path r) n, sum-most-to off below n (λ k a b. each k a b (on_path r k) refl), s, weights-below n load top)
+  where
+    top : ℕ
+    top = peak load n
+
+    w : ℕ → ℕ
+    w k = rank_weight n load (load k)
+
+    below : ℕ → ℕ
+    below k = cond (ltb (load k) top) (w k) 0
+
+    off : ℕ → ℕ
+    off k = cond (on_path r k) 0 (w k)
+
+    each : (k : ℕ) → 1 ≤ k → k ≤ n → (b : Bool) → on_path r k ≡ b → off k ≤ below k
+    each k a b true e = rw e (omega arith)
+    each k a b false e =
+        let h = rw e at (peak-above (λ k. cond (on_path r k) 0 (load k)) n k a b) in
+        rw (e, lt-ltb (load k) top (omega (arith, h))) (omega arith)
 
 -- ---- the laws of each function
 
-pub ruleset below_laws = (peak_load, weighs_some)
+pub ruleset below_laws = (peak_load, peak_fits, peak_left)
 
 pub ruleset key_laws = (key_order, key_rest, key_front, key_back)

@@ -1,7 +1,6 @@
 pub mod InOrder
 pub mod Smaller
 pub mod Starts
-pub mod SameStarts
 pub mod Ends
 pub mod Lowering
 pub mod Weights
@@ -12,5 +11,7 @@ pub mod RowsFit
 pub mod PickSteps
 pub mod TurnSteps
 pub mod SettleSteps
+pub mod SameStarts
+pub mod KnownSteps
 pub mod StartSteps
 pub mod CasesHold

@@ -11,7 +11,7 @@ use Rattle.weight.specs.LinkSteps.{link_at}
 use Rattle.across.specs.Filled.{DemandsFit}
 use Rattle.turns.specs.declared.pick.BestRow.{BestRow}
 use Rattle.turns.specs.Turns.{peak_of, on_path, PlacedRow, placed_row, placed_from, stands_before, falling_rows, lowers, choice}
-use Rattle.turns.specs.Choosing.{off_top, lowers_by, rank_weight_in, rank_weight, path_key}
+use Rattle.turns.specs.Choosing.{off_top, lowers_by, rank_weight_in, rank_weight, path_key, all_weights}
 use Rattle.turns.specs.Picks.{Picks}
 use Rattle.turns.specs.TurnedLoads.{Carries}
 use Rattle.turns.proofs.InOrder.{scan, joined, first-in-order, scan-more}
@@ -49,6 +49,10 @@ module _ (n : ℕ) (f g : ℕ → ℕ) (same : (k : ℕ) → 1 ≤ k → k ≤ n
   same_key r =
       same_sum (λ k. cond (on_path r k) (rank_weight n f (f k)) 0) (λ k. cond (on_path r k) (rank_weight n g (g k)) 0) n
       (λ k a b. ap (λ x. cond (on_path r k) x 0) (ap (rank_weight n f) (same k a b) ∙ same-weight (g k) 1 n (omega arith) (omega arith)))
+
+  same_all : all_weights n f ≡ all_weights n g
+  same_all =
+      same_sum (λ k. rank_weight n f (f k)) (λ k. rank_weight n g (g k)) n (λ k a b. ap (rank_weight n f) (same k a b) ∙ same-weight (g k) 1 n (omega arith) (omega arith))
 
   pub same-considered : (top : ℕ) (best : BestRow) (place : ℕ) (r : Routed) → considered n f top best place r ≡ considered n g top best place r
   unfolding considered
@@ -100,7 +104,7 @@ module _ (n : ℕ) (rs : List Routed) where
 
   -- what is kept is what the scan has found, of the first t rows
   pub data Found (t : ℕ) : BestRow → Option PlacedRow → Type 0 where
-    nobody : (below : ℕ) → below + 1 ≡ rank_weight n load (peak_of n rs) → Found t (record { place = None; key = below }) None
+    nobody : (below : ℕ) → below + rank_weight n load (peak_of n rs) ≡ all_weights n load → Found t (record { place = None; key = below }) None
     somebody : (place k : ℕ) (r : Routed) → place < t → slice_get rs place ≡ Some r → k ≡ key r → Found t (record { place = Some place; key = k }) (Some (placed_row place r))
 
   -- where the scan stands: the first t rows are passed
@@ -127,13 +131,13 @@ module _ (n : ℕ) (rs : List Routed) where
     later (nobody k e) = nobody k e
     later (somebody p k q a b c) = somebody p k q (omega arith) b c
 
-    -- a row whose turn lowers the peak has a link on its path that carries it
-    heavy : lowers_by (off_top n load r) r.sent.demand.amount top ≡ true → rank_weight n load (peak_of n rs) ≤ key r
+    -- a row whose turn lowers the peak has all links on its path that carry it
+    heavy : lowers_by (off_top n load r) r.sent.demand.amount top ≡ true → all_weights n load < key r + rank_weight n load (peak_of n rs)
     unfolding peak_of
-    heavy e = heavy-path n load r (omega (arith, on.low, on.order, on.high)) (rw is-top at (lowers-under (off_top n load r) r.sent.demand.amount top e))
+    heavy e = heavy-path n load r (rw is-top at (lowers-under (off_top n load r) r.sent.demand.amount top e))
 
     -- the better of the two, by their numbers, is the one that stands before the other
-    beside : rank_weight n load (peak_of n rs) ≤ key r → {best : BestRow} {found : Option PlacedRow} → Found t best found → Found (t + 1) (cond (ltb best.key (key r)) new best) (joined (stands_before n load) found (placed_row t r))
+    beside : all_weights n load < key r + rank_weight n load (peak_of n rs) → {best : BestRow} {found : Option PlacedRow} → Found t best found → Found (t + 1) (cond (ltb best.key (key r)) new best) (joined (stands_before n load) found (placed_row t r))
     unfolding joined
     beside h (nobody k e) = rw (lt-ltb k (key r) (omega arith)) (somebody t (key r) r (omega arith) at refl)
     beside h (somebody p k q a b c) =
@@ -156,10 +160,14 @@ module _ (n : ℕ) (rs : List Routed) where
 
 -- ---- row after row
 
-pub pick_start : (rs : List Routed) (loads : List ℕ) (top below : ℕ) → Carries (unsplit_load rs) loads → top ≡ peak (link_at loads) (length loads) → below + 1 ≡ rank_weight (length loads) (link_at loads) top →
+pub pick_start : (rs : List Routed) (loads : List ℕ) (top below : ℕ) → Carries (unsplit_load rs) loads → top ≡ peak (link_at loads) (length loads) → below + rank_weight (length loads) (link_at loads) top ≡ all_weights (length loads) (link_at loads) →
     Picking (length loads) rs (record { place = None; key = below }) 0
 unfolding scan placed_from
-pick_start rs loads top below c t e = nobody below (e ∙ (same-weight (length loads) (link_at loads) (unsplit_load rs) c.is top 1 (length loads) (omega arith) (omega arith) ∙ ap (rank_weight (length loads) (unsplit_load rs)) (top_peak rs loads top c t)))
+pick_start rs loads top below c t e =
+    let n : ℕ = length loads in
+    let weight : rank_weight n (link_at loads) top ≡ rank_weight n (unsplit_load rs) (peak_of n rs) =
+    same-weight n (link_at loads) (unsplit_load rs) c.is top 1 n (omega arith) (omega arith) ∙ ap (rank_weight n (unsplit_load rs)) (top_peak rs loads top c t) in
+    nobody below (omega (arith, e, weight, same_all n (link_at loads) (unsplit_load rs) c.is))
 
 module _ (rs : List Routed) (loads : List ℕ) (count : ℕ) (best : BestRow) (fit : DemandsFit (length loads) (demands (sents rs))) (o : Picking (length loads) rs best count) where
   module _ (r : Routed) (here : slice_get rs count ≡ Some r) where

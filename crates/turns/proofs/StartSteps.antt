@@ -1,6 +1,6 @@
 -- A start's rows avoid its link, and each link carries what lies across the two; what it leads to is answered; and the loop over the starts keeps the best so far,
 -- from which the starts that are left give the answer.
-use Rattle.std.proofs.Common.{◌≡◌, ℕ, suc, ◌+◌, ◌-◌, ◌*◌, ◌≤◌, ◌<◌, Bool, true, false, cond, List, [], ◌∷◌, ◌++◌, Some, slice_get, length, take, get_or, set, refl, sym, ap, subst, ◌∙◌, arith, ltb}
+use Rattle.std.proofs.Common.{◌≡◌, ℕ, suc, ◌+◌, ◌-◌, ◌*◌, ◌≤◌, ◌<◌, Bool, true, false, cond, List, [], ◌∷◌, ◌++◌, Option, Some, None, slice_get, length, take, get_or, set, refl, sym, ap, subst, ◌∙◌, arith, ltb}
 use Rattle.std.proofs.lemmas.List.{length-take, take-append-le, take_all, take_more, drop_more, map-append}
 use native.Mathlib.Decide.{dec_lt}
 use borrow.Author.Tests.{lt-ltb, le-ltb, ltb-false}
@@ -28,13 +28,20 @@ use Rattle.weight.specs.LinkSteps.{link_at}
 use Rattle.across.specs.Filled.{TriangleOf, DemandsFit}
 use Rattle.rows.proofs.Zip.{Passed, passed-none, within, next-old, put-passed, put-taken}
 use Rattle.turns.specs.declared.Turned.{Turned}
-use Rattle.turns.specs.Turns.{whole, avoiding, start, peak_of, settle, TurnedRows, from_start, lower, best_from, least_start}
+use Rattle.turns.specs.Turns.{whole, avoiding, start, peak_of, Settled, settle, TurnedRows, from_start, lower, best_from, least_start}
 use Rattle.turns.specs.Promised.{LeastOfStarts, NoTurnLowers, TurnsLower, StartLoads, StartsEnd, StartsWithinM, WaysFloor}
-use Rattle.turns.specs.Settles.{SettlesTo}
+use Rattle.weight.specs.Limits.{across_bound}
+use Rattle.turns.specs.declared.Tried.{Tried}
+use Rattle.turns.specs.declared.settle.Limit.{Limit}
+use Rattle.turns.specs.Settles.{Wholes, no_limit, Settling, SettlesTo}
+use Rattle.turns.specs.Known.{end_peak, Noted, OnTheWay, NotedOf, Again, Made, StartTried, tried_with, LastIs}
 use Rattle.turns.specs.Starts.{lower_of, meets, SmallAmounts, across_between}
 use Rattle.turns.specs.TurnedLoads.{Carries}
 use Rattle.turns.proofs.PickSteps.{top_peak}
-use Rattle.turns.proofs.SameStarts.{same-start}
+use Rattle.turns.proofs.SameStarts.{same-peaks}
+use Rattle.turns.proofs.SettleSteps.{enough_same, turns-same, start_whole, all_turned}
+use Rattle.turns.proofs.KnownSteps.{known_peak}
+use Rattle.turns.proofs.RowsFit.{peak-most}
 use Rattle.turns.proofs.Starts.{start-loads, start-peak, ways-floor}
 use Rattle.turns.proofs.Ends.{start-demands, FromStart, each-start, starts-end, no-lower, Least, least-is}
 
@@ -123,26 +130,76 @@ pub seen_long : (n : ℕ) (loads : List ℕ) → n ≤ desk.nodes → length loa
 seen_long n loads few size = omega (arith, length-take n loads)
 
 module _ (n : ℕ) (rs : List Demand) (link : ℕ) where
-  pub start_fits : (rows : List Routed) (loads : List ℕ) → length loads ≡ n → rows ≡ start link rs → DemandsFit n rs → DemandsFit (length loads) (demands (sents rows))
-  start_fits rows loads size e fit = rw (size, e, start-demands) fit
-
-  module _ (rows new : List Routed) (e : rows ≡ start link rs) (first loads : List ℕ) (size : length first ≡ n) (turns : ℕ) (s : SettlesTo (length first) rows new loads turns) where
-    o : SettlesTo n rows new loads turns
-    o = rw size at s
-
-    settled : settle n (peak_of n (start link rs)) 0 (start link rs) ≡ record { rows = new; turns = turns }
-    settled = rw e at o.is
-
-    pub start_rows : new ≡ (from_start n rs link).rows
-    unfolding from_start
-    start_rows = rw settled
-
-    pub start_figures : (top : ℕ) → top ≡ peak (link_at loads) (length loads) → ◌≡◌ {A = Turned} (record { peak = top; link = link; turns = turns }) (from_start n rs link).figures
-    unfolding from_start
-    start_figures top e = rw (settled, rw o.size at (top_peak new loads top o.carries e))
-
   pub start_keeps : (new : List Routed) → new ≡ (from_start n rs link).rows → demands (sents new) ≡ rs
   start_keeps new e = rw e (each-start n rs link).demands
+
+  -- from its rows on
+  module _ (rows : List Routed) (e : rows ≡ start link rs) (loads : List ℕ) (size : length loads ≡ n) (fit : DemandsFit n rs) where
+    pub start_fits : DemandsFit (length loads) (demands (sents rows))
+    start_fits = rw (size, e, start-demands) fit
+
+    pub start_wholes : Wholes rows
+    start_wholes = rw e (start_whole link rs)
+
+    pub start_small : 0 + peak_of (length loads) rows ≤ across_bound
+    start_small = omega (arith, peak-most (length loads) rows start_fits)
+
+    -- so many turns
+    module _ (limit : Limit) (mid : List Routed) (after : List ℕ) (turns : ℕ) (s : SettlesTo limit (length loads) rows mid after 0 turns) where
+      o : Settling n (start link rs) mid after 0 turns
+      o = rw (size, e) at s.so_far
+
+      pub mid_size : length after ≡ n
+      mid_size = o.size
+
+      pub mid_fits : DemandsFit (length after) (demands (sents mid))
+      mid_fits = rw o.size o.fit
+
+      pub mid_carries : Carries (unsplit_load mid) after
+      mid_carries = o.carries
+
+      pub mid_wholes : Wholes mid
+      mid_wholes = o.whole
+
+      pub mid_small : turns + peak_of (length after) mid ≤ across_bound
+      mid_small = rw o.size o.small
+
+      pub mid_keeps : demands (sents mid) ≡ rs
+      mid_keeps = o.demands ∙ start-demands link rs
+
+      all-left : settle n (peak_of n (start link rs)) 0 (start link rs) ≡ settle n (peak_of n mid) turns mid
+      all-left = sym o.left ∙ enough_same n o.far (peak_of n mid) turns mid o.enough (omega arith)
+
+      pub on_way : OnTheWay n rs link mid
+      unfolding from_start end_peak
+      on_way =
+          record {
+            demands = mid_keeps;
+            whole = o.whole;
+            ends = ap (λ (x : Settled). peak_of n x.rows) all-left ∙ ap (peak_of n) (turns-same n (peak_of n mid) turns 0 mid);
+          }
+
+      -- and all that are left
+      module _ (new : List Routed) (last : List ℕ) (f : Turned) (s' : SettlesTo no_limit (length after) mid new last turns f.turns) (top : f.peak ≡ peak (link_at last) (length last)) (l : f.link ≡ link) where
+        o' : SettlesTo no_limit n mid new last turns f.turns
+        o' = rw o.size at s'
+
+        settled : settle n (peak_of n (start link rs)) 0 (start link rs) ≡ record { rows = new; turns = f.turns }
+        settled = all-left ∙ all_turned n mid new last turns f.turns o'
+
+        start-rows : new ≡ (from_start n rs link).rows
+        unfolding from_start
+        start-rows = rw settled
+
+        start-figures : f ≡ (from_start n rs link).figures
+        unfolding from_start
+        start-figures = let p : f.peak ≡ peak_of n new = rw o'.so_far.size at (top_peak new last f.peak o'.so_far.carries top) in rw (settled, ← p, ← l) refl
+
+        pub new_keeps : demands (sents new) ≡ rs
+        new_keeps = start_keeps new start-rows
+
+        pub start_made : (ways : List Way) → Noted mid ways → Made n rs link ways new f
+        start_made ways noted = record { rows = start-rows; is = start-figures; noted = record { rows = mid; on = on_way; noted = noted } }
 
 -- ---- all starts
 
@@ -159,72 +216,105 @@ unfolding lower
 lower-least x y = cond-elim (λ (z : TurnedRows). z.figures.peak ≤ y.figures.peak) (ltb y.figures.peak x.figures.peak) y x (λ t. omega arith) (λ f. omega (arith, ltb-false _ _ f))
 
 module _ (n : ℕ) (rs : List Demand) where
-  -- where the loop stands: the starts up to `link` are done, the rows are left as `last`, and the starts that follow give the answer
-  pub record Starting (now : List Routed) (best : Turned) (last link : ℕ) : Type 0 where
+  -- where the loop stands: the starts up to `link` are done, the starts that follow give the answer, and the ways that are noted are of one of those that are done
+  pub record Starting (now : List Routed) (ways : List Way) (tried : Tried) (link : ℕ) : Type 0 where
     pub low : 1 ≤ link
     pub high : link ≤ n
-    pub rows : now ≡ (from_start n rs last).rows
+    pub last : LastIs n rs now tried.last
     pub answer : TurnedRows
-    pub is : best ≡ answer.figures
+    pub is : tried.best ≡ answer.figures
     pub beats : answer.figures.peak ≤ (from_start n rs link).figures.peak
     pub left : best_from n rs (suc link) (n - link) answer ≡ least_start n rs
+    pub earlier : ℕ
+    pub noted : NotedOf n rs earlier ways
+    pub worth : answer.figures.peak ≤ (from_start n rs earlier).figures.peak
 
-  pub starts_start : (now : List Routed) (best : Turned) → 2 ≤ n → now ≡ (from_start n rs 1).rows → best ≡ (from_start n rs 1).figures → Starting now best 1 1
+  pub starts_start : (now : List Routed) (ways : List Way) (figures : Turned) → 2 ≤ n → demands (sents now) ≡ rs → Made n rs 1 ways now figures → Starting now ways (record { best = figures; last = 1 }) 1
   unfolding least_start
-  starts_start now best two r f = record { low = omega arith; high = omega arith; rows = r; answer = from_start n rs 1; is = f; beats = omega arith; left = refl }
+  starts_start now ways figures two d m =
+      record {
+        low = omega arith;
+        high = omega arith;
+        last = record { demands = d; rows = λ l. m.rows };
+        answer = from_start n rs 1;
+        is = m.is;
+        beats = omega arith;
+        left = refl;
+        earlier = 1;
+        noted = m.noted;
+        worth = omega arith;
+      }
 
-  module _ (now : List Routed) (best : Turned) (last link : ℕ) (o : Starting now best last link) where
+  module _ (now : List Routed) (ways : List Way) (tried : Tried) (link : ℕ) (o : Starting now ways tried link) where
     pub keeps : demands (sents now) ≡ rs
-    keeps = start_keeps n rs last now o.rows
+    keeps = o.last.demands
 
-    one_more : link < n → best_from n rs (suc (link + 1)) (n - (link + 1)) (lower o.answer (from_start n rs (link + 1))) ≡ best_from n rs (suc link) (n - link) o.answer
+    abbrev next : TurnedRows
+    next = from_start n rs (link + 1)
+
+    one_more : link < n → best_from n rs (suc (link + 1)) (n - (link + 1)) (lower o.answer next) ≡ best_from n rs (suc link) (n - link) o.answer
     one_more l =
         let p : n - link ≡ suc (n - (link + 1)) = omega arith in
         let q : link + 1 ≡ suc link = omega arith in
         rw (p, q) (unfold best_from in refl)
 
-    pub starts_turn : (new : List Routed) (next z : Turned) → link < n → new ≡ (from_start n (demands (sents now)) (link + 1)).rows → next ≡ (from_start n (demands (sents now)) (link + 1)).figures →
-        z ≡ lower_of best next → Starting new z (link + 1) (link + 1)
-    starts_turn new next z l r f g =
+    -- the next start does not take the place of the best so far
+    passes : (new : List Routed) (last : ℕ) → link < n → o.answer.figures.peak ≤ next.figures.peak → LastIs n rs new last → Starting new ways (record { best = tried.best; last = last }) (link + 1)
+    unfolding lower
+    passes new last l worse is =
+        let stays : lower o.answer next ≡ o.answer = rw (le-ltb next.figures.peak o.answer.figures.peak worse) in
         record {
           low = omega arith;
           high = omega arith;
-          rows = rw keeps at r;
-          answer = lower o.answer (from_start n rs (link + 1));
-          is = g ∙ ((rw (o.is, f, keeps)) ∙ sym (lower-figures o.answer (from_start n rs (link + 1))));
-          beats = lower-least o.answer (from_start n rs (link + 1));
-          left = one_more l ∙ o.left;
-        }
-
-    pub starts_skip : link < n → meets (link + 1) (demands (sents now)) ≡ false → Starting now best last (link + 1)
-    unfolding from_start lower
-    starts_skip l e =
-        let same : start (link + 1) rs ≡ start link rs = same-start rs link (rw keeps at e) in
-        let peak : (from_start n rs (link + 1)).figures.peak ≡ (from_start n rs link).figures.peak = rw same in
-        let stays : lower o.answer (from_start n rs (link + 1)) ≡ o.answer = rw (le-ltb (from_start n rs (link + 1)).figures.peak o.answer.figures.peak (omega (arith, peak, o.beats))) in
-        record {
-          low = omega arith;
-          high = omega arith;
-          rows = o.rows;
+          last = is;
           answer = o.answer;
           is = o.is;
-          beats = omega (arith, peak, o.beats);
+          beats = worse;
           left = ap (best_from n rs (suc (link + 1)) (n - (link + 1))) (sym stays) ∙ (one_more l ∙ o.left);
+          earlier = o.earlier;
+          noted = o.noted;
+          worth = o.worth;
         }
 
-    pub starts_done : n ≤ link → best ≡ (least_start n rs).figures
+    pub starts_skip : link < n → meets (link + 1) (demands (sents now)) ≡ false → Starting now ways tried (link + 1)
+    starts_skip l e = passes now tried.last l (omega (arith, same-peaks n rs link (rw keeps at e), o.beats)) o.last
+
+    -- it was known again, or made
+    pub starts_tried : (new : List Routed) (ways' : List Way) (start : Option Turned) (z : Tried) → link < n → demands (sents new) ≡ demands (sents now) →
+        StartTried n (demands (sents now)) (link + 1) ways ways' new start → z ≡ tried_with tried (link + 1) start → Starting new ways' z (link + 1)
+    starts_tried new ways' None z l d again e =
+        let a : Again n rs (link + 1) ways ways' = rw keeps at again in
+        let same = known_peak n a.rows o.noted.rows ways (a.on.demands ∙ sym o.noted.on.demands) a.on.whole o.noted.on.whole a.same o.noted.noted in
+        rw (e, a.kept) (passes new 0 l (omega (arith, a.on.ends, same, o.noted.on.ends, o.worth)) (record { demands = d ∙ keeps; rows = λ p. absurd (omega arith) }))
+    starts_tried new ways' (Some figures) z l d made e =
+        let m : Made n rs (link + 1) ways' new figures = rw keeps at made in
+        rw e
+        (record {
+          low = omega arith;
+          high = omega arith;
+          last = record { demands = d ∙ keeps; rows = λ p. m.rows };
+          answer = lower o.answer next;
+          is = (rw (o.is, m.is)) ∙ sym (lower-figures o.answer next);
+          beats = lower-least o.answer next;
+          left = one_more l ∙ o.left;
+          earlier = link + 1;
+          noted = m.noted;
+          worth = lower-least o.answer next;
+        })
+
+    pub starts_done : n ≤ link → tried.best ≡ (least_start n rs).figures
     starts_done l = o.is ∙ ap (λ (x : TurnedRows). x.figures) (none_left ∙ o.left)
       where
         none_left : o.answer ≡ best_from n rs (suc link) (n - link) o.answer
         none_left = let p : n - link ≡ 0 = omega arith in rw p (unfold best_from in refl)
 
     -- no start that is left ends lower than M/2, rounded up
-    pub starts_end : 2 ≤ n → (triangle : List ℕ) (cut : Cut) (floor : ℕ) → TriangleOf n rs triangle → cut ≡ largest_cut (cell triangle) n → floor ≡ div_ceil cut.across 2 → best.peak ≤ floor → best ≡ (least_start n rs).figures
+    pub starts_end : 2 ≤ n → (triangle : List ℕ) (cut : Cut) (floor : ℕ) → TriangleOf n rs triangle → cut ≡ largest_cut (cell triangle) n → floor ≡ div_ceil cut.across 2 → tried.best.peak ≤ floor → tried.best ≡ (least_start n rs).figures
     unfolding rule_a
     starts_end two triangle cut floor s c f l =
         let across-is : cut.across ≡ largest_across n rs = ap (λ (c : Cut). c.across) (c ∙ same-cut n (cell triangle) (across rs) s.is two) in
         let up = div_ceil_times cut.across 2 (omega arith) in
-        let low : 2 * best.peak ≤ largest_across n rs + 1 = omega (arith, f, l, up.1, across-is) in
+        let low : 2 * tried.best.peak ≤ largest_across n rs + 1 = omega (arith, f, l, up.1, across-is) in
         o.is ∙ ap (λ (x : TurnedRows). x.figures) (sym (no-lower n rs (suc link) (n - link) o.answer two (rw o.is at low)) ∙ o.left)
 
 -- ---- the answer
@@ -282,8 +372,8 @@ module _ (n : ℕ) (rs : List Demand) (two : 2 ≤ n) where
     best-is = rw e (sym least.is)
 
     -- the best start was the last, or is made again
-    pub was_last : (now : List Routed) (last : ℕ) → now ≡ (from_start n rs last).rows → best.link ≡ last → now ≡ (least_start n rs).rows
-    was_last now last r l = r ∙ (rw (← l, best-is))
+    pub was_last : (now : List Routed) (last : ℕ) → LastIs n rs now last → best.link ≡ last → now ≡ (least_start n rs).rows
+    was_last now last r l = r.rows (omega (arith, l, best_low)) ∙ (rw (← l, best-is))
 
     module _ (ds : List Demand) (d : ds ≡ rs) where
       pub again_rows : (new : List Routed) → new ≡ (from_start n ds best.link).rows → new ≡ (least_start n rs).rows

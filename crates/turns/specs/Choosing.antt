@@ -35,6 +35,10 @@ sum_to f (suc n) = sum_to f n + f (suc n)
 unfoldable pub path_key : ℕ → (ℕ → ℕ) → Routed → ℕ
 path_key n load r = sum_to (λ k. cond (on_path r k) (rank_weight n load (load k)) 0) n
 
+-- the weights of all loads together
+abbrev pub all_weights : ℕ → (ℕ → ℕ) → ℕ
+all_weights n load = sum_to (λ k. rank_weight n load (load k)) n
+
 -- v is one of the loads
 pub record LoadOf (loads : List ℕ) (v : ℕ) : Type 0 where
   pub place : ℕ

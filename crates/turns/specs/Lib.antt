@@ -7,4 +7,5 @@ pub mod Loads
 pub mod Picks
 pub mod Settles
 pub mod Starts
+pub mod Known
 pub mod Cases

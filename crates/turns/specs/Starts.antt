@@ -1,20 +1,20 @@
--- Internal: what a start is made of, what tells it apart from the one before it (whether a demand ends at node a, which lies between links a-1 and a), and
--- which of two answers is kept.
-use Rattle.std.specs.Prelude.{ℕ, Bool, false, ◌||◌, List, [], ◌∷◌, eqb, cond, ltb, ◌≤◌}
+-- Internal: what a start is made of, what tells it apart from the one before it (whether a demand with an amount ends at node a, which lies between links a-1
+-- and a), and which of two answers is kept.
+use Rattle.std.specs.Prelude.{ℕ, Bool, false, ◌&&◌, ◌||◌, List, [], ◌∷◌, eqb, cond, ltb, ◌≤◌}
 use Rattle.ring.specs.declared.types.Demand.{Demand}
 use Rattle.turns.specs.declared.Turned.{Turned}
 use Rattle.ring.specs.Lists.{Each}
 use Rattle.across.specs.Cells.{cell}
 use Rattle.ring.specs.Limits.{desk}
 
--- a demand ends at a node
-abbrev pub ends : Demand → ℕ → Bool
-ends r node = eqb r.first node || eqb r.second node
+-- a demand with an amount ends at a node
+abbrev pub sends_at : Demand → ℕ → Bool
+sends_at r node = (eqb r.first node || eqb r.second node) && ltb 0 r.amount
 
 -- one of the demands does
 unfoldable pub meets : ℕ → List Demand → Bool
 meets node [] = false
-meets node (r ∷ rs) = ends r node || meets node rs
+meets node (r ∷ rs) = sends_at r node || meets node rs
 
 -- a later answer takes the place of an earlier one only where its peak is less
 abbrev pub lower_of : Turned → Turned → Turned

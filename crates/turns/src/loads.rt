@@ -1,13 +1,16 @@
 //! The loads of links, and what a row is chosen by, by the marks of the ring: one stands before link 1 and one behind each link, so that node i is at mark i - 1.
-ghost use Rattle.std.specs.Prelude.{suc, ◌+◌, ◌≡◌, ◌≤◌, length, take};
+ghost use Rattle.std.specs.Prelude.{suc, ◌+◌, ◌≡◌, ◌≤◌, [], length, take};
 ghost use Rattle.ring.specs.Demand.{OnRing};
 ghost use Rattle.ring.specs.Routing.{peak};
 ghost use Rattle.ring.specs.Limits.{desk};
 ghost use Rattle.weight.specs.LinkSteps.{link_at};
-ghost use Rattle.turns.specs.Choosing.{off_top, span_top, path_key, rank_weight};
-ghost use Rattle.turns.specs.TurnedLoads.{RoomFor, PathCarries, LoadsTurned};
+ghost use Rattle.turns.specs.Choosing.{off_top, span_top, path_key, rank_weight, all_weights};
+ghost use Rattle.turns.specs.TurnedLoads.{Carries, RoomFor, PathCarries, LoadsTurned};
+ghost use Rattle.turns.specs.Starts.{across_between};
 
 use crate::keys::{fill_keys, rank_weight};
+use crate::start::loads_avoiding;
+use across::PAIRS;
 use ring::{LINKS, Routed, Way};
 use std::marker::Model;
 use weight::step_over;
@@ -72,6 +75,31 @@ fn turn_loads(loads: &mut [u32; LINKS], links: usize, row: Routed)
 }
 
 impl Loads {
+    /// No links.
+    pub fn new() -> Self
+        ensures { result ≡ [] }
+    {
+        Loads {
+            links: 0,
+            loads: [0; LINKS],
+            keys: [0; MARKS],
+        }
+    }
+
+    /// The loads of the start that avoids a link.
+    pub fn avoid(&mut self, triangle: &[u32; PAIRS], n: usize, link: usize)
+        requires few { n ≤ desk.nodes }
+        requires low { 1 ≤ link }
+        requires high { link ≤ n }
+        ensures size { length self.new ≡ n }
+        ensures carries { Carries (λ h. across_between triangle.now link h) self.new }
+    {
+        let avoiding = loads_avoiding(triangle, n, link);
+        fill_keys(&avoiding[..n], &mut self.keys);
+        self.loads = avoiding;
+        self.links = n;
+    }
+
     // The loads of the ring's links.
     fn seen(&self) -> &[u32]
         ensures is { result.now ≡ self.now }
@@ -129,13 +157,15 @@ impl Loads {
         }
     }
 
-    /// One below the weight of a link that carries the peak: each row whose turn lowers the peak has such a link on its path, so that its key is above this.
+    /// What the weights of all links are above that of a link with the peak: each row whose turn lowers the peak has all such links on its path, so that its key is
+    /// above this.
     #[tactic(auto, using(crate::proofs::KeySteps::below_laws))]
     pub fn below_keys(&self, largest: u32) -> u64
         requires some { 1 ≤ length self.now }
         requires largest { largest ≡ peak (link_at self.now) (length self.now) }
-        ensures { result + 1 ≡ rank_weight (length self.now) (link_at self.now) largest }
+        ensures { result + rank_weight (length self.now) (link_at self.now) largest
+            ≡ all_weights (length self.now) (link_at self.now) }
     {
-        rank_weight(self.seen(), largest) - 1
+        self.keys[self.links] - rank_weight(self.seen(), largest)
     }
 }

@@ -1,7 +1,7 @@
 //! The row to turn: in falling order the first whose turn lowers the peak. It is the greatest of those whose turn does, so that nothing is sorted.
-ghost use Rattle.std.specs.Prelude.{◌≡◌, ◌≤◌, length};
+ghost use Rattle.std.specs.Prelude.{◌+◌, ◌≡◌, ◌≤◌, ltb, length};
 ghost use Rattle.ring.specs.Demand.{OnRing};
-ghost use Rattle.ring.specs.Routing.{unsplit_load};
+ghost use Rattle.ring.specs.Routing.{unsplit_load, peak};
 ghost use Rattle.ring.specs.Sheet.{demands_of};
 ghost use Rattle.across.specs.Filled.{DemandsFit};
 ghost use Rattle.weight.specs.LinkSteps.{link_at};
@@ -21,39 +21,40 @@ pub(crate) struct BestRow {
     pub key: u64,
 }
 
-// Whether the turn of a row that sends so much lowers the peak, by the largest load off its path.
-fn lowers(off: u32, amount: u32, peak: u32) -> bool
-    ensures { result ≡ lowers_by off amount peak }
+// Whether a load stays below the peak where it rises by an amount.
+fn stays_below(load: u32, amount: u32, peak: u32) -> bool
+    ensures { result ≡ ltb (load + amount) peak }
 {
-    off < peak && amount < peak - off && amount > 0
+    load < peak && amount < peak - load
 }
 
-// Whether the turn of a row lowers the peak.
+// Whether the turn of a row lowers the peak, by the largest load off its path. A row of amount 0 does not, and its path is not looked at.
 fn turn_lowers(loads: &Loads, peak: u32, row: Routed) -> bool
     requires { OnRing (length loads.now) row.sent.demand }
     ensures { result
         ≡ lowers_by (off_top (length loads.now) (link_at loads.now) row)
         row.sent.demand.amount peak }
 {
-    lowers(loads.off_path(row), row.sent.demand.amount, peak)
+    let amount = row.sent.demand.amount;
+    amount > 0 && stays_below(loads.off_path(row), amount, peak)
 }
 
 /// The place of the row to turn, if there is one. Of equal lists the earlier row stays. Most rows do not beat the one that is kept, so that is asked first, and
-/// a row is read again where it does: what its key does not take would be read in vain.
-pub(crate) fn pick<R: Rows>(rows: &R, loads: &Loads) -> Option<usize>
+/// a row is read again where it does: what its key does not take would be read in vain. It is told the largest load.
+pub(crate) fn pick<R: Rows>(rows: &R, loads: &Loads, largest: u32) -> Option<usize>
     requires some { 1 ≤ length loads.now }
     requires fit { DemandsFit (length loads.now) (demands_of (R.rows rows.now)) }
     requires carries { Carries (unsplit_load (R.rows rows.now)) loads.now }
+    requires largest { largest ≡ peak (link_at loads.now) (length loads.now) }
     ensures { Picks (length loads.now) (R.rows rows.now) result }
 {
-    let peak = loads.peak();
     let mut best = BestRow {
         place: None,
-        key: loads.below_keys(peak),
+        key: loads.below_keys(largest),
     };
     for place in 0..rows.count() {
         let key = loads.path_key(rows.row(place));
-        if best.key < key && turn_lowers(loads, peak, rows.row(place)) {
+        if best.key < key && turn_lowers(loads, largest, rows.row(place)) {
             best = BestRow {
                 place: Some(place),
                 key,

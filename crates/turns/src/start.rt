@@ -5,7 +5,7 @@ ghost use Rattle.ring.specs.declared.types.Way.TheVariants.{Front, Back};
 ghost use Rattle.ring.specs.Sheet.{demands_of};
 ghost use Rattle.ring.specs.Limits.{desk};
 ghost use Rattle.turns.specs.Turns.{start};
-ghost use Rattle.turns.specs.Starts.{ends, meets, SmallAmounts, across_between};
+ghost use Rattle.turns.specs.Starts.{sends_at, meets, SmallAmounts, across_between};
 ghost use Rattle.turns.specs.TurnedLoads.{Carries};
 
 use crate::whole::whole;
@@ -36,18 +36,18 @@ pub(crate) fn route_avoiding<R: RowsMut>(rows: &mut R, link: u32)
     }
 }
 
-// Whether a demand ends at a node.
-fn ends(demand: Demand, node: u32) -> bool
-    ensures { result ≡ ends demand node }
+// Whether a demand with an amount ends at a node.
+fn sends_at(demand: Demand, node: u32) -> bool
+    ensures { result ≡ sends_at demand node }
 {
-    demand.first == node || demand.second == node
+    (demand.first == node || demand.second == node) && demand.amount > 0
 }
 
-/// Whether a row ends at a node.
+/// Whether a row with an amount ends at a node.
 pub(crate) fn meets<R: Rows>(rows: &R, node: u32) -> bool
     ensures { result ≡ meets node (demands_of (R.rows rows.now)) }
 {
-    each(rows).any(|row| ends(row.sent.demand, node))
+    each(rows).any(|row| sends_at(row.sent.demand, node))
 }
 
 // The across number of two links, in either order.
