@@ -10,7 +10,7 @@ ghost use Rattle.turns.specs.Starts.{across_between};
 
 use crate::keys::{fill_keys, rank_weight};
 use crate::start::loads_avoiding;
-use across::PAIRS;
+use across::PLACES;
 use ring::{LINKS, Routed, Way};
 use std::marker::Model;
 use weight::step_over;
@@ -87,7 +87,7 @@ impl Loads {
     }
 
     /// The loads of the start that avoids a link.
-    pub fn avoid(&mut self, triangle: &[u32; PAIRS], n: usize, link: usize)
+    pub fn avoid(&mut self, triangle: &[u32; PLACES], n: usize, link: usize)
         requires few { n ≤ desk.nodes }
         requires low { 1 ≤ link }
         requires high { link ≤ n }
