@@ -7,7 +7,7 @@ ghost use Rattle.across.specs.Ways.{on_front, on_back, RaisedWay, LeastOver};
 use crate::PLACES;
 use crate::lines::raise_block;
 use crate::place::get;
-use ring::Demand;
+use ring::{Demand, LINKS};
 
 /// The numbers of the pairs of links g <= h that lie both on the front of a row of a ring of n nodes, at most 64, are raised; to take an amount, what it lacks of the
 /// type's end is put on.
@@ -18,7 +18,7 @@ pub fn raise_front(triangle: &mut [u32; PLACES], n: usize, row: Demand, by: u32)
 {
     let i = row.first as usize;
     let j = row.second as usize;
-    raise_block(triangle, i + 1, j + 1, i, j, by);
+    raise_block(triangle, i + 1, j + 1, i, LINKS + 1, by);
 }
 
 /// The same of those that lie both on its back.
@@ -29,9 +29,9 @@ pub fn raise_back(triangle: &mut [u32; PLACES], n: usize, row: Demand, by: u32)
 {
     let i = row.first as usize;
     let j = row.second as usize;
-    raise_block(triangle, 2, i + 1, 1, i, by);
+    raise_block(triangle, 2, i + 1, 1, LINKS + 1, by);
     raise_block(triangle, j + 1, n + 2, 1, i, by);
-    raise_block(triangle, j + 1, n + 2, j, n + 1, by);
+    raise_block(triangle, j + 1, n + 2, j, LINKS + 1, by);
 }
 
 /// The least of the numbers of the pairs on its front. None is less than 0, so no more of them are looked at where that is found.

@@ -10,18 +10,18 @@ pub loop-i-init : goal.loop-i-init
 loop-i-init c = record { so_far = block-enter _ _ _ _ _ _ c.requires _ _ 0 (search rules) c.loop-j.invariant.so_far; left = λ l. absurd (omega arith) }
 
 pub raise-requires : goal.raise-requires
-raise-requires c = block-pair _ _ _ _ _ _ c.requires _ _ _ c.loop-j-test.true c.loop-i.invariant.so_far (search rules) (omega (arith, c.min-i-end.ensures))
+raise-requires c = block-pair _ _ _ _ _ _ c.requires _ _ _ c.loop-j-test.true c.loop-i.invariant.so_far (search rules) (omega (arith, c.end_on_line-i-end.ensures))
 
 pub loop-i-preserved : goal.loop-i-preserved
 loop-i-preserved c =
     record {
-      so_far = block-turn _ _ _ _ _ _ c.requires _ _ _ c.loop-j-test.true c.loop-i.invariant.so_far (search rules) (search rules) _ c.min-i-end.ensures c.loop-i-test.true _ c.raise.ensures;
+      so_far = block-turn _ _ _ _ _ _ c.requires _ _ _ c.loop-j-test.true c.loop-i.invariant.so_far (search rules) (search rules) _ c.end_on_line-i-end.ensures c.loop-i-test.true _ c.raise.ensures;
       left = λ l. omega arith;
     }
 
 pub loop-j-preserved : goal.loop-j-preserved
 loop-j-preserved c =
-    record { so_far = block-leave _ _ _ _ _ _ c.requires _ _ _ c.loop-j-test.true c.loop-i.invariant.so_far _ c.min-i-end.ensures c.loop-i-test.false c.loop-i.invariant.left; left = λ l. omega arith }
+    record { so_far = block-leave _ _ _ _ _ _ c.requires _ _ _ c.loop-j-test.true c.loop-i.invariant.so_far _ c.end_on_line-i-end.ensures c.loop-i-test.false c.loop-i.invariant.left; left = λ l. omega arith }
 
 pub returns : goal.returns
 returns c = block-done _ _ _ _ _ _ c.requires _ _ c.loop-j.invariant.so_far c.loop-j-test.false c.loop-j.invariant.left
