@@ -25,6 +25,7 @@ fn end_on_line(high: usize, j: usize) -> usize
 }
 
 /// On the lines from `first` up to `end` the numbers of `low` up to `high` are raised, of each line those below it. By 0 nothing changes.
+#[tactic(auto, using(crate::proofs::LineSteps::block_laws))]
 pub(crate) fn raise_block(
     triangle: &mut [u32],
     first: usize,

@@ -11,6 +11,7 @@ use ring::{Demand, LINKS};
 
 /// The numbers of the pairs of links g <= h that lie both on the front of a row of a ring of n nodes, at most 64, are raised; to take an amount, what it lacks of the
 /// type's end is put on.
+#[tactic(auto, using(crate::proofs::Places::block_fits, crate::proofs::WaySteps::front_raised))]
 pub fn raise_front(triangle: &mut [u32; PLACES], n: usize, row: Demand, by: u32)
     requires few { n ≤ desk.nodes }
     requires on { OnRing n row }
@@ -22,6 +23,7 @@ pub fn raise_front(triangle: &mut [u32; PLACES], n: usize, row: Demand, by: u32)
 }
 
 /// The same of those that lie both on its back.
+#[tactic(auto, using(crate::proofs::Places::block_fits, crate::proofs::WaySteps::back_raised))]
 pub fn raise_back(triangle: &mut [u32; PLACES], n: usize, row: Demand, by: u32)
     requires few { n ≤ desk.nodes }
     requires on { OnRing n row }
@@ -35,6 +37,7 @@ pub fn raise_back(triangle: &mut [u32; PLACES], n: usize, row: Demand, by: u32)
 }
 
 /// The least of the numbers of the pairs on its front. None is less than 0, so no more of them are looked at where that is found.
+#[tactic(auto, using(crate::proofs::WaySteps::least_laws))]
 pub fn least_over(triangle: &[u32; PLACES], n: usize, row: Demand) -> u32
     requires few { n ≤ desk.nodes }
     requires on { OnRing n row }
