@@ -192,3 +192,5 @@ module _ (n : ℕ) (rs : List Routed) (fit : DemandsFit n (demands (sents rs))) 
               few (holding h (h + 1)),
             );
       }
+
+pub ruleset fill_laws = (fill_start, fill_turn, sum_start, sum-next, sum-turn)

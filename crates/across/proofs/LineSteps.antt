@@ -47,8 +47,8 @@ module _ (by a b low high : ℕ) (old : List ℕ) (f : BlockFits b low old) wher
     pub block-enter : Blocking by a low high old j 0 now → Blocking by a low high old j low now
     block-enter s = seen-so s (λ x y p q c r. (r.0, r.1, r.2, omega (arith, r.1, r.3))) (λ x y p q c r. (r.0, r.1, r.2, omega (arith, r.3)))
 
-    pub block-pair : Blocking by a low high old j i now → low ≤ i → i < j → PairIn i j now
-    block-pair s c d = record { low = omega (arith, f.from); order = d; high = omega (arith, f.last); room = omega (arith, f.room, s.size, rise (suc j) b l) }
+    pub block-pair : Blocking by a low high old j i now → low ≤ i → (top : ℕ) → top ≡ min high j → i < top → PairIn i j now
+    block-pair s c top e m = record { low = omega (arith, f.from); order = omega arith; high = omega (arith, f.last); room = omega (arith, f.room, s.size, rise (suc j) b l) }
 
     pub block-turn : Blocking by a low high old j i now → a ≤ j → low ≤ i → (top : ℕ) → top ≡ min high j → i < top → (new : List ℕ) → PutAt i j (raised (at now i j) by) now new → Blocking by a low high old j (i + 1) new
     block-turn s c d top e m new p =
@@ -60,3 +60,5 @@ module _ (by a b low high : ℕ) (old : List ℕ) (f : BlockFits b low old) wher
 
   pub block-done : (now : List ℕ) (j : ℕ) → Blocking by a low high old j 0 now → b ≤ j → (a < j → j ≤ b) → BlockStep by a b low high old now
   block-done now j s l m = seen-so s (λ x y p q c r. (r.0, r.2, r.3, omega (arith, r.1))) (λ x y p q c r. (r.0, omega (arith, r.0, r.3), r.1, r.2))
+
+pub ruleset block_laws = (block-start, block-enter, block-pair, block-turn, block-leave, block-done)

@@ -41,3 +41,5 @@ module _ (old : List ℕ) where
         own = λ k a b. s.outside k (k + 1) a (omega arith) (omega arith) (λ r. omega (arith, r.0));
         pairs = λ g k a b c. let back : (k + 1) - 1 ≡ k = omega arith in rw back at (s.within g (k + 1) a (omega arith) (omega arith) (omega arith, omega arith));
       }
+
+pub ruleset mean_laws = (mean_start, own-stays, mean-enter, mean-turn, mean-leave, mean-done)

@@ -52,9 +52,9 @@ module _ (n : ℕ) (r : Demand) (old mid new : List ℕ) (fits : (x : ℕ) → F
         go (after u p) (within v w q) = absurd (omega arith)
         go (after u p) (after v q) = kept (omega arith) (λ o. omega (arith, o.3)) (λ o. omega (arith, o.1)) ∙ none g h false p q
 
-  pub rows-done : n ≤ desk.nodes → new ≡ step_row raised n r old
+  pub rows_done : n ≤ desk.nodes → new ≡ step_row raised n r old
   unfolding step_row
-  rows-done few =
+  rows_done few =
       triangle-is (stepped raised n r old) desk.nodes new (second.size ∙ first.size ∙ size ∙ sym all-pairs)
       (λ g h a b c.
       elim (dec_le h n) [
@@ -69,10 +69,10 @@ lowered-is : (y d rest : ℕ) (b : Bool) → rest ≡ (type_end - d) % type_end 
 lowered-is y d rest true e = omega arith
 lowered-is y d rest false e = omega arith
 
-pub taken-is : (n : ℕ) (r : Demand) (rest : ℕ) (old : List ℕ) → rest ≡ (type_end - r.amount) % type_end → step_row raised n (demand r.first r.second rest) old ≡ step_row lowered n r old
+pub taken_is : (n : ℕ) (r : Demand) (rest : ℕ) (old new : List ℕ) → new ≡ step_row raised n (demand r.first r.second rest) old → rest ≡ (type_end - r.amount) % type_end → new ≡ step_row lowered n r old
 unfolding step_row part
-taken-is n r rest old e =
-    triangle-is (stepped lowered n r old) desk.nodes (triangle (stepped raised n (demand r.first r.second rest) old) desk.nodes) (triangle-length _ desk.nodes)
+taken_is n r rest old new is e =
+    is ∙ triangle-is (stepped lowered n r old) desk.nodes (triangle (stepped raised n (demand r.first r.second rest) old) desk.nodes) (triangle-length _ desk.nodes)
     (λ g h a b c.
     triangle-at (stepped raised n (demand r.first r.second rest) old) desk.nodes g h a b c ∙
     ap (λ x. cond (nat_le h n) x (at old g h)) (lowered-is (at old g h) r.amount rest (xor (in_front r g) (in_front r h)) e))

@@ -12,44 +12,44 @@ use Rattle.across.specs.Lines.{BlockStep}
 use Rattle.across.specs.Ways.{on_front, on_back, RaisedWay, LeastOver}
 
 module _ (n : ℕ) (few : n ≤ desk.nodes) (r : Demand) (on : OnRing n r) (by : ℕ) (old : List ℕ) where
-  pub front-raised : (new : List ℕ) → BlockStep by (r.first + 1) (r.second + 1) r.first r.second old new → RaisedWay (on_front r) n by old new
-  front-raised new s = record { size = s.size; is = λ g h a b c. go g h a b c (side r g) (side r h) }
+  pub front_raised : (new : List ℕ) → BlockStep by (r.first + 1) (r.second + 1) r.first (desk.nodes + 1) old new → RaisedWay (on_front r) n by old new
+  front_raised new s = record { size = s.size; is = λ g h a b c. go g h a b c (side r g) (side r h) }
     where
       go : (g h : ℕ) → 1 ≤ g → g ≤ h → h ≤ n → Side r g → Side r h → cell new g h ≡ cond (on_front r g h) (raised (cell old g h) by) (cell old g h)
-      go g h a b c (within u v p) (within w z q) = rw (p, q) (s.within g (h + 1) a (omega arith) (omega arith) (omega arith, omega arith, u, v))
+      go g h a b c (within u v p) (within w z q) = rw (p, q) (s.within g (h + 1) a (omega arith) (omega arith) (omega arith, omega arith, u, omega arith))
       go g h a b c (within u v p) (before w q) = absurd (omega arith)
       go g h a b c (within u v p) (after w q) = rw (p, q) (s.outside g (h + 1) a (omega arith) (omega arith) (λ o. omega (arith, o.1)))
       go g h a b c (before u p) z = rw p (s.outside g (h + 1) a (omega arith) (omega arith) (λ o. omega (arith, o.2)))
-      go g h a b c (after u p) z = rw p (s.outside g (h + 1) a (omega arith) (omega arith) (λ o. omega (arith, o.3)))
+      go g h a b c (after u p) z = rw p (s.outside g (h + 1) a (omega arith) (omega arith) (λ o. omega (arith, o.1)))
 
-  pub back-raised : (one two new : List ℕ) → BlockStep by 2 (r.first + 1) 1 r.first old one → BlockStep by (r.second + 1) (n + 2) 1 r.first one two
-      → BlockStep by (r.second + 1) (n + 2) r.second (n + 1) two new → RaisedWay (on_back r) n by old new
-  back-raised one two new s t u = record { size = u.size ∙ t.size ∙ s.size; is = λ g h a b c. go g h a b c (side r g) (side r h) }
+  pub back_raised : (one two new : List ℕ) → BlockStep by 2 (r.first + 1) 1 (desk.nodes + 1) old one → BlockStep by (r.second + 1) (n + 2) 1 r.first one two
+      → BlockStep by (r.second + 1) (n + 2) r.second (desk.nodes + 1) two new → RaisedWay (on_back r) n by old new
+  back_raised one two new s t u = record { size = u.size ∙ t.size ∙ s.size; is = λ g h a b c. go g h a b c (side r g) (side r h) }
     where
       go : (g h : ℕ) → 1 ≤ g → g ≤ h → h ≤ n → Side r g → Side r h → cell new g h ≡ cond (on_back r g h) (raised (cell old g h) by) (cell old g h)
       go g h a b c x y = both x y
         where
-          third : (((r.second + 1 ≤ h + 1) × (h + 1 < n + 2) × (r.second ≤ g) × (g < n + 1)) → ⊥) → cell new g h ≡ cell two g h
+          third : (((r.second + 1 ≤ h + 1) × (h + 1 < n + 2) × (r.second ≤ g) × (g < desk.nodes + 1)) → ⊥) → cell new g h ≡ cell two g h
           third = u.outside g (h + 1) a (omega arith) (omega arith)
 
           second : (((r.second + 1 ≤ h + 1) × (h + 1 < n + 2) × (1 ≤ g) × (g < r.first)) → ⊥) → cell two g h ≡ cell one g h
           second = t.outside g (h + 1) a (omega arith) (omega arith)
 
-          first : (((2 ≤ h + 1) × (h + 1 < r.first + 1) × (1 ≤ g) × (g < r.first)) → ⊥) → cell one g h ≡ cell old g h
+          first : (((2 ≤ h + 1) × (h + 1 < r.first + 1) × (1 ≤ g) × (g < desk.nodes + 1)) → ⊥) → cell one g h ≡ cell old g h
           first = s.outside g (h + 1) a (omega arith) (omega arith)
 
           both : Side r g → Side r h → cell new g h ≡ cond (on_back r g h) (raised (cell old g h) by) (cell old g h)
           both (before x p) (before y q) =
-              rw (p, q) (third (λ o. omega (arith, o.0, on.order)) ∙ second (λ o. omega (arith, o.0, on.order)) ∙ s.within g (h + 1) a (omega arith) (omega arith) (omega arith, omega arith, a, x))
+              rw (p, q) (third (λ o. omega (arith, o.0, on.order)) ∙ second (λ o. omega (arith, o.0, on.order)) ∙ s.within g (h + 1) a (omega arith) (omega arith) (omega arith, omega arith, a, omega arith))
           both (before x p) (after y q) =
               rw (p, q)
               (third (λ o. omega (arith, o.2, on.order)) ∙ t.within g (h + 1) a (omega arith) (omega arith) (omega arith, omega arith, a, x) ∙ ap (λ z. raised z by) (first (λ o. omega (arith, o.1, on.order))))
           both (after x p) (after y q) =
               rw (p, q)
               (u.within g (h + 1) a (omega arith) (omega arith) (omega arith, omega arith, x, omega arith)
-              ∙ ap (λ z. raised z by) (second (λ o. omega (arith, o.3, on.order)) ∙ first (λ o. omega (arith, o.3, on.order))))
+              ∙ ap (λ z. raised z by) (second (λ o. omega (arith, o.3, on.order)) ∙ first (λ o. omega (arith, o.1, on.order))))
           both (before x p) (within y z q) = rw (p, q) (third (λ o. omega (arith, o.0)) ∙ second (λ o. omega (arith, o.0)) ∙ first (λ o. omega (arith, o.1)))
-          both (within x y p) z = rw p (third (λ o. omega (arith, o.2)) ∙ second (λ o. omega (arith, o.3)) ∙ first (λ o. omega (arith, o.3)))
+          both (within x y p) z = rw p (third (λ o. omega (arith, o.2)) ∙ second (λ o. omega (arith, o.3)) ∙ first (λ o. omega (arith, o.1)))
           both (after x p) (before y q) = absurd (omega (arith, on.order))
           both (after x p) (within y z q) = absurd (omega (arith, on.order))
 
@@ -94,3 +94,5 @@ module _ (t : List ℕ) (r : Demand) (h g x : ℕ) (s : Lowest t r h g x) where
 
   pub least-done : r.second ≤ h → LeastOver t r x
   least-done l = record { below = λ v w a b c. s.below v w a b (omega arith); one = s.one }
+
+pub ruleset least_laws = (least_start, least-turn, least-line, none-less, least-done)

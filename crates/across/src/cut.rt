@@ -36,6 +36,7 @@ fn scan(triangle: &[u32], beyond: usize, n: usize) -> Cut
 }
 
 /// The largest cut of a ring of n nodes, 2 to 64; its across number is in units.
+#[tactic(auto, using(crate::proofs::Places::cuts_in))]
 pub fn largest_cut(triangle: &[u32; PLACES], n: usize) -> Cut
     requires two { 2 ≤ n }
     requires few { n ≤ desk.nodes }
@@ -45,6 +46,7 @@ pub fn largest_cut(triangle: &[u32; PLACES], n: usize) -> Cut
 }
 
 /// The same of a triangle of links g < h alone.
+#[tactic(auto, using(crate::proofs::Places::cuts_kept))]
 pub fn largest_kept_cut(triangle: &[u32; PAIRS], n: usize) -> Cut
     requires two { 2 ≤ n }
     requires few { n ≤ desk.nodes }

@@ -1,10 +1,12 @@
 //! A triangle's numbers, raised one by one and on a block of lines.
-ghost use Rattle.std.specs.Prelude.{length};
+ghost use Rattle.std.specs.Prelude.{◌≡◌, ◌+◌, ◌≤◌, min, length};
+ghost use Rattle.ring.specs.Limits.{desk};
 ghost use Rattle.across.specs.Triangle.{at};
 ghost use Rattle.across.specs.Step.{raised};
 ghost use Rattle.across.specs.Lines.{PairIn, PutAt, BlockStep, BlockFits};
 
 use crate::place::{number, put};
+use ring::LINKS;
 
 /// The number of i < j is raised. Sums that wrap around take no test.
 pub(crate) fn raise(triangle: &mut [u32], i: usize, j: usize, by: u32)
@@ -14,7 +16,16 @@ pub(crate) fn raise(triangle: &mut [u32], i: usize, j: usize, by: u32)
     put(triangle, i, j, number(triangle, i, j).wrapping_add(by));
 }
 
+// Where a block ends on a line. One that goes as far as lines do takes no test for each of them, since it says so by a number that the compiler knows.
+fn end_on_line(high: usize, j: usize) -> usize
+    requires { j ≤ desk.nodes + 1 }
+    ensures { result ≡ min high j }
+{
+    if high > LINKS { j } else { high.min(j) }
+}
+
 /// On the lines from `first` up to `end` the numbers of `low` up to `high` are raised, of each line those below it. By 0 nothing changes.
+#[tactic(auto, using(crate::proofs::LineSteps::block_laws))]
 pub(crate) fn raise_block(
     triangle: &mut [u32],
     first: usize,
@@ -30,7 +41,7 @@ pub(crate) fn raise_block(
         return;
     }
     for j in first..end {
-        for i in low..high.min(j) {
+        for i in low..end_on_line(high, j) {
             raise(triangle, i, j, by);
         }
     }

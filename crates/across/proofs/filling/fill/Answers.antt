@@ -1,47 +1,18 @@
--- `fill`: the rows that are left make up what the triangle lacks; then lines are summed up, from the last to the second.
+-- `fill`: a row's nodes have a place; then lines are summed up, from the last to the second.
 use Rattle.std.proofs.Common.{◌≡◌, [], ◌+◌, ◌-◌, arith, rules}
 use Rattle.across.proofs.Places.{pair_in}
-use Rattle.across.proofs.FillSteps.{fill_start, fill-fits, fill_turn, sum_start, sum-enter, no-sum, sum-next, sum-turn, fill_done}
+use Rattle.across.proofs.FillSteps.{fill-fits, sum-enter, no-sum, fill_done}
 use Rattle.across.proofs.filling.fill.Goals as goal
-
-pub loop-row-init : goal.loop-row-init
-loop-row-init g c = fill_start _ _ _ _ c.requires.fit c.requires.zeros (search rules)
 
 pub raise-requires : goal.raise-requires
 raise-requires g c =
     let f = fill-fits _ _ c.requires.fit _ _ _ _ c.in-Some.ensures.steps c.loop-row.invariant in
     pair_in _ _ _ c.loop-row.invariant.size f.on.low f.on.order (omega (arith, f.on.high, c.requires.fit.links))
 
-pub loop-row-preserved : goal.loop-row-preserved
-loop-row-preserved g c = fill_turn _ _ c.requires.fit _ _ _ _ c.in-Some.ensures.steps c.loop-row.invariant _ c.raise.ensures
-
-pub loop-j-init : goal.loop-j-init
-loop-j-init g c = sum_start _ _ c.requires.fit _ _ c.in-None.ensures.steps.0 c.loop-row.invariant
-
 pub loop-i-init : goal.loop-i-init
 loop-i-init g c =
     let e : (c.loop-j.j - 1) + 1 ≡ c.loop-j.j = omega arith in
     record { so_far = sum-enter _ _ c.requires.fit _ _ 0 (omega arith) (rw e c.loop-j.invariant); sum = no-sum _ _ c.requires.fit [] _ 0 (omega arith) }
-
-pub number-sum-requires : goal.number-sum-requires
-number-sum-requires g c = pair_in _ _ _ c.loop-i.invariant.so_far.size (search rules) (omega arith) (omega (arith, c.requires.fit.links))
-
-pub number-requires : goal.number-requires
-number-requires g c = pair_in _ _ _ c.loop-i.invariant.so_far.size (search rules) (omega arith) (omega (arith, c.requires.fit.links))
-
-pub put-requires : goal.put-requires
-put-requires g c = pair_in _ _ _ c.loop-i.invariant.so_far.size (search rules) (omega arith) (omega (arith, c.requires.fit.links))
-
-pub loop-i-preserved : goal.loop-i-preserved
-loop-i-preserved g c =
-    let i = c.loop-i.invariant in
-    record {
-      so_far = sum-turn _ _ c.requires.fit _ _ _ (omega arith) i.so_far _ i.sum (search rules) c.loop-i-test.true _ c.number-sum.ensures _ _ c.number.ensures c.put.ensures;
-      sum = sum-next _ _ c.requires.fit _ _ _ (omega arith) i.so_far _ i.sum (search rules) c.loop-i-test.true _ c.number-sum.ensures;
-    }
-
-pub loop-j-preserved : goal.loop-j-preserved
-loop-j-preserved g c = let e : c.loop-i.i ≡ c.loop-j.j - 1 = search rules in rw e at c.loop-i.invariant.so_far
 
 pub returns : goal.returns
 returns g c = fill_done _ _ c.requires.fit _ _ _ (omega arith) c.loop-j.invariant c.take_from_means.ensures
