@@ -140,6 +140,28 @@ all_turned n old now loads before turns s = go (choice n now) refl
     go None e = done e
     go (Some p) e = done (s.rests.still (omega (arith, o.small)) (omega (arith, choice-lowers n now p e)))
 
+-- ---- turns behind turns
+
+pub joined : (n : ℕ) (old mid new : List Routed) (loads after : List ℕ) (before turns more' : ℕ) → Settling n old mid loads before turns → Settling n mid new after turns more' → Settling n old new after before more'
+joined n old mid new loads after before turns more' a b =
+    record {
+      size = b.size;
+      carries = b.carries;
+      fit = b.fit;
+      demands = b.demands ∙ a.demands;
+      whole = b.whole;
+      far = b.far;
+      enough = b.enough;
+      left = b.left ∙ (enough_same n (peak_of n mid) a.far turns mid (omega arith) a.enough ∙ a.left);
+      small = b.small;
+    }
+
+pub then_settles : (loads : List ℕ) (old : List Routed) (limit : Limit) (mid : List Routed) (after : List ℕ) (before turns : ℕ) → SettlesTo limit (length loads) old mid after before turns →
+    (new : List Routed) (last : List ℕ) (more' : ℕ) → SettlesTo no_limit (length after) mid new last turns more' → SettlesTo no_limit (length loads) old new last before more'
+then_settles loads old limit mid after before turns s new last more' b =
+    let c : SettlesTo no_limit (length loads) mid new last turns more' = rw s.so_far.size at b in
+    record { so_far = joined (length loads) old mid new after last before turns more' s.so_far c.so_far; rests = c.rests }
+
 -- ---- the next row
 
 module _ (rs : List Routed) (loads : List ℕ) (limit : Limit) (turns : ℕ) where

@@ -34,12 +34,12 @@ use Rattle.weight.specs.Limits.{across_bound}
 use Rattle.turns.specs.declared.Tried.{Tried}
 use Rattle.turns.specs.declared.settle.Limit.{Limit}
 use Rattle.turns.specs.Settles.{Wholes, no_limit, Settling, SettlesTo}
-use Rattle.turns.specs.Known.{end_peak, Noted, OnTheWay, NotedOf, Again, Made, StartTried, tried_with, LastIs}
+use Rattle.turns.specs.Known.{end_peak, NotedOn, OnTheWay, NotedOf, Again, Made, StartTried, tried_with, LastIs}
 use Rattle.turns.specs.Starts.{lower_of, meets, SmallAmounts, across_between}
 use Rattle.turns.specs.TurnedLoads.{Carries}
 use Rattle.turns.proofs.PickSteps.{top_peak}
 use Rattle.turns.proofs.SameStarts.{same-peaks}
-use Rattle.turns.proofs.SettleSteps.{enough_same, turns-same, start_whole, all_turned}
+use Rattle.turns.proofs.SettleSteps.{enough_same, turns-same, start_whole, all_turned, joined}
 use Rattle.turns.proofs.KnownSteps.{known_peak}
 use Rattle.turns.proofs.RowsFit.{peak-most}
 use Rattle.turns.proofs.Starts.{start-loads, start-peak, ways-floor}
@@ -144,62 +144,68 @@ module _ (n : ℕ) (rs : List Demand) (link : ℕ) where
     pub start_small : 0 + peak_of (length loads) rows ≤ across_bound
     start_small = omega (arith, peak-most (length loads) rows start_fits)
 
-    -- so many turns
-    module _ (limit : Limit) (mid : List Routed) (after : List ℕ) (turns : ℕ) (s : SettlesTo limit (length loads) rows mid after 0 turns) where
-      o : Settling n (start link rs) mid after 0 turns
-      o = rw (size, e) at s.so_far
+    pub at_start : Carries (unsplit_load rows) loads → Settling n (start link rs) rows loads 0 0
+    at_start c =
+        record {
+          size = size;
+          carries = c;
+          fit = rw size at start_fits;
+          demands = ap (λ (l : List Routed). demands (sents l)) e;
+          whole = start_wholes;
+          far = peak_of n rows;
+          enough = omega arith;
+          left = ap (λ (l : List Routed). settle n (peak_of n l) 0 l) e;
+          small = rw size at start_small;
+        }
 
-      pub mid_size : length after ≡ n
-      mid_size = o.size
+    pub start_on : (limit : Limit) (mid : List Routed) (after : List ℕ) (turns : ℕ) → SettlesTo limit (length loads) rows mid after 0 turns → Settling n (start link rs) mid after 0 turns
+    start_on limit mid after turns s = rw (size, e) at s.so_far
 
-      pub mid_fits : DemandsFit (length after) (demands (sents mid))
-      mid_fits = rw o.size o.fit
+  -- so many turns behind it
+  module _ (mid : List Routed) (loads : List ℕ) (turns : ℕ) (o : Settling n (start link rs) mid loads 0 turns) where
+    pub mid_keeps : demands (sents mid) ≡ rs
+    mid_keeps = o.demands ∙ start-demands link rs
 
-      pub mid_carries : Carries (unsplit_load mid) after
-      mid_carries = o.carries
+    all-left : settle n (peak_of n (start link rs)) 0 (start link rs) ≡ settle n (peak_of n mid) turns mid
+    all-left = sym o.left ∙ enough_same n o.far (peak_of n mid) turns mid o.enough (omega arith)
 
-      pub mid_wholes : Wholes mid
-      mid_wholes = o.whole
+    pub on_way : OnTheWay n rs link mid
+    unfolding from_start end_peak
+    on_way =
+        record {
+          demands = mid_keeps;
+          whole = o.whole;
+          ends = ap (λ (x : Settled). peak_of n x.rows) all-left ∙ ap (peak_of n) (turns-same n (peak_of n mid) turns 0 mid);
+        }
 
-      pub mid_small : turns + peak_of (length after) mid ≤ across_bound
-      mid_small = rw o.size o.small
+    -- and all that are left
+    module _ (new : List Routed) (last : List ℕ) (f : Turned) (s : SettlesTo no_limit (length loads) mid new last turns f.turns) (top : f.peak ≡ peak (link_at last) (length last)) (l : f.link ≡ link) where
+      s' : SettlesTo no_limit n mid new last turns f.turns
+      s' = rw o.size at s
 
-      pub mid_keeps : demands (sents mid) ≡ rs
-      mid_keeps = o.demands ∙ start-demands link rs
+      settled : settle n (peak_of n (start link rs)) 0 (start link rs) ≡ record { rows = new; turns = f.turns }
+      settled = all-left ∙ all_turned n mid new last turns f.turns s'
 
-      all-left : settle n (peak_of n (start link rs)) 0 (start link rs) ≡ settle n (peak_of n mid) turns mid
-      all-left = sym o.left ∙ enough_same n o.far (peak_of n mid) turns mid o.enough (omega arith)
+      start-rows : new ≡ (from_start n rs link).rows
+      unfolding from_start
+      start-rows = rw settled
 
-      pub on_way : OnTheWay n rs link mid
-      unfolding from_start end_peak
-      on_way =
-          record {
-            demands = mid_keeps;
-            whole = o.whole;
-            ends = ap (λ (x : Settled). peak_of n x.rows) all-left ∙ ap (peak_of n) (turns-same n (peak_of n mid) turns 0 mid);
-          }
+      start-figures : f ≡ (from_start n rs link).figures
+      unfolding from_start
+      start-figures = let p : f.peak ≡ peak_of n new = rw s'.so_far.size at (top_peak new last f.peak s'.so_far.carries top) in rw (settled, ← p, ← l) refl
 
-      -- and all that are left
-      module _ (new : List Routed) (last : List ℕ) (f : Turned) (s' : SettlesTo no_limit (length after) mid new last turns f.turns) (top : f.peak ≡ peak (link_at last) (length last)) (l : f.link ≡ link) where
-        o' : SettlesTo no_limit n mid new last turns f.turns
-        o' = rw o.size at s'
+      pub new_keeps : demands (sents new) ≡ rs
+      new_keeps = start_keeps new start-rows
 
-        settled : settle n (peak_of n (start link rs)) 0 (start link rs) ≡ record { rows = new; turns = f.turns }
-        settled = all-left ∙ all_turned n mid new last turns f.turns o'
-
-        start-rows : new ≡ (from_start n rs link).rows
-        unfolding from_start
-        start-rows = rw settled
-
-        start-figures : f ≡ (from_start n rs link).figures
-        unfolding from_start
-        start-figures = let p : f.peak ≡ peak_of n new = rw o'.so_far.size at (top_peak new last f.peak o'.so_far.carries top) in rw (settled, ← p, ← l) refl
-
-        pub new_keeps : demands (sents new) ≡ rs
-        new_keeps = start_keeps new start-rows
-
-        pub start_made : (ways : List Way) → Noted mid ways → Made n rs link ways new f
-        start_made ways noted = record { rows = start-rows; is = start-figures; noted = record { rows = mid; on = on_way; noted = noted } }
+  pub start_made : (mid : List Routed) (loads : List ℕ) (turns : ℕ) (o : Settling n (start link rs) mid loads 0 turns) (new : List Routed) (last : List ℕ) (f : Turned) → SettlesTo no_limit (length loads) mid new last turns f.turns →
+      f.peak ≡ peak (link_at last) (length last) → f.link ≡ link → (ways : List Way) → NotedOn (length loads) mid turns ways → Made n rs link ways new f
+  start_made mid loads turns o new last f s top l ways noted =
+      let t : NotedOn n mid turns ways = rw o.size at noted in
+      record {
+        rows = start-rows mid loads turns o new last f s top l;
+        is = start-figures mid loads turns o new last f s top l;
+        noted = record { rows = t.rows; on = on_way t.rows t.loads t.turns (joined n (start link rs) mid t.rows loads t.loads 0 turns t.turns o t.so_far); noted = t.noted };
+      }
 
 -- ---- all starts
 

@@ -9,7 +9,7 @@ use Rattle.ring.specs.Sheet.{demands_of}
 use Rattle.turns.specs.declared.Turned.{Turned}
 use Rattle.turns.specs.declared.Tried.{Tried}
 use Rattle.turns.specs.Turns.{peak_of, settle, from_start}
-use Rattle.turns.specs.Settles.{Wholes}
+use Rattle.turns.specs.Settles.{Wholes, Settling}
 use Rattle.turns.specs.Starts.{lower_of}
 
 -- two ways are one
@@ -40,6 +40,14 @@ pub record IfSame (answer : Bool) (rs : List Routed) (ways : List Way) : Type 0 
 unfoldable pub end_peak : ℕ → List Routed → ℕ
 unfolding peak_of settle
 end_peak n rs = peak_of n (settle n (peak_of n rs) 0 rs).rows
+
+-- these are the ways of rows that turns from the old rows on come to
+pub record NotedOn (n : ℕ) (old : List Routed) (before : ℕ) (ways : List Way) : Type 0 where
+  pub rows : List Routed
+  pub loads : List ℕ
+  pub turns : ℕ
+  pub so_far : Settling n old rows loads before turns
+  pub noted : Noted rows ways
 
 -- from these rows on, turns end with the peak of the start that avoids link a
 pub record OnTheWay (n : ℕ) (rs : List Demand) (a : ℕ) (now : List Routed) : Type 0 where

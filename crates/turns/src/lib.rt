@@ -30,7 +30,7 @@ ghost use Rattle.turns.specs.Promised.{
 ghost use Rattle.turns.specs.Starts.{lower_of};
 ghost use Rattle.turns.specs.Settles.{Wholes, SettlesTo, no_limit};
 ghost use Rattle.turns.specs.TurnedLoads.{Carries};
-ghost use Rattle.turns.specs.Known.{Noted, Made, StartTried, LastIs, tried_with};
+ghost use Rattle.turns.specs.Known.{NotedOn, Made, StartTried, LastIs, tried_with};
 
 use across::{PLACES, fill, largest_cut};
 use known::{Known, note_ways, same_ways};
@@ -48,8 +48,8 @@ pub struct Turned {
     pub turns: u32,
 }
 
-// How many turns of the first start are made before its ways are noted, to know a later start by them. Starts that come to one another mostly do so early.
-const EARLY: u32 = 128;
+// So many turns are made of a start before its ways are noted, to know a later start by them. Starts that come to one another mostly do so early.
+const EARLY: u32 = 64;
 
 // Turns are left off where none lowers the peak.
 const NO_LIMIT: Limit = Limit {
@@ -57,7 +57,8 @@ const NO_LIMIT: Limit = Limit {
     turns: u32::MAX,
 };
 
-// The ways of a start are noted, and the turns that are left of it are made.
+// The turns that are left of a start are made. Its ways are noted early, behind those that it was held to: so where starts come to one another late, they are held
+// to later ways from one start to the next.
 fn finish<R: RowsMut>(
     rows: &mut R,
     loads: &mut Loads,
@@ -74,10 +75,16 @@ fn finish<R: RowsMut>(
         before result.turns }
     ensures peak { result.peak ≡ peak (link_at loads.new) (length loads.new) }
     ensures link { result.link ≡ link }
-    ensures noted { Noted (R.rows rows.old) known.new.ways }
+    ensures noted { NotedOn (length loads.old) (R.rows rows.old) before known.new.ways }
 {
+    let early = Limit {
+        peak: 0,
+        turns: before + EARLY,
+    };
+    let so_far = settle(rows, loads, early, before);
     note_ways(rows, &mut known.ways);
-    let turns = settle(rows, loads, NO_LIMIT, before);
+    known.peak = loads.peak();
+    let turns = settle(rows, loads, NO_LIMIT, so_far);
     Turned {
         peak: loads.peak(),
         link,
@@ -85,7 +92,7 @@ fn finish<R: RowsMut>(
     }
 }
 
-// What the start that avoids a link leads to. Its ways are noted early.
+// What the start that avoids a link leads to.
 fn from_start<R: RowsMut>(
     triangle: &[u32; PLACES],
     n: usize,
@@ -103,13 +110,7 @@ fn from_start<R: RowsMut>(
     route_avoiding(rows, link);
     let mut loads = Loads::new();
     loads.avoid(triangle, n, link as usize);
-    let early = Limit {
-        peak: 0,
-        turns: EARLY,
-    };
-    let turns = settle(rows, &mut loads, early, 0);
-    known.peak = loads.peak();
-    finish(rows, &mut loads, link, turns, known)
+    finish(rows, &mut loads, link, 0, known)
 }
 
 // The same of a later start; or nothing, where it comes to the ways that were noted of an earlier one, and so to its peak. The rows are then left on their way.
