@@ -13,11 +13,11 @@ A fact fixes what is lent in one of four forms, where x is x.new, x.new.items or
 Where E names another y.new, or the answer, the fact counts in those cases alone in which other
 facts fix that as well; so two values that are each said to be the other are open. A relation of the
 page tells what is answered with the content, and so does a reader. Where a fact x ≡ F (G x.new)
-stands too, so that G x.new tells all of x, a fact of these forms about G x.new counts as one about
-x. Facts are what a clause says: both sides of ×, what follows `let .. in`, with what is bound in its
-place, and what stands in IfOk, IfErr, IfSome, IfNone, MatchOption and their like, for that case
-alone. A fact that has a premise (→) counts for nothing, so what is counted holds of every input
-that the function takes.
+stands too, so that G x.new tells all of x, a fact of these forms about G x.new counts as one
+about x. Facts are what a clause says: both sides of ×, what follows `let .. in`, with what is
+bound put in its place, and what stands in IfOk, IfErr, IfSome, IfNone, MatchOption and their
+like, for that case alone. A fact that has a premise (→) counts for nothing, so what is counted
+holds of every input that the function takes.
 
 A parameter that lends in a form that is not read here is a fault: a tuple of `&mut`, an option or
 list of them, a pattern.
@@ -54,7 +54,7 @@ SAID = {
 }
 OPEN, CLOSE = "([{", ")]}"
 LENDS = re.compile(r"&\s*(?:'\w+ )?mut\b")
-LENT = re.compile(r"(?:&(?:'\w+ )?mut (self)$|(?:mut )?(\w+): &(?:'\w+ )?mut (?!.*&(?:'\w+ )?mut\b))")
+LENT = re.compile(r"&(?:'\w+ )?mut (self)$|(?:mut )?(\w+): &(?:'\w+ )?mut (?!.*&\s*(?:'\w+ )?mut)")
 LET = re.compile(r"let (\w+) = (?!let )(.*)")
 # what a case of the answer holds, as a clause of that case sees it
 HELD = "result.held"
@@ -142,8 +142,8 @@ def facts(clause):
 
 
 def fixes(fact, view, own, relations):
-    """The cases in which a fact fixes what is seen of its own value, '' for all, and what else has to
-    be fixed for that; None where it does not."""
+    """The cases in which a fact fixes what is seen of its own value, '' for all, and what else has
+    to be fixed for that; None where it does not."""
     sides = [bare(side) for side in split_at(fact, "≡")]
     if len(sides) != 2:
         terms = terms_of(fact)
