@@ -269,27 +269,41 @@ take_turn() {
     flock "$turn" || true
 }
 
-# Proves and builds the crates that are named behind the script that wants them, and those that they stand on, up to the first that is not proved.
+# Proves and builds the products that are named behind the script that wants them, and the crates
+# that they stand on, up to the first that is not proved.
 prove() {
-    local script=$1 crates finished=0 taken=() told='' begun_at=$SECONDS most status=0 turn
-    local -A names_of=() state=() since=() process=()
-    mapfile -t crates < <(crates_for "${@:2}")
+    local script=$1 crates finished taken told='' begun_at=$SECONDS most status=0 turn
+    local -A names_of=() state=() since=() process=() sources=()
     mkdir -p "$proofs"
     take_turn
     most=$(at_a_time)
     [ -n "${RT_JOBS:-}" ] || [ "$most" -eq "$(nproc)" ] ||
         say "there is memory for $most at a time, on $(nproc) processors"
-    lay_out_places
-    prove_all || { status=1; stop_crates; }
+    prove_until_still "${@:2}" || { status=1; stop_crates; }
     trap - INT TERM HUP
     remove_places
     exec {turn}>&-
     return "$status"
 }
 
+# Proves all, and once more as long as a source is changed while it does: a crate that was done
+# before is built of what stood there then, and the places show what is changed to some crates alone.
+prove_until_still() {
+    local name
+    while true; do
+        for name in "$@"; do sources[$name]=$(sources_of "$name"); done
+        mapfile -t crates < <(crates_for "$@")
+        lay_out_places
+        prove_all || return
+        ! note_built "$@" || return 0
+        say "a source was changed meanwhile: what stands on it is proved anew"
+    done
+}
+
 # Each crate as soon as those that it names are done.
 prove_all() {
     local name
+    finished=0 taken=()
     for name in "${crates[@]}"; do
         names_of[$name]=$(lines_for "$name" | cut -d : -f 2)
         state[$name]=waits
@@ -310,37 +324,49 @@ prove_all() {
     tell_end
 }
 
-# What the product $2 of the crate $1 is made of, in one sum: the kit, the files of the crate and of those below it, and the product.
-made_of() {
+# What a product is made of, in one sum: the kit, the files of its crate and of those below it.
+sources_of() {
     local folders
     mapfile -t folders < <(crates_for "$1" | sed 's|^|crates/|')
-    { rt version && find crates.txt "$2" "${folders[@]}" \( -name out -o -name must-fail \) -prune -o -type f -print0 | LC_ALL=C sort -z | xargs -0 sha256sum; } | sha256sum
+    { rt version && find crates.txt "${folders[@]}" \( -name out -o -name must-fail \) -prune -o -type f -print0 | LC_ALL=C sort -z | xargs -0 sha256sum; } | sha256sum
 }
 
-# Whether the product $2 of the crate $1 is there and was built of what is there now.
+# A product as it is there now, in one sum with that of its sources.
+made_of() {
+    { echo "$2" && sha256sum "$(product_of "$1")"; } | sha256sum
+}
+
+# Whether a product is there and was built of what is there now.
 is_built() {
-    [ -f "$2" ] && [ "$(cat "$proofs/$1.built" 2>/dev/null)" = "$(made_of "$1" "$2")" ]
+    [ -f "$(product_of "$1")" ] &&
+        [ "$(cat "$proofs/$1.built" 2>/dev/null)" = "$(made_of "$1" "$(sources_of "$1")")" ]
 }
 
-# Notes of what the product $2 of the crate $1 was built.
+# Notes of what the products were built; of none that has other sources now than when they were
+# begun. Whether each was noted.
 note_built() {
-    made_of "$1" "$2" >"$proofs/$1.built"
+    local name all=0
+    for name in "$@"; do
+        if [ "$(sources_of "$name")" = "${sources[$name]}" ]; then
+            made_of "$name" "${sources[$name]}" >"$proofs/$name.built"
+        else
+            all=1
+        fi
+    done
+    return "$all"
 }
 
 # What a crate is built to, of which something is built.
 product_of() { if [ "$1" = ringkit_c ]; then echo "$library"; else program_of "$1"; fi; }
 
-# Proves and builds what the crates behind the script that wants it are built to, where that is not there or not built of what is there now.
+# Proves and builds the products behind the script that wants them that are not there or not built of
+# what is there now.
 make_products() {
     local crate stale=()
     for crate in "${@:2}"; do
-        is_built "$crate" "$(product_of "$crate")" || stale+=("$crate")
+        is_built "$crate" || stale+=("$crate")
     done
-    [ ${#stale[@]} -gt 0 ] || return 0
-    prove "$1" "${stale[@]}" || return
-    for crate in "${stale[@]}"; do
-        note_built "$crate" "$(product_of "$crate")"
-    done
+    [ ${#stale[@]} -eq 0 ] || prove "$1" "${stale[@]}"
 }
 
 # The archive, for tests and benchmarks. Where it is built already it stays as it is, so that who reads it meanwhile is not disturbed.

@@ -6,20 +6,28 @@ not needed any more is a fault too.
 A fact fixes what is lent in one of four forms, where x is x.new, x.new.items or the rows of x.new:
   x ≡ E, either way round, where E does not name x.new;
   E ≡ first ∷ x, since a list has one tail;
-  R .. x .., of a relation R that one content alone meets: those that the page names in the first
+  R .. x .., of a relation that one content alone meets: those that the page names in the first
     sentence below "Public functions";
   f .. x .. result ≡ E, of a reader f of `READERS`: it fixes x where the answer is Ok, and nothing
     where it is Err.
-Where a fact x ≡ F (G x.new) stands too, so that G x.new tells all of x, a fact of these forms about
-G x.new counts as one about x. Facts are what a clause says: both sides of ×, what follows
-`let .. in`, and what stands in IfOk, IfErr, IfSome, IfNone, MatchOption and their like, for that
-case alone. A fact that has a premise (→) counts for nothing, so what is counted holds of every
-input that the function takes.
+Where E names another y.new, or the answer, the fact counts in those cases alone in which other
+facts fix that as well; so two values that are each said to be the other are open. A relation of the
+page tells what is answered with the content, and so does a reader. Where a fact x ≡ F (G x.new)
+stands too, so that G x.new tells all of x, a fact of these forms about G x.new counts as one
+about x. Facts are what a clause says: both sides of ×, what follows `let .. in`, with what is
+bound put in its place, and what stands in IfOk, IfErr, IfSome, IfNone, MatchOption and their
+like, for that case alone. A fact that has a premise (→) counts for nothing, so what is counted
+holds of every input that the function takes.
+
+A parameter that lends in a form that is not read here is a fault: a tuple of `&mut`, an option or
+list of them, a pattern.
 
 What this cannot see: whether one content alone does meet a relation (the page names the theorem),
 whether a clause is true (the check says so), what is changed through a value that holds a `&mut`,
-and what a trait of std promises of a type, as of an iterator's `next`. A function counts as public
-where `pub fn` stands in front of it and its type is public, or where its trait is."""
+and what a trait of std promises of a type, as of an iterator's `next`. It asks nothing of an answer
+alone: of a function that is lent nothing, or of an answer that no lent value is said by. A function
+counts as public where `pub fn` stands in front of it and its type is public, or where its trait
+is."""
 import re
 
 # what is answered, with what stands beside it, is what E says: nothing is said beside an Err
@@ -45,7 +53,11 @@ SAID = {
     "": "in every case",
 }
 OPEN, CLOSE = "([{", ")]}"
-LENT = re.compile(r"&(?:'\w+ )?mut (self)$|(\w+): &(?:'\w+ )?mut ")
+LENDS = re.compile(r"&\s*(?:'\w+ )?mut\b")
+LENT = re.compile(r"&(?:'\w+ )?mut (self)$|(?:mut )?(\w+): &(?:'\w+ )?mut (?!.*&\s*(?:'\w+ )?mut)")
+LET = re.compile(r"let (\w+) = (?!let )(.*)")
+# what a case of the answer holds, as a clause of that case sees it
+HELD = "result.held"
 BLOCK = re.compile(r"(pub trait|impl\b(?:<[^>]*>)?)(?: .* for)? &?(?:'a )?\[?(\w+)")
 HEAD = re.compile(r" *(pub )?(?:const )?(?:extern \"C\" )?fn (\w+)")
 ANSWER = re.compile(r"\s*(?:-> ([^\n{;]*?))?(?=\s*(?:[{;\n]))")
@@ -75,17 +87,11 @@ def split_at(text, mark):
 
 
 def bare(text):
-    """A fact or a term without brackets round all of it, what a λ binds, and `let .. in`."""
+    """A fact or a term without brackets round all of it."""
     text = text.strip()
-    while True:
-        if text.startswith("(") and closing(text, 0) == len(text):
-            text = text[1:-1].strip()
-        elif found := re.match(r"λ [^.]*\. ", text):
-            text = text[found.end() :].strip()
-        elif text.startswith("let ") and len(parts := split_at(text, " in ")) > 1:
-            text = " in ".join(parts[1:])
-        else:
-            return text
+    while text.startswith("(") and closing(text, 0) == len(text):
+        text = text[1:-1].strip()
+    return text
 
 
 def terms_of(text):
@@ -93,9 +99,33 @@ def terms_of(text):
     return [bare(term) for term in split_at(text, " ")]
 
 
+def put_in(text, word, said):
+    """A text with something said in the place of a word, which it does not bind again."""
+    if re.search(rf"(?:let|λ)(?: \w+)* {word}\b", text):
+        return ""
+    return re.sub(rf"(?<![\w.']){word}(?![\w'])", lambda _: said, text)
+
+
+def named_in(text):
+    """The lent values whose content a term names, and `result` where it names the answer."""
+    return set(re.findall(r"\b(\w+)\.new\b", text)) | set(re.findall(r"\bresult\b", text))
+
+
+def of_case(part):
+    """What is said of one case, with a name of its own for what the case holds."""
+    text = bare(part)
+    found = re.match(r"λ (\w+)\. ", text)
+    return put_in(text[found.end() :], found[1], HELD) if found else text
+
+
 def facts(clause):
     """The facts that a clause says without a premise, each with its case, or with '' for all."""
     text = bare(clause)
+    if text.startswith("let "):
+        bound, *rest = split_at(text, " in ")
+        if found := LET.fullmatch(bound):
+            yield from facts(put_in(" in ".join(rest), found[1], f"({found[2]})"))
+        return
     if len(split_at(text, "→")) > 1 or len(split_at(text, "↔")) > 1:
         return
     both = split_at(text, "×")
@@ -105,57 +135,88 @@ def facts(clause):
             yield from facts(part)
     elif terms[0] in CASES and terms[1] == "result":
         for case, part in zip(CASES[terms[0]], terms[2:]):
-            yield from ((case, fact) for inner, fact in facts(part) if inner in ("", case))
+            inside = facts(of_case(part))
+            yield from ((case, fact) for inner, fact in inside if inner in ("", case))
     else:
         yield "", text
 
 
-def fixes(fact, view, lent, relations):
-    """The cases in which a fact fixes what is seen of a lent value, '' for all; None for none."""
+def fixes(fact, view, own, relations):
+    """The cases in which a fact fixes what is seen of its own value, '' for all, and what else has
+    to be fixed for that; None where it does not."""
     sides = [bare(side) for side in split_at(fact, "≡")]
     if len(sides) != 2:
         terms = terms_of(fact)
-        return "" if terms[0] in relations and view in terms else None
+        others = [named_in(term) for term in terms if term != view]
+        if terms[0] in relations and view in terms and not any(own in named for named in others):
+            return "", set().union(*others) - {"result"}
+        return None
     for one, other in (sides, sides[::-1]):
-        if lent in other:
+        needed = named_in(other)
+        if own in needed:
             continue
         tail = split_at(one, "∷")
         if one == view or len(tail) > 1 and tail[-1] == view:
-            return ""
+            return "", needed
         terms = terms_of(one)
         if terms[0] in READERS and terms[-1] == "result" and view in terms:
-            return "Ok"
+            return "" if own == "result" else "Ok", needed
     return None
 
 
-def tells(fact, views, lent):
-    """What tells all of a lent value by a fact x ≡ F (G x.new): G x.new; None for any other."""
+def tells(fact, views, own):
+    """What tells all of a lent value by a fact x ≡ F (G x.new), and what else is to be fixed for
+    that: G x.new; None for any other."""
     sides = [bare(side) for side in split_at(fact, "≡")]
     if len(sides) != 2 or sides[0] not in views:
         return None
-    naming = [term for term in split_at(sides[1], " ") if lent in term]
-    return bare(naming[0]) if len(naming) == 1 and naming[0].startswith("(") else None
+    terms = split_at(sides[1], " ")
+    naming = [term for term in terms if own in named_in(term)]
+    if len(naming) != 1 or not naming[0].startswith("("):
+        return None
+    return bare(naming[0]), named_in(sides[1]) - {own}
 
 
-def left_open(name, answer, clauses, relations):
-    """The cases of an answer in which the clauses do not fix a lent value."""
+def views_of(own):
+    """The terms that each are all of a value."""
+    if own == "result":
+        return (own, HELD)
+    lent = f"{own}.new"
+    return (lent, f"{lent}.items", f"R.rows {lent}", f"Self.rows {lent}")
+
+
+def fixed_by(own, said, relations, fixed, within):
+    """The cases in which facts fix a value, as far as is known of what else they name."""
+
+    def known(cases, needed):
+        return cases.intersection(*(fixed.get(name, set()) for name in needed))
+
+    whole = views_of(own)
+    views = {view: within[""] for view in whole}
+    for case, fact in said:
+        if found := tells(fact, whole, own):
+            cases = known(within.get(case, set()), found[1])
+            views[found[0]] = views.get(found[0], set()) | cases
+    sure = set()
+    for case, fact in said:
+        for view, told in views.items():
+            if found := fixes(fact, view, own, relations):
+                cases = told & within.get(case, set()) & within.get(found[0], set())
+                sure |= known(cases, found[1])
+    return sure
+
+
+def left_open(lent, answer, clauses, relations):
+    """The cases of an answer in which the clauses do not fix a lent value, for each of these."""
     kind = re.match(r"\w*", answer).group()
     cases = {"Result": ["Ok", "Err"], "Option": ["Some", "None"]}.get(kind, [""])
     within = {case: {case} for case in cases} | {"": set(cases)}
-    lent = f"{name}.new"
     said = [fact for clause in clauses for fact in facts(clause)]
-    whole = (lent, f"{lent}.items", f"R.rows {lent}", f"Self.rows {lent}")
-    views = {view: set(cases) for view in whole}
-    for case, fact in said:
-        if told := tells(fact, whole, lent):
-            views.setdefault(told, set()).update(within.get(case, set()))
-    fixed = set()
-    for case, fact in said:
-        for view, told in views.items():
-            when = fixes(fact, view, lent, relations)
-            if when is not None:
-                fixed |= told & within.get(case, set()) & within.get(when, set())
-    return [case for case in cases if case not in fixed]
+    fixed, before = {own: set() for own in (*lent, "result")}, None
+    while fixed != before:
+        before = fixed
+        fixed = {own: fixed_by(own, said, relations, before, within) for own in before}
+    return [(own, case) for own in lent for case in cases if case not in fixed[own]]
 
 
 def head_of(text, at):
@@ -207,21 +268,56 @@ def listed(page):
             yield crate, name, lent, cases.get(said, said)
 
 
+# contracts of x: &mut .. and y: &mut .. that leave x open, each a clause or more
+LEAVES_OPEN = (
+    ["let now = x.new in x.new ≡ now"],
+    ["x.new ≡ y.new", "y.new ≡ x.new"],
+    ["x.new ≡ y.new", "Written y.old 0 (text x.new) y.new result"],
+    ["x.new ≡ f result"],
+    ["x.new ≡ f result", "IfOk result (λ n. n ≡ length x.now)"],
+    ["IfOk result (λ n. x.new ≡ n)", "IfErr result (λ _. x.new ≡ [])"],
+    ["Written x.old 0 (text x.new) x.new result"],
+    ["few x.old → x.new ≡ []"],
+    ["IfOk result (λ _. x.new ≡ [])"],
+    ["x.new ≡ map f (g x.new)"],
+)
+# and some that fix it
+LEAVES_NONE = (
+    ["let now = x.old in x.new ≡ now"],
+    ["x.new ≡ y.new", "y.new ≡ []"],
+    ["x.new ≡ f result", "result ≡ g x.old"],
+    ["MatchResult result (λ n. (n ≡ 1) × (x.new ≡ n)) (λ _. x.new ≡ [])"],
+    ["Written x.old 0 (text x.old) x.new result"],
+    ["x.new ≡ map f (g x.new)", "g x.new ≡ []"],
+    ["with_rows x.new result ≡ read y.old", "IfErr result (λ _. x.new ≡ [])"],
+)
+
+
+def tried():
+    """What is wrong with what is said of contracts by hand."""
+    for contracts, due in ((LEAVES_OPEN, True), (LEAVES_NONE, False)):
+        for clauses in contracts:
+            found = left_open(["x", "y"], "Result<usize, Refusal>", clauses, {"Written"})
+            if any(own == "x" for own, _ in found) != due:
+                yield f"{clauses} is taken for {'none' if due else 'one'} that leaves x open"
+
+
 def compared(root, page):
     """How many lent values there are, and what is wrong: each that is left open and not listed, and
     each that is listed and fixed."""
     sentence = re.search(r"a relation that one result alone meets \(([^)]*)\)", page)
     relations = set(re.findall(r"`(\w+)`", sentence[1]))
-    count, there = 0, set()
+    count, there, faults = 0, set(), list(tried())
     for crate in sorted(path.parent for path in root.glob("crates/*/src")):
         for name, parameters, answer, clauses in functions(crate):
-            for found in filter(None, map(LENT.match, parameters)):
-                lent = found[1] or found[2]
-                count += 1
-                for case in left_open(lent, answer, clauses, relations):
-                    there.add((crate.name, name, lent, case))
+            lends = [LENT.match(each) for each in parameters if LENDS.search(each)]
+            if None in lends:
+                faults.append(f"{name} (crates/{crate.name}) lends in a form that is not read")
+            lent = [found[1] or found[2] for found in lends if found]
+            count += len(lent)
+            found = left_open(lent, answer, clauses, relations)
+            there.update((crate.name, name, own, case) for own, case in found)
     said = set(listed(page))
-    faults = []
     for crate, name, lent, case in sorted(there ^ said):
         what = f"{lent} of {name} (crates/{crate}) {SAID.get(case, case)}"
         if (crate, name, lent, case) in there:

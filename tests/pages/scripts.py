@@ -31,6 +31,8 @@ esac
 name=$(basename "$PWD")
 [ "$1" != check ] || { echo "logic=proved "; [ "$name" != aside ] || echo " libc::read reached"; exit; }
 echo "$1 $name" >>TREE/asked
+[ $name != low ] || cp src/lib.rt TREE/read
+[ $name != ringkit_c ] || [ ! -e TREE/meanwhile ] || mv TREE/meanwhile TREE/crates/low/src/lib.rt
 [ ! -e out/proved ] || exit 0
 [ ! -e TREE/killed ] || { rm TREE/killed; kill -9 $$; }
 echo "rt: chose --jobs 4 for $name"
@@ -275,6 +277,20 @@ def of_building():
     told("what rt is asked for a program that is not its own", asked(), ["lib low", "lib middle", "run ringplan"])
 
 
+def of_changes():
+    """What is built while a source changes is proved anew, and then noted."""
+    make_tree()
+    write(tree / "meanwhile", "// changed\n")
+    wrote, complained, status = says("./build")
+    due = "build: a source was changed meanwhile: what stands on it is proved anew"
+    told("a change while it is built", (complained.splitlines().count(due), status), (1, 0))
+    due = ["lib low", "lib middle", "lib ringkit_c", "run ringcheck", "run ringplan"]
+    told("what rt is asked for it", sorted(asked()), sorted(2 * due))
+    told("what rt reads at last", (tree / "read").read_text(encoding="utf-8"), "// changed\n")
+    says("./build")
+    told("what rt is asked behind it", asked(), [])
+
+
 LACKING = {
     "rt": "there is no rt: it comes with the Rattle toolchain, ",
     "python3": "there is no python3, which runs rt and the tests of the pages: install the package python3\n",
@@ -365,5 +381,6 @@ def all_of_them():
     of_several()
     of_disturbances()
     of_building()
+    of_changes()
     of_missing_tools()
     of_the_gate()
