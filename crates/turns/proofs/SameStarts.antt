@@ -117,10 +117,10 @@ same-front r a e = go (eqb r.first (a + 1)) refl (eqb r.second (a + 1)) refl e
     go true f y g h = cc
     go false f true g h = cc
 
-alike-starts : (rs : List Demand) (a : ℕ) → meets (a + 1) rs ≡ false → Alike (start (a + 1) rs) (start a rs)
+same-start : (rs : List Demand) (a : ℕ) → meets (a + 1) rs ≡ false → Alike (start (a + 1) rs) (start a rs)
 unfolding meets start avoiding
-alike-starts [] a e = ended
-alike-starts (r ∷ rs) a e = go (eqb r.first (a + 1) || eqb r.second (a + 1)) refl (ltb 0 r.amount) refl (meets (a + 1) rs) refl e (alike-starts rs a)
+same-start [] a e = ended
+same-start (r ∷ rs) a e = go (eqb r.first (a + 1) || eqb r.second (a + 1)) refl (ltb 0 r.amount) refl (meets (a + 1) rs) refl e (same-start rs a)
   where
     go : (x : Bool) → eqb r.first (a + 1) || eqb r.second (a + 1) ≡ x → (y : Bool) → ltb 0 r.amount ≡ y → (z : Bool) → meets (a + 1) rs ≡ z → (x && y) || z ≡ false →
         (meets (a + 1) rs ≡ false → Alike (start (a + 1) rs) (start a rs)) → Alike (start (a + 1) (r ∷ rs)) (start a (r ∷ rs))
@@ -133,7 +133,7 @@ alike-starts (r ∷ rs) a e = go (eqb r.first (a + 1) || eqb r.second (a + 1)) r
 -- a start that differs from the one before in rows of amount 0 alone comes to its peak
 pub same-peaks : (n : ℕ) (rs : List Demand) (a : ℕ) → meets (a + 1) rs ≡ false → (from_start n rs (a + 1)).figures.peak ≡ (from_start n rs a).figures.peak
 unfolding from_start
-same-peaks n rs a e = let o = alike-starts rs a e in rw (alike-peak n o) (alike-peak n (alike-settle n (peak_of n (start a rs)) 0 o))
+same-peaks n rs a e = let o = same-start rs a e in rw (alike-peak n o) (alike-peak n (alike-settle n (peak_of n (start a rs)) 0 o))
 
 -- the rows are asked one after another
 pub some_meets : (node : ℕ) (rs : List Routed) → list_any (λ (r : Routed). sends_at r.sent.demand node) rs ≡ meets node (demands (sents rs))
