@@ -214,7 +214,10 @@ def begun(command):
     asked()
     alone = {"PATH": str(tools), "RT_JOBS": "4"}
     streams = {"stdin": subprocess.DEVNULL, "stdout": subprocess.DEVNULL, "stderr": subprocess.PIPE}
-    made = subprocess.Popen(command, cwd=tree, env=alone, **streams, encoding="utf-8", start_new_session=True)
+    # whoever runs the tests may ignore SIGINT, as a shell does behind &; a script that is stopped does not
+    listens = lambda: signal.signal(signal.SIGINT, signal.SIG_DFL)
+    made = subprocess.Popen(command, cwd=tree, env=alone, **streams, encoding="utf-8",
+                            start_new_session=True, preexec_fn=listens)
     for _ in range(200):
         if (tree / "asked").exists():
             break
