@@ -1,0 +1,5 @@
+pub mod Ways
+pub mod Seats
+pub mod Search
+pub mod Optimal
+pub mod Laws
