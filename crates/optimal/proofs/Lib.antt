@@ -6,3 +6,4 @@ pub mod SearchRight
 pub mod OptimalRight
 pub mod Floor
 pub mod OneAnswer
+pub mod OrderRight

@@ -2,4 +2,5 @@ pub mod Ways
 pub mod Seats
 pub mod Search
 pub mod Optimal
+pub mod Order
 pub mod Laws
