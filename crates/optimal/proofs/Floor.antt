@@ -20,7 +20,7 @@ unfolding weight start across
 start-weight [] g h = refl
 start-weight (p ∷ plan) g h = omega (arith, start-weight plan g h)
 
-is-floor : (n : ℕ) (plan other : List Routed) → 2 ≤ n → sents other ≡ sents plan
+pub is-floor : (n : ℕ) (plan other : List Routed) → 2 ≤ n → sents other ≡ sents plan
     → floor_of n plan ≤ peak_of n other
 is-floor n plan other two e =
     let cut = rule_a n (demands_of plan) in

@@ -7,3 +7,4 @@ pub mod OptimalRight
 pub mod Floor
 pub mod OneAnswer
 pub mod OrderRight
+pub mod TableRight

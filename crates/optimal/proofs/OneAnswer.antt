@@ -6,7 +6,7 @@ use Rattle.optimal.specs.Ways.{ComesBefore, at_once, further_on}
 use Rattle.optimal.specs.Laws.{OneAnswer}
 use Rattle.optimal.proofs.SearchRight.{before-chain}
 
-not-itself : {plan a : List Routed} → ComesBefore plan a a → ⊥
+pub not-itself : {plan a : List Routed} → ComesBefore plan a a → ⊥
 not-itself (at_once x y) = y x
 not-itself (further_on e s) = not-itself s
 

@@ -4,3 +4,5 @@ pub mod Search
 pub mod Optimal
 pub mod Order
 pub mod Laws
+pub mod Table
+pub mod TableLaws

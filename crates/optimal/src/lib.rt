@@ -1,10 +1,18 @@
 #![tactic(auto)]
 //! The optimal rule: the least peak of circuits that go whole.
 ghost use Rattle.optimal.specs.Laws.{SearchIsRight, OptimalIsRight, OneAnswer};
+ghost use Rattle.optimal.specs.TableLaws.{TableFits, TableOptimal, OneTable};
 
-/// What the search answers, and what is found by it.
-pub fn optimal_rule()
+/// What the search answers of rows in search order, and what is found by it.
+pub fn rows_in_search_order()
     ensures search { SearchIsRight }
     ensures optimal { OptimalIsRight }
     ensures one { OneAnswer }
+{}
+
+/// What is answered of a table.
+pub fn circuits_of_a_table()
+    ensures fits { TableFits }
+    ensures optimal { TableOptimal }
+    ensures one { OneTable }
 {}

@@ -2,7 +2,7 @@
 use Rattle.optimal.proofs.SearchRight.{answers}
 use Rattle.optimal.proofs.Floor.{optimal-is-right}
 use Rattle.optimal.proofs.OneAnswer.{one-answer}
-use Rattle.optimal.proofs.optimal_rule.Goals as goal
+use Rattle.optimal.proofs.rows_in_search_order.Goals as goal
 
 pub returns-clause-search : goal.returns-clause-search
 returns-clause-search c = λ n next top most plan. answers n next top plan most
