@@ -2,6 +2,12 @@
 
 #include <stdarg.h>
 #include <stdio.h>
+#include <string.h>
+
+#include "shown.h"
+
+/* The longest words of a drawing, in bytes; longer ones are cut. */
+enum { MOST_OF_WORDS = 1023 };
 
 static void write_tenths(int tenths)
 {
@@ -91,10 +97,39 @@ void end_drawing(void)
     fputs("<style>@page { size: A4 landscape; margin: 6mm }</style>\n</svg>\n", stdout);
 }
 
+/* Two characters that are shown, and that a text in XML cannot have. */
+enum { FIRST_OF_NO_XML = 0xfffe, LAST_OF_NO_XML = 0xffff };
+
+static bool is_written(struct character character)
+{
+    bool in_xml = character.code < FIRST_OF_NO_XML || character.code > LAST_OF_NO_XML;
+    return character.shown && in_xml;
+}
+
+/* A letter that XML has another use for is written by its code. */
+static void write_words(const char *words)
+{
+    struct character character;
+    for (const char *at = words; *at != '\0'; at += character.bytes) {
+        character = character_at(at);
+        if (!is_written(character)) {
+            printf("&#%d;", REPLACEMENT);
+        } else if (strchr("<>&", *at) != NULL) {
+            printf("&#%d;", *at);
+        } else {
+            fwrite(at, 1, character.bytes, stdout);
+        }
+    }
+}
+
 void draw_words(struct point at, struct lettering lettering, const char *format, ...)
 {
     static const char *const ANCHORS[] = {[START] = "start", [MIDDLE] = "middle", [END] = "end"};
-    va_list words;
+    char words[MOST_OF_WORDS + 1];
+    va_list values;
+    va_start(values, format);
+    vsnprintf(words, sizeof words, format, values);
+    va_end(values);
     fputs("<text", stdout);
     write_length("x", at.x);
     write_length("y", at.y);
@@ -109,9 +144,7 @@ void draw_words(struct point at, struct lettering lettering, const char *format,
         printf(" fill=\"%s\"", lettering.colour);
     }
     putchar('>');
-    va_start(words, format);
-    vprintf(format, words);
-    va_end(words);
+    write_words(words);
     fputs("</text>\n", stdout);
 }
 

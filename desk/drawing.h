@@ -1,5 +1,5 @@
-/* Elements of an SVG picture, written to standard output. Places and lengths are whole tenths of a unit, so that the same figures make the same bytes on every machine. What is written
- * as a text is this desk's own words and numbers, without a letter that XML has another use for. */
+/* Elements of an SVG picture, written to standard output. Places and lengths are whole tenths of a
+ * unit, so that the same figures make the same bytes on every machine. */
 #ifndef DESK_DRAWING_H
 #define DESK_DRAWING_H
 
@@ -40,7 +40,8 @@ void draw_rectangle(struct point corner, struct point size, struct paint paint);
 void draw_disc(struct point centre, int radius, struct paint paint);
 void draw_line(struct point from, struct point to, struct pen pen);
 
-/* Writes words at the place where their base line starts, has its middle or ends, as printf has them. */
+/* Writes words at the place where their base line starts, has its middle or ends, as printf has
+ * them. A character of theirs that is not shown, or that XML cannot have, is U+FFFD. */
 void draw_words(struct point at, struct lettering lettering, const char *format, ...);
 
 /* A group of words that have that size where they have none of their own. */

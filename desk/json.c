@@ -2,6 +2,8 @@
 
 #include <stdint.h>
 
+#include "shown.h"
+
 /* Begins a thing: a comma behind what stands before it, and its key. A key of ours needs no escape. */
 static void begin(struct json *json, const char *key)
 {
@@ -74,67 +76,34 @@ void put_number_or_none(struct json *json, const char *key, unsigned number)
     }
 }
 
-struct character {
-    uint32_t code;
-    unsigned bytes; /* that spell it; 0 where they are no UTF-8 */
-};
+/* In UTF-16 a character of more than one unit is spelled by two surrogates, a high and a low. */
+enum { LAST_OF_ONE_UNIT = 0xffff, FIRST_HIGH = 0xd800, FIRST_LOW = 0xdc00 };
 
-/* A byte that begins a character, by the bits that tell how many bytes follow it, and the least code that wants so many. */
-static const struct lead {
-    uint8_t mask, bits;
-    uint32_t least;
-} LEADS[] = {{0x80, 0x00, 0}, {0xe0, 0xc0, 0x80}, {0xf0, 0xe0, 0x800}, {0xf8, 0xf0, 0x10000}};
-
-enum { COUNT_OF_LEADS = sizeof LEADS / sizeof *LEADS };
-
-/* The codes of Unicode. Those of more than one unit of UTF-16 are spelled there by two surrogates, a high and a low one, which are no characters. */
-enum { LAST_OF_ONE_UNIT = 0xffff, LAST_CODE = 0x10ffff, FIRST_HIGH = 0xd800, FIRST_LOW = 0xdc00, LAST_LOW = 0xdfff, REPLACEMENT = 0xfffd };
-
-/* The character that begins here. The NUL at the text's end follows no other byte in one, so nothing behind it is read. */
-static struct character character_at(const uint8_t *at)
+static void write_character(FILE *out, struct character character)
 {
-    static const struct character NONE = {REPLACEMENT, 0};
-    unsigned follow = 0;
-    while (follow < COUNT_OF_LEADS && (at[0] & LEADS[follow].mask) != LEADS[follow].bits) {
-        follow++;
-    }
-    if (follow == COUNT_OF_LEADS) {
-        return NONE;
-    }
-    uint32_t code = at[0] & (uint8_t)~LEADS[follow].mask;
-    for (unsigned k = 1; k <= follow; k++) {
-        if ((at[k] & 0xc0) != 0x80) {
-            return NONE;
-        }
-        code = code << 6 | (at[k] & 0x3f);
-    }
-    bool surrogate = code >= FIRST_HIGH && code <= LAST_LOW;
-    return code < LEADS[follow].least || code > LAST_CODE || surrogate ? NONE : (struct character){code, follow + 1};
-}
-
-static void write_code(FILE *out, uint32_t code)
-{
+    uint32_t code = character.code;
     if (code == '"' || code == '\\') {
         fprintf(out, "\\%c", (int)code);
-    } else if (code >= ' ' && code <= '~') {
+    } else if (character.shown && code <= LAST_OF_ASCII) {
         fputc((int)code, out);
     } else if (code <= LAST_OF_ONE_UNIT) {
         fprintf(out, "\\u%04x", (unsigned)code);
     } else {
         /* ten bits of what is left in each */
         uint32_t left = code - LAST_OF_ONE_UNIT - 1;
-        fprintf(out, "\\u%04x\\u%04x", (unsigned)(FIRST_HIGH + (left >> 10)), (unsigned)(FIRST_LOW + (left & 0x3ff)));
+        unsigned high = FIRST_HIGH + (left >> 10), low = FIRST_LOW + (left & 0x3ff);
+        fprintf(out, "\\u%04x\\u%04x", high, low);
     }
 }
 
 void put_text(struct json *json, const char *key, const char *text)
 {
+    struct character character;
     begin(json, key);
     fputc('"', json->out);
-    for (const uint8_t *at = (const uint8_t *)text; *at != '\0';) {
-        struct character character = character_at(at);
-        write_code(json->out, character.code);
-        at += character.bytes > 0 ? character.bytes : 1;
+    for (const char *at = text; *at != '\0'; at += character.bytes) {
+        character = character_at(at);
+        write_character(json->out, character);
     }
     fputc('"', json->out);
 }
@@ -151,13 +120,12 @@ void put_bytes(struct json *json, const char *key, const char *text)
 
 bool is_utf8(const char *text)
 {
-    const uint8_t *at = (const uint8_t *)text;
-    while (*at != '\0') {
-        unsigned bytes = character_at(at).bytes;
-        if (bytes == 0) {
+    struct character character;
+    for (const char *at = text; *at != '\0'; at += character.bytes) {
+        character = character_at(at);
+        if (!character.is_utf8) {
             return false;
         }
-        at += bytes;
     }
     return true;
 }

@@ -3,6 +3,8 @@
 #include <errno.h>
 #include <string.h>
 
+#include "shown.h"
+
 /* A line is shown in so many columns at most, and so many of them stand before a byte that is marked, where there is more behind it. */
 enum { SHOWN = 64, BEFORE = 40 };
 
@@ -16,14 +18,22 @@ const char *name_of(const char *file)
     return is_standard(file) ? "standard input" : file;
 }
 
+static void escape_byte(FILE *out, uint8_t byte)
+{
+    fprintf(out, "\\x%02x", byte);
+}
+
 void show_name(FILE *out, const char *name)
 {
-    for (const char *at = name; *at != '\0'; at++) {
-        unsigned char byte = (unsigned char)*at;
-        if (byte < ' ' || byte == 0x7f) {
-            fprintf(out, "\\x%02x", byte);
-        } else {
-            fputc(byte, out);
+    struct character character;
+    for (const char *at = name; *at != '\0'; at += character.bytes) {
+        character = character_at(at);
+        for (unsigned k = 0; k < character.bytes; k++) {
+            if (character.shown) {
+                fputc(at[k], out);
+            } else {
+                escape_byte(out, (uint8_t)at[k]);
+            }
         }
     }
 }
@@ -77,7 +87,7 @@ struct line line_of(const struct text *text, size_t number)
 
 static bool prints(uint8_t byte)
 {
-    return byte >= ' ' && byte <= '~' && strchr("|\\\"", byte) == NULL;
+    return byte <= LAST_OF_ASCII && is_shown(byte) && strchr("|\\\"", byte) == NULL;
 }
 
 static size_t columns_of(uint8_t byte)
@@ -92,7 +102,7 @@ static void show_byte(FILE *out, uint8_t byte)
     } else if (prints(byte)) {
         fputc(byte, out);
     } else {
-        fprintf(out, "\\x%02x", byte);
+        escape_byte(out, byte);
     }
 }
 

@@ -25,7 +25,8 @@ bool take_text(struct text *text, const char *file);
 /* The same, and says on standard error, behind all that standard output was given, why it cannot. */
 bool read_text(struct text *text, const char *file);
 
-/* Writes the name of a file so that no byte of it steers a terminal: one that does not print is \xNN. */
+/* Writes the name of a file so that it steers no terminal that reads UTF-8: each byte of a
+ * character that is not shown, and each that is no UTF-8, is \xNN. */
 void show_name(FILE *out, const char *name);
 
 struct line {

@@ -2,7 +2,7 @@
 #include "work.h"
 
 #include <errno.h>
-#include <stdlib.h>
+#include <signal.h>
 #include <string.h>
 #include <unistd.h>
 
@@ -11,14 +11,18 @@
 #include "refusal.h"
 #include "save.h"
 
+/* The most bytes of a line without its LF: more than write and the longest name of a file. */
+enum { LONGEST_LINE = 8192 };
+
 /* The table, the line that was read last, and how things stand. */
 struct dialogue {
     ringkit_work work;
     unsigned offices, fibres;
     enum family family;
-    char *line;
-    size_t room, length, number; /* the line's room in memory, its bytes, and its number, counted from 1 */
+    char line[LONGEST_LINE + 2]; /* with its LF and a NUL */
+    size_t length, number;       /* the line's bytes, and its number, counted from 1 */
     bool at_terminal, unsaved, left;
+    bool cut_off; /* whether lines may follow that cannot be read */
     enum status status; /* the highest so far */
 };
 
@@ -133,7 +137,7 @@ static void write_file(struct dialogue *d, const struct said *said)
 {
     struct text table;
     write_table(d, &table);
-    fflush(stdout);
+    /* before what was said goes out, since a reader who has left would end the desk there */
     if (!save(said->file, table.bytes, table.length)) {
         int why = errno;
         begin_complaint(d, TROUBLE);
@@ -260,28 +264,41 @@ static void prompt(const struct dialogue *d, const char *words)
     }
 }
 
-/* False at the end of what is typed. */
+/* Takes the bytes of the next line, as many as there is room for. */
+static void take_line(struct dialogue *d)
+{
+    int byte = 0;
+    d->length = 0;
+    while (byte != '\n' && d->length <= LONGEST_LINE && (byte = getchar()) != EOF) {
+        d->line[d->length++] = (char)byte;
+    }
+    d->line[d->length] = '\0';
+}
+
+/* False at the end of what is typed, and where it cannot be read on. */
 static bool read_line(struct dialogue *d)
 {
-    ssize_t length = getline(&d->line, &d->room, stdin);
+    take_line(d);
     d->number++;
-    if (length >= 0) {
-        d->length = (size_t)length;
-        return true;
-    }
     if (ferror(stdin)) {
-        fprintf(stderr, "desk: cannot read standard input: %s\n", strerror(errno));
         at_least(d, TROUBLE);
-    } else if (d->at_terminal) {
+        fprintf(stderr, "desk: cannot read standard input: %s\n", strerror(errno));
+        d->cut_off = true;
+    } else if (d->length > LONGEST_LINE && d->line[LONGEST_LINE] != '\n') {
+        begin_complaint(d, TROUBLE);
+        fprintf(stderr, "a line has at most %d bytes; ", LONGEST_LINE);
+        fputs("this one is not done, nor is what follows\n", stderr);
+        d->cut_off = true;
+    } else if (d->length == 0 && d->at_terminal) {
         putchar('\n');
     }
-    return false;
+    return d->length > 0 && !d->cut_off;
 }
 
 /* Whether a planner who leaves means it: at a terminal, with changes that are not written, that is asked. The end of what is typed is a yes. */
 static bool means_it(struct dialogue *d)
 {
-    if (!d->at_terminal || !d->unsaved || ferror(stdin)) {
+    if (!d->at_terminal || !d->unsaved || d->cut_off) {
         return true;
     }
     clearerr(stdin);
@@ -294,9 +311,8 @@ static bool means_it(struct dialogue *d)
     return strcmp(word, "yes") == 0 || strcmp(word, "y") == 0;
 }
 
-static enum status talk(struct dialogue *d)
+static void converse(struct dialogue *d)
 {
-    d->at_terminal = isatty(STDIN_FILENO);
     while (!d->left || !means_it(d)) {
         prompt(d, "desk> ");
         d->left = !read_line(d);
@@ -304,7 +320,28 @@ static enum status talk(struct dialogue *d)
             follow(d);
         }
     }
-    free(d->line);
+}
+
+/* Does lines from elsewhere to their end, though nobody may read what is said to them any more: the
+ * signal that ends the desk then waits. Who types sees the desk end. */
+static void do_all(struct dialogue *d)
+{
+    sigset_t pipe, before;
+    sigemptyset(&pipe);
+    sigaddset(&pipe, SIGPIPE);
+    sigprocmask(SIG_BLOCK, &pipe, &before);
+    converse(d);
+    sigprocmask(SIG_SETMASK, &before, NULL);
+}
+
+static enum status talk(struct dialogue *d)
+{
+    d->at_terminal = isatty(STDIN_FILENO);
+    if (d->at_terminal) {
+        converse(d);
+    } else {
+        do_all(d);
+    }
     return d->status;
 }
 
@@ -353,7 +390,7 @@ static ringkit_work_reply take_rows(struct dialogue *d, const struct text *table
 
 enum status work_on(const char *file)
 {
-    struct dialogue d = {.line = NULL};
+    struct dialogue d = {.status = FINE};
     struct text table;
     uint8_t same[RINGKIT_MAX_TEXT_BYTES];
     if (!read_text(&table, file)) {

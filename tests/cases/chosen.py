@@ -132,12 +132,18 @@ def refused_before(rng):
 
 def cases(written, refused, room):
     """Each text with a buffer: the exact length, one byte less or more, none, or much. A table of more than 16 split rows is 23 with none too."""
-    rng = random.Random(10)
-    tables = [*stated(), *counted(rng), *deciding(rng), *random_tables(rng)]
+    tables = [
+        *stated(),
+        *counted(random.Random(10)),
+        *deciding(random.Random("ties of the best choice")),
+        *random_tables(random.Random("tables for the best choice")),
+    ]
     for k, text in enumerate(write_table(*table, fibres) for fibres in (4, 2) for table in dict.fromkeys(tables if fibres == 4 else tables[::9])):
         need = 0 if refused(text) else len(written(text))
         yield from ((text, lent) for lent in ((need - 1, need, need + 1, 0, room) if k % 12 == 0 else (need, (need - 1, room, 0)[k % 3])) if lent >= 0)
+    rng = random.Random("too many to choose for")
     for text in [write_table(n, rows) for n, rows in too_many(rng)]:
         assert refused(text) == (23, 0)
         yield from ((text, lent) for lent in (0, 1, 1000, room))
+    rng = random.Random("refused before the best choice")
     yield from ((text, rng.choice((0, 100, room))) for text in refused_before(rng))

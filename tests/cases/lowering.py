@@ -132,7 +132,7 @@ def random_tables(rng):
     yield from ((n, tuple(map(tuple, rows))) for n, rows in itertools.islice(circuits.small_tables(rng), 0, None, 5))
 
 
-def full(rng):
+def full():
     """Full rings of 20 and 32 offices, and 64 with as many rows as there may be; and as many circuits of two offices."""
     yield from (table_values(text)[:2] for text in full_tables(random.Random(496)))
     yield 2, ((1, 2, 9999),) * MOST_ROWS
@@ -160,19 +160,28 @@ def refusals(rng):
 
 def cases(written, refused, room):
     """Letters, texts and buffers for both calls: `l` with rule D, `m` with the best choice."""
-    rng = random.Random(11)
-    small = [*stated(), *deciding(rng), *random_tables(rng)]
-    tables = list(dict.fromkeys([*small, *counted(rng), *about_sixteen(rng), *full(rng)]))
+    small = [
+        *stated(),
+        *deciding(random.Random(11)),
+        *random_tables(random.Random("tables for lowered rooms")),
+    ]
+    large = [
+        *counted(random.Random("split by lowered rooms")),
+        *about_sixteen(random.Random("sixteen by one way")),
+        *full(),
+    ]
+    tables = list(dict.fromkeys([*small, *large]))
     for n, rows in small:
         holds(n, rows)
         if len(rows) <= 4 and all(row[2] <= 2 for row in rows):
             none_below(n, rows)
     for letter in "lm":
         yield from routed(letter, written, refused, room, tables)
-    for n, rows in chosen.too_many(rng):
+    for n, rows in chosen.too_many(random.Random("too many by lowered rooms")):
         text = write_table(n, rows)
         assert refused("m", text) == (23, 0) and refused("l", text) is None
         yield from (("m", text, lent) for lent in (0, 1, 1000, room))
         yield from (("l", text, lent) for lent in (0, room))
+    rng = random.Random("refused before lowered rooms")
     for text in refusals(rng):
         yield from ((letter, text, rng.choice((0, 100, room))) for letter in "lm")

@@ -2,7 +2,11 @@
 """Writes crates/cases/stdin and stdout: stored cases for the public calls, and the answers that the rules of docs/RULES.md give them.
 
 The answers come from the reading of these in reading.py, matrix.py, pointing.py, rules.py, best.py and report.py and from nothing else: no source of the project is used. Run it by hand after adding a
-case and look at the difference; the tests only compare what the program writes with what is stored."""
+case and look at the difference; the tests only compare what the program writes with what is stored.
+
+Cases come in groups. What a function draws it draws from a seed of its own, so that another limit
+draws no other function's cases anew; and what is stored stays in its group, drawn or not
+(stored.py)."""
 import functools
 import itertools
 import random
@@ -20,6 +24,7 @@ import report
 import reported
 import rules
 import sheets
+import stored
 from judging import MOST_OFFICES, MOST_ROWS
 from pointing import byte_of
 from reading import FORM, LONGEST, Sheet, first_reason, first_reason_of_sheet, holding, line_by_line, lines_of, rewritten
@@ -192,7 +197,7 @@ def rooms(text):
     return [(text, r) for r in sorted({0, 1, need - 1, need, need + 1, need + 100, ROOM}) if 0 <= r <= ROOM]
 
 
-def all_cases():
+def tables_by_hand():
     for text in [*refusals(), *single_faults(), *rings()]:
         yield text, 200
     for text in longest():
@@ -200,6 +205,9 @@ def all_cases():
     square = t("R|4|4", "D|1|3|1", "D|2|4|1")
     for text in (t("R|2|4"), square, full(20, lambda k: k * 37 % 10000), full(32, lambda k: k * 7919 % 10000), full(MOST_OFFICES, lambda k: (0, 1, 9999)[k % 3])):
         yield from rooms(text)
+
+
+def tables_drawn():
     rng = random.Random(2026)
     for k in range(400):
         n = rng.choice([2, 3, 5, 8, 16, 32, 64, 64])
@@ -208,10 +216,17 @@ def all_cases():
         if len(text) > 1500 and k % 8:
             text = b"".join(lines_of(text)[:40])
         yield by_chance(rng, k, text)
+
+
+def tables_of_circuits():
     for text in circuits.tables():
         yield text, ROOM
     for text in [*(text for text, _ in circuits.routed_by_hand()), write_table(MOST_OFFICES, [(63, 64, 9999)] * MOST_ROWS)]:
         yield from rooms(text)
+
+
+def circuits_drawn():
+    rng = random.Random("tables of circuits")
     for k, (n, rows) in enumerate(circuits.small_tables(rng)):
         yield by_chance(rng, k, write_table(n, rows))
 
@@ -224,7 +239,8 @@ def by_chance(rng, k, text):
 
 
 def to_route():
-    """Tables to route: the stated cases with their figures (Rules, stated cases), refusals, and full rings of 20, 32 and 64 offices, with buffers of every kind."""
+    """Tables to route: the stated cases with their figures (Rules, stated cases), with buffers of
+    every kind, and refusals."""
     stated = [
         (t("R|4|4", "D|1|3|1", "D|2|4|1"), t("C|1|3|2", "L|1|2|2", "L|2|2|1", "L|3|2|0", "L|4|2|1", "Z|2|3")),
         (t("R|2|4"), t("C|1|2|0", "L|1|0|0", "L|2|0|0", "Z|0|3")),
@@ -248,13 +264,25 @@ def to_route():
         yield t(text), 200
     yield b"", 200
     yield b"\n" * (LONGEST + 1), ROOM
+
+
+def full_rings_routed():
+    """Full rings of 20, 32 and 64 offices, with buffers of every kind."""
     rng = random.Random(496)
     for text in [*sheets.full_tables(rng), *(write_table(n, rows) for n, rows in circuits.tables_of_most() + circuits.tables_between())]:
         for room in around(text):
             yield text, room
-    for n, rows in itertools.chain(thin_tables(rng), circuits.small_tables(rng)):
+
+
+def routed(draw, seed):
+    """What is drawn from a seed, with a buffer of any kind."""
+    rng = random.Random(seed)
+    for n, rows in draw(rng):
         text = write_table(n, rows)
         yield text, rng.choice([ROOM, *around(text)])
+
+
+def most_rows_routed():
     for n, rows in circuits.tables_of_most():
         yield write_table(n, rows + rows[-1:]), ROOM
     for text in itertools.islice(circuits.tables(), 0, None, 4):
@@ -280,10 +308,10 @@ def only_forms_win(text):
     assert (now, line) == (figure, before) or now in FORM and figure in (8, 9, 10, 11, 12) and before < line, text
 
 
-def of_sheets():
+def of_sheets(texts):
     """Each sheet is checked. Those that pass the lines, the first of each reason and some others are asked for a pair and written afresh too."""
     met = set()
-    for k, text in enumerate(dict.fromkeys([*sheets.all_texts(), *circuits.sheets(), *sheets.forms_behind_figures()])):
+    for k, text in enumerate(dict.fromkeys(texts)):
         reason = (refused("C", text) or (0, 0))[0]
         only_forms_win(text)
         yield "C", text, 0
@@ -292,6 +320,9 @@ def of_sheets():
             yield "P", text, 0
             yield "S", text, (need, need + 1, max(need - 1, 0), 0)[k % 4]
         met.add(reason)
+
+
+def sheets_written_often():
     for text in [*sheets.rewritten_often(), *circuits.rewritten_often()]:
         for room in (0, 1, len(text) - 1, len(text), len(text) + 1, ROOM):
             yield "S", text, max(room, 0)
@@ -302,26 +333,77 @@ def of_matrices():
     return matrices.cases([*itertools.islice(refusals(), 0, None, 5), *single_faults(), *itertools.islice(rings(), 0, None, 3), *longest(), *circuits.tables_of_more()], ROOM)
 
 
-def main():
-    given, due = [], []
-    calls = [("T", text, min(room, ROOM)) for text, room in all_cases()] + [("R", *case) for case in to_route()] + [*of_sheets(), *of_matrices()]
-    calls += fibres.cases(lambda table: written("R", table), ROOM)
-    calls += families.cases(written, ROOM)
-    calls += columns.cases(refused, ROOM)
-    calls += [("B", *case) for case in chosen.cases(functools.partial(written, "B"), functools.partial(refused, "B"), ROOM)]
-    calls += lowering.cases(written, refused, ROOM)
-    calls += [("M", *case) for case in reported.cases()]
-    for letter, text, room in dict.fromkeys(calls):
-        # five digits say how long the text is, and the buffer of the program that runs the cases is no longer
-        assert len(text) < 100000 and room <= ROOM
-        given.append(b"%c%05d%05d\n" % (ord(letter), len(text), room) + text)
-        due.append(letter + " %s\n" % " ".join(map(str, answer(letter, text, room))))
-    open("crates/cases/stdin", "wb").write(b"".join(given))
-    open("crates/cases/stdout", "w").write("".join(line[2:] for line in due))
+def drawn():
+    """The groups of cases by name, in the order in which they are stored, each with its calls."""
+    of = functools.partial
+    tables = {
+        "tables by hand": tables_by_hand(),
+        "tables drawn": tables_drawn(),
+        "tables of circuits": tables_of_circuits(),
+        "tables of circuits drawn": circuits_drawn(),
+    }
+    for name, some in tables.items():
+        yield name, [("T", text, min(room, ROOM)) for text, room in some]
+    routes = {
+        "routes by hand": to_route(),
+        "full rings routed": full_rings_routed(),
+        "thin tables routed": routed(thin_tables, "thin tables"),
+        "circuits routed": routed(circuits.small_tables, "circuits to route"),
+        "most rows routed": most_rows_routed(),
+    }
+    yield from ((name, [("R", *case) for case in some]) for name, some in routes.items())
+    texts = {texts.__name__.replace("_", " "): texts for texts in sheets.LISTS}
+    texts |= {"of circuits": circuits.sheets, "forms behind figures": sheets.forms_behind_figures}
+    yield from ((f"sheets: {name}", of_sheets(some())) for name, some in texts.items())
+    yield "sheets written often", sheets_written_often()
+    yield "matrices", of_matrices()
+    yield "fibres", fibres.cases(of(written, "R"), ROOM)
+    yield "families", families.cases(written, ROOM)
+    yield "bytes", columns.cases(refused, ROOM)
+    best_cases = chosen.cases(of(written, "B"), of(refused, "B"), ROOM)
+    yield "the best choice", [("B", *case) for case in best_cases]
+    yield "lowered rooms", lowering.cases(written, refused, ROOM)
+    yield "reports", [("M", *case) for case in reported.cases()]
+
+
+def of_calls(name):
+    """Whether a group's cases stand in a file of calls, which is not made here."""
+    return name.endswith(".calls")
+
+
+def grouped():
+    """Each group with its cases: those that are stored, and behind them those that are drawn and
+    stored nowhere. A group that is drawn no more comes last, with its stored cases."""
+    there = {stored.sum_of(stored.written(*case)): case for case in stored.cases()}
+    listed = stored.listed().items()
+    cases = {name: [there[one] for one in sums] for name, (_, sums) in listed if not of_calls(name)}
+    known = {case for mine in cases.values() for case in mine}
+    groups = {}
+    for name, calls in drawn():
+        more = [case for case in dict.fromkeys(calls) if case not in known]
+        known.update(more)
+        groups[name] = cases.pop(name, []) + more
+    return groups | cases
+
+
+def count(due):
+    """Prints how many cases each call has."""
     for letter in "TRBlmCPSWM0123456789abcdefghij":
         mine = [line.split() for line in due if line[0] == letter]
         print(letter, len(mine), "cases, reasons seen:", sorted({int(words[1]) for words in mine}))
     print("pairs seen:", len({line for line in due if line.startswith("P 0") and not line.endswith(" 0 0\n")}))
+
+
+def main():
+    groups = grouped()
+    cases = [case for mine in groups.values() for case in mine]
+    assert all(room <= ROOM for _, _, room in cases)
+    due = [case[0] + " %s\n" % " ".join(map(str, answer(*case))) for case in cases]
+    stored.STDIN.write_bytes(b"".join(stored.written(*case) for case in cases))
+    stored.STDIN.with_name("stdout").write_text("".join(line[2:] for line in due))
+    others = {name: sums for name, (_, sums) in stored.listed().items() if of_calls(name)}
+    stored.store({name: stored.sums_of(mine) for name, mine in groups.items()} | others)
+    count(due)
 
 
 main()

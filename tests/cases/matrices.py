@@ -215,8 +215,10 @@ def drawn(rng):
         yield damaged(rng, matrix) if k % 4 else matrix
 
 
-def matrices():
-    return [*misspelled(), *misshapen(), *many_fields(), *ring_sizes(), *two_faults(), *mirrored(), *large(), *too_many(), *drawn(random.Random(18))]
+def lists():
+    """Each by itself, so that a change to one changes the calls of no other."""
+    by_hand = [misspelled(), misshapen(), many_fields(), ring_sizes(), two_faults(), mirrored()]
+    return [*by_hand, large(), too_many(), drawn(random.Random(18))]
 
 
 def sums_to(total, count):
@@ -320,11 +322,12 @@ def cases(refused_tables, most):
     by_hand = [matrix for matrix, _ in stated()]
     assert all(write_table(*rows_of(matrix)) == table for matrix, table in stated())
     assert all(write_matrix(*table_values(table)) == matrix for table, matrix in added_up())
-    read = list(dict.fromkeys([*by_hand, *matrices()]))
+    listed = [list(dict.fromkeys(some)) for some in (by_hand, *lists())]
+    read = list(dict.fromkeys(itertools.chain(*listed)))
     accepted = [matrix for matrix in read if not first_reason_of_matrix(matrix)]
     circuits = [table for table, _ in added_up()]
     tables = dict.fromkeys([*there_and_back(accepted), *circuits, *sums(), *sums_and_others(), *drawn_circuits(random.Random(19)), *refused_tables, b""])
-    yield from (("24"[k % 4 > 0], matrix, most) for k, matrix in enumerate(read))
+    yield from (("24"[k % 4 > 0], matrix, most) for some in listed for k, matrix in enumerate(some))
     yield from (("W", table, most) for table in tables)
     # 15 comes last: the first text of each reason into no room at all, then all rooms for good texts small and large
     yield from (("4", matrix, 0) for matrix in firsts(read, first_reason_of_matrix))

@@ -160,7 +160,7 @@ def many(rng):
 
 def checked():
     """The sheets that are checked one by one, some at a time."""
-    texts = list(dict.fromkeys([*sheets.numbers_to_try(), *itertools.islice(sheets.shapes(), 0, None, 9), *itertools.islice(sheets.rows_refused(), 0, None, 5)]))
+    texts = list(dict.fromkeys([*sheets.all_stated(), *itertools.islice(sheets.shapes(), 0, None, 9), *itertools.islice(sheets.rows_refused(), 0, None, 5)]))
     yield from (b"".join(texts[k:k + 9]) for k in range(0, len(texts), 9))
 
 
@@ -171,9 +171,14 @@ def rooms(text, k):
 
 
 def cases():
-    rng = random.Random(12)
     large = [*longest(), *long_pieces()]
-    small = [*stated(), *checked(), *ties(rng), *mixed(rng), *many(rng)]
+    small = [
+        *stated(),
+        *checked(),
+        *ties(random.Random(12)),
+        *mixed(random.Random("plans of both families")),
+        *many(random.Random("texts of many plans")),
+    ]
     yield from ((text, room) for k, text in enumerate(dict.fromkeys(small)) for room in rooms(text, k))
     yield from ((text, room) for k, text in enumerate(large) for room in rooms(text, 0 if len(text) > LONGEST else k + 1)[:2])
     # 24 is given before the buffer is looked at

@@ -109,7 +109,7 @@ def asserted(stated):
         yield text
 
 
-def numbers_to_try():
+def all_stated():
     return asserted(stated() + by_hand() + two_fibres())
 
 
@@ -389,6 +389,7 @@ def of_other_tools():
         n = rng.choice([3, 4, 5, 7, 9, 12, 16, 20, 32, 64])
         for lines in foreign(rng, n, drawn(rng, n, rng.randint(2, 18))):
             yield rules.text_of(lines)
+    rng = random.Random("large sheets of other tools")
     for n, part in ((20, 1.0), (32, 0.2), (64, 0.05)):
         rows = [p + (rng.randint(0, 9999),) for p in pairs(n) if rng.random() < part]
         g, h, m = rules.rule_a(n, rows)
@@ -467,6 +468,15 @@ def rewritten_often():
     yield rules.sheet(MOST_OFFICES, tuple(drawn(random.Random(15), MOST_OFFICES, 30)))
 
 
-def all_texts():
-    for texts in (numbers_to_try, shapes, rows_refused, figures_refused, two_faults, bounds, of_other_tools, longest, damaged_sheets, full_rings):
-        yield from texts()
+LISTS = (
+    all_stated,
+    shapes,
+    rows_refused,
+    figures_refused,
+    two_faults,
+    bounds,
+    of_other_tools,
+    longest,
+    damaged_sheets,
+    full_rings,
+)

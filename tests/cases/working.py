@@ -5,7 +5,9 @@ The replies come from a list of 1,024 places and nothing kept beside it: the lar
 and rules.py neither: an across number is summed here by the offices that a cut parts, and there by the links of each front, so that one reading tells a fault of the other.
 Run it by hand after adding a sequence and look at the difference; tests/desk/sequences.c makes the calls and compares."""
 import itertools
+import pathlib
 import random
+import re
 
 from judging import FEWEST_OFFICES, MOST_AMOUNT, MOST_OFFICES
 from judging import MOST_ROWS as PLACES
@@ -358,6 +360,32 @@ def by_chance():
         yield s
 
 
+STORED = "tests/cases/working.calls"
+
+
+def calls_of(lines):
+    """The calls of a sequence, without its title and the replies."""
+    return [line.split(" = ")[0] for line in lines if line[0] != "#"]
+
+
+def played(lines):
+    """A stored sequence, each call of it made again."""
+    s = Sequence(lines[0].removeprefix("# "))
+    for call in calls_of(lines):
+        word, *numbers = call.split()
+        getattr(s, word)(*map(int, numbers))
+    return s
+
+
+def kept(made):
+    """What is stored and made by no function any more: it stays, so that another limit takes no
+    sequence away."""
+    known = [calls_of(s.lines) for s in made]
+    stored = re.split(r"^(?=# )", pathlib.Path(STORED).read_text(), flags=re.MULTILINE)
+    sequences = [text.splitlines() for text in stored if text]
+    return [played(lines) for lines in sequences if calls_of(lines) not in known]
+
+
 def test_acrosses():
     """Both ways of adding up find the same."""
     rng = random.Random(2)
@@ -369,8 +397,9 @@ def test_acrosses():
 def main():
     test_acrosses()
     sequences = [*by_hand(), *starts(), *families(), *refusals(), *places(), *ties(), *full_tables(), *written(), *by_chance()]
+    sequences += kept(sequences)
     lines = [line for s in sequences for line in s.lines]
-    open("tests/cases/working.calls", "w").write("".join(line + "\n" for line in lines))
+    open(STORED, "w").write("".join(line + "\n" for line in lines))
     calls = [line.split(" = ") for line in lines if line[0] != "#"]
     assert {int(reply.split()[0]) for _, reply in calls} == {0, 3, 4, 5, 7, 15, 20, 21, 22}
     print(len(sequences), "sequences,", len(calls), "calls")

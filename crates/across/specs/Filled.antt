@@ -5,8 +5,8 @@ use Rattle.ring.specs.Lists.{Each}
 use Rattle.ring.specs.declared.types.Demand.{Demand}
 use Rattle.ring.specs.Demand.{OnRing}
 use Rattle.ring.specs.Cut.{across}
-use Rattle.across.specs.Triangle.{at}
-use Rattle.across.specs.Lines.{most_pairs, Pairwise}
+use Rattle.across.specs.Cells.{most_places, cell}
+use Rattle.across.specs.Lines.{Pairwise}
 
 -- a demand on the ring, whose amount is within the limit
 pub record DemandFits (n : ℕ) (r : Demand) : Type 0 where
@@ -19,7 +19,7 @@ pub record DemandsFit (n : ℕ) (rs : List Demand) : Type 0 where
   pub few : length rs ≤ desk.rows
   pub each : Each (DemandFits n) rs
 
--- the triangle holds the across numbers of rows
+-- a triangle with its diagonal holds the across numbers of rows, of pairs of links
 pub record TriangleOf (n : ℕ) (rs : List Demand) (triangle : List ℕ) : Type 0 where
-  pub size : length triangle ≡ most_pairs
-  pub is : Pairwise n (λ g h. at triangle g h ≡ across rs g h)
+  pub size : length triangle ≡ most_places
+  pub is : Pairwise n (λ g h. cell triangle g h ≡ across rs g h)

@@ -1,4 +1,4 @@
--- Internal: a row is put on a triangle, or taken off it: each pair's number is raised or lowered by the row's share of it.
+-- To believe: a row is put on a triangle, or taken off it: each pair's number is raised or lowered by the row's share of it, and wraps around at its type's end.
 use Rattle.std.specs.Prelude.{ℕ, zero, suc, ◌+◌, ◌-◌, ◌%◌, cond, List, [], ◌++◌, nat_le}
 use Rattle.ring.specs.declared.types.Demand.{Demand}
 use Rattle.ring.specs.Cut.{part}

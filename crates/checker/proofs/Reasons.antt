@@ -22,7 +22,7 @@ use Rattle.judge.specs.Tests.{sheet_judged}
 use Rattle.judge.proofs.Tests.{first-judged, first-is-judged}
 use Rattle.judge.proofs.Accepted.{fine-accepted, true-fine}
 use Rattle.table.proofs.TableText.{desk-spelled}
-use Rattle.table.proofs.Spelled.{LimitsSpelled}
+use Rattle.table.specs.Spelled.{LimitsSpelled}
 use Rattle.sheet.specs.Range.{InRange}
 use Rattle.sheet.specs.Read.{read_sheet}
 use Rattle.sheet.specs.WriteSheet.{write_sheet}

@@ -18,7 +18,7 @@ use Rattle.ring.specs.declared.types.Sent.{Sent}
 use Rattle.ring.specs.declared.types.Routed.{Routed}
 use Rattle.rows.proofs.Zip.{Passed, next-old, put-passed, put-taken}
 use Rattle.across.specs.Filled.{DemandFits, DemandsFit, TriangleOf}
-use Rattle.across.specs.Triangle.{at}
+use Rattle.across.specs.Cells.{cell}
 use Rattle.weight.specs.Limits.{across_bound}
 use Rattle.best.specs.Best.{splits, most_split}
 use Rattle.across.proofs.CutSteps.{same-cut}
@@ -121,10 +121,10 @@ module _ (n : ℕ) (rs : List Demand) (new : List Routed) (halved : sents new �
     pub rows-few : length new ≤ desk.rows
     rows-few = omega (arith, fit.few, demands-length new, ap length same-demands)
 
-    module _ (two : 2 ≤ n) (triangle : List ℕ) (cut : Cut) (numbers : TriangleOf n (demands_of new) triangle) (ec : cut ≡ largest_cut (at triangle) n) where
+    module _ (two : 2 ≤ n) (triangle : List ℕ) (cut : Cut) (numbers : TriangleOf n (demands_of new) triangle) (ec : cut ≡ largest_cut (cell triangle) n) where
       most-is : cut.across ≡ largest_across n rs
       unfolding rule_a
-      most-is = ap (λ (c : Cut). c.across) (ec ∙ same-cut n (at triangle) (across (demands_of new)) numbers.is two) ∙ ap (largest_across n) same-demands
+      most-is = ap (λ (c : Cut). c.across) (ec ∙ same-cut n (cell triangle) (across (demands_of new)) numbers.is two) ∙ ap (largest_across n) same-demands
 
       -- numbers that a bound is made of
       pub most-small : cut.across ≤ across_bound
@@ -144,7 +144,7 @@ module _ (n : ℕ) (rs : List Demand) (new : List Routed) (halved : sents new �
       pub is-many : most_split < count → CrossingIs n rs Many
       is-many l = many cross (omega (arith, counted-is))
 
-      pub is-all : count ≤ most_split → (fit : DemandsFit n rs) (two : 2 ≤ n) (triangle : List ℕ) (cut : Cut) → TriangleOf n (demands_of new) triangle → cut ≡ largest_cut (at triangle) n
+      pub is-all : count ≤ most_split → (fit : DemandsFit n rs) (two : 2 ≤ n) (triangle : List ℕ) (cut : Cut) → TriangleOf n (demands_of new) triangle → cut ≡ largest_cut (cell triangle) n
           → (largest : ℕ) → largest ≡ largest_split (sents new) → CrossingIs n rs (All (cut.across + 2 * largest))
       is-all l fit two triangle cut numbers ec largest f =
           rw (most-is fit two triangle cut numbers ec, largest-same largest f) (all cross (omega (arith, counted-is)))

@@ -8,7 +8,7 @@ ghost use Rattle.crossing.specs.AllCross.{halves};
 ghost use Rattle.crossing.specs.Crossing.{CrossingIs};
 
 use crate::pair::{Pair, first_pair};
-use across::{PAIRS, fill, largest_cut};
+use across::{PLACES, fill, largest_cut};
 use best::MOST_SPLIT;
 use ring::{Routed, Sent, is_split};
 use rows::{Rows, RowsMut, each};
@@ -71,7 +71,7 @@ pub fn crossing_of<R: RowsMut>(nodes: u32, rows: &mut R) -> Crossing
         return Crossing::Many;
     }
     let n = nodes as usize;
-    let mut triangle: [u32; PAIRS] = [0; PAIRS];
+    let mut triangle: [u32; PLACES] = [0; PLACES];
     fill(&mut triangle, n, rows);
     let most = largest_cut(&triangle, n).across;
     Crossing::All {

@@ -21,7 +21,7 @@ use Rattle.ring.specs.Division.{Divides}
 use Rattle.ring.specs.Rules.{Enough, OneParity, Sends, NotBoth, Staggered, Untangled, Directed}
 use Rattle.ring.proofs.Sending.{sends}
 use Rattle.ring.proofs.Circuits.{one_split}
-use Rattle.ring.proofs.Plans.{level-enough, pairs-in-order, no-fall, peak-is-M, untangled-of, divides-of, fits-of, peak-of, rise-of, directed-of, bound-of, sheet-demands, true-of}
+use Rattle.ring.proofs.Plans.{level-enough, no-fall, peak-is-M, untangled-of, divides-of, fits-of, peak-of, rise-of, directed-of, bound-of, sheet-demands, true-of}
 use Rattle.engines.specs.Engine.{Engine, Level, Lowered, rooms_by, sent_by, split_routing_by, unsplit_routing_by, plan_by}
 use Rattle.engines.proofs.Lowered.{at-most-M, enough, parity}
 
@@ -67,6 +67,12 @@ module _ (engine : Engine) (n : ℕ) (rs : List Demand) (two : 2 ≤ n) where
     pub sends-by : Sends n (rooms_by engine n rs) rs (sent_by engine n rs)
     sends-by = rw (sent-from engine n rs) (sends n (rooms_by engine n rs) rs nodes rooms-enough rooms-parity)
 
+    -- of the rows of the same two nodes one at most is split
+    pub one-split : Pairs NotBoth (sent_by engine n rs)
+    one-split =
+        rw (sent-from engine n rs)
+        (one_split n rs (rooms_by engine n rs) nodes rooms-enough rooms-parity)
+
     pub sent-fits : (k : ℕ) → 1 ≤ k → k ≤ n → split_load (sent_by engine n rs) k ≤ largest_across n rs
     sent-fits k a b = omega (arith, sends-by.fits k a b, rooms-most k a b)
 
@@ -89,10 +95,6 @@ module _ (engine : Engine) (n : ℕ) (rs : List Demand) (two : 2 ≤ n) where
   -- ---- rows in table order
 
   module _ (table : TableRows n rs) where
-    -- of the rows of the same two nodes one at most is split
-    pub one-split : Pairs NotBoth (sent_by engine n rs)
-    one-split = rw (sent-from engine n rs) (one_split n rs (rooms_by engine n rs) table.nodes (pairs-in-order n rs table) rooms-enough rooms-parity)
-
     pub rows-rise : Pairs Staggered (split_routing_by engine n rs)
     rows-rise = rise-of n rs two table.nodes (sent_by engine n rs) (sends-by table.nodes).divides (sent-fits table.nodes) (no-fall n rs table)
 

@@ -1,7 +1,6 @@
 pub mod LinkByLink
 pub mod Lowered
 pub mod TightCuts
-pub mod OnlySame
 pub mod Engines
 pub mod LoweredLoads
 pub mod CasesHold

@@ -46,11 +46,11 @@ module _ (number : ℕ → ℕ → ℕ) (m n : ℕ) where
 -- ---- across numbers that agree on pairs of links of the ring lower rooms alike
 
 module _ (p q : ℕ → ℕ → ℕ) (m n : ℕ) (same : (g h : ℕ) → 1 ≤ g → g < h → h ≤ n → p g h ≡ q g h) where
-  same-turn : (A B : Room) → ((k : ℕ) → A k ≡ B k) → (g : ℕ) → 1 ≤ g → g ≤ n → lowest_room p m n A g ≡ lowest_room q m n B g
+  pub same-turn : (A B : Room) (g : ℕ) → ((k : ℕ) → 1 ≤ k → k < g → A k ≡ B k) → 1 ≤ g → g ≤ n → lowest_room p m n A g ≡ lowest_room q m n B g
   unfolding lowest_room
-  same-turn A B rooms g low high =
+  same-turn A B g rooms low high =
       ap₂ max
-      (same-peak (λ h. 2 * p h g - A h) (λ h. 2 * q h g - B h) (g - 1) (λ h a b. omega (arith, rooms h, same h g a (omega arith) high)))
+      (same-peak (λ h. 2 * p h g - A h) (λ h. 2 * q h g - B h) (g - 1) (λ h a b. omega (arith, rooms h a (omega arith), same h g a (omega arith) high)))
       (same-peak (λ x. 2 * p g (g + x) - m) (λ x. 2 * q g (g + x) - m) (n - g) (λ x a b. omega (arith, same g (g + x) low (omega arith) (omega arith))))
 
   pub same-lowering : (g : ℕ) → g ≤ n → (k : ℕ) → lower_to p m n g k ≡ lower_to q m n g k
@@ -58,4 +58,4 @@ module _ (p q : ℕ → ℕ → ℕ) (m n : ℕ) (same : (g h : ℕ) → 1 ≤ g
   same-lowering zero l k = refl
   same-lowering (suc g) l k =
       ap₂ (cond (eqb k (suc g)))
-      (same-turn (lower_to p m n g) (lower_to q m n g) (same-lowering g (omega arith)) (suc g) (omega arith) l) (same-lowering g (omega arith) k)
+      (same-turn (lower_to p m n g) (lower_to q m n g) (suc g) (λ k a b. same-lowering g (omega arith) k) (omega arith) l) (same-lowering g (omega arith) k)

@@ -1,5 +1,6 @@
--- With lowered rooms each link carries its room: so no split routing is below these loads, two split rows that are parallel have the same two nodes, and in a
--- table, where one of these at most is split, rule C changes nothing.
+-- With lowered rooms each link carries its room, for rows in any order: so no split routing is
+-- below these loads, two split rows that are parallel have the same two nodes, and since one of
+-- these at most is split, rule C changes nothing.
 use Prim.Native.Nat.{ℕ, ◌+◌, ◌*◌, ◌≤◌}
 use mathlib.Core.Bool.{Bool, true, false}
 use mathlib.Core.List.{List}
@@ -9,26 +10,19 @@ use Rattle.ring.specs.Lists.{Each, Pairs}
 use Rattle.ring.specs.declared.types.Demand.{Demand}
 use Rattle.ring.specs.declared.types.Sent.{Sent}
 use Rattle.ring.specs.Demand.{OnRing}
-use Rattle.ring.specs.TableRows.{TableRows}
 use Rattle.ring.specs.Cut.{across}
 use Rattle.ring.specs.Routing.{split_load}
 use Rattle.ring.specs.Crossing.{parallel}
 use Rattle.ring.specs.Rules.{Sends, Quiet, NotBoth}
 use Rattle.ring.proofs.Lists.{pairs-both}
 use Rattle.ring.proofs.Cuts.{links-carry}
-use Rattle.ring.proofs.Order.{rule-C-order}
-use Rattle.ring.proofs.Plans.{in_order}
 use Rattle.ring.proofs.Still.{still}
 use Rattle.engines.specs.Engine.{Lowered, sent_by, split_routing_by}
 use Rattle.engines.specs.Lowering.{lowered_rooms}
 use Rattle.engines.specs.Minimal.{Minimal}
-use Rattle.engines.specs.OnlySame.{OncePerPairSame}
 use Rattle.engines.proofs.Lowered.{tight}
-use Rattle.engines.proofs.TightCuts.{AllFace, minimal, only_same}
-use Rattle.engines.proofs.OnlySame.{OnlySame, moved-same}
+use Rattle.engines.proofs.TightCuts.{AllFace, minimal, OnlySame, only_same}
 use Rattle.engines.proofs.Engines.{sends-by, one-split}
-
--- ---- rows in any order
 
 module _ (n : ℕ) (rs : List Demand) (two : 2 ≤ n) (nodes : Each (OnRing n) rs) where
   abbrev low : List Sent
@@ -57,13 +51,6 @@ module _ (n : ℕ) (rs : List Demand) (two : 2 ≤ n) (nodes : Each (OnRing n) r
   pub only-same : Pairs OnlySame low
   only-same = only_same n rs low nodes sent.divides all-face
 
-  -- so rule C only ever changes rows of the same two nodes
-  pub rule-C-same : OncePerPairSame low (split_routing_by Lowered n rs)
-  rule-C-same = moved-same (rule-C-order low) (in_order n rs two nodes low sent.divides) only-same
-
--- ---- rows in table order
-
-module _ (n : ℕ) (rs : List Demand) (two : 2 ≤ n) (table : TableRows n rs) where
   quiet : (a b : Sent) → OnlySame a b → NotBoth a b → Quiet a b
   quiet a b same not-both p q = go (parallel a.demand b.demand) refl
     where
@@ -72,12 +59,12 @@ module _ (n : ℕ) (rs : List Demand) (two : 2 ≤ n) (table : TableRows n rs) w
       go false e = e
 
   -- of the rows of the same two nodes one at most is split, so rule C changes nothing
-  pub rule-C-keeps : split_routing_by Lowered n rs ≡ sent_by Lowered n rs
-  rule-C-keeps = still (sent_by Lowered n rs) (pairs-both quiet (only-same n rs two table.nodes) (one-split Lowered n rs two table))
+  pub rule-C-keeps : split_routing_by Lowered n rs ≡ low
+  rule-C-keeps = still low (pairs-both quiet only-same (one-split Lowered n rs two nodes))
 
   -- and what goes whole by rule D or the best choice has the lowered rooms for its loads
   pub split-loads-are : (k : ℕ) → 1 ≤ k → k ≤ n → split_load (split_routing_by Lowered n rs) k ≡ lowered_rooms n rs k
-  split-loads-are k a b = rw rule-C-keeps (loads-are n rs two table.nodes k a b)
+  split-loads-are k a b = rw rule-C-keeps (loads-are k a b)
 
   pub split-minimal : Minimal n rs (split_routing_by Lowered n rs)
-  split-minimal = rw rule-C-keeps (sent-minimal n rs two table.nodes)
+  split-minimal = rw rule-C-keeps sent-minimal

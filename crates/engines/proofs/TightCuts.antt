@@ -18,7 +18,6 @@ use Rattle.ring.specs.Sheet.{demands}
 use Rattle.ring.specs.Division.{Divides}
 use Rattle.ring.specs.Rules.{SameNodes}
 use Rattle.engines.specs.Minimal.{Minimal}
-use Rattle.engines.proofs.OnlySame.{OnlySame}
 use Rattle.ring.proofs.Lists.{each, first-of, rest-of, each-of-map}
 use Rattle.ring.proofs.Side.{in-front, before-front, after_front, front_ends}
 use Rattle.ring.proofs.Cuts.{one-row, links-carry}
@@ -81,6 +80,10 @@ all-across n rs ss d face g low high =
     record { h = f.h; all = each (λ s. lies-across g f.h s) (rows-tight g f.h d.sums (rw d.same f.is)) }
 
 -- ---- two split rows
+
+-- two rows that are split and parallel have the same two nodes
+abbrev pub OnlySame : Sent → Sent → Type 0
+OnlySame a b = Split a → Split b → parallel a.demand b.demand ≡ true → SameNodes a.demand b.demand
 
 other-side : (b : Bool) → false ≡ not b → b ≡ true
 other-side true e = refl

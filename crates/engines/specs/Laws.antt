@@ -16,7 +16,6 @@ use Rattle.engines.specs.declared.Engine.TheVariants.{Level, Lowered}
 use Rattle.engines.specs.Lowering.{lowered_rooms, LoweredRooms}
 use Rattle.engines.specs.Engine.{rooms_by, sent_by, split_routing_by, plan_by}
 use Rattle.engines.specs.Minimal.{Minimal}
-use Rattle.engines.specs.OnlySame.{OncePerPairSame}
 
 -- it holds for all rows on a ring of two nodes or more, in any order
 abbrev pub OfRows : (ℕ → List Demand → Type 0) → Type 0
@@ -46,9 +45,9 @@ EngineSends = (engine : Engine) → OfRows (λ n rs. Sends n (rooms_by engine n 
 abbrev pub EnginePeakIsM : Type 0
 EnginePeakIsM = (engine : Engine) → OfRows (λ n rs. peak (split_load (split_routing_by engine n rs)) n ≡ largest_across n rs)
 
--- of the rows of the same two nodes one at most is split
+-- of the rows of the same two nodes one at most is split, in any order and whatever stands between
 abbrev pub EngineSplitsOne : Type 0
-EngineSplitsOne = (engine : Engine) → OfTables (λ n rs. Pairs NotBoth (sent_by engine n rs))
+EngineSplitsOne = (engine : Engine) → OfRows (λ n rs. Pairs NotBoth (sent_by engine n rs))
 
 -- its plan is a true sheet of the table's demands
 abbrev pub EnginePlanIsTrue : Type 0
@@ -76,10 +75,7 @@ NothingBelow = OfRows (λ n rs. Minimal n rs (sent_by Lowered n rs))
 abbrev pub LevelNotMinimal : Type 0
 LevelNotMinimal = OfRows (λ n rs. Minimal n rs (sent_by Level n rs)) → ⊥
 
--- rule C only ever changes rows of the same two nodes
-abbrev pub ChangesOnlySame : Type 0
-ChangesOnlySame = OfRows (λ n rs. OncePerPairSame (sent_by Lowered n rs) (split_routing_by Lowered n rs))
-
--- and, since one of these at most is split, nothing
+-- rule C changes nothing, in any order: rows that are split and parallel would have the same two
+-- nodes, and of these one at most is split
 abbrev pub ChangesNothing : Type 0
-ChangesNothing = OfTables (λ n rs. split_routing_by Lowered n rs ≡ sent_by Lowered n rs)
+ChangesNothing = OfRows (λ n rs. split_routing_by Lowered n rs ≡ sent_by Lowered n rs)

@@ -2,7 +2,7 @@
 ghost use Rattle.engines.specs.Cases.{CasesHold};
 ghost use Rattle.engines.specs.Laws.{RoomsAreLowered, LoweringIsOne};
 ghost use Rattle.engines.specs.Laws.{EngineSends, EnginePeakIsM, EngineSplitsOne, EnginePlanIsTrue, EnginePlanIsOf, LevelAsBefore};
-ghost use Rattle.engines.specs.Laws.{LoadsAreRooms, NothingBelow, LevelNotMinimal, ChangesOnlySame, ChangesNothing};
+ghost use Rattle.engines.specs.Laws.{LoadsAreRooms, NothingBelow, LevelNotMinimal, ChangesNothing};
 
 /// Lowered rooms are the largest differences, and none other are so.
 pub fn lowered_rooms()
@@ -25,7 +25,6 @@ pub fn lowered_loads()
     ensures loads { LoadsAreRooms }
     ensures minimal { NothingBelow }
     ensures level { LevelNotMinimal }
-    ensures same_nodes { ChangesOnlySame }
     ensures nothing { ChangesNothing }
     ensures cases { CasesHold }
 {}

@@ -1,7 +1,15 @@
--- To believe: the families of line sizes and the sizes of each (Rules, line sizes).
-use Rattle.std.specs.Prelude.{ℕ, cond, ◌≡◌, Bool, true, List, [], ◌∷◌, eqb}
+-- To believe: the families of line sizes, the unit and the sizes of each (Rules, line sizes).
+use Rattle.std.specs.Prelude.{ℕ, cond, ◌≡◌, Bool, true, List, [], ◌∷◌, eqb, codes}
 use Rattle.family.specs.declared.family.Family.{Family}
 use Rattle.family.specs.declared.family.Family.TheVariants.{Sonet, Sdh}
+
+-- what one unit of the SONET family is called, in bytes
+abbrev pub sonet_unit : List ℕ
+sonet_unit = codes "STS-1"
+
+-- and of the SDH family
+abbrev pub sdh_unit : List ℕ
+sdh_unit = codes "STM-1"
 
 -- the sizes of the SONET family
 abbrev pub sonet_sizes : List ℕ

@@ -7,6 +7,8 @@ pub trait LineSizes {
     /// One unit is one of these.
     const UNIT: [u8; 5];
 
+    ghost UNIT: { List ℕ };
+
     /// Line sizes, in units, rising.
     const SIZES: [u32; 5];
 

@@ -3,5 +3,6 @@ mod OneResult
 mod OfTables
 mod Promised
 mod Figures
+mod OldText
 mod OldDesk
 mod LeastOfCalls

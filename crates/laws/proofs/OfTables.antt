@@ -6,7 +6,7 @@ use native.Mathlib.Omega.{arith}
 use Rattle.ring.specs.Routing.{is_split, Split}
 use Rattle.ring.specs.declared.types.Sent.{Sent}
 use Rattle.ring.proofs.LargestCut.{rule-A, one-best}
-use Rattle.ring.proofs.Move.{moved}
+use Rattle.ring.proofs.Move.{moved, moves}
 use Rattle.ring.proofs.OurPlan.{rule-B, rule-B-peak, one-circuit-split}
 use Rattle.ring.proofs.Parallel.{disjoint-is, encloses-is, parallel-is, parallel-either}
 use Rattle.ring.proofs.SameNodes.{first-is-outer}
@@ -18,7 +18,7 @@ use Rattle.engines.proofs.Engines.{untangled-by, divides-by, split-peak, rows-ri
 use Rattle.best.proofs.BestWays.{is-best, best-leads}
 use Rattle.laws.specs.Rules.{DisjointIs, EnclosesIs, ParallelIs, ParallelEither, SplitIs, CutIsBest, CutIsOne}
 use Rattle.laws.specs.Rules.{RowsAreSent, SendingIsOne, SentPeakIsM, OneIsSplit}
-use Rattle.laws.specs.Rules.{MoveIs, EarlierIsOuter, RowsAreUntangled, UntangledDivides, UntangledPeakIsM}
+use Rattle.laws.specs.Rules.{MoveIs, MoveKeeps, EarlierIsOuter, RowsAreUntangled, UntangledDivides, UntangledPeakIsM}
 use Rattle.laws.specs.Rules.{SplitRowsRise, RowsAreDirected, DirectionsAreOne, DirectedPeak}
 use Rattle.laws.specs.Rules.{BestIsThere, RuleDChooses, FewAreSplit}
 use Rattle.laws.proofs.OneResult.{one-sending, one-run}
@@ -65,12 +65,15 @@ pub sent-peak : SentPeakIsM
 sent-peak n rs two table = rule-B-peak n rs two table.nodes
 
 pub one-is-split : OneIsSplit
-one-is-split n rs two table = one-circuit-split n rs two table
+one-is-split n rs two nodes = one-circuit-split n rs two nodes
 
 -- ---- C
 
 pub move-is : MoveIs
 move-is n a b oa ob = moved a b oa.order ob.order
+
+pub move-keeps : MoveKeeps
+move-keeps n a b oa ob = moves a b oa.order ob.order
 
 pub earlier-outer : EarlierIsOuter
 earlier-outer n a b oa same p q = first-is-outer a b same oa.order (said-split a p) (said-split b q)

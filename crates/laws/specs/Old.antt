@@ -3,6 +3,7 @@
 use Rattle.std.specs.Prelude.{ℕ, ◌+◌, ◌≤◌, ◌<◌, List, ◌≡◌, length}
 use Rattle.family.specs.declared.family.Family.TheVariants.{Sonet, Sdh}
 use Rattle.ring.specs.Limits.{Limits, old, desk}
+use Rattle.ring.specs.WithinLimits.{WithinLimits}
 use Rattle.ring.specs.Ring.{ring_of}
 use Rattle.text.specs.RingLine.{ring_line}
 use Rattle.ring.specs.declared.types.Ring.{Ring}
@@ -10,29 +11,35 @@ use Rattle.ring.specs.declared.types.Demand.{Demand}
 use Rattle.ring.specs.Sheet.{Sheet, plan}
 use Rattle.reasons.specs.Findings as found
 use Rattle.table.specs.Says as table
-use Rattle.table.specs.Table.{InRange, write_table}
 use Rattle.reasons.specs.declared.reason.Reason.{Reason}
 use Rattle.reasons.specs.declared.reason.Reason.TheVariants.{Misshapen, RingSize, TooMany}
 use Rattle.judge.specs.Findings.{findings}
-use Rattle.sheet.specs.WriteSheet.{write_sheet}
 use Rattle.checker.specs.Says.{ReadTo, Given}
+use Rattle.engines.specs.declared.Engine.TheVariants.{Level}
+use Rattle.router.specs.Plans.{rule_D}
+use Rattle.ringkit.specs.Texts.{PlanDue}
+use Rattle.laws.specs.OldText.{table_lines, sheet_lines, LinesSpelled}
 
 -- ---- tables
 
--- within limits the text is the table of values in range, and this is the sheet that the four rules give for them
-pub record RoutedBy (limits : Limits) (t text : List ℕ) : Type 0 where
+-- within the limits before, t is the table of a ring and rows, and `text` is the sheet that the
+-- four rules give for them: both line by line, and each number in 1 to 7 digits with no 0 in front
+-- of another. Of the writer nothing is said
+pub record RoutedBefore (t text : List ℕ) : Type 0 where
   pub ring : Ring
   pub rs : List Demand
-  pub table : t ≡ write_table ring rs
-  pub range : InRange limits ring rs
-  pub is : text ≡ write_sheet (plan ring rs)
+  pub within : WithinLimits old ring rs
+  pub short : length t ≤ old.bytes
+  pub table : LinesSpelled old.digits (table_lines ring rs) t
+  pub sheet : LinesSpelled old.digits (sheet_lines (plan ring rs)) text
 
--- within the limits before and within these a sheet is due, and each that is due within the one is each that is due within the other
+-- a sheet is due to t within the limits before, and one that is written within those that hold now;
+-- and each that is due by the one is each that is due by the other
 pub record SameText (t : List ℕ) : Type 0 where
   pub text : List ℕ
-  pub before : RoutedBy old t text
-  pub now : RoutedBy desk t text
-  pub same : (a b : List ℕ) → RoutedBy old t a → RoutedBy desk t b → a ≡ b
+  pub before : RoutedBefore t text
+  pub now : PlanDue Level rule_D t text
+  pub same : (a b : List ℕ) → RoutedBefore t a → PlanDue Level rule_D t b → a ≡ b
 
 -- so it is for every table that the old desk accepts
 abbrev pub SameBytes : Type 0

@@ -19,11 +19,11 @@ use Rattle.ring.specs.RuleA.{rule_a, largest_across}
 use Rattle.ring.specs.RuleB.{rule_b}
 use Rattle.ring.specs.RuleC.{both, to_front, to_back, inward, move, rule_c}
 use Rattle.ring.specs.RuleD.{largest_split}
-use Rattle.engines.specs.Laws.{OfTables}
+use Rattle.engines.specs.Laws.{OfRows, OfTables}
 use Rattle.engines.specs.declared.Engine.{Engine}
 use Rattle.engines.specs.Engine.{sent_by, split_routing_by, unsplit_routing_by}
 use Rattle.best.specs.Best.{splits, Choice, IsBest}
-use Rattle.ring.specs.Rules.{Best, Sends, SameNodes, NotBoth, Moved, OncePerPair, Untangled, Staggered, Largest, Directed}
+use Rattle.ring.specs.Rules.{Best, Sends, SameNodes, NotBoth, Moved, Moves, OncePerPair, Untangled, Staggered, Largest, Directed}
 
 -- it holds of every two rows on a ring
 abbrev pub OfTwoRows : (Demand → Demand → Type 0) → Type 0
@@ -109,15 +109,20 @@ SendingIsOne = OfTables (λ n rs. (ss : List Sent) → Sends n (λ k. largest_ac
 abbrev pub SentPeakIsM : Type 0
 SentPeakIsM = OfTables (λ n rs. peak (split_load (rule_b n rs)) n ≡ largest_across n rs)
 
--- of the rows of the same two nodes one at most is split
+-- of the rows of the same two nodes one at most is split, in any order and whatever stands between
 abbrev pub OneIsSplit : Type 0
-OneIsSplit = OfTables (λ n rs. Pairs NotBoth (rule_b n rs))
+OneIsSplit = OfRows (λ n rs. Pairs NotBoth (rule_b n rs))
 
 -- ---- C, parallel pairs
 
 -- what a move is, by how the two rows stand to each other
 abbrev pub MoveIs : Type 0
 MoveIs = (n : ℕ) (a b : Sent) → OnRing n a.demand → OnRing n b.demand → Moved a b (move a b)
+
+-- and what it does: no load rises, both rows keep their demands and sums and neither becomes split,
+-- and the two are not split and parallel afterwards
+abbrev pub MoveKeeps : Type 0
+MoveKeeps = (n : ℕ) (a b : Sent) → OnRing n a.demand → OnRing n b.demand → Moves a b (move a b)
 
 -- of two split rows of the same nodes the earlier is the outer
 abbrev pub EarlierIsOuter : Type 0

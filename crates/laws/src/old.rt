@@ -1,7 +1,8 @@
 // What the desk of the limits before these answers: 32 nodes, 496 rows, numbers of 7 digits, no M.
 ghost use Rattle.laws.specs.Old.{SameBytes, BeyondOld, OldAccepted, OldRefused};
 
-/// A table that it accepts is routed to the same bytes.
+/// A table that it accepts is routed to the same bytes. What it writes is said by the lines of a sheet
+/// and by how their numbers are spelled, and not by the writer.
 pub fn same_bytes()
     ensures { SameBytes }
 {}

@@ -5,7 +5,7 @@ ghost use Rattle.laws.specs.Rules.{FrontLeads, BackLeads, DisjointIs, EnclosesIs
 ghost use Rattle.laws.specs.Rules.{SplitIs, PeakIsAbove, PeakIsLoad, EitherOrder, OneLink, CutBounds};
 ghost use Rattle.laws.specs.Rules.{CutIsBest, CutIsOne};
 ghost use Rattle.laws.specs.Rules.{RowsAreSent, SendingIsOne, SentPeakIsM, OneIsSplit};
-ghost use Rattle.laws.specs.Rules.{MoveIs, EarlierIsOuter, MovesOncePerPair, MovedIsOne, RowsAreUntangled, UntangledDivides, UntangledPeakIsM};
+ghost use Rattle.laws.specs.Rules.{MoveIs, MoveKeeps, EarlierIsOuter, MovesOncePerPair, MovedIsOne, RowsAreUntangled, UntangledDivides, UntangledPeakIsM};
 ghost use Rattle.laws.specs.Rules.{SplitRowsRise, LargestSplitIs, RowsAreDirected, DirectionsAreOne, DirectedPeak};
 ghost use Rattle.laws.specs.Rules.{BestIsThere, BestIsOne, RuleDChooses, FewAreSplit};
 ghost use Rattle.laws.specs.Rules.{SizeOfRising, SizeOfFamily, FamilyAnswers};
@@ -57,6 +57,7 @@ pub fn sending_rule()
 /// Rule C, parallel pairs: one move at each pair of rows, in order. No load rises, and no two split rows are parallel afterwards.
 pub fn parallel_pairs_rule()
     ensures moves { MoveIs }
+    ensures keeps { MoveKeeps }
     ensures earlier { EarlierIsOuter }
     ensures order { MovesOncePerPair }
     ensures only { MovedIsOne }

@@ -1,5 +1,6 @@
 // What texts are, and what holds of all sheets.
-ghost use Rattle.ring.specs.Limits.{desk};
+ghost use Rattle.ring.specs.Limits.{desk, old};
+ghost use Rattle.table.specs.Spelled.{LimitsSpelled};
 ghost use Rattle.lines.specs.Laws.{LinesAre};
 ghost use Rattle.matrix.specs.Laws.{RowsOfMatrixIs};
 ghost use Rattle.sheet.specs.Laws.{SameSheet};
@@ -11,9 +12,12 @@ ghost use Rattle.laws.specs.Texts.{SpellingIs, OneLine, FaultyIs, OneRingLine, R
 ghost use Rattle.laws.specs.Cases.{CasesPromised};
 ghost use Rattle.laws.specs.Digits.{OfJudged, WrittenAccepted, RoomsFit, ShortNodes, ShortAmounts, ShortHalves, ShortLoads, FitsText};
 
-/// Numbers are spelled in one way each: by 1 to 8 digits with no leading zero but 0 itself.
+/// Numbers are spelled in one way each: by 1 to 8 digits with no leading zero but 0 itself. A node
+/// and an amount within the limits can be spelled so, and within those before by 1 to 7 digits.
 pub fn numbers_spelled()
-    ensures { SpellingIs }
+    ensures one { SpellingIs }
+    ensures limits { LimitsSpelled desk }
+    ensures before { LimitsSpelled old }
 {}
 
 /// A line of a shape says its values alone, and a text has a first faulty byte exactly where it is no line of the shape.

@@ -1,5 +1,16 @@
 //! A text, line by line.
-ghost use Rattle.std.specs.Prelude.{◌≡◌, ◌<◌, ◌≤◌, [], ◌∷◌, length, IfOk, IfErr, MatchOption};
+ghost use Rattle.std.specs.Prelude.{
+  ◌≡◌,
+  ◌<◌,
+  ◌≤◌,
+  [],
+  ◌∷◌,
+  drop,
+  length,
+  IfOk,
+  IfErr,
+  MatchOption,
+};
 ghost use Rattle.ring.specs.Limits.{desk};
 ghost use Rattle.text.specs.ReadLine.{read_line};
 ghost use Rattle.text.specs.ReadRing.{read_ring};
@@ -125,7 +136,8 @@ impl<'a> Lines<'a> {
 
     /// The next line, where one is left.
     pub fn next_line(&mut self) -> Option<Line<'a>>
-        ensures { MatchOption result (self.old ≡ []) (λ line. self.old ≡ line ∷ self.new) }
+        ensures { MatchOption result ((self.old ≡ []) × (self.new ≡ []))
+            (λ line. self.old ≡ line ∷ self.new) }
     {
         let text = self.rest;
         if text.is_empty() {
@@ -141,15 +153,18 @@ impl<'a> Lines<'a> {
         ensures read { IfOk result (λ line. self.old ≡ line ∷ self.new) }
         ensures missing { IfErr result (λ r. (r ≡ refusal Reason.Misshapen number 1)
             × (self.old ≡ [])) }
+        ensures none_left { IfErr result (λ _. self.new ≡ []) }
     {
         self.next_line().ok_or(Refusal::misshapen(number, 0))
     }
 
-    /// That no line is left; or that the next one, which has this number, is left over, and so misshapen at its first byte.
+    /// That no line is left; or that the next one, which has this number, is left over, and so
+    /// misshapen at its first byte. The lines behind it are then left.
     pub fn end(&mut self, number: u32) -> Result<(), Refusal>
         ensures read { IfOk result (λ _. self.old ≡ []) }
         ensures left_over { IfErr result (λ r. (r ≡ refusal Reason.Misshapen number 1)
             × (self.old ≡ [] → ⊥)) }
+        ensures rest { self.new ≡ drop 1 self.old }
     {
         match self.next_line() {
             None => Ok(()),

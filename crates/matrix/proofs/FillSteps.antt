@@ -1,22 +1,19 @@
 -- Counting the rows of a square, and filling columns with them: those of the pairs passed are counted, or stand in the columns, and those of the pairs left come behind.
 use Rattle.std.proofs.Common.{w64, Fits}
 use Prim.Native.Nat.{ℕ, suc, ◌+◌, ◌-◌, ◌≤◌, ◌<◌}
-use mathlib.Core.List.{List, [], ◌∷◌, ◌++◌, append_assoc, append-nil}
+use mathlib.Core.List.{List, [], ◌∷◌, ◌++◌, map, append_assoc, append-nil}
 use mathlib.Core.Path.{◌≡◌, ap, ◌∙◌, sym}
 use native.Mathlib.Omega.{arith}
-use lib.ListN.{length, length-append}
+use lib.ListN.{length, length-append, length-map}
 use borrow.Author.Tests.{eq-eqb, ne_eqb}
 use Rattle.ring.specs.Limits.{desk}
 use Rattle.ring.specs.Lists.{listed}
 use Rattle.ring.specs.Demand.{demand}
 use Rattle.ring.specs.declared.types.Demand.{Demand}
 use Rattle.ring.specs.declared.types.Routed.{Routed}
-use Rattle.ring.specs.Sheet.{sents, demands}
 use Rattle.ring.proofs.Listed.{listed_cons}
 use Rattle.matrix.specs.Demands.{pairs_from, above_zero, rows_by}
 use Rattle.rows.specs.Columns.{unsent}
-use Rattle.ring.proofs.Small.{demands-length}
-use Rattle.rows.proofs.Demands.{demands-more}
 use Rattle.matrix.proofs.RowLaws.{above-append, rows-counted}
 
 module _ (n : ℕ) (a : ℕ → ℕ → ℕ) where
@@ -90,21 +87,21 @@ module _ (n : ℕ) (a : ℕ → ℕ → ℕ) where
   pub all-counted : (count i : ℕ) → Counting count i → n + 1 ≤ i → count ≡ length (rows_by n a)
   all-counted count i counting l = omega (arith, counting.rest, ap length (none-down i l))
 
-  -- ---- the rows: those of the nodes before i are filled in
+  -- ---- the rows: those of the nodes before i are filled in, and nothing of them is sent
 
   pub record Filling (rows : List Routed) (i : ℕ) : Type 0 where
-    pub rest : rows_by n a ≡ demands (sents rows) ++ down i
+    pub rest : map unsent (rows_by n a) ≡ rows ++ map unsent (down i)
 
   -- and of node i those with the nodes before j
   pub record Crossing (rows : List Routed) (i j : ℕ) : Type 0 where
-    pub rest : rows_by n a ≡ demands (sents rows) ++ (across i j ++ down (i + 1))
+    pub rest : map unsent (rows_by n a) ≡ rows ++ map unsent (across i j ++ down (i + 1))
 
   pub filling-starts : (rows : List Routed) → rows ≡ [] → Filling rows 1
-  filling-starts rows none = record { rest = rw none (sym all-down) }
+  filling-starts rows none = record { rest = rw none (ap (map unsent) (sym all-down)) }
 
   module _ (rows : List Routed) (i : ℕ) where
     pub node-begins : Filling rows i → i < n + 1 → Crossing rows i (i + 1)
-    node-begins filling l = record { rest = filling.rest ∙ ap (λ rs. demands (sents rows) ++ rs) (down-across i l) }
+    node-begins filling l = record { rest = filling.rest ∙ ap (λ rs. rows ++ map unsent rs) (down-across i l) }
 
     module _ (j : ℕ) (crossing : Crossing rows i j) where
       pub node-over : n + 1 ≤ j → Filling rows (i + 1)
@@ -122,19 +119,18 @@ module _ (n : ℕ) (a : ℕ → ℕ → ℕ) where
               omega (
                 arith,
                 ap length crossing.rest,
-                length-append (demands (sents rows)) (across i j ++ down (i + 1)),
+                length-map (rows_by n a) unsent,
+                length-append rows (map unsent (across i j ++ down (i + 1))),
+                length-map (across i j ++ down (i + 1)) unsent,
                 length-append (across i j) (down (i + 1)),
                 ap length (across-some i j l d ed z),
-                demands-length rows,
               )
 
           pub adds-row : (new : List Routed) → new ≡ rows ++ unsent (demand i j d) ∷ [] → Crossing new i (j + 1)
           adds-row new e =
               record {
-                rest =
-                    crossing.rest ∙ rw (across-some i j l d ed z)
-                    (rw (e, demands-more rows (unsent (demand i j d))) (sym (append_assoc (demands (sents rows)) (demand i j d ∷ []) _)));
+                rest = crossing.rest ∙ rw (across-some i j l d ed z, e) (sym (append_assoc rows (unsent (demand i j d) ∷ []) _));
               }
 
-  pub filled : (rows : List Routed) (i : ℕ) → Filling rows i → n + 1 ≤ i → demands (sents rows) ≡ rows_by n a
-  filled rows i filling l = sym (filling.rest ∙ rw (none-down i l) (append-nil (demands (sents rows))))
+  pub filled : (rows : List Routed) (i : ℕ) → Filling rows i → n + 1 ≤ i → rows ≡ map unsent (rows_by n a)
+  filled rows i filling l = sym (filling.rest ∙ rw (none-down i l) (append-nil rows))

@@ -1,7 +1,7 @@
 //! The rows of a square.
-ghost use Rattle.std.specs.Prelude.{◌≡◌, ◌≤◌, [], length};
+ghost use Rattle.std.specs.Prelude.{◌≡◌, ◌≤◌, [], length, map};
 ghost use Rattle.ring.specs.Limits.{desk};
-ghost use Rattle.ring.specs.Sheet.{sents, demands};
+ghost use Rattle.rows.specs.Columns.{unsent};
 ghost use Rattle.matrix.specs.Demands.{rows_of_matrix};
 
 use crate::square::Square;
@@ -24,11 +24,12 @@ pub(crate) fn count_rows(square: &Square) -> usize
     count
 }
 
-/// Fills columns that hold no row with a row for each pair whose entry is above 0, in table order; these are at most 1,024.
+/// Fills columns that hold no row with a row for each pair whose entry is above 0, in table order, of
+/// which nothing is sent yet; these are at most 1,024.
 pub(crate) fn fill(square: &Square, rows: &mut Columns)
     requires empty { rows.old ≡ [] }
     requires few { length (rows_of_matrix (length square.now) square.now) ≤ desk.rows }
-    ensures { demands (sents rows.new) ≡ rows_of_matrix (length square.now) square.now }
+    ensures { rows.new ≡ map unsent (rows_of_matrix (length square.now) square.now) }
 {
     let nodes = square.nodes();
     for first in 1..nodes + 1 {

@@ -1,7 +1,8 @@
 //! A text to rows.
-ghost use Rattle.std.specs.Prelude.{◌≡◌, [], ◌≤◌, length, IfOk, IfErr};
+ghost use Rattle.std.specs.Prelude.{◌≡◌, [], ◌≤◌, length, map, IfOk, IfErr};
 ghost use Rattle.ring.specs.Limits.{desk};
 ghost use Rattle.ring.specs.Sheet.{sents, demands};
+ghost use Rattle.rows.specs.Columns.{unsent};
 ghost use Rattle.lines.specs.Lines.{lines as lines_in};
 ghost use Rattle.matrix.specs.Read.{square_lines, square_judged, matrix_of};
 ghost use Rattle.matrix.specs.ReadInto.{read_to, IsMatrix, IsGiven};
@@ -52,12 +53,15 @@ fn read_lines(lines: &mut Lines, square: &mut Square) -> Result<(), Refusal>
     lines.end(nodes + 1)
 }
 
-/// Reads a matrix into columns: a row for each pair of nodes whose entry is above 0, in table order; how it is sent is not said. It answers how many nodes the
-/// ring has; of its fibres a matrix says nothing. A text is refused by the first reason that holds, with its line and byte; then the columns hold no row. Not
-/// made one with its caller, whose stack would hold the square before the columns are made and after they are filled.
+/// Reads a matrix into columns: a row for each pair of nodes whose entry is above 0, in table order;
+/// nothing of it is sent yet, and its way is the front. It answers how many nodes the ring has; of
+/// its fibres a matrix says nothing. A text is refused by the first reason that holds, with its line
+/// and byte; then the columns hold no row. Not made one with its caller, whose stack would hold the
+/// square before the columns are made and after they are filled.
 #[inline(never)]
 pub fn read_matrix(text: &[u8], rows: &mut Columns) -> Result<u32, Refusal>
     ensures accepted { IfOk result (λ n. IsMatrix text.now n (demands (sents rows.new))) }
+    ensures nothing_sent { rows.new ≡ map unsent (demands (sents rows.new)) }
     ensures refused { IfErr result (IsGiven text.now) }
     ensures empty { IfErr result (λ _. rows.new ≡ []) }
 {

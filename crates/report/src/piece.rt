@@ -49,7 +49,7 @@ impl<'a> Pieces<'a> {
 
     /// The next piece, where one is left.
     pub fn next_piece(&mut self) -> Option<&'a [u8]>
-        ensures { MatchOption result (self.old ≡ [])
+        ensures { MatchOption result ((self.old ≡ []) × (self.new ≡ []))
             (λ p. (self.old ≡ p.now ∷ self.new) × (0 < length p.now)) }
     {
         let text = self.rest;

@@ -61,15 +61,6 @@ staggered a b oa ob l q p p' = go (stand a.demand b.demand oa ob) (q p p')
 -- ---- the rows of a table, pair by pair
 
 module _ (n : ℕ) (rs : List Demand) (table : TableRows n rs) where
-  pub pairs-in-order : Pairs InTableOrder rs
-  pairs-in-order = pairs-of-steps chain table.order
-    where
-      chain : (a b c : Demand) → InTableOrder a b → InTableOrder b c → InTableOrder a c
-      chain a b c (inl l) (inl m) = inl (omega arith)
-      chain a b c (inl l) (inr m) = inl (omega (arith, m.0))
-      chain a b c (inr l) (inl m) = inl (omega (arith, l.0))
-      chain a b c (inr l) (inr m) = inr (l.0 ∙ m.0, omega (arith, l.1, m.1))
-
   pub no-fall : Pairs NoFall rs
   no-fall = pairs-of-steps (λ a b c l m. omega arith) (steps one table.order)
     where

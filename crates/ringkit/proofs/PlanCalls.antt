@@ -199,7 +199,8 @@ few-not-23 engine t old new r (none_due g s) f = absurd (none-given engine best_
 
 pub nothing-below : (rule : Rule) (t : List ℕ) → NothingBelowSheet rule t
 nothing-below asked t sheet d =
-    subst (Minimal d.ring.nodes d.rs) (sym (plan-sents d.ring d.rs d.x d.plan)) (split-minimal d.ring.nodes d.rs d.of.range.within.few d.of.range.within.rows)
+    subst (Minimal d.ring.nodes d.rs) (sym (plan-sents d.ring d.rs d.x d.plan))
+    (split-minimal d.ring.nodes d.rs d.of.range.within.few d.of.range.within.rows.nodes)
 
 -- ---- by rule D
 

@@ -13,11 +13,12 @@ use Rattle.ring.specs.declared.types.Demand.{Demand}
 use Rattle.table.specs.Table.{write_table, table_room}
 use Rattle.table.specs.Says.{Accepted}
 use Rattle.table.proofs.Short.{desk-narrow, table-short}
+use Rattle.work.specs.Changes.{Sized}
 use Rattle.work.specs.Calls.{Call}
 use Rattle.work.specs.Made.{Made}
 use Rattle.work.specs.Keys.{sorted_rows, IsBytes}
 use Rattle.work.specs.declared.Work.{Work}
-use Rattle.work.proofs.Right.{Sized, HasBytes, bytes-of}
+use Rattle.work.proofs.Right.{HasBytes, bytes-of}
 use Rattle.work.proofs.SortedRows.{rows-sorted}
 use Rattle.work.proofs.OneOrder.{one-order}
 use Rattle.work.proofs.ByCalls.{made-keeps, made-writes-out, made-sized, made-bytes}

@@ -8,7 +8,7 @@ mod texts; // the calls that read a text
 mod turning; // the call that turns rows
 mod working; // the calls of the working table
 
-ghost use Rattle.std.specs.Prelude.{◌≡◌, ◌≤◌, length, Result, Ok};
+ghost use Rattle.std.specs.Prelude.{◌+◌, ◌≡◌, ◌≤◌, length, Result, Ok};
 ghost use Rattle.ring.specs.Limits.{desk};
 ghost use Rattle.ring.specs.Sheet.{sheet_in, sents, demands};
 ghost use Rattle.table.specs.Table.{InRange, write_table, table_room};
@@ -39,7 +39,11 @@ pub use working::{
 };
 
 /// A program that reads a text from outside takes at most so many bytes of it: one more than a text can have, so that a longer one is seen to be longer.
-pub const BYTES_TAKEN: u64 = BYTES as u64 + 1;
+pub const fn bytes_taken() -> u64
+    ensures { result ≡ desk.bytes + 1 }
+{
+    BYTES as u64 + 1
+}
 
 /// A buffer of so many bytes has room for every sheet that routing writes: at most 46 bytes of the R, C and Z lines, 27 of a D line and 23 of an L line. A node has at
 /// most 2 digits, an amount 4, a front or back 5, a load 8, and behind each field stands one byte.

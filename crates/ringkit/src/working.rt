@@ -6,7 +6,7 @@ ghost use Rattle.table.specs.Says.{Accepted};
 ghost use Rattle.work.specs.Calls.{Call, start, add, change, remove};
 ghost use Rattle.work.specs.Changes.{placed_of, work_after, started_in, added_in, changed_in, removed_in, row_in};
 ghost use Rattle.work.specs.True.{TrueTable};
-ghost use Rattle.work.specs.Answered.{Answered};
+ghost use Rattle.work.specs.Answered.{Answered, OnlyBytes};
 ghost use Rattle.work.specs.Promises.{WorkPromise, OnlyThis, RowPromise, OnlyRow};
 ghost use Rattle.work.specs.Made.{Made};
 ghost use Rattle.work.specs.Played.{AsPlayed, AnswerAfter};
@@ -39,6 +39,7 @@ pub fn ringkit_work_start(work: &mut Work, ring: Ring) -> Result<Placed, Reason>
     ensures promise { WorkPromise work.old (start ring) result work.new }
     ensures only { OnlyThis (WorkPromise work.old (start ring)) result work.new }
     ensures any { Answered work.old (start ring) result work.new }
+    ensures only_any { OnlyBytes (Answered work.old (start ring)) result work.new }
     ensures answered { AnswerAfter [] (start ring) result }
     ensures value { result ≡ placed_of (started_in ring) }
     ensures table { work.new ≡ work_after work.old (started_in ring) }
@@ -75,6 +76,7 @@ pub fn ringkit_work_add(work: &mut Work, row: Demand) -> Result<Placed, Reason>
 
     // On every struct.
     ensures any { Answered work.old (add row) result work.new }
+    ensures only_any { OnlyBytes (Answered work.old (add row)) result work.new }
     ensures value { result ≡ placed_of (added_in work.old row) }
     ensures table { work.new ≡ work_after work.old (added_in work.old row) }
 {
@@ -99,6 +101,7 @@ pub fn ringkit_work_change(work: &mut Work, place: u32, row: Demand) -> Result<P
 
     // On every struct.
     ensures any { Answered work.old (change place row) result work.new }
+    ensures only_any { OnlyBytes (Answered work.old (change place row)) result work.new }
     ensures value { result ≡ placed_of (changed_in work.old place row) }
     ensures table { work.new ≡ work_after work.old (changed_in work.old place row) }
 {
@@ -123,6 +126,7 @@ pub fn ringkit_work_remove(work: &mut Work, place: u32) -> Result<Placed, Reason
 
     // On every struct.
     ensures any { Answered work.old (remove place) result work.new }
+    ensures only_any { OnlyBytes (Answered work.old (remove place)) result work.new }
     ensures value { result ≡ placed_of (removed_in work.old place) }
     ensures table { work.new ≡ work_after work.old (removed_in work.old place) }
 {

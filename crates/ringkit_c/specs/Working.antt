@@ -6,6 +6,7 @@ use Rattle.reasons.specs.Reasons.{number_of}
 use Rattle.reasons.specs.declared.reason.Reason.{Reason}
 use Rattle.work.specs.Calls.{Call, WorkAnswer}
 use Rattle.work.specs.Promises.{WorkPromise}
+use Rattle.work.specs.Answered.{Answered}
 use Rattle.work.specs.declared.Work.{Work}
 use Rattle.ringkit_c.specs.Replies.{Told}
 use Rattle.ringkit_c.specs.declared.replies.WorkReply.{WorkReply}
@@ -24,3 +25,7 @@ row_reply (Err reason) = record { reason = number_of reason; line = 0; first = 0
 -- C is told of an answer that keeps the promise of a call
 abbrev pub ToldWork : Work → Call → WorkReply → Work → Type 0
 ToldWork w c r x = Told work_reply (λ a. WorkPromise w c a x) r
+
+-- and of one that is what a call answers of every struct, whatever its bytes
+abbrev pub ToldAnswered : Work → Call → WorkReply → Work → Type 0
+ToldAnswered w c r x = Told work_reply (λ a. Answered w c a x) r

@@ -7,7 +7,7 @@ ghost use Rattle.table.specs.Says.{Accepted};
 ghost use Rattle.work.specs.Changes.{placed_of, work_after, started_in, added_in, changed_in, removed_in, row_in};
 ghost use Rattle.work.specs.Calls.{Call, start, add, change, remove};
 ghost use Rattle.work.specs.True.{TrueTable};
-ghost use Rattle.work.specs.Answered.{Answered};
+ghost use Rattle.work.specs.Answered.{OnlyBytes};
 ghost use Rattle.work.specs.Promises.{OnlyThis, RowPromise};
 ghost use Rattle.work.specs.Made.{Made};
 ghost use Rattle.work.specs.Played.{AsPlayed, AnswerAfter};
@@ -16,7 +16,7 @@ ghost use Rattle.ringkit.specs.WorkCalls.{WorkDue, NoRefusal};
 ghost use Rattle.ringkit.specs.Outcome.{Fills};
 ghost use Rattle.ringkit.specs.TableCalls.{work_written};
 ghost use Rattle.ringkit_c.specs.Replies.{ring_told, Told, Replies};
-ghost use Rattle.ringkit_c.specs.Working.{work_reply, row_reply, ToldWork};
+ghost use Rattle.ringkit_c.specs.Working.{work_reply, row_reply, ToldWork, ToldAnswered};
 
 use crate::replies::{Reply, RowReply, WorkReply};
 use crate::ring_told::ring_told;
@@ -31,8 +31,9 @@ pub extern "C" fn ringkit_work_start(work: &mut Work, n: u32, fibres: u32, famil
     ensures promise { ToldWork work.old (start (ring_told n fibres family)) result work.new }
     ensures only { OnlyThis (ToldWork work.old (start (ring_told n fibres family))) result
         work.new }
-    ensures any { let call = start (ring_told n fibres family) in
-        Told work_reply (λ a. Answered work.old call a work.new) result }
+    ensures any { ToldAnswered work.old (start (ring_told n fibres family)) result work.new }
+    ensures only_any { OnlyBytes (ToldAnswered work.old (start (ring_told n fibres family)))
+        result work.new }
     ensures answered { Told work_reply (AnswerAfter [] (start (ring_told n fibres family))) result }
     ensures value { result ≡ work_reply (placed_of (started_in (ring_told n fibres family))) }
     ensures table { work.new ≡ work_after work.old (started_in (ring_told n fibres family)) }
@@ -82,7 +83,9 @@ pub extern "C" fn ringkit_work_add(
 
     // On every struct.
     ensures any { let call = add (demand first second amount) in
-        Told work_reply (λ a. Answered work.old call a work.new) result }
+        ToldAnswered work.old call result work.new }
+    ensures only_any { let call = add (demand first second amount) in
+        OnlyBytes (ToldAnswered work.old call) result work.new }
     ensures value { let row = demand first second amount in
         result ≡ work_reply (placed_of (added_in work.old row)) }
     ensures table { let row = demand first second amount in
@@ -126,7 +129,9 @@ pub extern "C" fn ringkit_work_change(
 
     // On every struct.
     ensures any { let call = change place (demand first second amount) in
-        Told work_reply (λ a. Answered work.old call a work.new) result }
+        ToldAnswered work.old call result work.new }
+    ensures only_any { let call = change place (demand first second amount) in
+        OnlyBytes (ToldAnswered work.old call) result work.new }
     ensures value { let row = demand first second amount in
         result ≡ work_reply (placed_of (changed_in work.old place row)) }
     ensures table { let row = demand first second amount in
@@ -158,7 +163,9 @@ pub extern "C" fn ringkit_work_remove(work: &mut Work, place: u32) -> WorkReply
 
     // On every struct.
     ensures any { let call = remove place in
-        Told work_reply (λ a. Answered work.old call a work.new) result }
+        ToldAnswered work.old call result work.new }
+    ensures only_any { let call = remove place in
+        OnlyBytes (ToldAnswered work.old call) result work.new }
     ensures value { result ≡ work_reply (placed_of (removed_in work.old place)) }
     ensures table { work.new ≡ work_after work.old (removed_in work.old place) }
 {

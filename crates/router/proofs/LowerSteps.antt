@@ -1,21 +1,15 @@
--- The loops that lower rooms: where they stand, the largest difference so far, and the rooms of the links that have had their turn, which are final.
-use Prim.Native.Nat.{ℕ, suc, ◌+◌, ◌-◌, ◌*◌, ◌≤◌, ◌<◌, max}
-use mathlib.Core.Path.{◌≡◌, refl, sym, ◌∙◌, ap}
-use mathlib.Core.List.{List}
-use native.Mathlib.Omega.{arith}
+-- The loops that put rooms down: where they stand, the largest difference so far, and the rooms of the links that have had their turn, which are final.
+use Rattle.std.proofs.Common.{◌≡◌, ℕ, suc, ◌+◌, ◌-◌, ◌*◌, ◌≤◌, ◌<◌, max, List, length, refl, sym, ◌∙◌, arith}
 use native.Mathlib.Decide.{ℕ_discrete}
-use Rattle.std.proofs.Common.{length, set}
-use Rattle.std.proofs.lemmas.List.{length-set, get_or-set_same, get_or-set_other}
-use lib.ListN.{replicate, length-replicate, get_or-replicate}
-use Rattle.ring.specs.Limits.{desk}
 use Rattle.ring.specs.Routing.{peak}
 use Rattle.ring.specs.RuleB.{Room}
-use Rattle.ring.proofs.Peaks.{same-peak}
-use Rattle.weight.specs.LinkSteps.{link_at}
-use Rattle.engines.specs.declared.Engine.TheVariants.{Level, Lowered}
+use Rattle.across.specs.Cells.{cell}
+use Rattle.across.specs.Lines.{Pairwise, PutAt}
+use Rattle.engines.specs.declared.Engine.{Engine}
+use Rattle.engines.specs.declared.Engine.TheVariants.{Lowered}
 use Rattle.engines.specs.Lowering.{lowest_room, lower_to}
-use Rattle.engines.proofs.LinkByLink.{room-is}
-use Rattle.router.specs.Lowering.{RoomsFrom}
+use Rattle.engines.proofs.LinkByLink.{room-is, same-turn}
+use Rattle.router.specs.Lowering.{rooms_from, room_on, RoomsPut}
 
 module _ (number : ℕ → ℕ → ℕ) (m n : ℕ) where
   -- ---- one turn
@@ -69,39 +63,30 @@ module _ (number : ℕ → ℕ → ℕ) (m n : ℕ) where
     unfolding lowest_room
     behind-done h largest l o = let a : h - (g + 1) ≡ n - g = omega (arith, o.high) in rw a at o.is
 
-  -- ---- the turns
+-- ---- the turns
 
-  -- links before g have had theirs
-  pub record Lowering (room : List ℕ) (g : ℕ) : Type 0 where
-    pub size : length room ≡ desk.nodes
-    pub low : 1 ≤ g
-    pub high : g ≤ n + 1
-    pub is : (k : ℕ) → 1 ≤ k → k < g → link_at room k ≡ lower_to number m n n k
+-- links before g have their rooms, and all numbers of pairs are as they were
+pub record Putting (engine : Engine) (m n : ℕ) (old now : List ℕ) (g : ℕ) : Type 0 where
+  pub size : length now ≡ length old
+  pub rooms : (k : ℕ) → 1 ≤ k → k < g → room_on now k ≡ rooms_from engine (cell old) m n k
+  pub pairs : Pairwise n (λ x y. cell now x y ≡ cell old x y)
 
-  pub lower_start : (room : List ℕ) → length room ≡ desk.nodes → Lowering room 1
-  lower_start room e = record { size = e; low = omega arith; high = omega arith; is = λ k a b. absurd (omega arith) }
+module _ (engine : Engine) (m n : ℕ) (old : List ℕ) where
+  pub put_start : Putting engine m n old old 1
+  put_start = record { size = refl; rooms = λ k a b. absurd (omega arith); pairs = λ x y a b c. refl }
 
-  pub lower-turn : (room new : List ℕ) (g x : ℕ) → n ≤ desk.nodes → g ≤ n → Lowering room g → x ≡ lowest_room number m n (link_at room) g → new ≡ set room (g - 1) x → Lowering new (g + 1)
-  unfolding lowest_room
-  lower-turn room new g x few l o e f =
-      rw f record {
-        size = length-set room (g - 1) x ∙ o.size;
-        low = omega arith;
-        high = omega arith;
-        is = λ k a b. elim (ℕ_discrete k g) [
-          | yes q ↦ rw q (get_or-set_same room (g - 1) x 0 (omega (arith, o.size, o.low)) ∙ e ∙ turn)
-          | no q ↦ get_or-set_other room (g - 1) (k - 1) x 0 (λ z. q (omega (arith, o.low))) ∙ o.is k a (omega arith)
-        ];
-      }
-    where
-      -- the turn looks at links before g alone
-      turn : lowest_room number m n (link_at room) g ≡ lower_to number m n n g
-      turn =
-          let same = same-peak (before (link_at room) g) (before (lower_to number m n n) g) (g - 1) (λ k a b. ap (λ y. 2 * number k g - y) (o.is k a (omega arith))) in
-          ap (λ y. max y (peak (behind g) (n - g))) same ∙ sym (room-is number m n g o.low l)
+  module _ (now new : List ℕ) (g x : ℕ) (low : 1 ≤ g) (s : Putting engine m n old now g) where
+    pub put-turn : x ≡ rooms_from engine (cell old) m n g → PutAt g (g + 1) x now new → Putting engine m n old new (g + 1)
+    put-turn e p =
+        record {
+          size = p.size ∙ s.size;
+          rooms = λ k a b. elim (ℕ_discrete k g) [ yes q ↦ rw q (p.here ∙ e) | no q ↦ p.others k (k + 1) a (omega arith) (λ o. q o.0) ∙ s.rooms k a (omega arith) ];
+          pairs = λ y z a b c. p.others y (z + 1) a (omega arith) (λ o. omega (arith, o.0, o.1)) ∙ s.pairs y z a b c;
+        }
 
-  pub lower-done : (room : List ℕ) (g : ℕ) → n < g → Lowering room g → RoomsFrom Lowered number m n room
-  lower-done room g l o = record { size = o.size; is = λ k a b. o.is k a (omega arith) }
+  pub put-done : (now : List ℕ) (g : ℕ) → n + 1 ≤ g → Putting engine m n old now g → RoomsPut engine m n old now
+  put-done now g l s = record { size = s.size; rooms = λ k a b. s.rooms k a (omega arith); pairs = s.pairs }
 
-  pub level-rooms : n ≤ desk.nodes → RoomsFrom Level number m n (replicate {A = ℕ} desk.nodes m)
-  level-rooms few = record { size = length-replicate {A = ℕ} desk.nodes m; is = λ k a b. get_or-replicate {A = ℕ} desk.nodes (k - 1) m 0 (omega arith) }
+-- the turn looks at links before g alone
+pub lowered-is : (m n : ℕ) (old now : List ℕ) (g x : ℕ) → 1 ≤ g → g ≤ n → Putting Lowered m n old now g → x ≡ lowest_room (cell now) m n (room_on now) g → x ≡ lower_to (cell old) m n n g
+lowered-is m n old now g x low l s e = e ∙ same-turn (cell now) (cell old) m n s.pairs (room_on now) (lower_to (cell old) m n n) g s.rooms low l ∙ sym (room-is (cell old) m n g low l)

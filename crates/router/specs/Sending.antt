@@ -1,39 +1,19 @@
--- Internal: what rule B's functions are given, rooms of links and the triangle of across numbers, and what they make of it.
-use Rattle.std.specs.Prelude.{ℕ, ◌≤◌, ◌<◌, cond, List, ◌≡◌, length, eqb}
+-- Internal: what rule B is given, a triangle of half slacks, and what it makes of the rows.
+use Rattle.std.specs.Prelude.{ℕ, ◌+◌, ◌*◌, ◌≤◌, List, ◌≡◌, length}
+use Rattle.ring.specs.declared.types.Demand.{Demand}
 use Rattle.ring.specs.declared.types.Routed.{Routed}
-use Rattle.ring.specs.Limits.{desk}
-use Rattle.ring.specs.RuleB.{send_all}
+use Rattle.ring.specs.Cut.{across}
+use Rattle.ring.specs.RuleB.{Room, send_all}
 use Rattle.ring.specs.Sheet.{sents, demands_of}
-use Rattle.across.specs.Triangle.{at}
 use Rattle.weight.specs.Limits.{across_bound}
-use Rattle.weight.specs.LinkSteps.{link_at}
+use Rattle.across.specs.Cells.{most_places, cell}
 
--- the number of links g <= h: a link has no place with itself, and its number is 0
-abbrev pub pair_at : List ℕ → ℕ → ℕ → ℕ
-pair_at triangle g h = cond (eqb g h) 0 (at triangle g h)
-
--- rooms that a table's rows can leave
-pub record Rooms (n : ℕ) (room : List ℕ) : Type 0 where
-  pub size : length room ≡ desk.nodes
-  pub small : (k : ℕ) → 1 ≤ k → k ≤ n → link_at room k ≤ across_bound
-
--- the slack of links g < h can be taken
-pub record SlackFits (g h : ℕ) (room triangle : List ℕ) : Type 0 where
-  pub low : 1 ≤ g
-  pub order : g < h
-  pub high : h ≤ desk.nodes
-  pub one : link_at room g ≤ across_bound
-  pub other : link_at room h ≤ across_bound
-  pub pair : at triangle g h ≤ across_bound
-
--- and that of every pair of links low to high, and of each with itself
-pub record FrontFits (low high : ℕ) (room triangle : List ℕ) : Type 0 where
-  pub link : 1 ≤ low
-  pub order : low ≤ high
-  pub last : high ≤ desk.nodes
-  pub rooms : (k : ℕ) → low ≤ k → k ≤ high → link_at room k ≤ across_bound
-  pub pairs : (g h : ℕ) → low ≤ g → g < h → h ≤ high → at triangle g h ≤ across_bound
+-- of links g <= h of the ring, half of what their rooms have beyond twice what lies across them, of rows not yet sent
+pub record Spares (n : ℕ) (room : Room) (rs : List Demand) (triangle : List ℕ) : Type 0 where
+  pub size : length triangle ≡ most_places
+  pub small : (k : ℕ) → 1 ≤ k → k ≤ n → room k ≤ across_bound
+  pub is : (g h : ℕ) → 1 ≤ g → g ≤ h → h ≤ n → 2 * cell triangle g h + 2 * across rs g h ≡ room g + room h
 
 -- rule B from rooms
-pub record SentAll (room : List ℕ) (old new : List Routed) : Type 0 where
-  pub is : sents new ≡ send_all (link_at room) (demands_of old)
+pub record SentAll (room : Room) (old new : List Routed) : Type 0 where
+  pub is : sents new ≡ send_all room (demands_of old)

@@ -10,7 +10,7 @@ use lib.ListN.{length, length-append}
 use borrow.Author.Tests.{le-ltb}
 use Rattle.std.specs.Prelude.{Bool, true, false, cond, ltb, Option, Result, Ok, Err}
 use Rattle.std.specs.List.{flat_map}
-use Rattle.ring.specs.Limits.{Limits, desk, old}
+use Rattle.ring.specs.Limits.{Limits, desk}
 use Rattle.ring.specs.LineSize.{IsFibres}
 use Rattle.ring.specs.Lists.{Each, none, more}
 use Rattle.family.specs.declared.family.Family.TheVariants.{Sonet, Sdh}
@@ -24,7 +24,7 @@ use Rattle.ring.specs.declared.types.Cut.{Cut}
 use Rattle.ring.specs.declared.types.Link.{Link}
 use Rattle.ring.specs.Demand.{OnRing}
 use Rattle.ring.specs.Routing.{way_number}
-use Rattle.ring.specs.Sheet.{Sheet, sents, demands, plan, figures_of}
+use Rattle.ring.specs.Sheet.{Sheet, sents, demands, figures_of}
 use Rattle.ring.specs.True.{TrueSheet}
 use Rattle.ring.proofs.Small.{SmallRow, figures-small, demands-length}
 use Rattle.text.specs.declared.field.Field.{Field}
@@ -42,20 +42,19 @@ use Rattle.lines.specs.Lines.{lines}
 use Rattle.reasons.specs.Faults.{verdict_found, ring_found, row_found}
 use Rattle.reasons.specs.AndThen.{and_then}
 use Rattle.lines.specs.OnLine.{values_on, passed}
-use Rattle.table.specs.ReadTable.{ring_on, table_of}
+use Rattle.table.specs.ReadTable.{ring_on}
 use Rattle.reasons.specs.Refusals.{refuse}
 use Rattle.reasons.specs.Verdict.{Verdict}
 use Rattle.reasons.specs.declared.reason.Reason.{Reason}
 use Rattle.reasons.specs.declared.reason.Refusal.{Refusal}
 use Rattle.reasons.specs.declared.reason.Reason.TheVariants.{TooLong, Misshapen, RingSize, TooMany}
-use Rattle.table.proofs.Accepted.{one-table}
 use Rattle.reasons.proofs.Against.{fine-ring-judged, big-ring-judged, fine-row-judged, full-row-judged}
 use Rattle.reasons.proofs.FineRows.{FineRows, fine_row, fine-rows}
 use Rattle.reasons.proofs.Judged.{InOrder}
 use Rattle.table.proofs.LineRead.{RingSpelled, ring-values}
 use Rattle.table.proofs.TableLines.{ring-first}
 use Rattle.reasons.proofs.LowerLimits.{Lower, Lost, lost_shape, VerdictAlike, same_verdict, lost_verdict, ring-alike, row-alike}
-use Rattle.table.proofs.LowerTables.{old-table-accepted, wider, low-spelled, high-spelled}
+use Rattle.table.proofs.LowerTables.{wider, low-spelled, high-spelled}
 use Rattle.table.proofs.TableText.{fibres-spelled, ring-spelled}
 use Rattle.sheet.specs.WriteSheet.{routed_line, end_text, write_sheet}
 use Rattle.sheet.specs.Range.{InRange}
@@ -327,13 +326,3 @@ module _ {low high : Limits} (lower : Lower low high) (fits : Fitting low) where
       go : Knows low.marks x.ring.family → LowerSheet low x (read_sheet low (write_sheet x))
       go (is_known k) = lower-known h.1 true_sheet k
       go (not_known m f) = lower-marked h.1 true_sheet m f
-
--- ---- a table that the old desk accepts is routed to the same bytes: the rules and the writer take no limits, and both desks read the same ring and rows
-
-pub same-bytes : (t : List ℕ) (ring other : Ring) (rs ss : List Demand) → table_of old t ≡ Ok (ring, rs) → table_of desk t ≡ Ok (other, ss)
-    → write_sheet (plan ring rs) ≡ write_sheet (plan other ss)
-same-bytes t ring other rs ss e f =
-    let same = one-table (sym (old-table-accepted t ring rs e) ∙ f) in
-    let a = same.0 in
-    let b = same.1 in
-    rw (a, b) refl

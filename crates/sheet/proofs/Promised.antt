@@ -9,7 +9,7 @@ use Rattle.sheet.specs.Read.{read_sheet}
 use Rattle.sheet.specs.Laws.{SameSheet}
 use Rattle.sheet.proofs.SheetText.{sheet-text}
 use Rattle.reasons.specs.declared.reason.Refusal.{Refusal}
-use Rattle.table.proofs.Spelled.{LimitsSpelled}
+use Rattle.table.specs.Spelled.{LimitsSpelled}
 
 module _ (limits : Limits) (limited : LimitsSpelled limits) where
   -- read again, a sheet that was written has the same values

@@ -27,7 +27,7 @@ use Rattle.reasons.proofs.Against.{fine-ring-judged, fine-row-judged}
 use Rattle.reasons.proofs.FineRows.{FineRows, no_row, fine_row, fine-rows, table-rows, amounts-fine, count-fine}
 use Rattle.lines.proofs.LinesOf.{join-lines}
 use Rattle.table.proofs.TableText.{ring-spelled}
-use Rattle.table.proofs.Spelled.{LimitsSpelled}
+use Rattle.table.specs.Spelled.{LimitsSpelled}
 use Rattle.sheet.specs.WriteSheet.{routed_line, load_line, end_text, write_sheet}
 use Rattle.sheet.specs.Range.{RowSpelled, LinkSpelled, Spelled, InRange}
 use Rattle.sheet.specs.Read.{last_demand_of, read_sheet}

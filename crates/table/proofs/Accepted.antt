@@ -9,7 +9,7 @@ use Rattle.table.specs.Table.{write_table, InRange}
 use Rattle.table.specs.ReadTable.{Table, table_of}
 use Rattle.reasons.specs.declared.reason.Refusal.{Refusal}
 use Rattle.table.proofs.TableText.{table-text}
-use Rattle.table.proofs.Spelled.{LimitsSpelled}
+use Rattle.table.specs.Spelled.{LimitsSpelled}
 
 -- what was read is one table
 pub one-table : {ring other : Ring} {rs ss : List Demand} → ◌≡◌ {A = Result Table Refusal} (Ok (ring, rs)) (Ok (other, ss)) → (ring ≡ other) × (rs ≡ ss)

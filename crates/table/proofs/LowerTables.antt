@@ -13,7 +13,7 @@ use Rattle.text.proofs.RingLaws.{known-too}
 use Rattle.table.specs.Table.{InRange}
 use Rattle.table.specs.ReadTable.{table_of}
 use Rattle.table.proofs.TableText.{table-text}
-use Rattle.table.proofs.Spelled.{LimitsSpelled}
+use Rattle.table.specs.Spelled.{LimitsSpelled}
 use Rattle.reasons.proofs.LowerLimits.{Lower, old-lower}
 
 module _ {low high : Limits} (lower : Lower low high) where

@@ -1,7 +1,7 @@
 -- Reading a table line by line: the rows read so far stand in the columns, and reading the rest behind them is reading the whole. One law for each
 -- way on and each way out.
 use Prim.Native.Nat.{ℕ, ◌+◌, ◌≤◌, ◌<◌}
-use mathlib.Core.List.{List, [], ◌∷◌, ◌++◌}
+use mathlib.Core.List.{List, [], ◌∷◌, ◌++◌, map}
 use mathlib.Core.Path.{◌≡◌, refl, ◌∙◌, sym}
 use native.Mathlib.Omega.{arith}
 use lib.ListN.{length, length-append}
@@ -10,6 +10,9 @@ use Rattle.std.specs.Prelude.{Result as Outcome, Ok, Err, Option}
 use Rattle.ring.specs.Limits.{desk}
 use Rattle.ring.specs.declared.types.Ring.{Ring}
 use Rattle.ring.specs.declared.types.Demand.{Demand}
+use Rattle.ring.specs.declared.types.Routed.{Routed}
+use Rattle.ring.specs.Sheet.{sents, demands}
+use Rattle.rows.specs.Columns.{unsent}
 use Rattle.text.specs.ReadLine.{Reading as LineReading, read_line}
 use Rattle.text.specs.Shapes.{row_shape}
 use Rattle.text.proofs.Apart.{clash}
@@ -48,6 +51,10 @@ row-room ring rs l r e = go (read_line desk.digits row_shape l) e
     go : (y : LineReading) → and_then (values_on (length rs + 2) y) (λ vs. passed (length rs + 2) row_shape vs (against vs) (demand_in vs)) ≡ Ok r → length rs < desk.rows
     go (Ok vs) e = fine vs (against vs) refl e
     go (Err p) e = clash (cc)
+
+-- of no row nothing is sent
+pub none-sent : (rs : List Routed) → rs ≡ [] → rs ≡ map unsent (demands (sents rs))
+none-sent rs none = rw none refl
 
 -- ---- the rows
 

@@ -38,7 +38,7 @@ use Rattle.reasons.proofs.FineRows.{FineRows, no_row, fine_row, fine-rows, table
 use Rattle.table.proofs.LineRead.{RingSpelled, ring-values, as-ring, RowSpelled, row-values, RowLine, row_line_is, no_row_line, as-row}
 use Rattle.lines.proofs.LinesOf.{join-lines}
 use Rattle.table.proofs.TableLines.{ring-first, row_first}
-use Rattle.table.proofs.Spelled.{LimitsSpelled}
+use Rattle.table.specs.Spelled.{LimitsSpelled}
 
 pub desk-spelled : LimitsSpelled desk
 desk-spelled = record { nodes = omega arith; amount = omega arith }

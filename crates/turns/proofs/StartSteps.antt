@@ -21,7 +21,7 @@ use Rattle.ring.proofs.Small.{each-of-demands}
 use Rattle.rows.proofs.Demands.{demands-more}
 use Rattle.ring.proofs.Across.{either_order, one_link}
 use Rattle.ring.proofs.Side.{cond-elim}
-use Rattle.across.specs.Triangle.{at}
+use Rattle.across.specs.Cells.{cell}
 use Rattle.across.proofs.CutSteps.{same-cut}
 use Rattle.ring.specs.Limits.{desk}
 use Rattle.weight.specs.LinkSteps.{link_at}
@@ -219,10 +219,10 @@ module _ (n : ℕ) (rs : List Demand) where
         none_left = let p : n - link ≡ 0 = omega arith in rw p (unfold best_from in refl)
 
     -- no start that is left ends lower than M/2, rounded up
-    pub starts_end : 2 ≤ n → (triangle : List ℕ) (cut : Cut) (floor : ℕ) → TriangleOf n rs triangle → cut ≡ largest_cut (at triangle) n → floor ≡ div_ceil cut.across 2 → best.peak ≤ floor → best ≡ (least_start n rs).figures
+    pub starts_end : 2 ≤ n → (triangle : List ℕ) (cut : Cut) (floor : ℕ) → TriangleOf n rs triangle → cut ≡ largest_cut (cell triangle) n → floor ≡ div_ceil cut.across 2 → best.peak ≤ floor → best ≡ (least_start n rs).figures
     unfolding rule_a
     starts_end two triangle cut floor s c f l =
-        let across-is : cut.across ≡ largest_across n rs = ap (λ (c : Cut). c.across) (c ∙ same-cut n (at triangle) (across rs) s.is two) in
+        let across-is : cut.across ≡ largest_across n rs = ap (λ (c : Cut). c.across) (c ∙ same-cut n (cell triangle) (across rs) s.is two) in
         let up = div_ceil_times cut.across 2 (omega arith) in
         let low : 2 * best.peak ≤ largest_across n rs + 1 = omega (arith, f, l, up.1, across-is) in
         o.is ∙ ap (λ (x : TurnedRows). x.figures) (sym (no-lower n rs (suc link) (n - link) o.answer two (rw o.is at low)) ∙ o.left)

@@ -4,7 +4,7 @@ use Rattle.std.specs.Prelude.{ℕ, Bool, false, ◌||◌, List, [], ◌∷◌, e
 use Rattle.ring.specs.declared.types.Demand.{Demand}
 use Rattle.turns.specs.declared.Turned.{Turned}
 use Rattle.ring.specs.Lists.{Each}
-use Rattle.across.specs.Triangle.{at}
+use Rattle.across.specs.Cells.{cell}
 use Rattle.ring.specs.Limits.{desk}
 
 -- a demand ends at a node
@@ -26,4 +26,4 @@ pub record SmallAmounts (rs : List Demand) : Type 0 where
 
 -- the number of two links, in either order; that of a link with itself is 0
 abbrev pub across_between : List ℕ → ℕ → ℕ → ℕ
-across_between triangle g h = cond (ltb g h) (at triangle g h) (cond (ltb h g) (at triangle h g) 0)
+across_between triangle g h = cond (ltb g h) (cell triangle g h) (cond (ltb h g) (cell triangle h g) 0)

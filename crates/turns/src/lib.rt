@@ -25,7 +25,7 @@ ghost use Rattle.turns.specs.Promised.{
 };
 ghost use Rattle.turns.specs.Starts.{lower_of};
 
-use across::{PAIRS, fill, largest_cut};
+use across::{PLACES, fill, largest_cut};
 use keys::fill_keys;
 use loads::{Loads, MARKS};
 use ring::LINKS;
@@ -42,7 +42,7 @@ pub struct Turned {
 }
 
 // What the start that avoids a link leads to.
-fn from_start<R: RowsMut>(triangle: &[u32; PAIRS], n: usize, link: u32, rows: &mut R) -> Turned
+fn from_start<R: RowsMut>(triangle: &[u32; PLACES], n: usize, link: u32, rows: &mut R) -> Turned
     requires fit { DemandsFit n (demands_of (R.rows rows.old)) }
     requires triangle { TriangleOf n (demands_of (R.rows rows.old)) triangle.now }
     requires low { 1 ≤ link }
@@ -88,7 +88,7 @@ struct Tried {
 
 // Start after start; the rows keep the ways of the last one made. No peak is below M/2: where one reaches that, rounded up, no later start takes its place.
 // Where no row ends at the node between two links, the start that avoids the later one is that of the earlier, and is not made.
-fn try_starts<R: RowsMut>(triangle: &[u32; PAIRS], n: usize, rows: &mut R) -> Tried
+fn try_starts<R: RowsMut>(triangle: &[u32; PLACES], n: usize, rows: &mut R) -> Tried
     requires two { desk.fewest ≤ n }
     requires fit { DemandsFit n (demands_of (R.rows rows.old)) }
     requires triangle { TriangleOf n (demands_of (R.rows rows.old)) triangle.now }
@@ -114,7 +114,7 @@ fn try_starts<R: RowsMut>(triangle: &[u32; PAIRS], n: usize, rows: &mut R) -> Tr
 }
 
 // The best of all starts. It is made once more if others were made after it, so that no ways are kept aside.
-fn best_start<R: RowsMut>(triangle: &[u32; PAIRS], n: usize, rows: &mut R) -> Turned
+fn best_start<R: RowsMut>(triangle: &[u32; PLACES], n: usize, rows: &mut R) -> Turned
     requires two { desk.fewest ≤ n }
     requires fit { DemandsFit n (demands_of (R.rows rows.old)) }
     requires triangle { TriangleOf n (demands_of (R.rows rows.old)) triangle.now }
@@ -150,7 +150,7 @@ pub fn turn_rows<R: RowsMut>(nodes: u32, rows: &mut R) -> Turned
     ensures floor { WaysFloor nodes (demands_of (R.rows rows.old)) }
 {
     let n = nodes as usize;
-    let mut triangle: [u32; PAIRS] = [0; PAIRS];
+    let mut triangle: [u32; PLACES] = [0; PLACES];
     fill(&mut triangle, n, rows);
     best_start(&triangle, n, rows)
 }

@@ -9,7 +9,7 @@ ghost use Rattle.turns.specs.Starts.{ends, meets, SmallAmounts, across_between};
 ghost use Rattle.turns.specs.TurnedLoads.{Carries};
 
 use crate::whole::whole;
-use across::{PAIRS, get};
+use across::{PLACES, get};
 use ring::{Demand, LINKS, Routed, Way};
 use rows::{Rows, RowsMut, each};
 
@@ -51,7 +51,7 @@ pub(crate) fn meets<R: Rows>(rows: &R, node: u32) -> bool
 }
 
 // The across number of two links, in either order.
-fn across_between(triangle: &[u32; PAIRS], g: usize, h: usize) -> u32
+fn across_between(triangle: &[u32; PLACES], g: usize, h: usize) -> u32
     requires { (1 ≤ g) × (g ≤ desk.nodes) × (1 ≤ h) × (h ≤ desk.nodes) }
     ensures { result ≡ across_between triangle.now g h }
 {
@@ -66,7 +66,7 @@ fn across_between(triangle: &[u32; PAIRS], g: usize, h: usize) -> u32
 
 /// Where every row avoids a link, each link carries what lies across the two.
 #[tactic(auto, using(crate::proofs::StartSteps::load_laws))]
-pub(crate) fn loads_avoiding(triangle: &[u32; PAIRS], n: usize, link: usize) -> [u32; LINKS]
+pub(crate) fn loads_avoiding(triangle: &[u32; PLACES], n: usize, link: usize) -> [u32; LINKS]
     requires few { n ≤ desk.nodes }
     requires low { 1 ≤ link }
     requires high { link ≤ n }

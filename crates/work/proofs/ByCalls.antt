@@ -2,38 +2,33 @@
 -- a table that is right to one that is right.
 use Prim.Native.Nat.{ℕ, ◌+◌, ◌-◌, ◌≤◌, ◌<◌}
 use mathlib.Core.List.{List}
-use mathlib.Core.Logic.{◌⊎◌, inl, inr}
 use mathlib.Core.Path.{◌≡◌, refl, ◌∙◌, ap}
 use native.Mathlib.Omega.{arith}
 use lib.ListN.{get_or, set}
 use lib.Seq.{set-set, get_or-set_same}
-use Rattle.std.specs.Prelude.{Option, None, Result, Ok, Err}
+use Rattle.std.specs.Prelude.{Ok, Err}
 use Rattle.ring.specs.Limits.{desk}
 use Rattle.ring.specs.declared.types.Ring.{Ring}
 use Rattle.ring.specs.declared.types.Demand.{Demand}
 use Rattle.ring.specs.RuleA.{rule_a}
 use Rattle.ring.specs.WithinLimits.{WithinLimits}
-use Rattle.reasons.specs.Findings.{Findings, nothing, finding, found, Given, NoneHolds}
-use Rattle.reasons.specs.RowFindings.{demand_findings}
-use Rattle.reasons.specs.Judge.{ring_verdict, row_verdict}
-use Rattle.reasons.specs.Verdict.{Verdict}
+use Rattle.reasons.specs.Findings.{Given, NoneHolds}
 use Rattle.reasons.specs.declared.reason.Reason.{Reason}
-use Rattle.reasons.specs.declared.reason.Reason.TheVariants.{RingSize, Fibres, NoRow, Full}
-use Rattle.reasons.proofs.Findings.{fine, then-on, then-stop}
-use Rattle.reasons.proofs.Judged.{RingJudged, size_wrong, wrong_fibres, right_ring, ring-judged}
 use Rattle.work.specs.HeldRing.{ring_held}
-use Rattle.work.specs.Places.{empty, holds, PlaceTable, AllTaken, table_held}
-use Rattle.work.specs.Calls.{Call, start, add, change, remove, WorkAnswer, findings, with_place, Makes, starts, adds, changes, removes, Does, refused, accepted}
+use Rattle.work.specs.Places.{empty, holds, PlaceTable, table_held}
+use Rattle.work.specs.Calls.{Call, start, add, WorkAnswer, findings, with_place, Makes, starts, adds, changes, removes, Does, refused, accepted}
 use Rattle.work.specs.Made.{Made, begun, called}
 use Rattle.work.specs.True.{held, TrueTable}
-use Rattle.work.specs.Changes.{recut_in, free_in, index_in, put_in, cleared_in, fresh_in, started_in, verdict_in, put_free, added_in, changed_in, removed_in, called_in}
+use Rattle.work.specs.Bytes.{ring_size, put_in, cleared_in, fresh_in}
+use Rattle.work.specs.Answered.{table_within}
+use Rattle.work.specs.Changes.{recut_in, called_in, Sized}
 use Rattle.work.specs.Keys.{sorted_rows}
 use Rattle.work.specs.declared.Work.{Work}
 use Rattle.work.specs.Sorted.{Sorted}
-use Rattle.work.proofs.Right.{Good, Right, Sized, HasBytes, sized, right-bytes, size_is, count, put-places, put_right, clear-places, clear-right, fresh-places, fresh-right, cut-is, fresh-ring}
+use Rattle.work.proofs.Right.{Good, Right, HasBytes, sized, right-bytes, size_is, count, put-places, put_right, clear-places, clear-right, fresh-places, fresh-right, cut-is, fresh-ring}
 use Rattle.work.proofs.Fits.{Fits, begun-fits, made-fits}
 use Rattle.work.proofs.SortedRows.{rows-sorted, rows-within, rows_cut}
-use Rattle.work.proofs.Views.{Judged, bad, good, judged_demand, Indexed, none_there, row_there, indexed, taken-at, Freed, all_taken, lowest_free, freed}
+use Rattle.work.proofs.Answers.{Goes, begins, puts, swaps, clears, Ends, refuses, makes, start-ends, call_ends}
 
 -- a table that is right, with its largest cut
 pub record Sound (w : Work) : Type 0 where
@@ -55,23 +50,17 @@ recut-sound p x s =
 
 -- ---- a start, whatever the table was
 
-module _ (w : Work) (ring : Ring) where
-  not-outside : {A : Type 0} → desk.fewest ≤ ring.nodes → ring.nodes ≤ desk.nodes → (ring.nodes < desk.fewest) ⊎ (desk.nodes < ring.nodes) → A
-  not-outside l h (inl m) = absurd (omega arith)
-  not-outside l h (inr m) = absurd (omega arith)
+start-made : (w : Work) (ring : Ring) → Makes (table_held w) (start ring) 0 (table_held (fresh_in ring))
+unfolding fresh_in
+start-made w ring = rw (fresh-ring ring, fresh-places ring) starts
 
-  start-made : Makes (table_held w) (start ring) 0 (table_held (fresh_in ring))
-  unfolding fresh_in
-  start-made = rw (fresh-ring ring, fresh-places ring) starts
-
-  pub start-step : Step w (start ring)
-  unfolding started_in findings
-  start-step = go (ring_verdict desk ring) refl (ring-judged desk ring)
-    where
-      go : (v : Verdict) → ring_verdict desk ring ≡ v → RingJudged desk ring v → Step w (start ring)
-      go v e (right_ring l h o) = both_make 0 (fresh_in ring) (fresh-right ring l h o) (rw e) (inr (not-outside l h, inr ((λ f. f o), refl))) start-made
-      go v e (wrong_fibres l h o) = both_refuse Fibres (rw e) (inr (not-outside l h, inl (o, refl)))
-      go v e (size_wrong o) = both_refuse RingSize (rw e) (inl (o, refl))
+pub start-step : (w : Work) (ring : Ring) → Step w (start ring)
+unfolding findings
+start-step w ring = go (start-ends w ring)
+  where
+    go : Ends w (start ring) → Step w (start ring)
+    go (refuses reason e g) = both_refuse reason e g
+    go (makes _ _ e n (begins l h o)) = both_make 0 (fresh_in ring) (fresh-right ring l h o) e n (start-made w ring)
 
 -- ---- a row added, changed, removed
 
@@ -79,33 +68,17 @@ module _ (w : Work) (s : Right w) where
   abbrev t : PlaceTable
   t = table_held w
 
-  abbrev of_row : Demand → Findings
-  of_row r = demand_findings desk w.ring.nodes 0 None r
+  -- its ring size is one within
+  within-is : table_within w ≡ t
+  within-is = rw (size_is w s) refl
 
-  abbrev full : Findings
-  full = finding (AllTaken t.places) Full 0 nothing
-
-  verdict : (r : Demand) → verdict_in w r ≡ row_verdict desk w.ring.nodes 0 None r
-  verdict r = rw (size_is w s)
+  good-on : {r : Demand} → Good (ring_size w.ring.nodes) r → Good w.ring.nodes r
+  good-on g = rw (size_is w s) at g
 
   module _ (k : ℕ) (l : k < desk.rows) (r : Demand) where
     put-plain : get_or w.first k 0 ≡ 0 → Good w.ring.nodes r → table_held (put_in w k r) ≡ with_place t k (holds r)
     unfolding put_in
     put-plain free g = ap (λ ps. record { ring = ring_held w.ring; places = ps }) (put-places w s k l r free g)
-
-  module _ (r : Demand) where
-    add_step : Step w (add r)
-    unfolding added_in put_free findings
-    add_step = go (row_verdict desk w.ring.nodes 0 None r) refl (judged_demand w.ring.nodes r) (free_in w.first) refl (freed w (sized s))
-      where
-        go : (v : Verdict) → row_verdict desk w.ring.nodes 0 None r ≡ v → Judged w.ring.nodes r v → (o : Option ℕ) → free_in w.first ≡ o → Freed w (sized s) o → Step w (add r)
-        go v e (bad {reason = k} given) o f free = both_refuse k (rw (verdict r ∙ e)) (then-stop (of_row r) full (found k 0) given)
-        go v e (good g first) o f (all_taken all) = both_refuse Full (rw (verdict r ∙ e, f)) (then-on (of_row r) full (Err (found Full 0)) first (inl (all, refl)))
-        go v e (good g first) o f (lowest_free {k = k} l z low) =
-            let back : k + 1 - 1 ≡ k = omega arith in
-            let made : Makes t (add r) (k + 1) (with_place t (k + 1 - 1) (holds r)) = adds low in
-            both_make (k + 1) (put_in w k r) (put_right w s k l r z g) (rw (verdict r ∙ e, f)) (then-on (of_row r) full fine first (inr ((λ all. low.free (all (k + 1) low.from_1 low.to_last)), refl)))
-            (rw (put-plain k l r z g) (rw back at made))
 
   -- the table between, of a change
   module _ (k : ℕ) (l : k < desk.rows) (taken : 1 ≤ get_or w.first k 0) where
@@ -134,34 +107,27 @@ module _ (w : Work) (s : Right w) where
           ap (λ ps. record { ring = ring_held w.ring; places = ps })
           (put-places (cleared_in w k) off k l r cleared-free still ∙ ap (λ ps. set ps k (holds r)) (clear-places w s k l taken) ∙ set-set t.places k empty (holds r))
 
-  module _ (p : ℕ) where
-    change-step : (r : Demand) → Step w (change p r)
-    unfolding changed_in findings
-    change-step r = go (index_in w.first p) refl (indexed w (sized s) p) (row_verdict desk w.ring.nodes 0 None r) refl (judged_demand w.ring.nodes r)
-      where
-        go : (i : Result ℕ Reason) → index_in w.first p ≡ i → Indexed w (sized s) p i → (v : Verdict) → row_verdict desk w.ring.nodes 0 None r ≡ v → Judged w.ring.nodes r v → Step w (change p r)
-        go i ei (none_there n) v e j = both_refuse NoRow (rw ei) (inl (n, refl))
-        go i ei (row_there a l taken) v e (bad {reason = k} given) = both_refuse k (rw (ei, verdict r ∙ e)) (inr ((λ n. n (taken-at w (sized s) p a taken)), given))
-        go i ei (row_there a l taken) v e (good g first) =
-            both_make p (put_in (cleared_in w (p - 1)) (p - 1) r) (changed-right (p - 1) l taken r g) (rw (ei, verdict r ∙ e))
-            (inr ((λ n. n (taken-at w (sized s) p a taken)), first))
-            (rw (changed-plain (p - 1) l taken r g) changes)
+  right-of : {c : Call} {p : ℕ} {x : Work} → Goes w c p x → Right x
+  right-of (begins {ring = ring} a b o) = fresh-right ring a b o
+  right-of (puts {r = r} {k = k} l z g low) = put_right w s k l r z (good-on g)
+  right-of (swaps {p = p} {r = r} l taken g) = changed-right (p - 1) l taken r (good-on g)
+  right-of (clears {p = p} l taken) = off (p - 1) l taken
 
-    remove-step : Step w (remove p)
-    unfolding removed_in findings
-    remove-step = go (index_in w.first p) refl (indexed w (sized s) p)
-      where
-        go : (i : Result ℕ Reason) → index_in w.first p ≡ i → Indexed w (sized s) p i → Step w (remove p)
-        go i ei (none_there n) = both_refuse NoRow (rw ei) (inl (n, refl))
-        go i ei (row_there a l taken) =
-            both_make p (cleared_in w (p - 1)) (off (p - 1) l taken) (rw ei) (inr ((λ n. n (taken-at w (sized s) p a taken)), refl))
-            (rw (cleared-plain (p - 1) l taken) removes)
+  makes-of : {c : Call} {p : ℕ} {x : Work} → Goes w c p x → Makes t c p (table_held x)
+  makes-of (begins {ring = ring} a b o) = start-made w ring
+  makes-of (puts {r = r} {k = k} l z g low) =
+      let back : k + 1 - 1 ≡ k = omega arith in
+      let made : Makes t (add r) (k + 1) (with_place t (k + 1 - 1) (holds r)) = adds low in
+      rw (put-plain k l r z (good-on g)) (rw back at made)
+  makes-of (swaps {p = p} {r = r} l taken g) = rw (changed-plain (p - 1) l taken r (good-on g)) changes
+  makes-of (clears {p = p} l taken) = rw (cleared-plain (p - 1) l taken) removes
 
   pub call_step : (c : Call) → Step w c
-  call_step (start ring) = start-step w ring
-  call_step (add r) = add_step r
-  call_step (change p r) = change-step p r
-  call_step (remove p) = remove-step p
+  call_step c = go (call_ends w (sized s) c)
+    where
+      go : Ends w c → Step w c
+      go (refuses reason e g) = both_refuse reason e (rw within-is at g)
+      go (makes p x e n g) = both_make p x (right-of g) e (rw within-is at n) (makes-of g)
 
 -- ---- a table made by calls
 

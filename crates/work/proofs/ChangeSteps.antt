@@ -8,7 +8,8 @@ use Rattle.reasons.specs.declared.reason.Reason.{Reason}
 use Rattle.reasons.specs.Verdict.{Verdict}
 use Rattle.std.specs.Prelude.{Ok, Err, None}
 use Rattle.reasons.proofs.Judged.{RowJudged, no_such_node, not_below, out_of_order, too_many, too_much, row_fine, row-judged}
-use Rattle.work.specs.Changes.{Fitting, ring_size, verdict_in}
+use Rattle.work.specs.Bytes.{ring_size}
+use Rattle.work.specs.Changes.{Fitting, verdict_in}
 use Rattle.work.specs.declared.Work.{Work}
 
 never : {reason : Reason} → ◌≡◌ {A = Verdict} (Err reason) (Ok tt) → ⊥

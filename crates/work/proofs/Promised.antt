@@ -8,13 +8,13 @@ use Rattle.ring.specs.Cut.{across}
 use Rattle.ring.specs.declared.types.Cut.{Cut}
 use Rattle.ring.specs.declared.types.Ring.{Ring}
 use Rattle.ring.specs.declared.types.Demand.{Demand}
-use Rattle.ring.specs.Columns.{row_at}
 use Rattle.reasons.specs.AndThen.{and_then}
 use Rattle.reasons.specs.Findings.{Given, NoneHolds}
 use Rattle.reasons.specs.declared.reason.Reason.{Reason}
 use Rattle.work.specs.Places.{PlaceTable, rows_held, PlaceHolds, table_held}
 use Rattle.work.specs.Calls.{Call, start, WorkAnswer, findings, Makes, starts, acceptance, Does, refused, accepted}
-use Rattle.work.specs.Changes.{placed_of, work_after, recut_in, index_in, row_in, started_in, called_in}
+use Rattle.work.specs.Bytes.{demand_at}
+use Rattle.work.specs.Changes.{placed_of, work_after, recut_in, index_in, row_in, started_in, called_in, Sized}
 use Rattle.work.specs.True.{held, TrueTable}
 use Rattle.work.specs.Promises.{WorkPromise, SameNumbers, OnlyThis, none_there, row_there, RowPromise}
 use Rattle.work.specs.Made.{Made, begun, called}
@@ -22,7 +22,7 @@ use Rattle.work.specs.Played.{named_by, Played, at_first, then, AsPlayed, Answer
 use Rattle.work.specs.declared.Work.{Work}
 use Rattle.work.specs.declared.answer.Placed.{Placed}
 use Rattle.work.specs.declared.answer.Changed.{Changed}
-use Rattle.work.proofs.Right.{Sized, cut-is}
+use Rattle.work.proofs.Right.{cut-is}
 use Rattle.work.proofs.Reasons.{one-given, none-given, one-made, does-one}
 use Rattle.work.proofs.Views.{Indexed, none_there as is_none, row_there as is_row, indexed, held-at}
 use Rattle.work.proofs.ByCalls.{Step, both_refuse, both_make, recut-sound, start-step, call_step, keeps-of, made-sound}
@@ -115,7 +115,7 @@ pub row-promise : (w : Work) → Sized w → (p : ℕ) {a : Result Demand Reason
 unfolding row_in
 row-promise w z p {a} is = go (index_in w.first p) (indexed w z p) is
   where
-    go : (i : Result ℕ Reason) → Indexed w z p i → a ≡ and_then i (λ k. Ok (row_at w.first w.second w.amount k)) → RowPromise w p a
+    go : (i : Result ℕ Reason) → Indexed w z p i → a ≡ and_then i (λ k. Ok (demand_at w k)) → RowPromise w p a
     go i (is_none n) e =
         record {
           cases = none_there n e;
@@ -123,13 +123,13 @@ row-promise w z p {a} is = go (index_in w.first p) (indexed w z p) is
           says = λ r. ((λ f. absurd (cc)), (λ at. absurd (n (record { r = r; there = at }))));
         }
     go i (is_row l _ m) e =
-        let there : PlaceHolds (table_held w).places p (row_at w.first w.second w.amount (p - 1)) = record { from_1 = l; is = held-at w z (p - 1) m } in
+        let there : PlaceHolds (table_held w).places p (demand_at w (p - 1)) = record { from_1 = l; is = held-at w z (p - 1) m } in
         record {
           cases = row_there _ there e;
           refuses = ((λ f. absurd (cc)), (λ n. absurd (n (record { r = _; there = there }))));
           says = λ r. (
-            (λ f. let same : row_at w.first w.second w.amount (p - 1) ≡ r = cc in rw same at there),
-            (λ at. let same : row_at w.first w.second w.amount (p - 1) ≡ r = cc (there.is, at.is) in rw (← same) e),
+            (λ f. let same : demand_at w (p - 1) ≡ r = cc in rw same at there),
+            (λ at. let same : demand_at w (p - 1) ≡ r = cc (there.is, at.is) in rw (← same) e),
           );
         }
 

@@ -20,7 +20,7 @@ one-given fs {a} {b} g h =
 pub none-given : (fs : Findings) (a : Reason) → Given fs a 0 → NoneHolds fs → ⊥
 none-given fs a g n = absurd (cc (one-answer fs (Err (found a 0)) fine g n))
 
-one-lowest : (ps : List Place) (p q : ℕ) → LowestFree ps p → LowestFree ps q → p ≡ q
+pub one-lowest : (ps : List Place) (p q : ℕ) → LowestFree ps p → LowestFree ps q → p ≡ q
 one-lowest ps p q a b =
     elim (dec_lt p q) [
       | yes l ↦ absurd (a.free (b.below p a.from_1 l))

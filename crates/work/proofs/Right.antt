@@ -15,7 +15,6 @@ use Rattle.ring.specs.declared.types.Ring.{Ring}
 use Rattle.ring.specs.declared.types.Demand.{Demand}
 use Rattle.ring.specs.Cut.{part, across}
 use Rattle.ring.specs.RuleA.{rule_a}
-use Rattle.ring.specs.Columns.{row_at}
 use Rattle.ring.proofs.Lists.{each}
 use Rattle.ring.proofs.Totals.{across-total, total-most, part_small}
 use Rattle.ring.proofs.Laid.{zeros-at}
@@ -26,7 +25,8 @@ use Rattle.across.proofs.Kept.{row-at}
 use Rattle.across.proofs.CutSteps.{same-cut}
 use Rattle.work.specs.Places.{empty, holds, HoldsAt, place_in, table_held}
 use Rattle.work.specs.True.{held}
-use Rattle.work.specs.Changes.{ring_size, cut_of, put_in, cleared_in, fresh_in}
+use Rattle.work.specs.Bytes.{ring_size, demand_at, cut_of, put_in, cleared_in, fresh_in}
+use Rattle.work.specs.Changes.{Sized}
 use Rattle.work.specs.declared.Work.{Work}
 use Rattle.work.proofs.RowsHeld.{across-set, held-few, each_set, each_at, held-fresh, places-set, places-length, places-at, places-fresh}
 
@@ -44,12 +44,6 @@ pub record Right (w : Work) : Type 0 where
   pub amounts : length w.amount ≡ desk.rows
   pub rows : Each (Good w.ring.nodes) (held w)
   pub kept : Pairwise w.ring.nodes (λ g h. at w.triangle g h ≡ across (held w) g h)
-
--- its columns have a place each: every struct of the type is so
-pub record Sized (w : Work) : Type 0 where
-  pub firsts : length w.first ≡ desk.rows
-  pub seconds : length w.second ≡ desk.rows
-  pub amounts : length w.amount ≡ desk.rows
 
 -- a second node is a byte
 abbrev pub HasBytes : Work → Type 0
@@ -130,7 +124,7 @@ module _ (w : Work) (s : Right w) (k : ℕ) (in_table : k < desk.rows) where
 
   module _ (taken : 1 ≤ get_or w.first k 0) where
     abbrev gone : Demand
-    gone = row_at w.first w.second w.amount k
+    gone = demand_at w k
 
     pub clear-places : (table_held (cleared_in w k)).places ≡ set (table_held w).places k empty
     unfolding cleared_in

@@ -23,9 +23,9 @@ use Rattle.reasons.specs.declared.reason.Reason.TheVariants.{NoRow}
 use Rattle.reasons.specs.Verdict.{Verdict}
 use Rattle.reasons.proofs.Judged.{RowJudged, no_such_node, not_below, out_of_order, too_many, too_much, row_fine, row-judged}
 use Rattle.work.specs.Places.{Place, empty, HoldsAt, Taken, HoldsNone, AllTaken, LowestFree, table_held}
-use Rattle.work.specs.Changes.{free_in, holds_in, index_in}
+use Rattle.work.specs.Changes.{free_in, holds_in, index_in, Sized}
 use Rattle.work.specs.declared.Work.{Work}
-use Rattle.work.proofs.Right.{Good, Sized, count, place_is, place-holds}
+use Rattle.work.proofs.Right.{Good, count, place_is, place-holds}
 
 -- ---- a row
 

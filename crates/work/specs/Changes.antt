@@ -1,30 +1,19 @@
 -- Internal: what each call answers and leaves, for every value of the struct; what a call promises is said over the list of places (Places, Calls, Promises),
 -- and names none of this.
-use Rattle.std.specs.Prelude.{ℕ, ◌+◌, ◌-◌, ◌≤◌, ◌<◌, min, max, Bool, cond, ◌&&◌, Option, Some, None, Result, Ok, Err, List, ltb, eqb, get_or, set, replicate}
+use Rattle.std.specs.Prelude.{ℕ, ◌+◌, ◌-◌, ◌≤◌, ◌<◌, Bool, cond, ◌&&◌, Option, Some, None, Result, Ok, Err, List, ◌≡◌, length, ltb, eqb, get_or}
 use Rattle.std.specs.List.{position}
 use Rattle.ring.specs.Limits.{desk}
-use Rattle.family.specs.Sizes.{family_number}
 use Rattle.ring.specs.declared.types.Ring.{Ring}
 use Rattle.ring.specs.declared.types.Demand.{Demand}
-use Rattle.ring.specs.declared.types.Cut.{Cut}
-use Rattle.ring.specs.RuleA.{largest_cut}
-use Rattle.ring.specs.Columns.{row_at}
-use Rattle.across.specs.Triangle.{at}
-use Rattle.across.specs.Lines.{most_pairs}
-use Rattle.across.specs.Step.{raised, lowered, step_row}
 use Rattle.reasons.specs.AndThen.{and_then}
 use Rattle.reasons.specs.Judge.{ring_verdict, row_verdict}
 use Rattle.reasons.specs.declared.reason.Reason.{Reason}
 use Rattle.reasons.specs.declared.reason.Reason.TheVariants.{NoRow, Full}
 use Rattle.reasons.specs.Verdict.{Verdict}
 use Rattle.work.specs.Calls.{Call, start, add, change, remove, WorkAnswer}
+use Rattle.work.specs.Bytes.{ring_size, demand_at, put_in, cleared_in, fresh_in, cut_of, with_cut}
 use Rattle.work.specs.declared.Work.{Work}
-use Rattle.work.specs.declared.held_ring.HeldRing.{HeldRing}
 use Rattle.work.specs.declared.answer.Changed.{Changed}
-
--- a ring size outside 2 to 64 counts as the nearest within
-abbrev pub ring_size : ℕ → ℕ
-ring_size n = max desk.fewest (min n desk.nodes)
 
 -- ---- what a call does with the struct that it is lent
 
@@ -36,13 +25,7 @@ unfoldable pub work_after : Work → Result Changed Reason → Work
 work_after w (Ok done) = done.work
 work_after w (Err reason) = w
 
--- the largest of the kept numbers
-abbrev pub cut_of : Work → Cut
-cut_of w = largest_cut (at w.triangle) (ring_size w.ring.nodes)
-
-abbrev pub with_cut : Work → Cut → Work
-with_cut w c = record { triangle = w.triangle; ring = w.ring; cut = c; amount = w.amount; first = w.first; second = w.second }
-
+-- the largest cut is looked for among the kept numbers
 unfoldable pub recut_in : Work → ℕ → Changed
 recut_in w place = record { placed = record { place = place; cut = cut_of w }; work = with_cut w (cut_of w) }
 
@@ -61,36 +44,9 @@ unfoldable pub index_in : List ℕ → ℕ → Result ℕ Reason
 index_in first place = cond (holds_in first place) (Ok (place - 1)) (Err NoRow)
 
 unfoldable pub row_in : Work → ℕ → Result Demand Reason
-row_in w p = and_then (index_in w.first p) (λ k. Ok (row_at w.first w.second w.amount k))
-
--- ---- a row put at place k+1, and taken off it: its share of every number, and the three columns
-
-abbrev pub with_row : Work → List ℕ → ℕ → ℕ → ℕ → ℕ → Work
-with_row w triangle k i j d =
-    record { triangle = triangle; ring = w.ring; cut = w.cut; amount = set w.amount k d; first = set w.first k i; second = set w.second k j }
-
-unfoldable pub put_in : Work → ℕ → Demand → Work
-put_in w k r = with_row w (step_row raised (ring_size w.ring.nodes) r w.triangle) k r.first r.second r.amount
-
-unfoldable pub cleared_in : Work → ℕ → Work
-cleared_in w k = with_row w (step_row lowered (ring_size w.ring.nodes) (row_at w.first w.second w.amount k) w.triangle) k 0 0 0
+row_in w p = and_then (index_in w.first p) (λ k. Ok (demand_at w k))
 
 -- ---- the calls
-
--- a ring in numbers
-abbrev pub as_held : Ring → HeldRing
-as_held ring = record { nodes = ring.nodes; fibres = ring.fibres; family = family_number ring.family }
-
-unfoldable pub fresh_in : Ring → Work
-fresh_in ring =
-    record {
-      triangle = replicate most_pairs 0;
-      ring = as_held ring;
-      cut = record { g = 0; h = 0; across = 0 };
-      amount = replicate desk.rows 0;
-      first = replicate desk.rows 0;
-      second = replicate desk.rows 0;
-    }
 
 -- a ring is judged as a table's is: 3, 20
 unfoldable pub started_in : Ring → Result Changed Reason
@@ -132,3 +88,9 @@ pub record Fitting (k : ℕ) (r : Demand) : Type 0 where
   pub first : r.first < 256
   pub second : r.second < 256
   pub amount : r.amount < 65536
+
+-- its columns have a place each: every struct of the type is so
+pub record Sized (w : Work) : Type 0 where
+  pub firsts : length w.first ≡ desk.rows
+  pub seconds : length w.second ≡ desk.rows
+  pub amounts : length w.amount ≡ desk.rows

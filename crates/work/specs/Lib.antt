@@ -1,6 +1,7 @@
 pub mod HeldRing
 pub mod Places
 pub mod Calls
+pub mod Bytes
 pub mod Changes
 pub mod True
 pub mod Answered

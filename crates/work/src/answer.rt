@@ -1,9 +1,10 @@
 //! What a change answers, how many nodes it reckons with, and the step that every change ends in.
 ghost use Rattle.std.specs.Prelude.{◌≡◌};
-ghost use Rattle.work.specs.Changes.{ring_size, recut_in};
+ghost use Rattle.work.specs.Bytes.{ring_size};
+ghost use Rattle.work.specs.Changes.{recut_in};
 
 use crate::Work;
-use across::largest_cut;
+use across::largest_kept_cut;
 use ring::{Cut, FEWEST, NODES};
 
 /// The place that a change names, counted from 1 (0 of a start, which names none), and the largest cut from then on, its across number in units.
@@ -40,7 +41,7 @@ pub(crate) fn nodes(work: &Work) -> usize
 pub(crate) fn recut(work: Work, place: u32) -> Changed
     ensures { result ≡ recut_in work place }
 {
-    let cut = largest_cut(&work.triangle, nodes(&work));
+    let cut = largest_kept_cut(&work.triangle, nodes(&work));
     let mut changed = Changed {
         placed: Placed { place, cut },
         work,

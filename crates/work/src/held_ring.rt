@@ -1,7 +1,7 @@
 //! The ring of a working table, as C lends it.
 ghost use Rattle.std.specs.Prelude.{◌≡◌};
 ghost use Rattle.work.specs.HeldRing.{ring_held};
-ghost use Rattle.work.specs.Changes.{as_held};
+ghost use Rattle.work.specs.Bytes.{as_held};
 
 use family::Family;
 use ring::Ring;

@@ -1,7 +1,7 @@
 //! Which places hold rows.
 ghost use Rattle.std.specs.Prelude.{◌≡◌, ◌<◌, IfOk, IfSome};
-ghost use Rattle.ring.specs.Columns.{row_at};
 ghost use Rattle.ring.specs.Limits.{desk};
+ghost use Rattle.work.specs.Bytes.{demand_at};
 ghost use Rattle.work.specs.Changes.{free_in, index_in, Occupied, row_in};
 ghost use Rattle.work.specs.Promises.{RowPromise};
 
@@ -33,7 +33,7 @@ pub(crate) fn index_of(work: &Work, place: u32) -> Result<usize, Reason>
 /// What stands in the columns at place k+1.
 pub(crate) fn row_at(work: &Work, k: usize) -> Demand
     requires { k < desk.rows }
-    ensures { result ≡ row_at work.now.first work.now.second work.now.amount k }
+    ensures { result ≡ demand_at work.now k }
 {
     Demand {
         first: u32::from(work.first[k]),

@@ -1,6 +1,7 @@
 //! An empty table.
 ghost use Rattle.std.specs.Prelude.{◌≡◌};
-ghost use Rattle.work.specs.Changes.{fresh_in, started_in};
+ghost use Rattle.work.specs.Bytes.{fresh_in};
+ghost use Rattle.work.specs.Changes.{started_in};
 
 use crate::answer::recut;
 use crate::{Changed, HeldRing, Work};
@@ -8,7 +9,7 @@ use across::PAIRS;
 use reasons::{Reason, check_ring};
 use ring::{Cut, ROWS, Ring};
 
-#[tactic(auto, unfolding(crate::specs::Changes::fresh_in))]
+#[tactic(auto, unfolding(crate::specs::Bytes::fresh_in))]
 fn fresh(ring: Ring) -> Work
     ensures { result ≡ fresh_in ring }
 {

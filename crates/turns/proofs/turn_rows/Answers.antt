@@ -1,12 +1,8 @@
 -- The best start is the answer, and has all that is promised of it.
-use Rattle.across.proofs.FillSteps.{no-triangle}
 use Rattle.ring.specs.Sheet.{sents, demands}
 use Rattle.turns.proofs.StartSteps.{Promised, all_promised}
 use Rattle.turns.proofs.turn_rows.Given as given
 use Rattle.turns.proofs.turn_rows.Goals as goal
-
-pub fill-requires-clause-triangle : goal.fill-requires-clause-triangle
-fill-requires-clause-triangle g c = no-triangle _
 
 promised : (g : given.Over) (c : goal.After-best_start g) → Promised c.args.nodes (demands (sents (g.R.Rows.rows c.args.rows.now))) (g.R.Rows.rows c.best_start.new.rows) c.best_start.result
 promised g c = all_promised _ _ c.requires.two _ _ c.best_start.ensures.rows c.best_start.ensures.figures

@@ -1,16 +1,14 @@
--- `put_row` raises every number by the row's share of it: the loop's invariant is that of the lines passed.
-use Rattle.std.proofs.Common.{rules}
-use Rattle.across.proofs.RowSteps.{Lent, rows_start, turn_in, turn-behind, rows-done}
+-- `put_row` raises every number by the row's share of it.
+use Rattle.std.proofs.Common.{arith, rules}
+use Rattle.across.proofs.Places.{block_in}
+use Rattle.across.proofs.RowSteps.{rows-done}
 use Rattle.across.proofs.row.put_row.Goals as goal
-use Rattle.across.proofs.row.put_row.Goals.{then-h-j, else-h-j}
 
-pub loop-h-init : goal.loop-h-init
-loop-h-init c = let lent : Lent c.args.triangle.now = record { size = search rules; fits = search rules } in search rows_start
+pub raise_block-requires : goal.raise_block-requires
+raise_block-requires c = block_in _ _ _ (search rules) (omega arith) (omega (arith, c.min.ensures))
 
-pub loop-h-preserved : goal.loop-h-preserved
-loop-h-preserved c =
-    let lent : Lent c.args.triangle.now = record { size = search rules; fits = search rules } in
-    elim c.if-h-j.branch [ then-h-j w ↦ rw w.triangle-is (search turn_in) | else-h-j w ↦ rw w.triangle-is (search turn-behind) ]
+pub raise_block-requires-2 : goal.raise_block-requires-2
+raise_block-requires-2 c = block_in _ _ _ (search rules) (omega arith) (omega arith)
 
 pub returns : goal.returns
-returns c = let lent : Lent c.args.triangle.now = record { size = search rules; fits = search rules } in search rows-done
+returns c = rows-done _ _ _ _ _ (λ x. search rules) (search rules) (rw c.min.ensures at c.raise_block.ensures) c.raise_block-2.ensures

@@ -1,6 +1,5 @@
 -- Each way out is one answer, of the demands of the rows that are halved.
 use Rattle.std.proofs.Common.{arith}
-use Rattle.across.proofs.FillSteps.{no-triangle}
 use Rattle.crossing.proofs.Steps.{same-demands, rows-few, amount-small, most-small, is-parallel, is-many, is-all}
 use Rattle.crossing.proofs.crossing.crossing_of.Goals as goal
 
@@ -16,9 +15,6 @@ returns-then-count_split-gt-MOST_SPLIT-clause-crossing g c =
 
 pub fill-requires-clause-fit : goal.fill-requires-clause-fit
 fill-requires-clause-fit g c = let e = same-demands c.args.nodes _ _ c.halve.ensures in rw e c.requires.fit
-
-pub fill-requires-clause-triangle : goal.fill-requires-clause-triangle
-fill-requires-clause-triangle g c = no-triangle _
 
 pub overflow_mul-result : goal.overflow_mul-result
 overflow_mul-result g c = omega (arith, amount-small c.args.nodes _ _ c.halve.ensures c.requires.fit _ c.largest_split.ensures)

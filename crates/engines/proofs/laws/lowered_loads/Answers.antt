@@ -1,5 +1,5 @@
 -- The routing of lowered rooms (`LoweredLoads`).
-use Rattle.engines.proofs.LoweredLoads.{loads-are, sent-minimal, rule-C-same, rule-C-keeps}
+use Rattle.engines.proofs.LoweredLoads.{loads-are, sent-minimal, rule-C-keeps}
 use Rattle.engines.proofs.CasesHold.{cases-hold, level-not-minimal}
 use Rattle.engines.proofs.laws.lowered_loads.Goals as goal
 
@@ -11,9 +11,6 @@ returns-clause-minimal c = sent-minimal
 
 pub returns-clause-level : goal.returns-clause-level
 returns-clause-level c = level-not-minimal
-
-pub returns-clause-same_nodes : goal.returns-clause-same_nodes
-returns-clause-same_nodes c = rule-C-same
 
 pub returns-clause-nothing : goal.returns-clause-nothing
 returns-clause-nothing c = rule-C-keeps

@@ -1,10 +1,13 @@
 -- Rule C (`Move`, `SameNodes`, `Order`, `Untangle`).
 use Rattle.ring.proofs.Order.{rule-C-order, rule-C-only}
-use Rattle.laws.proofs.OfTables.{move-is, earlier-outer, rows-untangled, untangled-divides, untangled-peak}
+use Rattle.laws.proofs.OfTables.{move-is, move-keeps, earlier-outer, rows-untangled, untangled-divides, untangled-peak}
 use Rattle.laws.proofs.rules.parallel_pairs_rule.Goals as goal
 
 pub returns-clause-moves : goal.returns-clause-moves
 returns-clause-moves c = move-is
+
+pub returns-clause-keeps : goal.returns-clause-keeps
+returns-clause-keeps c = move-keeps
 
 pub returns-clause-earlier : goal.returns-clause-earlier
 returns-clause-earlier c = earlier-outer

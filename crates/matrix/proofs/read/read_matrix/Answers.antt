@@ -1,5 +1,6 @@
 -- What is told of the text at each way out (`ReadSteps`).
 use Rattle.std.proofs.lemmas.Result.{err_from_is_err_and}
+use Rattle.rows.proofs.Demands.{demands-told, unsent-told}
 use Rattle.matrix.proofs.ReadSteps.{too_long, told-refusal, told-lines, told-entries, told-count, told-matrix}
 use Rattle.matrix.proofs.read.read_matrix.Goals as goal
 
@@ -30,4 +31,8 @@ returns-in_err-judge_count-clause-refused c =
 
 pub returns-clause-accepted : goal.returns-clause-accepted
 returns-clause-accepted c =
-    told-matrix c.args.text.now c.in_ok-nodes.nodes c.in_ok-nodes.ensures.goes_on _ _ c.new-square.ensures _ (rw c.in_ok-of.ensures.read.0 at c.read_lines.ensures) c.in_ok-read_lines.was _ c.judge_square.ensures c.in_ok-judge_square.was _ c.judge_count.ensures c.in_ok-judge_count.was _ c.fill.ensures
+    told-matrix c.args.text.now c.in_ok-nodes.nodes c.in_ok-nodes.ensures.goes_on _ _ c.new-square.ensures _ (rw c.in_ok-of.ensures.read.0 at c.read_lines.ensures) c.in_ok-read_lines.was _ c.judge_square.ensures c.in_ok-judge_square.was _ c.judge_count.ensures c.in_ok-judge_count.was _
+    (demands-told _ _ c.fill.ensures)
+
+pub returns-clause-nothing_sent : goal.returns-clause-nothing_sent
+returns-clause-nothing_sent c = unsent-told _ _ c.fill.ensures

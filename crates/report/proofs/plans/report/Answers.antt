@@ -16,4 +16,4 @@ loop-piece-preserved c =
     c.checked.ensures.gives c.checked.ensures.small _ c.with-report.ensures
 
 pub returns : goal.returns
-returns c = walk-ends checked c.args.text.now _ _ c.loop-piece.invariant c.in_default.ensures
+returns c = walk-ends checked c.args.text.now _ _ c.loop-piece.invariant c.in_default.ensures.0

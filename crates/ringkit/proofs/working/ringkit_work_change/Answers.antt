@@ -1,26 +1,29 @@
 -- Each clause is a law of the calls (`Promised`, `Answers`) at this one.
 use Rattle.work.specs.Calls.{change}
 use Rattle.work.proofs.Promised.{called-promise, called-only, called-made, called-keeps, called-played, called-answer}
-use Rattle.work.proofs.Answers.{answered}
+use Rattle.work.proofs.Answers.{answered, only-answered}
 use Rattle.ringkit.proofs.working.ringkit_work_change.Goals as goal
 
+pub returns-clause-any : goal.returns-clause-any
+returns-clause-any c = answered _ c.changed.ensures.columns (change _ _) c.changed.ensures.value c.take_over.ensures.value c.take_over.ensures.table
+
+pub returns-clause-only_any : goal.returns-clause-only_any
+returns-clause-only_any c = only-answered (returns-clause-any c)
+
 pub returns-clause-promise : goal.returns-clause-promise
-returns-clause-promise c = λ calls m. called-promise m (change _ _) c.changed.ensures c.take_over.ensures.value c.take_over.ensures.table
+returns-clause-promise c = λ calls m. called-promise m (change _ _) c.changed.ensures.value c.take_over.ensures.value c.take_over.ensures.table
 
 pub returns-clause-only : goal.returns-clause-only
-returns-clause-only c = λ calls m. called-only m (change _ _) c.changed.ensures c.take_over.ensures.value c.take_over.ensures.table
+returns-clause-only c = λ calls m. called-only m (change _ _) c.changed.ensures.value c.take_over.ensures.value c.take_over.ensures.table
 
 pub returns-clause-made : goal.returns-clause-made
-returns-clause-made c = λ calls m. called-made m (change _ _) c.changed.ensures c.take_over.ensures.value c.take_over.ensures.table
+returns-clause-made c = λ calls m. called-made m (change _ _) c.changed.ensures.value c.take_over.ensures.value c.take_over.ensures.table
 
 pub returns-clause-kept : goal.returns-clause-kept
-returns-clause-kept c = λ calls m. called-keeps m (change _ _) c.changed.ensures c.take_over.ensures.value c.take_over.ensures.table
+returns-clause-kept c = λ calls m. called-keeps m (change _ _) c.changed.ensures.value c.take_over.ensures.value c.take_over.ensures.table
 
 pub returns-clause-played : goal.returns-clause-played
-returns-clause-played c = λ calls m. called-played m (change _ _) c.changed.ensures c.take_over.ensures.value c.take_over.ensures.table
+returns-clause-played c = λ calls m. called-played m (change _ _) c.changed.ensures.value c.take_over.ensures.value c.take_over.ensures.table
 
 pub returns-clause-answered : goal.returns-clause-answered
-returns-clause-answered c = λ calls m. called-answer m (change _ _) c.changed.ensures c.take_over.ensures.value c.take_over.ensures.table
-
-pub returns-clause-any : goal.returns-clause-any
-returns-clause-any c = answered _ (change _ _) c.changed.ensures c.take_over.ensures.value c.take_over.ensures.table
+returns-clause-answered c = λ calls m. called-answer m (change _ _) c.changed.ensures.value c.take_over.ensures.value c.take_over.ensures.table

@@ -1,5 +1,5 @@
 -- A link's turn: the largest so far, over the links before it and then over those behind it.
-use Rattle.std.proofs.Common.{rules}
+use Rattle.std.proofs.Common.{arith, rules}
 use Rattle.router.proofs.LowerSteps.{before_start, before-turn, behind_start, behind-turn, behind-done}
 use Rattle.router.proofs.lowering.lowest_room.Goals as goal
 
@@ -7,7 +7,8 @@ pub loop-h-init : goal.loop-h-init
 loop-h-init c = search (rules, before_start)
 
 pub loop-h-preserved : goal.loop-h-preserved
-loop-h-preserved c = search (rules, before-turn)
+loop-h-preserved c =
+    before-turn _ _ _ _ _ _ _ _ _ _ c.loop-h-test.true c.loop-h.invariant c.get.ensures (omega (arith, c.saturating_sub.ensures, c.get-in-loop-h.ensures)) c.max-largest.ensures
 
 pub loop-h-2-init : goal.loop-h-2-init
 loop-h-2-init c = search (rules, behind_start)

@@ -17,4 +17,4 @@ pub returns-in-Err : goal.returns-in-Err
 returns-in-Err c = cut-read _ _ _ _ c.loop-line.invariant _ c.count.ensures.is _ _ c.in-Some.ensures _ c.in-Err.ensures.is _ c.cut_on.ensures
 
 pub returns : goal.returns
-returns c = rw c.misshapen.ensures (rows-missing _ _ _ _ c.loop-line.invariant _ c.count-2.ensures.is c.in_default.ensures)
+returns c = rw c.misshapen.ensures (rows-missing _ _ _ _ c.loop-line.invariant _ c.count-2.ensures.is c.in_default.ensures.0)

@@ -1,6 +1,6 @@
 -- Its ring is in numbers.
 use Rattle.std.proofs.Common.{refl}
-use Rattle.work.specs.Changes.{fresh_in}
+use Rattle.work.specs.Bytes.{fresh_in}
 use Rattle.work.proofs.start.fresh.Goals as goal
 
 pub returns : goal.returns

@@ -5,7 +5,8 @@ use Rattle.lines.proofs.LineSteps.{no_lines, line_first}
 use Rattle.lines.proofs.lines.Lines.next_line.Goals as goal
 
 pub returns-then-is_empty : goal.returns-then-is_empty
-returns-then-is_empty c = sym c.self.view_is ∙ no_lines c.self.inside.rest.now (grind (arith, nat_tests))
+returns-then-is_empty c =
+    let none = sym c.self.view_is ∙ no_lines c.self.inside.rest.now (grind (arith, nat_tests)) in (none, none)
 
 pub returns : goal.returns
 returns c = sym c.self.view_is ∙ line_first c.self.inside.rest.now _ (grind (arith, nat_tests)) c.line_end-end.ensures

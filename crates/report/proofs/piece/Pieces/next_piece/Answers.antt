@@ -5,4 +5,5 @@ use Rattle.report.proofs.PieceSteps.{none-left}
 use Rattle.report.proofs.piece.Pieces.next_piece.Goals as goal
 
 pub returns-then-is_empty : goal.returns-then-is_empty
-returns-then-is_empty c = sym c.self.view_is ∙ none-left c.self.inside.rest.now (grind (arith, nat_tests))
+returns-then-is_empty c =
+    let none = sym c.self.view_is ∙ none-left c.self.inside.rest.now (grind (arith, nat_tests)) in (none, none)
