@@ -8,3 +8,5 @@ pub mod Floor
 pub mod OneAnswer
 pub mod OrderRight
 pub mod TableRight
+pub mod OneOrder
+pub mod OrderStands

@@ -3,6 +3,7 @@ pub mod Seats
 pub mod Search
 pub mod Optimal
 pub mod Order
+pub mod OrderLaws
 pub mod Laws
 pub mod Table
 pub mod TableLaws

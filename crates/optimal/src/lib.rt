@@ -1,6 +1,7 @@
 #![tactic(auto)]
 //! The optimal rule: the least peak of circuits that go whole.
 ghost use Rattle.optimal.specs.Laws.{SearchIsRight, OptimalIsRight, OneAnswer};
+ghost use Rattle.optimal.specs.OrderLaws.{SearchOrderIs, OneSearchOrder};
 ghost use Rattle.optimal.specs.TableLaws.{TableFits, TableOptimal, OneTable};
 
 /// What the search answers of rows in search order, and what is found by it.
@@ -15,4 +16,10 @@ pub fn circuits_of_a_table()
     ensures fits { TableFits }
     ensures optimal { TableOptimal }
     ensures one { OneTable }
+{}
+
+/// In which order the rows of a table are searched.
+pub fn rows_as_searched()
+    ensures is { SearchOrderIs }
+    ensures one { OneSearchOrder }
 {}
