@@ -3,6 +3,7 @@ pub mod Waste
 pub mod Bounds
 pub mod Steps
 pub mod SearchRight
+pub mod CountRight
 pub mod OptimalRight
 pub mod Floor
 pub mod OneAnswer

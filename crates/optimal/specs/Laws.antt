@@ -1,12 +1,13 @@
 -- To believe: what holds of the search and of the optimal rule, each the contract of a function that
 -- does nothing.
-use Rattle.std.specs.Prelude.{ℕ, ◌^◌, ◌≤◌, ◌<◌, List, ◌≡◌, false}
+use Rattle.std.specs.Prelude.{ℕ, suc, ◌+◌, ◌^◌, ◌≤◌, ◌<◌, List, [], ◌≡◌, false}
 use Rattle.std.specs.Int.{div_ceil}
 use Rattle.ring.specs.declared.types.Routed.{Routed}
 use Rattle.ring.specs.RuleA.{largest_across}
 use Rattle.ring.specs.Sheet.{demands_of}
 use Rattle.turns.specs.Turns.{peak_of}
-use Rattle.optimal.specs.Search.{Next, IsRight, search}
+use Rattle.optimal.specs.Seats.{start}
+use Rattle.optimal.specs.Search.{Next, IsRight, search_from, search}
 use Rattle.optimal.specs.Optimal.{Found, OptimalIs, optimal_ways}
 
 -- the search's answer is right, of whatever rows, whichever ways are preferred, whichever row is
@@ -15,6 +16,14 @@ abbrev pub SearchIsRight : Type 0
 SearchIsRight =
     (n : ℕ) (next : Next) (top most : ℕ) (plan : List Routed)
     → IsRight n next top plan (search n next top most plan).answer
+
+-- the count of rows alone decides when the search gives up: each look sends a row, so that with one
+-- look more than rows it never ends for want of looks, and with as many more the answer is the same
+abbrev pub CountDecides : Type 0
+CountDecides =
+    (n : ℕ) (next : Next) (top most more : ℕ) (plan : List Routed)
+    → search_from n next top (suc most + more) most (start plan) []
+    ≡ search n next top most plan
 
 -- half of the largest across number, rounded up
 abbrev pub floor_of : ℕ → List Routed → ℕ

@@ -1,12 +1,13 @@
 #![tactic(auto)]
 //! The optimal rule: the least peak of circuits that go whole.
-ghost use Rattle.optimal.specs.Laws.{SearchIsRight, OptimalIsRight, OneAnswer};
+ghost use Rattle.optimal.specs.Laws.{SearchIsRight, CountDecides, OptimalIsRight, OneAnswer};
 ghost use Rattle.optimal.specs.OrderLaws.{SearchOrderIs, OneSearchOrder};
 ghost use Rattle.optimal.specs.TableLaws.{TableFits, TableOptimal, OneTable};
 
 /// What the search answers of rows in search order, and what is found by it.
 pub fn rows_in_search_order()
     ensures search { SearchIsRight }
+    ensures count { CountDecides }
     ensures optimal { OptimalIsRight }
     ensures one { OneAnswer }
 {}
