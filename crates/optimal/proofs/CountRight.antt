@@ -44,7 +44,7 @@ module _ (shuts : Demand → Way → Bool) where
       go : (f b : Bool) → ((f || b) || moves shuts l) ≡ true → ((f && b) || stuck shuts l) ≡ false
           → sent_count l ≤ sent_count (forced shuts l)
           → (moves shuts l ≡ true → stuck shuts l ≡ false
-              → sent_count l < sent_count (forced shuts l))
+          → sent_count l < sent_count (forced shuts l))
           → sent_count l < sent_count (left_over p f b ∷ forced shuts l)
       go true true m s e on = absurd (let z : true ≡ false = s in cc)
       go true false m s e on = omega (arith, e)
@@ -94,8 +94,8 @@ module _ (test : Demand → Bool) where
           → sent_count l < sent_count (send_other test l)
           → sent_count l
           < sent_count (cond b
-            (goes p (other_way p.way) ∷ send_same p.sent.demand (other_way p.way) l)
-            (waits p ∷ send_other test l))
+          (goes p (other_way p.way) ∷ send_same p.sent.demand (other_way p.way) l)
+          (waits p ∷ send_other test l))
       go true m e = omega (arith, m)
       go false m e = e
   other-sends (tries_later {s = goes p w} x) = omega (arith, other-sends x)
@@ -118,7 +118,7 @@ most-tries weighs test (waits p ∷ l) e t =
   where
     go : Dec (most_ends weighs l ≤ weighs p.sent.demand) → (b : Bool) → all_sent l ≡ b
         → (all_sent l ≡ false → ((r : Demand) → weighs r ≡ most_ends weighs l → test r ≡ true)
-            → Tries test l)
+        → Tries test l)
         → Tries test (waits p ∷ l)
     go (yes m) b f on = tries_this (t p.sent.demand (omega (arith, m)))
     go (no m) true f on = absurd (omega (arith, m, none-weighs weighs l f))
@@ -181,7 +181,7 @@ module _ (n : ℕ) (next : Next) (top : ℕ) where
     where
       after : ℕ → Looked → Searched
       after looks x = elim x as (λ _. Searched) [
-          ends_with a ↦ record { answer = a; left = most }
+        | ends_with a ↦ record { answer = a; left = most }
         | goes_on Q R kept ↦
             let sent = sent_count R - sent_count Q in
             cond (leb sent most) (search_from n next top looks (most - sent) R kept)
@@ -190,19 +190,19 @@ module _ (n : ℕ) (next : Next) (top : ℕ) where
 
       go : (x : Looked) → Advances x
           → ((most : ℕ) (R : List Seat) (kept : List (List Seat)) → most < looks → most < others
-              → Kept kept
-              → search_from n next top looks most R kept ≡ search_from n next top others most R kept)
+          → Kept kept
+          → search_from n next top looks most R kept ≡ search_from n next top others most R kept)
           → after looks x ≡ after others x
       go (ends_with a) y on = refl
       go (goes_on Q R kept) y on = fits (leb (sent_count R - sent_count Q) most) refl
         where
           fits : (b : Bool) → leb (sent_count R - sent_count Q) most ≡ b
               → cond b
-                (search_from n next top looks (most - (sent_count R - sent_count Q)) R kept)
-                (record { answer = unknown; left = 0 })
+              (search_from n next top looks (most - (sent_count R - sent_count Q)) R kept)
+              (record { answer = unknown; left = 0 })
               ≡ cond b
-                (search_from n next top others (most - (sent_count R - sent_count Q)) R kept)
-                (record { answer = unknown; left = 0 })
+              (search_from n next top others (most - (sent_count R - sent_count Q)) R kept)
+              (record { answer = unknown; left = 0 })
           fits true e =
               let s = leb-true _ _ e in
               on (most - (sent_count R - sent_count Q)) R kept (omega (arith, l, s, y.0))

@@ -11,3 +11,5 @@ pub mod OrderRight
 pub mod TableRight
 pub mod OneOrder
 pub mod OrderStands
+pub mod OrderSteps
+pub mod OrderSorted

@@ -4,6 +4,7 @@ pub mod Search
 pub mod Optimal
 pub mod Order
 pub mod OrderLaws
+pub mod Places
 pub mod Laws
 pub mod Table
 pub mod TableLaws

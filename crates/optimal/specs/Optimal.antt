@@ -116,7 +116,7 @@ module _ (n most : ℕ) (plan : List Routed) where
   ask zero x = x.found
   ask (suc questions) x =
       elim (ltb x.low x.found.peak) [
-          true ↦
+        | true ↦
             let s = search n the_first (asked x) most plan in
             ask questions (told (asked x) (most - s.left) x s.answer)
         | false ↦ x.found

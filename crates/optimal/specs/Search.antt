@@ -170,7 +170,7 @@ module _ (n : ℕ) (next : Next) (top : ℕ) where
   search_from zero most P rest = record { answer = unknown; left = 0 }
   search_from (suc looks) most P rest =
       elim (look P rest) [
-          ends_with a ↦ record { answer = a; left = most }
+        | ends_with a ↦ record { answer = a; left = most }
         | goes_on Q R kept ↦
             let sent = sent_count R - sent_count Q in
             cond (leb sent most) (search_from looks (most - sent) R kept)

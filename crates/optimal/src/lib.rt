@@ -1,8 +1,12 @@
 #![tactic(auto)]
 //! The optimal rule: the least peak of circuits that go whole.
+mod order; // the order in which rows are searched
+
 ghost use Rattle.optimal.specs.Laws.{SearchIsRight, CountDecides, OptimalIsRight, OneAnswer};
 ghost use Rattle.optimal.specs.OrderLaws.{SearchOrderIs, OneSearchOrder};
 ghost use Rattle.optimal.specs.TableLaws.{TableFits, TableOptimal, OneTable};
+
+pub use order::search_order;
 
 /// What the search answers of rows in search order, and what is found by it.
 pub fn rows_in_search_order()
