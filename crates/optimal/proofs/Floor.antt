@@ -31,9 +31,9 @@ is-floor n plan other two e =
       start-weight plan cut.g cut.h,
       grows (start-completes plan other e) cut.g cut.h,
       load-within n the_first (peak_of n other) other (omega arith) cut.g best.among.low
-      (omega (arith, best.among.order, best.among.high)),
+          (omega (arith, best.among.order, best.among.high)),
       load-within n the_first (peak_of n other) other (omega arith) cut.h
-      (omega (arith, best.among.low, best.among.order)) best.among.high,
+          (omega (arith, best.among.low, best.among.order)) best.among.high,
     )
 
 pub optimal-is-right : OptimalIsRight

@@ -11,14 +11,23 @@ not-itself (at_once x y) = y x
 not-itself (further_on e s) = not-itself s
 
 pub one-answer : OneAnswer
-one-answer n f g plan x y a b p q r s =
-    (go (a.first r y.ways b.same (omega (arith, peaks, b.is)))
-    (b.first s x.ways a.same (omega (arith, peaks, a.is))), peaks)
+one-answer n f g plan x y a b p q r s = (
+  go (a.first r y.ways b.same (omega (arith, peaks, b.is)))
+      (b.first s x.ways a.same (omega (arith, peaks, a.is))),
+  peaks,
+)
   where
     peaks : x.peak ≡ y.peak
     peaks =
-        omega (arith, a.closed p, b.closed q, a.none_below y.ways b.same,
-        b.none_below x.ways a.same, a.is, b.is)
+        omega (
+          arith,
+          a.closed p,
+          b.closed q,
+          a.none_below y.ways b.same,
+          b.none_below x.ways a.same,
+          a.is,
+          b.is,
+        )
 
     go : (y.ways ≡ x.ways) ⊎ ComesBefore plan x.ways y.ways
         → (x.ways ≡ y.ways) ⊎ ComesBefore plan y.ways x.ways → x.ways ≡ y.ways

@@ -203,7 +203,7 @@ module _ (n most floor bits : ℕ) (plan : List Routed) where
       go (suc a) f b e =
           let half : u * mid_of x < u * 2 ^ a = omega (arith, mid.below, b, doubled a) in
           let whole : u * mid_of x + u ≤ u * 2 ^ a =
-              omega (arith, one-more (mid_of x), mul-le-mul_left u (fewer (mid_of x) (2 ^ a) half)) in
+          omega (arith, one-more (mid_of x), mul-le-mul_left u (fewer (mid_of x) (2 ^ a) half)) in
           let top_at_most : asked n most plan x ≤ x.low + u * mid_of x = omega arith in
           elim (dec_le (mid_of x * u) x.leap) [
             | yes z ↦
@@ -224,7 +224,7 @@ module _ (n most floor bits : ℕ) (plan : List Routed) where
             | no z ↦
                 let is : asked n most plan x ≡ x.low + x.leap = omega (arith, z) in
                 let below : u * 2 ^ h.leaps < u * 2 ^ suc a =
-                    omega (arith, h.leap, z, whole, doubled a, pow_pos a, one-unit) in
+                omega (arith, h.leap, z, whole, doubled a, pow_pos a, one-unit) in
                 let early : suc h.leaps ≤ bits = earlier h.leaps a f (fewer (2 ^ h.leaps) (2 ^ suc a) below) in
                 record {
                   top = top-units;
@@ -276,7 +276,7 @@ module _ (n most floor bits : ℕ) (plan : List Routed) where
     where
       firsts : (again : Bool)
           → (elim again as (λ _. Next) [ true ↦ the_heaviest | false ↦ the_first ] ≡ the_first
-              → IsFirst n (asked n most plan x) plan ways)
+          → IsFirst n (asked n most plan x) plan ways)
           → again ≡ false → (other : List Routed) → sents other ≡ sents plan
           → peak_of n other ≤ asked n most plan x → (other ≡ ways) ⊎ ComesBefore plan ways other
       firsts true k e other f p = absurd (let z : true ≡ false = e in cc)
@@ -350,15 +350,19 @@ module _ (n most floor bits : ℕ) (plan : List Routed) where
           elim (dec_le x.found.peak x.low) [
             | yes k ↦ k
             | no k ↦
-                absurd (omega (arith, b, next-up x.low x.found.peak h.lows
-                  (rw h.is (peak-units n plan x.found.ways one h.same)) (omega (arith, k))))
+                absurd (omega (
+                  arith,
+                  b,
+                  next-up x.low x.found.peak h.lows
+                      (rw h.is (peak-units n plan x.found.ways one h.same)) (omega (arith, k)),
+                ))
           ]
   asks-so (suc q) x one h = go (ltb x.low x.found.peak) refl (asks-so q)
     where
       go : (b : Bool) → ltb x.low x.found.peak ≡ b
           → ((z : Between) → 1 ≤ n → Asking q z → OptimalIs n floor plan (ask n most plan q z))
           → OptimalIs n floor plan (elim b as (λ _. Found) [
-              true ↦
+            | true ↦
                 let s = search n the_first (asked n most plan x) most plan in
                 ask n most plan q (told n most plan (asked n most plan x) (most - s.left) x s.answer)
             | false ↦ x.found
@@ -373,17 +377,17 @@ module _ (n most floor bits : ℕ) (plan : List Routed) where
   first-so : 1 ≤ n → ((other : List Routed) → sents other ≡ sents plan → floor ≤ peak_of n other)
       → peak_of n plan < 2 ^ bits
       → Asking (bits + bits) (record {
-          low = up_to (unit_of plan) floor;
-          leap = 0;
-          found = record {
-            ways = plan;
-            peak = peak_of n plan;
-            bound = up_to (unit_of plan) floor;
-            left_open = 0;
-            again = false;
-            sent = 0;
-          };
-        })
+        low = up_to (unit_of plan) floor;
+        leap = 0;
+        found = record {
+          ways = plan;
+          peak = peak_of n plan;
+          bound = up_to (unit_of plan) floor;
+          left_open = 0;
+          again = false;
+          sent = 0;
+        };
+      })
   first-so one below small =
       record {
         same = refl;
@@ -405,8 +409,11 @@ module _ (n most floor bits : ℕ) (plan : List Routed) where
     where
       above : floor ≤ up_to u floor
       above =
-          omega (arith, div-add-mod (floor + (u - 1)) u,
-          mod-lt (floor + (u - 1)) {m = u} (omega (arith, one-unit)))
+          omega (
+            arith,
+            div-add-mod (floor + (u - 1)) u,
+            mod-lt (floor + (u - 1)) {m = u} (omega (arith, one-unit)),
+          )
 
       rounded : (p : ℕ) → Units u p → floor ≤ p → up_to u floor ≤ p
       rounded p x l =

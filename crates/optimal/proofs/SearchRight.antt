@@ -102,8 +102,8 @@ module _ (n : ℕ) (next : Next) (top : ℕ) (plan : List Routed) where
         record {
           rows = more (forced-rows (shuts_of n next top P) P ∙ e) es;
           order = λ f. and_pairs
-            (each (λ Q x. forced-ahead (shuts_of n next top P) x) (pairs-head (o f)))
-            (pairs-tail (o f));
+              (each (λ Q x. forced-ahead (shuts_of n next top P) x) (pairs-head (o f)))
+              (pairs-tail (o f));
           covers = λ v x. go v (covers v x);
         }
       where
@@ -117,12 +117,13 @@ module _ (n : ℕ) (next : Next) (top : ℕ) (plan : List Routed) where
     found : dead n next top P ≡ false → all_sent P ≡ true
         → IsWithin n top plan (ways_of P) × (next ≡ the_first → IsFirst n top plan (ways_of P))
     unfolding dead
-    found d s =
-        (record {
-          same = completes-rows (own-ways P) ∙ ap (λ (l : List Routed). sents l) e;
-          low = keeps-to n next top P s (either-false _ _ d);
-        },
-        λ f v x. go (pairs-head (o f)) v (covers v x))
+    found d s = (
+      record {
+        same = completes-rows (own-ways P) ∙ ap (λ (l : List Routed). sents l) e;
+        low = keeps-to n next top P s (either-false _ _ d);
+      },
+      λ f v x. go (pairs-head (o f)) v (covers v x),
+    )
       where
         go : Each (Ahead P) rest → (v : List Routed) → Some (Reaches v) (P ∷ rest)
             → (v ≡ ways_of P) ⊎ ComesBefore plan (ways_of P) v
@@ -143,12 +144,12 @@ module _ (n : ℕ) (next : Next) (top : ℕ) (plan : List Routed) where
     tried s =
         record {
           rows = more (tried-rows (is_next n next P) P ∙ e)
-            (more (other-rows (is_next n next P) P ∙ e) es);
+              (more (other-rows (is_next n next P) P ∙ e) es);
           order = λ f. and_pairs
-            (more (tried-apart (is_next n next P) (always f P) P s)
-            (each (λ Q x. tried-ahead (is_next n next P) x) (pairs-head (o f))))
-            (and_pairs (each (λ Q x. other-ahead (is_next n next P) x) (pairs-head (o f)))
-            (pairs-tail (o f)));
+              (more (tried-apart (is_next n next P) (always f P) P s)
+              (each (λ Q x. tried-ahead (is_next n next P) x) (pairs-head (o f))))
+              (and_pairs (each (λ Q x. other-ahead (is_next n next P) x) (pairs-head (o f)))
+              (pairs-tail (o f)));
           covers = λ v x. go v (covers v x);
         }
       where
@@ -171,11 +172,11 @@ module _ (n : ℕ) (next : Next) (top : ℕ) (plan : List Routed) where
                   within = record {
                     same = f ∙ r.within.same;
                     low = rw (same-peak (unsplit_load m') (unsplit_load r.by) n (λ k _ _. x k))
-                      r.within.low;
+                        r.within.low;
                   };
                   completes = c;
                   no_later = inr (before_too
-                    (subst (λ (l : List Routed). ComesBefore l m' r.by) e t) r.no_later);
+                      (subst (λ (l : List Routed). ComesBefore l m' r.by) e t) r.no_later);
                 })
         go v (there t) = there (there t)
 
@@ -215,9 +216,9 @@ module _ (n : ℕ) (next : Next) (top : ℕ) (plan : List Routed) where
     where
       go : (x : Looked) → LookRight x
           → ((most : ℕ) (Q : List Seat) (kept : List (List Seat)) → Searching (Q ∷ map gone_back kept)
-              → IsRight n next top plan (search_from n next top looks most Q kept).answer)
+          → IsRight n next top plan (search_from n next top looks most Q kept).answer)
           → IsRight n next top plan (elim x as (λ _. Searched) [
-              ends_with a ↦ record { answer = a; left = most }
+            | ends_with a ↦ record { answer = a; left = most }
             | goes_on Q R kept ↦
                 let sent = sent_count R - sent_count Q in
                 cond (leb sent most) (search_from n next top looks (most - sent) R kept)
@@ -231,7 +232,7 @@ module _ (n : ℕ) (next : Next) (top : ℕ) (plan : List Routed) where
         where
           if_enough : (x : Searched) (b : Bool) → IsRight n next top plan x.answer
               → IsRight n next top plan
-                (cond b x (record { answer = unknown; left = 0 })).answer
+              (cond b x (record { answer = unknown; left = 0 })).answer
           if_enough x true r = r
           if_enough x false r = tt
 

@@ -101,5 +101,5 @@ wasted {l} {m} s top k x =
     let t = multiple s c (divides-open c l (max-divides (open_divisor l))) k in
     let e : top - load_sent l k ≡ (top - unsplit_load m k) + c * t.times = omega (arith, t.is) in
     let f : (top - load_sent l k) % c ≡ (top - unsplit_load m k) % c =
-        ap (λ (y : ℕ). y % c) e ∙ add-mul-mod_self_left (top - unsplit_load m k) c t.times in
+    ap (λ (y : ℕ). y % c) e ∙ add-mul-mod_self_left (top - unsplit_load m k) c t.times in
     omega (arith, f, mod-le (top - unsplit_load m k) c)
