@@ -24,6 +24,7 @@ REPORT = "a report over many plans"
 FAMILIES = "a second family of line sizes"
 CROSSING = "rings where everything crosses"
 LEAST = "the least of five rules"
+OPTIMAL = "the optimal rule"
 
 # files, as crate/File; the first that fits counts
 FILES = [
@@ -48,6 +49,7 @@ FILES = [
     ("turns/*", TURNING),
     ("ringkit/Turning", TURNING),
     ("least/*", LEAST),
+    ("optimal/*", OPTIMAL),
     ("ringkit/LeastPeak", LEAST),
     ("laws/Old", OFFICES),
     ("laws/Digits", OFFICES),
@@ -137,7 +139,7 @@ NAMES = {
     },
 }
 
-ROWS = [RULES, TEXTS, CIRCUITS, MATRICES, FIBRES, WORKING, BYTE, JUDGING, TURNING, OFFICES, BEST, LOWERED, REPORT, FAMILIES, CROSSING, LEAST]
+ROWS = [RULES, TEXTS, CIRCUITS, MATRICES, FIBRES, WORKING, BYTE, JUDGING, TURNING, OFFICES, BEST, LOWERED, REPORT, FAMILIES, CROSSING, LEAST, OPTIMAL]
 
 
 def extent(lines, name):

@@ -1,0 +1,15 @@
+pub mod Completing
+pub mod Waste
+pub mod Bounds
+pub mod Steps
+pub mod SearchRight
+pub mod CountRight
+pub mod OptimalRight
+pub mod Floor
+pub mod OneAnswer
+pub mod OrderRight
+pub mod TableRight
+pub mod OneOrder
+pub mod OrderStands
+pub mod OrderSteps
+pub mod OrderSorted

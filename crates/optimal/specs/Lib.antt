@@ -1,0 +1,10 @@
+pub mod Ways
+pub mod Seats
+pub mod Search
+pub mod Optimal
+pub mod Order
+pub mod OrderLaws
+pub mod Places
+pub mod Laws
+pub mod Table
+pub mod TableLaws
