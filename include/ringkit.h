@@ -296,7 +296,10 @@ ringkit_reply ringkit_route_lowered_best(const uint8_t *table, size_t table_leng
  * again until no row's turn does. The answer is the start that comes to the least peak, the smallest link of several.
  *
  * No start begins above the largest across number M, that of the C line, and no single turn lowers the answer's peak. It need not be the least there is. But no way of sending the rows has a peak
- * below M / 2, so a peak that is M / 2, rounded up, is. */
+ * below M / 2, so a peak that is M / 2, rounded up, is.
+ *
+ * Its time grows with the number of turns of all starts, times the number of rows. Tables of all pairs take at most 340 million instructions; the dearest known, of 1,024 rows at most and made for it,
+ * take some 5,000 million, about half a second, and no bound is proved. ringkit_least takes as long and little more. */
 ringkit_turn_reply ringkit_turn(const uint8_t *table, size_t table_length, uint8_t *ways);
 
 /* Whether the rows of a table whose amounts are above 0 all cross each other, and are at most RINGKIT_MAX_SPLIT. Two rows cross where their four nodes are distinct and exactly one node of the one lies
