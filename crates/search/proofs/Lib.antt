@@ -1,1 +1,3 @@
 mod PackingSteps
+mod Tracking
+mod BoardSteps

@@ -1,5 +1,5 @@
 -- Rows in few bytes: what a read gives, and what a write makes of the list.
-use Rattle.std.proofs.Common.{◌≡◌, ℕ, ◌+◌, ◌<◌, ◌≤◌, List, map, take, length, get_or, set}
+use Rattle.std.proofs.Common.{◌≡◌, ℕ, ◌<◌, List, map, take, length, get_or, set}
 use Rattle.std.proofs.Common.{Some, slice_get, refl, sym, ap, ◌∙◌, arith}
 use Rattle.std.proofs.lemmas.List.{length-take, length-map, get_or-map, get_or-take, map-set}
 use Rattle.std.proofs.lemmas.Option.{slice_get-get_or}

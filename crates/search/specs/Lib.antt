@@ -1,2 +1,3 @@
 pub mod Holding
 pub mod Packing
+pub mod Standing
