@@ -1,3 +1,5 @@
 mod PackingSteps
 mod Tracking
 mod BoardSteps
+mod MoveSteps
+mod NextSteps

@@ -131,3 +131,7 @@ module _ (test : Demand → Bool) where
         (Goes p (other_way p.way) d ∷ same_held d p.sent.demand (other_way p.way) l)
         (Waits p ∷ other_held l)
     other_held (Goes p w k ∷ l) = Goes p w k ∷ other_held l
+
+-- every row passes
+abbrev pub always : Demand → Bool
+always r = true

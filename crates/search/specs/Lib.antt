@@ -1,3 +1,5 @@
 pub mod Holding
 pub mod Packing
 pub mod Standing
+pub mod Nexts
+pub mod Marks
