@@ -3,3 +3,7 @@ mod Tracking
 mod BoardSteps
 mod MoveSteps
 mod NextSteps
+mod SpareSteps
+mod MarkSteps
+mod HoldingSteps
+mod LookRight

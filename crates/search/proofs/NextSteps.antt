@@ -9,9 +9,6 @@ use Rattle.optimal.specs.Seats.{Seat}
 use Rattle.search.specs.declared.held.Held.{Held}
 use Rattle.search.specs.declared.held.Held.TheVariants.{Waits, Goes}
 use Rattle.search.specs.Holding.{row_at, seats, lead, always}
-use Rattle.search.specs.declared.next.Next.{Next}
-use Rattle.search.specs.declared.next.Next.TheVariants.{First}
-use Rattle.search.specs.Nexts.{next_of}
 use Rattle.search.proofs.MoveSteps.{lead-is, lead-none, lead-most}
 
 -- none of the rows before a place waits
@@ -48,6 +45,31 @@ pub first-is-next : (n : ℕ) (P : List Seat) (l : List Held) → lead always l 
 unfolding is_next
 first-is-next n P l = lead-same always (is_next n the_first P) (λ r. refl) l
 
--- so far there is one choice
-pub only-first : (x : Next) → next_of x ≡ the_first
-only-first First = refl
+-- no row before a place that waits has a larger amount
+pub record Reached (l : List Held) (k reach : ℕ) : Type 0 where
+  pub most : (i : ℕ) (p : Routed) → i < k → row_at l i ≡ Waits p → p.sent.demand.amount ≤ reach
+  pub small : reach ≤ 9999
+
+module _ (l : List Held) (k reach : ℕ) (s : Reached l k reach) (x : Held) (read : x ≡ row_at l k) where
+  pub reached-more : (p : Routed) → x ≡ Waits p → p.sent.demand.amount ≤ 9999 → (next : ℕ) → next ≡ max reach p.sent.demand.amount → Reached l (k + 1) next
+  reached-more p e f next m =
+      record {
+        most = λ i q a b. elim (ℕ_discrete i k) [
+            | yes z ↦ (let same : Waits q ≡ Waits p = sym b ∙ ap (λ j. row_at l j) z ∙ sym read ∙ e in
+                let rows : q ≡ p = cc in
+                let amounts : q.sent.demand.amount ≡ p.sent.demand.amount = ap (λ (r : Routed). r.sent.demand.amount) rows in
+                omega arith)
+            | no z ↦ omega (arith, s.most i q (omega arith) b)
+          ];
+        small = omega (arith, s.small);
+      }
+
+  pub reached-same : ((p : Routed) → x ≡ Waits p → ⊥) → Reached l (k + 1) reach
+  reached-same f =
+      record {
+        most = λ i q a b. elim (ℕ_discrete i k) [
+            | yes z ↦ absurd (f q (read ∙ ap (λ j. row_at l j) (sym z) ∙ b))
+            | no z ↦ s.most i q (omega arith) b
+          ];
+        small = s.small;
+      }

@@ -2,4 +2,6 @@ pub mod Holding
 pub mod Packing
 pub mod Standing
 pub mod Nexts
+pub mod Spares
 pub mod Marks
+pub mod Looks

@@ -1,0 +1,8 @@
+use Rattle.std.proofs.Common.{arith, refl}
+use Rattle.std.proofs.lemmas.List.{drop_all}
+use Rattle.search.specs.Marks.{moves_one}
+use Rattle.search.proofs.MarkSteps.{some-turn, some-found, some-end}
+use Rattle.search.proofs.marks.moves.Goals as goal
+
+pub loop-k-init : goal.loop-k-init
+loop-k-init c = refl

@@ -1,0 +1,7 @@
+-- Internal: which row is tried, as the code says it.
+use Rattle.optimal.specs.Search as which
+use Rattle.search.specs.declared.next.Next.{Next}
+use Rattle.search.specs.declared.next.Next.TheVariants.{First}
+
+abbrev pub next_of : Next → which.Next
+next_of First = which.the_first
