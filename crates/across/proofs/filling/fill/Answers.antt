@@ -1,5 +1,5 @@
 -- `fill`: a row's nodes have a place; then lines are summed up, from the last to the second.
-use Rattle.std.proofs.Common.{◌≡◌, [], ◌+◌, ◌-◌, arith, rules}
+use Rattle.std.proofs.Common.{◌≡◌, [], ◌+◌, ◌-◌, arith}
 use Rattle.across.proofs.Places.{pair_in}
 use Rattle.across.proofs.FillSteps.{fill-fits, sum-enter, no-sum, fill_done}
 use Rattle.across.proofs.filling.fill.Goals as goal
