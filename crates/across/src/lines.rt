@@ -16,7 +16,8 @@ pub(crate) fn raise(triangle: &mut [u32], i: usize, j: usize, by: u32)
     put(triangle, i, j, number(triangle, i, j).wrapping_add(by));
 }
 
-// Where a block ends on a line. One that goes as far as lines do takes no test for each of them, since it says so by a number that the compiler knows.
+// Where a block ends on a line. One that goes as far as lines do takes no test for each of them,
+// since it says so by a number that the compiler knows.
 fn end_on_line(high: usize, j: usize) -> usize
     requires { j ≤ desk.nodes + 1 }
     ensures { result ≡ min high j }
@@ -24,7 +25,8 @@ fn end_on_line(high: usize, j: usize) -> usize
     if high > LINKS { j } else { high.min(j) }
 }
 
-/// On the lines from `first` up to `end` the numbers of `low` up to `high` are raised, of each line those below it. By 0 nothing changes.
+/// On the lines from `first` up to `end` the numbers of `low` up to `high` are raised, of each line
+/// those below it. By 0 nothing changes.
 #[tactic(auto, using(crate::proofs::LineSteps::block_laws))]
 pub(crate) fn raise_block(
     triangle: &mut [u32],

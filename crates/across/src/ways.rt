@@ -9,8 +9,8 @@ use crate::lines::raise_block;
 use crate::place::get;
 use ring::{Demand, LINKS};
 
-/// The numbers of the pairs of links g <= h that lie both on the front of a row of a ring of n nodes, at most 64, are raised; to take an amount, what it lacks of the
-/// type's end is put on.
+/// The numbers of the pairs of links g <= h that lie both on the front of a row of a ring of n
+/// nodes, at most 64, are raised; to take an amount, what it lacks of the type's end is put on.
 #[tactic(auto, using(crate::proofs::Places::block_fits, crate::proofs::WaySteps::front_raised))]
 pub fn raise_front(triangle: &mut [u32; PLACES], n: usize, row: Demand, by: u32)
     requires few { n ≤ desk.nodes }
@@ -36,7 +36,8 @@ pub fn raise_back(triangle: &mut [u32; PLACES], n: usize, row: Demand, by: u32)
     raise_block(triangle, j + 1, n + 2, j, LINKS + 1, by);
 }
 
-/// The least of the numbers of the pairs on its front. None is less than 0, so no more of them are looked at where that is found.
+/// The least of the numbers of the pairs on its front. None is less than 0, so no more of them are
+/// looked at where that is found.
 #[tactic(auto, using(crate::proofs::WaySteps::least_laws))]
 pub fn least_over(triangle: &[u32; PLACES], n: usize, row: Demand) -> u32
     requires few { n ≤ desk.nodes }

@@ -7,8 +7,8 @@ ghost use Rattle.router.specs.Lowering.{room_on, PairsFit, LinkOf, RoomsPut};
 use across::{PLACES, get, set};
 use engines::Engine;
 
-// The turn of link g: of each other link twice what lies across the two, less the room of that link, and of these the largest. Links before g have been
-// lowered, links behind it have the most.
+// The turn of link g: of each other link twice what lies across the two, less the room of that
+// link, and of these the largest. Links before g have been lowered, links behind it have the most.
 fn lowest_room(triangle: &[u32; PLACES], most: u32, n: usize, g: usize) -> u32
     requires pairs { PairsFit n triangle.now }
     requires link { LinkOf n g }
@@ -24,7 +24,8 @@ fn lowest_room(triangle: &[u32; PLACES], most: u32, n: usize, g: usize) -> u32
     largest
 }
 
-/// The room of each link, in halves, by an engine, is put down as its own number. `most` is the largest across number.
+/// The room of each link, in halves, by an engine, is put down as its own number. `most` is the
+/// largest across number.
 pub(crate) fn put_rooms(engine: Engine, triangle: &mut [u32; PLACES], most: u32, n: usize)
     requires { PairsFit n triangle.old }
     ensures { RoomsPut engine most n triangle.old triangle.new }
