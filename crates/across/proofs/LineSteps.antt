@@ -47,11 +47,11 @@ module _ (by a b low high : ℕ) (old : List ℕ) (f : BlockFits b low old) wher
     pub block-enter : Blocking by a low high old j 0 now → Blocking by a low high old j low now
     block-enter s = seen-so s (λ x y p q c r. (r.0, r.1, r.2, omega (arith, r.1, r.3))) (λ x y p q c r. (r.0, r.1, r.2, omega (arith, r.3)))
 
-    pub block-pair : Blocking by a low high old j i now → low ≤ i → (top : ℕ) → top ≡ min high j → i < top → PairIn i j now
-    block-pair s c top e m = record { low = omega (arith, f.from); order = omega arith; high = omega (arith, f.last); room = omega (arith, f.room, s.size, rise (suc j) b l) }
+    pub block-pair : Blocking by a low high old j i now → low ≤ i → i < j → PairIn i j now
+    block-pair s c d = record { low = omega (arith, f.from); order = d; high = omega (arith, f.last); room = omega (arith, f.room, s.size, rise (suc j) b l) }
 
-    pub block-turn : Blocking by a low high old j i now → a ≤ j → low ≤ i → (top : ℕ) → top ≡ min high j → i < top → (new : List ℕ) → PutAt i j (raised (at now i j) by) now new → Blocking by a low high old j (i + 1) new
-    block-turn s c d top e m new p =
+    pub block-turn : Blocking by a low high old j i now → a ≤ j → low ≤ i → i < high → i < j → (new : List ℕ) → PutAt i j (raised (at now i j) by) now new → Blocking by a low high old j (i + 1) new
+    block-turn s c d e m new p =
         one-more s i j _ new (omega arith) (omega (arith, f.last)) p (ap (λ z. raised z by) (s.outside i j (omega (arith, f.from)) (omega arith) (omega (arith, f.last)) (λ r. omega (arith, r.3))))
         (λ x y q r u v. (v.0.0, v.0.1, v.0.2, omega (arith, v.0.3, v.1))) (λ x y q r u v. (v.0, v.1, v.2, omega (arith, v.3))) (c, d, omega arith, omega arith)
 
