@@ -24,7 +24,12 @@ pub fn fill<R: Rows>(triangle: &mut [u32; PLACES], n: usize, rows: &R)
 {
     for row in each(rows) {
         let demand = row.sent.demand;
-        raise(triangle, demand.first as usize, demand.second as usize, 2 * demand.amount);
+        raise(
+            triangle,
+            demand.first as usize,
+            demand.second as usize,
+            2 * demand.amount,
+        );
     }
     for j in (2..n + 1).rev() {
         let mut sum: u32 = 0;
