@@ -13,3 +13,5 @@ pub mod OneOrder
 pub mod OrderStands
 pub mod OrderSteps
 pub mod OrderSorted
+pub mod DivisorSteps
+pub mod WaySteps

@@ -1,12 +1,16 @@
 #![tactic(auto)]
 //! The optimal rule: the least peak of circuits that go whole.
+mod divisors; // common divisors of amounts
 mod order; // the order in which rows are searched
+mod ways; // the ways that are found
 
 ghost use Rattle.optimal.specs.Laws.{SearchIsRight, CountDecides, OptimalIsRight, OneAnswer};
 ghost use Rattle.optimal.specs.OrderLaws.{SearchOrderIs, OneSearchOrder};
 ghost use Rattle.optimal.specs.TableLaws.{TableFits, TableOptimal, OneTable};
 
+pub use divisors::find_divisors;
 pub use order::search_order;
+pub use ways::send_found;
 
 /// What the search answers of rows in search order, and what is found by it.
 pub fn rows_in_search_order()
