@@ -12,7 +12,8 @@ use Rattle.ring.specs.declared.types.Way.TheVariants.{Front, Back}
 use Rattle.turns.specs.Turns.{other_way}
 use Rattle.optimal.specs.Seats.{Seat, waits, goes, start, sent_count}
 use Rattle.optimal.specs.Search.{left_over, stuck, moves, forced, all_sent, same_row, send_same}
-use Rattle.optimal.specs.Search.{send_tried, send_other, Next, the_first, the_heaviest, ends, most_ends}
+use Rattle.optimal.specs.Search.{send_tried, send_other, Next, the_first, the_heaviest, ends}
+use Rattle.optimal.specs.Search.{most_ends}
 use Rattle.optimal.specs.Search.{is_next, Looked, ends_with, goes_on, Searched, unknown}
 use Rattle.optimal.specs.Search.{shuts_of, dead, look_at, look, search_from, search}
 use Rattle.optimal.specs.Laws.{CountDecides}

@@ -1,4 +1,5 @@
--- Half of the largest across number is a floor: at the start a pair's weight is what lies across it.
+-- Half of the largest across number is a floor: at the start a pair's weight is what lies across
+-- it.
 use Rattle.std.proofs.Common.{◌≡◌, ℕ, ◌≤◌, List, [], ◌∷◌, refl, arith}
 use Rattle.ring.specs.declared.types.Routed.{Routed}
 use Rattle.ring.specs.Cut.{across}

@@ -1,5 +1,5 @@
--- Two answers without an open question are the same: their peaks are each other's bounds, and of two
--- ways only one can come before the other.
+-- Two answers without an open question are the same: their peaks are each other's bounds, and of
+-- two ways only one can come before the other.
 use Rattle.std.proofs.Common.{◌≡◌, List, sym, inl, inr, ◌⊎◌, arith}
 use Rattle.ring.specs.declared.types.Routed.{Routed}
 use Rattle.optimal.specs.Ways.{ComesBefore, at_once, further_on}

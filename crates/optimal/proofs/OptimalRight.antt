@@ -17,9 +17,11 @@ use Rattle.ring.proofs.Peaks.{peak-attained}
 use Rattle.turns.specs.Turns.{peak_of}
 use Rattle.optimal.specs.Ways.{IsWithin, IsFirst, ComesBefore, at_once, further_on}
 use Rattle.optimal.specs.Seats.{divisor, load_sent, start}
-use Rattle.optimal.specs.Search.{the_first, the_heaviest, Next, Answer, fits, cannot, unknown, IsRight}
+use Rattle.optimal.specs.Search.{the_first, the_heaviest, Next, Answer, fits, cannot, unknown}
+use Rattle.optimal.specs.Search.{IsRight}
 use Rattle.optimal.specs.Search.{search}
-use Rattle.optimal.specs.Optimal.{Found, OptimalIs, Between, up_to, unit_of, asked, answered, told, ask}
+use Rattle.optimal.specs.Optimal.{Found, OptimalIs, Between, up_to, unit_of, asked, answered, told}
+use Rattle.optimal.specs.Optimal.{ask}
 use Rattle.optimal.specs.Optimal.{optimal_ways}
 use Rattle.optimal.proofs.Completing.{Completes, done, either}
 use Rattle.optimal.proofs.Waste.{divides-all, max-divides, multiple}
@@ -110,7 +112,8 @@ module _ (n most floor bits : ℕ) (plan : List Routed) where
     pub above_floor : floor ≤ x.found.bound
     pub low : floor ≤ x.low
     pub first : x.found.again ≡ false → (other : List Routed) → sents other ≡ sents plan
-        → peak_of n other ≤ x.found.peak → (other ≡ x.found.ways) ⊎ ComesBefore plan x.found.ways other
+        → peak_of n other ≤ x.found.peak
+        → (other ≡ x.found.ways) ⊎ ComesBefore plan x.found.ways other
     pub closed : x.found.left_open ≡ 0 → x.low ≤ x.found.bound
     pub lows : Units (unit_of plan) x.low
     pub halvings : ℕ
@@ -120,7 +123,8 @@ module _ (n most floor bits : ℕ) (plan : List Routed) where
     pub leap : x.leap + unit_of plan ≡ unit_of plan * 2 ^ leaps
     pub enough : halvings + (bits - leaps) ≤ questions
 
-  ends-so : {q : ℕ} (x : Between) → Asking q x → x.found.peak ≤ x.low → OptimalIs n floor plan x.found
+  ends-so : {q : ℕ} (x : Between) → Asking q x → x.found.peak ≤ x.low
+      → OptimalIs n floor plan x.found
   ends-so x h l =
       record {
         same = h.same;
@@ -150,7 +154,8 @@ module _ (n most floor bits : ℕ) (plan : List Routed) where
       go (no k) = omega arith
 
   -- a peak above a number of units is above it by one
-  next-up : (a b : ℕ) → Units (unit_of plan) a → Units (unit_of plan) b → a < b → a + unit_of plan ≤ b
+  next-up : (a b : ℕ) → Units (unit_of plan) a → Units (unit_of plan) b → a < b
+      → a + unit_of plan ≤ b
   next-up a b x y l =
       let more : x.count < y.count = fewer x.count y.count (omega (arith, x.is, y.is)) in
       omega (arith, x.is, y.is, mul-le-mul_left (unit_of plan) more)
@@ -191,7 +196,9 @@ module _ (n most floor bits : ℕ) (plan : List Routed) where
       top-units : Units u (asked n most plan x)
       top-units =
           let l = h.lows in
-          let k = leap-units h.leaps h.leap (pow-le-pow_right {n = 2} (omega arith) {i = 0} (omega arith)) in
+          let two : 2 ^ 0 ≤ 2 ^ h.leaps =
+            pow-le-pow_right {n = 2} (omega arith) {i = 0} (omega arith) in
+          let k = leap-units h.leaps h.leap two in
           elim (dec_le (mid_of x * u) x.leap) [
             | yes z ↦ record { count = l.count + mid_of x; is = omega (arith, l.is, z) }
             | no z ↦ record { count = l.count + k.count; is = omega (arith, l.is, k.is, z) }
@@ -225,7 +232,8 @@ module _ (n most floor bits : ℕ) (plan : List Routed) where
                 let is : asked n most plan x ≡ x.low + x.leap = omega (arith, z) in
                 let below : u * 2 ^ h.leaps < u * 2 ^ suc a =
                 omega (arith, h.leap, z, whole, doubled a, pow_pos a, one-unit) in
-                let early : suc h.leaps ≤ bits = earlier h.leaps a f (fewer (2 ^ h.leaps) (2 ^ suc a) below) in
+                let early : suc h.leaps ≤ bits =
+                    earlier h.leaps a f (fewer (2 ^ h.leaps) (2 ^ suc a) below) in
                 record {
                   top = top-units;
                   from = omega arith;
@@ -251,7 +259,8 @@ module _ (n most floor bits : ℕ) (plan : List Routed) where
   -- what an answer makes of what is found so far
   answers-so : (q : ℕ) (again : Bool) (sent : ℕ) (x : Between) → 1 ≤ n → (h : Asking (suc q) x)
       → x.low < x.found.peak → (a : Answer)
-      → IsRight n (elim again [ true ↦ the_heaviest | false ↦ the_first ]) (asked n most plan x) plan a
+      → IsRight n (elim again [ true ↦ the_heaviest | false ↦ the_first ]) (asked n most plan x)
+        plan a
       → Asking q (answered n most plan (asked n most plan x) again sent x a)
   answers-so q again sent x one h l (fits ways) y =
       let s = step q x one h l in
@@ -364,7 +373,8 @@ module _ (n most floor bits : ℕ) (plan : List Routed) where
           → OptimalIs n floor plan (elim b as (λ _. Found) [
             | true ↦
                 let s = search n the_first (asked n most plan x) most plan in
-                ask n most plan q (told n most plan (asked n most plan x) (most - s.left) x s.answer)
+                ask n most plan q
+                (told n most plan (asked n most plan x) (most - s.left) x s.answer)
             | false ↦ x.found
           ])
       go true e on =
@@ -393,7 +403,8 @@ module _ (n most floor bits : ℕ) (plan : List Routed) where
         same = refl;
         is = refl;
         no_higher = omega arith;
-        none_below = λ other e. rounded (peak_of n other) (peak-units n plan other one e) (below other e);
+        none_below =
+            λ other e. rounded (peak_of n other) (peak-units n plan other one e) (below other e);
         above_floor = above;
         low = above;
         first = λ _ other e p. plan-first plan other e;
@@ -421,7 +432,8 @@ module _ (n most floor bits : ℕ) (plan : List Routed) where
             | yes k ↦ omega (arith, x.is, mul-le-mul_left u k)
             | no k ↦
                 let more : suc x.count ≤ (floor + (u - 1)) / u = omega (arith, k) in
-                absurd (omega (arith, x.is, mul-le-mul_left u more, div-add-mod (floor + (u - 1)) u, l, one-unit))
+                absurd (omega (arith, x.is, mul-le-mul_left u more,
+                div-add-mod (floor + (u - 1)) u, l, one-unit))
           ]
 
 pub optimal-right : (n most floor : ℕ) (plan : List Routed) → 1 ≤ n

@@ -1,7 +1,8 @@
--- What the search answers is right: at each look all ways that keep to the peak are led by ways that
--- complete a partial routing of those that are left; and, where the first row that waits is tried,
--- each of these stands ahead of those after it.
-use Rattle.std.proofs.Common.{◌≡◌, ℕ, zero, suc, ◌-◌, Bool, true, false, ◌||◌, cond, leb, List, [], ◌∷◌, map}
+-- What the search answers is right: at each look all ways that keep to the peak are led by ways
+-- that complete a partial routing of those that are left; and, where the first row that waits is
+-- tried, each of these stands ahead of those after it.
+use Rattle.std.proofs.Common.{◌≡◌, ℕ, zero, suc, ◌-◌, Bool, true, false, ◌||◌, cond, leb, List, []}
+use Rattle.std.proofs.Common.{◌∷◌, map}
 use Rattle.std.proofs.Common.{refl, sym, ap, subst, ◌∙◌, inl, inr, ◌⊎◌}
 use Rattle.ring.specs.Lists.{Each, none, more, Some, here, there, Pairs, no_pair, and_pairs}
 use Rattle.ring.specs.declared.types.Demand.{Demand}
@@ -94,7 +95,8 @@ module _ (n : ℕ) (next : Next) (top : ℕ) (plan : List Routed) where
       where
         go : (v : List Routed) → Some (Reaches v) (P ∷ rest) → Some (Reaches v) rest
         go v (here r) =
-            absurd (let z : true ≡ false = sym d ∙ not-dead n next top r.completes r.within.low in cc)
+            absurd (let z : true ≡ false = sym d ∙ not-dead n next top r.completes r.within.low in
+            cc)
         go v (there s) = s
 
     gone-on : Searching (forced (shuts_of n next top P) P ∷ rest)
@@ -215,8 +217,9 @@ module _ (n : ℕ) (next : Next) (top : ℕ) (plan : List Routed) where
       go (look n next top P rest) (look-right P rest i) (search-right looks)
     where
       go : (x : Looked) → LookRight x
-          → ((most : ℕ) (Q : List Seat) (kept : List (List Seat)) → Searching (Q ∷ map gone_back kept)
-          → IsRight n next top plan (search_from n next top looks most Q kept).answer)
+          → ((most : ℕ) (Q : List Seat) (kept : List (List Seat))
+              → Searching (Q ∷ map gone_back kept)
+              → IsRight n next top plan (search_from n next top looks most Q kept).answer)
           → IsRight n next top plan (elim x as (λ _. Searched) [
             | ends_with a ↦ record { answer = a; left = most }
             | goes_on Q R kept ↦

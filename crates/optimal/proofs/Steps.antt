@@ -1,5 +1,7 @@
--- What a look keeps: ways that complete a partial routing complete what is made of it, rows stay as they are, and what stands ahead of another stays ahead.
-use Rattle.std.proofs.Common.{◌≡◌, ℕ, ◌+◌, Bool, true, false, cond, ◌&&◌, List, [], ◌∷◌, refl, ◌∙◌, arith}
+-- What a look keeps: ways that complete a partial routing complete what is made of it, rows stay as
+-- they are, and what stands ahead of another stays ahead.
+use Rattle.std.proofs.Common.{◌≡◌, ℕ, ◌+◌, Bool, true, false, cond, ◌&&◌, List, [], ◌∷◌, refl, ◌∙◌}
+use Rattle.std.proofs.Common.{arith}
 use borrow.Author.Tests.{eqb-true}
 use Rattle.ring.specs.declared.types.Demand.{Demand}
 use Rattle.ring.specs.declared.types.Sent.{Sent}
@@ -12,21 +14,27 @@ use Rattle.ring.specs.Sheet.{sents}
 use Rattle.turns.specs.Turns.{other_way}
 use Rattle.optimal.specs.Ways.{ComesBefore, at_once, further_on}
 use Rattle.optimal.specs.Seats.{Seat, waits, goes, start, row_of, rows_of, ways_of}
-use Rattle.optimal.specs.Search.{left_over, forced, all_sent, send_tried, same_row, send_same, send_other}
-use Rattle.optimal.proofs.Completing.{Completes, done, either, as_sent, Clear, clear_end, clear_either, clear_sent}
+use Rattle.optimal.specs.Search.{left_over, forced, all_sent, send_tried, same_row, send_same}
+use Rattle.optimal.specs.Search.{send_other}
+use Rattle.optimal.proofs.Completing.{Completes, done, either, as_sent, Clear, clear_end}
+use Rattle.optimal.proofs.Completing.{clear_either, clear_sent}
 
--- ---- a partial routing that stands ahead of another: where they first differ, it goes the preferred way and the other does not; all rows before are sent
+-- ---- a partial routing that stands ahead of another: where they first differ, it goes the
+-- preferred way and the other does not; all rows before are sent
 
 pub data Ahead : List Seat → List Seat → Type 0 where
-  first_so : {p : Routed} {l m : List Seat} → Ahead (goes p p.way ∷ l) (goes p (other_way p.way) ∷ m)
-  then_so : {p : Routed} {w : Way} {l m : List Seat} → Ahead l m → Ahead (goes p w ∷ l) (goes p w ∷ m)
+  first_so : {p : Routed} {l m : List Seat}
+      → Ahead (goes p p.way ∷ l) (goes p (other_way p.way) ∷ m)
+  then_so : {p : Routed} {w : Way} {l m : List Seat} → Ahead l m
+      → Ahead (goes p w ∷ l) (goes p w ∷ m)
 
 pub other-is-not : (w : Way) → other_way w ≡ w → ⊥
 other-is-not Front e = cc
 other-is-not Back e = cc
 
 -- then its ways come first
-pub before : {l m : List Seat} {v w : List Routed} → Ahead l m → Completes l v → Completes m w → ComesBefore (rows_of l) v w
+pub before : {l m : List Seat} {v w : List Routed} → Ahead l m → Completes l v → Completes m w
+    → ComesBefore (rows_of l) v w
 unfolding rows_of
 before (first_so {p = p}) (as_sent c) (as_sent d) = at_once refl (other-is-not p.way)
 before (then_so a) (as_sent c) (as_sent d) = further_on refl (before a c d)
@@ -37,15 +45,18 @@ module _ (shuts : Demand → Way → Bool) where
   pub forced-rows : (l : List Seat) → rows_of (forced shuts l) ≡ rows_of l
   unfolding rows_of forced
   forced-rows [] = refl
-  forced-rows (waits p ∷ l) = go (shuts p.sent.demand Front) (shuts p.sent.demand Back) (forced-rows l)
+  forced-rows (waits p ∷ l) =
+      go (shuts p.sent.demand Front) (shuts p.sent.demand Back) (forced-rows l)
     where
-      go : (f b : Bool) → rows_of (forced shuts l) ≡ rows_of l → rows_of (left_over p f b ∷ forced shuts l) ≡ p ∷ rows_of l
+      go : (f b : Bool) → rows_of (forced shuts l) ≡ rows_of l
+          → rows_of (left_over p f b ∷ forced shuts l) ≡ p ∷ rows_of l
       go true b e = rw e
       go false true e = rw e
       go false false e = rw e
   forced-rows (goes p w ∷ l) = rw (forced-rows l)
 
-  left-over-completes : (p : Routed) (w : Way) (f b : Bool) {l : List Seat} {m : List Routed} → f ≡ shuts p.sent.demand Front → b ≡ shuts p.sent.demand Back → shuts p.sent.demand w ≡ false
+  left-over-completes : (p : Routed) (w : Way) (f b : Bool) {l : List Seat} {m : List Routed}
+      → f ≡ shuts p.sent.demand Front → b ≡ shuts p.sent.demand Back → shuts p.sent.demand w ≡ false
       → Completes l m → Completes (left_over p f b ∷ l) (routed p.sent w ∷ m)
   left-over-completes p Front true b x y e c = absurd (let z : true ≡ false = x ∙ e in cc)
   left-over-completes p Back true b x y e c = as_sent c
@@ -53,10 +64,13 @@ module _ (shuts : Demand → Way → Bool) where
   left-over-completes p Back false true x y e c = absurd (let z : true ≡ false = y ∙ e in cc)
   left-over-completes p w false false x y e c = either w c
 
-  pub forced-completes : {l : List Seat} {m : List Routed} → Clear shuts l m → Completes (forced shuts l) m
+  pub forced-completes : {l : List Seat} {m : List Routed} → Clear shuts l m
+      → Completes (forced shuts l) m
   unfolding forced
   forced-completes clear_end = done
-  forced-completes (clear_either {p = p} w e k) = left-over-completes p w (shuts p.sent.demand Front) (shuts p.sent.demand Back) refl refl e (forced-completes k)
+  forced-completes (clear_either {p = p} w e k) =
+      left-over-completes p w (shuts p.sent.demand Front) (shuts p.sent.demand Back) refl refl e
+      (forced-completes k)
   forced-completes (clear_sent k) = as_sent (forced-completes k)
 
   pub forced-ahead : {l m : List Seat} → Ahead l m → Ahead (forced shuts l) m
@@ -128,10 +142,13 @@ module _ (test : Demand → Bool) where
 abbrev over_way : Demand → Way → ℕ → ℕ
 over_way r w k = cond (in_front r k) (by_way w r.amount 0) (by_way w 0 r.amount)
 
--- all rows like r that wait go w in these ways; or one goes the other way, and may go w where r goes so in its place
+-- all rows like r that wait go w in these ways; or one goes the other way, and may go w where r
+-- goes so in its place
 data Exchanged (r : Demand) (w : Way) (l : List Seat) (m : List Routed) : Type 0 where
   all_so : Completes (send_same r w l) m → Exchanged r w l m
-  one_not : (m' : List Routed) → Completes l m' → sents m' ≡ sents m → ((k : ℕ) → unsplit_load m' k + over_way r (other_way w) k ≡ unsplit_load m k + over_way r w k)
+  one_not : (m' : List Routed) → Completes l m' → sents m' ≡ sents m
+      → ((k : ℕ)
+        → unsplit_load m' k + over_way r (other_way w) k ≡ unsplit_load m k + over_way r w k)
       → Exchanged r w l m
 
 record SameRow (r q : Demand) : Type 0 where
@@ -143,7 +160,11 @@ same-row : (r q : Demand) → same_row r q ≡ true → SameRow r q
 same-row r q e =
     let ends = and-both _ _ e in
     let nodes = and-both _ _ ends.0 in
-    record { first = eqb-true _ _ nodes.0; second = eqb-true _ _ nodes.1; amount = eqb-true _ _ ends.1 }
+    record {
+      first = eqb-true _ _ nodes.0;
+      second = eqb-true _ _ nodes.1;
+      amount = eqb-true _ _ ends.1;
+    }
   where
     and-both : (a b : Bool) → (a && b) ≡ true → (a ≡ true) × (b ≡ true)
     and-both true b e = (refl, e)
@@ -152,23 +173,34 @@ same-row r q e =
 like-loads : (r q : Demand) → SameRow r q → (w : Way) (k : ℕ) → over_way r w k ≡ over_way q w k
 like-loads r q s w k = rw (s.first, s.second, s.amount)
 
-exchange : (r : Demand) (w : Way) {l : List Seat} {m : List Routed} → Completes l m → Exchanged r w l m
+exchange : (r : Demand) (w : Way) {l : List Seat} {m : List Routed} → Completes l m
+    → Exchanged r w l m
 unfolding send_same unsplit_load whole_over
 exchange r w done = all_so done
-exchange r w (either {p = p} {l = l} {m = m} v c) = go v w (same_row r p.sent.demand) refl (exchange r w c)
+exchange r w (either {p = p} {l = l} {m = m} v c) =
+    go v w (same_row r p.sent.demand) refl (exchange r w c)
   where
-    go : (v u : Way) (b : Bool) → same_row r p.sent.demand ≡ b → Exchanged r u l m → Exchanged r u (waits p ∷ l) (routed p.sent v ∷ m)
-    go v u b e (one_not m' d f x) = one_not (routed p.sent v ∷ m') (either v d) (rw f) (λ k. omega (arith, x k))
+    go : (v u : Way) (b : Bool) → same_row r p.sent.demand ≡ b → Exchanged r u l m
+        → Exchanged r u (waits p ∷ l) (routed p.sent v ∷ m)
+    go v u b e (one_not m' d f x) =
+        one_not (routed p.sent v ∷ m') (either v d) (rw f) (λ k. omega (arith, x k))
     go v u false e (all_so d) = all_so (rw e (either v d))
     go Front Front true e (all_so d) = all_so (rw e (as_sent d))
     go Back Back true e (all_so d) = all_so (rw e (as_sent d))
-    go Front Back true e (all_so d) = one_not (routed p.sent Back ∷ m) (either Back c) refl (λ k. omega (arith, like-loads r p.sent.demand (same-row _ _ e) Front k, like-loads r p.sent.demand (same-row _ _ e) Back k))
-    go Back Front true e (all_so d) = one_not (routed p.sent Front ∷ m) (either Front c) refl (λ k. omega (arith, like-loads r p.sent.demand (same-row _ _ e) Front k, like-loads r p.sent.demand (same-row _ _ e) Back k))
+    go Front Back true e (all_so d) =
+        one_not (routed p.sent Back ∷ m) (either Back c) refl
+        (λ k. omega (arith, like-loads r p.sent.demand (same-row _ _ e) Front k,
+        like-loads r p.sent.demand (same-row _ _ e) Back k))
+    go Back Front true e (all_so d) =
+        one_not (routed p.sent Front ∷ m) (either Front c) refl
+        (λ k. omega (arith, like-loads r p.sent.demand (same-row _ _ e) Front k,
+        like-loads r p.sent.demand (same-row _ _ e) Back k))
 exchange r w (as_sent {p = p} {w = v} {l = l} {m = m} c) = go (exchange r w c)
   where
     go : Exchanged r w l m → Exchanged r w (goes p v ∷ l) (routed p.sent v ∷ m)
     go (all_so d) = all_so (as_sent d)
-    go (one_not m' d e f) = one_not (routed p.sent v ∷ m') (as_sent d) (rw e) (λ k. omega (arith, f k))
+    go (one_not m' d e f) =
+        one_not (routed p.sent v ∷ m') (as_sent d) (rw e) (λ k. omega (arith, f k))
 
 -- ways that complete it complete it with a row tried, one way or the other; or others come before
 -- them that have the same loads
@@ -181,7 +213,8 @@ pub data RowTried (test : Demand → Bool) (l : List Seat) (m : List Routed) : T
 
 module _ (test : Demand → Bool) where
   tried-here : {p : Routed} {l : List Seat} {m : List Routed} (v : Way) → p.way ≡ v → (w : Way)
-      → test p.sent.demand ≡ true → Completes l m → RowTried test (waits p ∷ l) (routed p.sent w ∷ m)
+      → test p.sent.demand ≡ true → Completes l m
+      → RowTried test (waits p ∷ l) (routed p.sent w ∷ m)
   unfolding send_tried send_other unsplit_load whole_over rows_of
   tried-here {p} {l} {m} v e w t c = go v e w
     where
@@ -231,7 +264,8 @@ own-ways [] = done
 own-ways (waits p ∷ l) = either p.way (own-ways l)
 own-ways (goes p w ∷ l) = as_sent (own-ways l)
 
-pub only-ways : {l : List Seat} {m : List Routed} → all_sent l ≡ true → Completes l m → m ≡ ways_of l
+pub only-ways : {l : List Seat} {m : List Routed} → all_sent l ≡ true → Completes l m
+    → m ≡ ways_of l
 unfolding all_sent ways_of
 only-ways e done = refl
 only-ways e (either w c) = absurd (let z : false ≡ true = e in cc)
@@ -251,15 +285,19 @@ unfolding rows_of start
 start-rows [] = refl
 start-rows (p ∷ plan) = rw (start-rows plan)
 
-at-start : (p : Routed) (s : Sent) (w : Way) {l : List Seat} {m : List Routed} → s ≡ p.sent → Completes l m → Completes (waits p ∷ l) (routed s w ∷ m)
+at-start : (p : Routed) (s : Sent) (w : Way) {l : List Seat} {m : List Routed} → s ≡ p.sent
+    → Completes l m → Completes (waits p ∷ l) (routed s w ∷ m)
 at-start p s w e c = rw e (either w c)
 
 pub start-completes : (plan m : List Routed) → sents m ≡ sents plan → Completes (start plan) m
 unfolding start
 start-completes [] [] e = done
 start-completes [] (r ∷ m) e = absurd (let z : ◌≡◌ {A = List Sent} (r.sent ∷ sents m) [] = e in cc)
-start-completes (p ∷ plan) [] e = absurd (let z : ◌≡◌ {A = List Sent} [] (p.sent ∷ sents plan) = e in cc)
+start-completes (p ∷ plan) [] e =
+    absurd (let z : ◌≡◌ {A = List Sent} [] (p.sent ∷ sents plan) = e in cc)
 start-completes (p ∷ plan) (r ∷ m) e =
-    let one : r.sent ≡ p.sent = (let z : ◌≡◌ {A = List Sent} (r.sent ∷ sents m) (p.sent ∷ sents plan) = e in cc) in
-    let rest : sents m ≡ sents plan = (let z : ◌≡◌ {A = List Sent} (r.sent ∷ sents m) (p.sent ∷ sents plan) = e in cc) in
+    let one : r.sent ≡ p.sent =
+        (let z : ◌≡◌ {A = List Sent} (r.sent ∷ sents m) (p.sent ∷ sents plan) = e in cc) in
+    let rest : sents m ≡ sents plan =
+        (let z : ◌≡◌ {A = List Sent} (r.sent ∷ sents m) (p.sent ∷ sents plan) = e in cc) in
     at-start p r.sent r.way one (start-completes plan m rest)

@@ -1,6 +1,7 @@
 -- What is answered of a table is right: its ways and those in search order have the same peaks, and
 -- each of the two is had from the other.
-use Rattle.std.proofs.Common.{◌≡◌, ℕ, ◌^◌, ◌≤◌, ◌<◌, false, List, refl, sym, subst, ◌∙◌, inl, inr, ◌⊎◌, arith}
+use Rattle.std.proofs.Common.{◌≡◌, ℕ, ◌^◌, ◌≤◌, ◌<◌, false, List, refl, sym, subst, ◌∙◌, inl, inr}
+use Rattle.std.proofs.Common.{◌⊎◌, arith}
 use Rattle.ring.specs.declared.types.Routed.{Routed}
 use Rattle.ring.specs.Sheet.{sents}
 use Rattle.turns.specs.Turns.{peak_of}
@@ -38,7 +39,9 @@ module _ (n : ℕ) (plan : List Routed) where
           → (other ≡ table_ways plan found)
           ⊎ ComesBefore (rows_at (search_order plan) plan)
           (rows_at (search_order plan) (table_ways plan found)) (rows_at (search_order plan) other)
-      go (inl g) = inl (order-fixes plan other (table_ways plan found) x (table-are plan found e) (g ∙ sym there))
+      go (inl g) =
+          inl (order-fixes plan other (table_ways plan found) x (table-are plan found e)
+          (g ∙ sym there))
       go (inr b) =
           inr (subst (λ (l : List Routed). ComesBefore (rows_at (search_order plan) plan) l
           (rows_at (search_order plan) other)) (sym there) b)
@@ -84,7 +87,8 @@ optimal-of n plan x o =
       no_higher = omega (arith, o.no_higher, order-peak n plan plan refl);
       none_below = λ other e. omega (
         arith,
-        o.none_below (rows_at (search_order plan) other) (order-rows (search_order plan) other plan e),
+        o.none_below (rows_at (search_order plan) other)
+            (order-rows (search_order plan) other plan e),
         order-peak n plan other e,
       );
       above_floor = o.above_floor;

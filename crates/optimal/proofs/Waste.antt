@@ -1,9 +1,12 @@
--- The greatest common divisor by Euclid is that; what the rows that wait will load a link with is a multiple of that of their amounts; so of the link's room what
--- is left over by it stays empty (L3).
+-- The greatest common divisor by Euclid is that; what the rows that wait will load a link with is a
+-- multiple of that of their amounts; so of the link's room what is left over by it stays empty
+-- (L3).
 use Prim.Native.Nat.{◌∣◌}
-use Rattle.std.proofs.Common.{◌≡◌, ℕ, zero, suc, ◌+◌, ◌*◌, ◌-◌, ◌/◌, ◌%◌, ◌≤◌, ◌<◌, max, Bool, true, false, cond, eqb, List, [], ◌∷◌, refl, ap, ◌∙◌, inl, inr, ◌⊎◌, arith}
+use Rattle.std.proofs.Common.{◌≡◌, ℕ, zero, suc, ◌+◌, ◌*◌, ◌-◌, ◌/◌, ◌%◌, ◌≤◌, ◌<◌, max, Bool, true}
+use Rattle.std.proofs.Common.{false, cond, eqb, List, [], ◌∷◌, refl, ap, ◌∙◌, inl, inr, ◌⊎◌, arith}
 use Rattle.std.specs.Int.{IsGcd}
-use Rattle.std.proofs.lemmas.Nat.Gcd.{IsGcd-from_zero, IsGcd-from_mod, dvd_refl, dvd-zero, dvd_trans, mod-eq-zero_of_dvd}
+use Rattle.std.proofs.lemmas.Nat.Gcd.{IsGcd-from_zero, IsGcd-from_mod, dvd_refl, dvd-zero}
+use Rattle.std.proofs.lemmas.Nat.Gcd.{dvd_trans, mod-eq-zero_of_dvd}
 use Rattle.std.proofs.Math.Nat.{mod-le, mod-lt, div-add-mod, add-mul-mod_self_left}
 use borrow.Author.Tests.{eqb-true, eqb-false}
 use Rattle.ring.specs.declared.types.Routed.{Routed}
@@ -11,7 +14,8 @@ use Rattle.ring.specs.declared.types.Way.{Way}
 use Rattle.ring.specs.declared.types.Way.TheVariants.{Front, Back}
 use Rattle.ring.specs.Demand.{in_front}
 use Rattle.ring.specs.Routing.{routed, by_way, whole_over, unsplit_load}
-use Rattle.optimal.specs.Seats.{Seat, waits, goes, gcd_in, gcd, row_of, divisor, open_divisor, load_sent, waste}
+use Rattle.optimal.specs.Seats.{Seat, waits, goes, gcd_in, gcd, row_of, divisor, open_divisor}
+use Rattle.optimal.specs.Seats.{load_sent, waste}
 use Rattle.optimal.proofs.Completing.{Completes, done, either, as_sent}
 
 gcd-in : (steps a b : ℕ) → b < steps → IsGcd a b (gcd_in steps a b)
@@ -19,9 +23,12 @@ unfolding gcd_in
 gcd-in zero a b l = absurd (omega arith)
 gcd-in (suc steps) a b l = go (eqb b 0) refl (gcd-in steps b (a % b))
   where
-    go : (z : Bool) → eqb b 0 ≡ z → (a % b < steps → IsGcd b (a % b) (gcd_in steps b (a % b))) → IsGcd a b (cond z a (gcd_in steps b (a % b)))
+    go : (z : Bool) → eqb b 0 ≡ z → (a % b < steps → IsGcd b (a % b) (gcd_in steps b (a % b)))
+        → IsGcd a b (cond z a (gcd_in steps b (a % b)))
     go true e on = IsGcd-from_zero a b (eqb-true _ _ e)
-    go false e on = let ne : b ≡ 0 → ⊥ = eqb-false _ _ e in IsGcd-from_mod a b _ (on (omega (arith, mod-lt a {m = b} (omega arith))))
+    go false e on =
+        let ne : b ≡ 0 → ⊥ = eqb-false _ _ e in
+        IsGcd-from_mod a b _ (on (omega (arith, mod-lt a {m = b} (omega arith))))
 
 pub gcd-is : (a b : ℕ) → IsGcd a b (gcd a b)
 gcd-is a b = gcd-in (suc b) a b (omega arith)
@@ -32,7 +39,8 @@ pub record Multiple (c x y : ℕ) : Type 0 where
   pub is : x ≡ y + c * times
 
 -- a row loads a link with nothing or with its amount
-none-or-all : (w : Way) (d : ℕ) (b : Bool) → (cond b (by_way w d 0) (by_way w 0 d) ≡ 0) ⊎ (cond b (by_way w d 0) (by_way w 0 d) ≡ d)
+none-or-all : (w : Way) (d : ℕ) (b : Bool)
+    → (cond b (by_way w d 0) (by_way w 0 d) ≡ 0) ⊎ (cond b (by_way w d 0) (by_way w 0 d) ≡ d)
 none-or-all Front d true = inr refl
 none-or-all Front d false = inl refl
 none-or-all Back d true = inl refl

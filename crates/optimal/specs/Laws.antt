@@ -1,5 +1,5 @@
--- To believe: what holds of the search and of the optimal rule, each the contract of a function that
--- does nothing.
+-- To believe: what holds of the search and of the optimal rule, each the contract of a function
+-- that does nothing.
 use Rattle.std.specs.Prelude.{ℕ, suc, ◌+◌, ◌^◌, ◌≤◌, ◌<◌, List, [], ◌≡◌, false}
 use Rattle.std.specs.Int.{div_ceil}
 use Rattle.ring.specs.declared.types.Routed.{Routed}
@@ -35,8 +35,8 @@ OptimalIsRight =
     (n most : ℕ) (plan : List Routed) → 2 ≤ n → peak_of n plan < 2 ^ 24
     → OptimalIs n (floor_of n plan) plan (optimal_ways n most plan (floor_of n plan))
 
--- two answers without an open question, of which none was asked once more, are the same, however many
--- rows each question might send: which ways are the answer does not depend on the search
+-- two answers without an open question, of which none was asked once more, are the same, however
+-- many rows each question might send: which ways are the answer does not depend on the search
 abbrev pub OneAnswer : Type 0
 OneAnswer =
     (n f g : ℕ) (plan : List Routed) (x y : Found)

@@ -1,6 +1,6 @@
--- To believe: the search for ways with a peak of at most `top`. It holds a partial routing, which it
--- looks at, and others to which it goes back; each row that it sends counts. The answers yes and no
--- are right whatever the search does (`IsRight`): what is said here fixes when it gives up.
+-- To believe: the search for ways with a peak of at most `top`. It holds a partial routing, which
+-- it looks at, and others to which it goes back; each row that it sends counts. The answers yes and
+-- no are right whatever the search does (`IsRight`): what is said here fixes when it gives up.
 use Rattle.std.specs.Prelude.{ℕ, zero, suc, ◌+◌, ◌-◌, ◌*◌, ◌≡◌, max, eqb, leb}
 use Rattle.std.specs.Prelude.{Bool, true, false, cond, ◌&&◌, ◌||◌, List, [], ◌∷◌}
 use Rattle.ring.specs.declared.types.Demand.{Demand}
@@ -68,8 +68,8 @@ module _ (test : Demand → Bool) where
       cond (test p.sent.demand) (goes p p.way ∷ l) (waits p ∷ send_tried l)
   send_tried (goes p w ∷ l) = goes p w ∷ send_tried l
 
-  -- it is sent the other way, and so is each row like it that stands behind it and waits: were one of
-  -- them to go the preferred way, the two could change places
+  -- it is sent the other way, and so is each row like it that stands behind it and waits: were one
+  -- of them to go the preferred way, the two could change places
   unfoldable pub send_other : List Seat → List Seat
   unfolding send_same
   send_other [] = []
@@ -150,8 +150,8 @@ module _ (n : ℕ) (next : Next) (top : ℕ) where
   dead P = over n top (numbers P) || stuck (shuts_of P) P
 
   -- from a dead one the search goes back to the last before which a row was tried, if there is one,
-  -- and sends that row the other way; one where a row has one way left is gone on with; one where no
-  -- row waits is the answer; else a row is tried
+  -- and sends that row the other way; one where a row has one way left is gone on with; one where
+  -- no row waits is the answer; else a row is tried
   unfoldable pub look_at : Bool → Bool → Bool → List Seat → List (List Seat) → Looked
   unfolding shut forced send_tried send_other is_next ways_of
   look_at true move sent P [] = ends_with cannot

@@ -1,6 +1,6 @@
 -- To believe: what is answered of a table: whether its circuits can be sent whole with a peak of at
--- most `top`, and by the optimal rule the least peak. What holds of the answers does not speak of the
--- search.
+-- most `top`, and by the optimal rule the least peak. What holds of the answers does not speak of
+-- the search.
 use Rattle.std.specs.Prelude.{ℕ, ◌≤◌, false, List, ◌≡◌}
 use Rattle.ring.specs.declared.types.Routed.{Routed}
 use Rattle.ring.specs.Sheet.{sents}

@@ -18,8 +18,8 @@ TableOptimal =
     (n most : ℕ) (plan : List Routed) → 2 ≤ n → peak_of n plan < 2 ^ 24
     → OptimalRight n plan (table_optimal n most plan)
 
--- two answers without an open question, of which none was asked once more, are the same, however many
--- rows each question might send: which ways are the answer does not depend on the search
+-- two answers without an open question, of which none was asked once more, are the same, however
+-- many rows each question might send: which ways are the answer does not depend on the search
 abbrev pub OneTable : Type 0
 OneTable =
     (n : ℕ) (plan : List Routed) (x y : Found) → OptimalRight n plan x → OptimalRight n plan y
