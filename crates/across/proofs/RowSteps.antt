@@ -9,7 +9,7 @@ use Rattle.ring.specs.Cut.{part}
 use Rattle.ring.proofs.Side.{Side, before, within, after, side}
 use Rattle.ring.specs.Limits.{desk}
 use Rattle.across.specs.Triangle.{place_of, at}
-use Rattle.across.specs.Step.{triangle, type_end, raised, lowered, stepped, step_row}
+use Rattle.across.specs.Step.{triangle, type_end, raised, lowered, step, stepped, step_row}
 use Rattle.across.specs.Lines.{most_pairs, BlockStep}
 use Rattle.across.proofs.Places.{triangle-length, triangle-at, triangle-is, all-pairs}
 use Rattle.across.proofs.LineSteps.{raised-none}
@@ -76,3 +76,9 @@ taken_is n r rest old new is e =
     (λ g h a b c.
     triangle-at (stepped raised n (demand r.first r.second rest) old) desk.nodes g h a b c ∙
     ap (λ x. cond (nat_le h n) x (at old g h)) (lowered-is (at old g h) r.amount rest (xor (in_front r g) (in_front r h)) e))
+
+-- put on by its amount, or by what that lacks
+pub step_is : (add : Bool) (n i j d share : ℕ) (old new : List ℕ) → new ≡ step_row raised n (demand i j share) old → share ≡ cond add d ((type_end - d) % type_end) →
+    new ≡ step_row (step add) n (demand i j d) old
+step_is true n i j d share old new is e = rw (sym e) is
+step_is false n i j d share old new is e = taken_is n (demand i j d) share old new is e

@@ -1,5 +1,5 @@
 -- To believe: a row is put on a triangle, or taken off it: each pair's number is raised or lowered by the row's share of it, and wraps around at its type's end.
-use Rattle.std.specs.Prelude.{ℕ, zero, suc, ◌+◌, ◌-◌, ◌%◌, cond, List, [], ◌++◌, nat_le}
+use Rattle.std.specs.Prelude.{ℕ, zero, suc, ◌+◌, ◌-◌, ◌%◌, Bool, cond, List, [], ◌++◌, nat_le}
 use Rattle.ring.specs.declared.types.Demand.{Demand}
 use Rattle.ring.specs.Cut.{part}
 use Rattle.ring.specs.Limits.{desk}
@@ -17,6 +17,10 @@ raised number amount = (number + amount) % type_end
 -- and one lowered by it
 abbrev pub lowered : ℕ → ℕ → ℕ
 lowered number amount = (number + (type_end - amount)) % type_end
+
+-- a row is put on, or else taken off
+abbrev pub step : Bool → ℕ → ℕ → ℕ
+step add = cond add raised lowered
 
 -- the pairs of a ring of n nodes change by the row's share; those of links behind it stay
 abbrev pub stepped : (ℕ → ℕ → ℕ) → ℕ → Demand → List ℕ → ℕ → ℕ → ℕ

@@ -4,7 +4,7 @@ use mathlib.Core.List.{List}
 use mathlib.Core.Path.{◌≡◌, refl}
 use native.Mathlib.Omega.{arith}
 use Rattle.std.specs.Prelude.{Result, Ok, Err}
-use Rattle.ring.specs.Limits.{desk}
+use Rattle.ring.specs.Limits.{Limits, desk}
 use Rattle.ring.specs.Sheet.{Sheet, plan}
 use Rattle.ring.proofs.NoLower.{no_lower}
 use Rattle.ring.proofs.OurPlan.{plan-true}
@@ -15,6 +15,7 @@ use Rattle.table.specs.RowReasons.{says_too_long, says_misshapen, says_ring_size
 use Rattle.reasons.specs.declared.reason.Reason.{Reason}
 use Rattle.reasons.specs.declared.reason.Reason.TheVariants.{WrongSum, OverBound}
 use Rattle.reasons.specs.declared.reason.Refusal.{Refusal}
+use Rattle.table.specs.Spelled.{LimitsSpelled}
 use Rattle.table.proofs.TableText.{desk-spelled}
 use Rattle.sheet.specs.Read.{read_sheet}
 use Rattle.sheet.specs.Says as reading
@@ -25,17 +26,28 @@ use Rattle.sheet.proofs.Short.{desk-fits, true-in-range, plan-in-range}
 use Rattle.checker.specs.Laws.{TrueAccepted, PlanAccepted, NoLowerPeak, FormedIs, JudgedInRange}
 use Rattle.checker.specs.Says.{Given, of_form, of_figures}
 use Rattle.checker.proofs.Found.{OfFigures, a_sum, a_way, a_cut, a_link, a_last, a_peak, a_bound, first-is, all-figures}
-use Rattle.checker.proofs.Reasons.{accepted-is, check-text}
+use Rattle.checker.proofs.Reasons.{accepted-is-by, check-text-by}
+
+-- of any limits whose amounts, digits and text are spelled
+module _ (limits : Limits) (spelled : LimitsSpelled limits) where
+  pub true-accepted-by : TrueAccepted limits
+  true-accepted-by x range true_sheet =
+      let t = write_sheet x in
+      (accepted-is-by limits spelled t).0 (record { x = x; is = (check-text-by limits spelled t x).1 (refl, (range, true_sheet)) })
+
+  pub no-lower-peak-by : NoLowerPeak limits
+  no-lower-peak-by x range a =
+      let t = write_sheet x in
+      let reads = (accepted-is-by limits spelled t).1 a in
+      let text = (check-text-by limits spelled t reads.x).0 reads.is in
+      let e : x ≡ reads.x = same-sheet limits spelled x reads.x range text.1.0 text.0 in
+      no_lower x (rw e text.1.1)
 
 pub true-accepted : TrueAccepted desk
-true-accepted x range true_sheet = let t = write_sheet x in (accepted-is t).0 (record { x = x; is = (check-text t x).1 (refl, (range, true_sheet)) })
+true-accepted = true-accepted-by desk desk-spelled
 
 pub no-lower-peak : NoLowerPeak desk
-no-lower-peak x range a =
-    let reads = (accepted-is (write_sheet x)).1 a in
-    let text = (check-text (write_sheet x) reads.x).0 reads.is in
-    let e : x ≡ reads.x = same-sheet desk desk-spelled x reads.x range text.1.0 text.0 in
-    no_lower x (rw e text.1.1)
+no-lower-peak = no-lower-peak-by desk desk-spelled
 
 pub judged-in-range : JudgedInRange
 judged-in-range x f t = true-in-range desk desk-fits x t f

@@ -20,7 +20,7 @@ use Rattle.reasons.specs.Refusals.{refusal, refuse}
 use Rattle.judge.specs.Findings.{findings}
 use Rattle.judge.specs.Tests.{sheet_judged}
 use Rattle.judge.proofs.Tests.{first-judged, first-is-judged}
-use Rattle.judge.proofs.Accepted.{fine-accepted, true-fine}
+use Rattle.judge.proofs.Accepted.{fine-true, true-fine-by}
 use Rattle.table.proofs.TableText.{desk-spelled}
 use Rattle.table.specs.Spelled.{LimitsSpelled}
 use Rattle.sheet.specs.Range.{InRange}
@@ -121,6 +121,30 @@ module _ (limits : Limits) (spelled : LimitsSpelled limits) (t : List ℕ) where
       there (Ok y) e h = judged-there y ((read-by y).0 e) (sheet_judged limits y) refl h
       there (Err r) e h = absurd (cc)
 
+  -- the text is checked to a sheet
+  pub record ReadsBy : Type 0 where
+    pub x : Sheet
+    pub is : check limits t ≡ Ok x
+
+  pub accepted-is-by : ReadsBy ↔ Accepted limits t
+  accepted-is-by = (
+    λ h. let a = (accepted-by h.x).0 h.is in record { x = h.x; is = a.0; none = a.1 },
+    λ a. record { x = a.x; is = (accepted-by a.x).1 (a.is, a.none) },
+  )
+
+  -- a text is accepted as this sheet exactly when it is the sheet written, in range, and true
+  pub check-text-by : (x : Sheet) → (check limits t ≡ Ok x) ↔ ((t ≡ write_sheet x) × (InRange limits x × TrueSheet x))
+  check-text-by x = (
+    λ e. let a = (accepted-by x).0 e in (a.0.text, (a.0.range, fine-true limits x a.1)),
+    λ h. (accepted-by x).1 (record { text = h.0; range = h.1.0 }, true-fine-by limits x h.1.0.within h.1.1),
+  )
+
+  -- a text that is read to this sheet is accepted exactly when that is true
+  pub accepted-true : (x : Sheet) → read_sheet limits t ≡ Ok x → (check limits t ≡ Ok x) ↔ TrueSheet x
+  accepted-true x e =
+      let is = (read-by x).0 e in
+      (λ a. ((check-text-by x).0 a).1.1, λ true_sheet. (check-text-by x).1 (is.text, (is.range, true_sheet)))
+
 -- ---- of the desk's
 
 module _ (t : List ℕ) where
@@ -149,10 +173,7 @@ module _ (t : List ℕ) where
 
   -- a text is accepted as this sheet exactly when it is the sheet written, in range, and true
   pub check-text : (x : Sheet) → (check desk t ≡ Ok x) ↔ ((t ≡ write_sheet x) × (InRange desk x × TrueSheet x))
-  check-text x = (
-    λ e. let a = (accepted-as x).0 e in (a.0.text, (a.0.range, (fine-accepted x a.1).1)),
-    λ h. (accepted-as x).1 (record { text = h.0; range = h.1.0 }, true-fine x h.1.0.within h.1.1),
-  )
+  check-text = check-text-by desk desk-spelled t
 
   -- a text that is read to this sheet is accepted exactly when that is true
   pub accepted-if-true : (x : Sheet) → ReadTo desk t x → (check desk t ≡ Ok x) ↔ TrueSheet x

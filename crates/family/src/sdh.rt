@@ -5,6 +5,7 @@ ghost use Rattle.family.specs.Sizes.{sdh_sizes, sdh_unit};
 use crate::LineSizes;
 
 /// SDH: units of STM-1.
+#[derive(Drop)]
 pub struct Sdh;
 
 impl LineSizes for Sdh {

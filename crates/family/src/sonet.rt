@@ -5,6 +5,7 @@ ghost use Rattle.family.specs.Sizes.{sonet_sizes, sonet_unit};
 use crate::LineSizes;
 
 /// SONET: units of STS-1.
+#[derive(Drop)]
 pub struct Sonet;
 
 impl LineSizes for Sonet {

@@ -54,7 +54,7 @@ module _ (n k : ℕ) (above : Option Demand) (r : Routed) (o : Result Unit Fault
 pub same-number : (a b : ℕ) → ((a ≡ b → ⊥) → ⊥) → a ≡ b
 same-number a b n = elim (ℕ_discrete a b) [ yes e ↦ e | no d ↦ absurd (n d) ]
 
-way-of : (r : Routed) → ((GoesByRuleD r → ⊥) → ⊥) → GoesByRuleD r
+pub way-of : (r : Routed) → ((GoesByRuleD r → ⊥) → ⊥) → GoesByRuleD r
 way-of r n = record { front = λ e. front r.way refl e; back = λ e h. back r.way refl e h }
   where
     front : (w : Way) → r.way ≡ w → r.sent.back ≡ 0 → r.way ≡ Front

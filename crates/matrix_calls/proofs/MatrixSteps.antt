@@ -1,9 +1,10 @@
 -- Reading a matrix and writing its table, and writing a table's matrix: what reading said is what the writer asks for, and gives the outcome each way out of the call.
 use Prim.Native.Nat.{ℕ, ◌≤◌}
 use mathlib.Core.List.{List}
-use mathlib.Core.Path.{◌≡◌, ◌∙◌}
+use mathlib.Core.Path.{◌≡◌, refl, sym, ◌∙◌}
 use native.Mathlib.Omega.{arith}
 use lib.ListN.{length}
+use borrow.Author.Tests.{le-ltb}
 use Rattle.std.specs.Prelude.{Ok, Err}
 use Rattle.ring.specs.Limits.{desk}
 use Rattle.family.specs.declared.family.Family.{Family}
@@ -19,14 +20,15 @@ use Rattle.reasons.specs.Verdict.{Verdict, refused_at}
 use Rattle.table.specs.Table.{write_table}
 use Rattle.reasons.specs.declared.reason.Refusal.{Refusal}
 use Rattle.matrix.specs.Matrix.{write_matrix}
-use Rattle.matrix.specs.Demands.{matrix_of_rows}
+use Rattle.matrix.specs.Demands.{matrix_of_rows, Passes}
 use Rattle.matrix.specs.Read.{MatrixVerdict, matrix_of}
 use Rattle.matrix.specs.Judged.{judge_sums}
 use Rattle.matrix.specs.ReadInto.{IsMatrix, IsGiven}
 use Rattle.matrix.proofs.MatrixText.{desk-possible, matrix-text}
 use Rattle.matrix.proofs.ReasonsGiven.{given}
+use Rattle.matrix.proofs.SumsGiven.{SumsJudged, sums_pass, sums_fit, sums-judged}
 use Rattle.ringkit.specs.Says.{Answer}
-use Rattle.ringkit.specs.Outcome.{Fills}
+use Rattle.ringkit.specs.Outcome.{ask_room, Fills}
 use Rattle.matrix_calls.specs.MatrixCalls.{table_of_matrix, matrix_read, matrix_of_table}
 use Rattle.ringkit.proofs.FillSteps.{refuses, same-fills}
 
@@ -60,6 +62,19 @@ matrix-rows-have-room s n rows is =
     omega (arith, demands-length rows)
 
 -- ---- writing a table's matrix
+
+-- what has room is told so
+pub room-known : (room size : ℕ) → size ≤ room → Ok tt ≡ ask_room room size
+unfolding ask_room
+room-known room size h = rw (le-ltb room size h) refl
+
+-- no sum passes where they are judged so
+pub fit-judged : (rs : List Demand) (x : MatrixVerdict) → x ≡ judge_sums desk rs → x ≡ Ok tt → (k : ℕ) → Passes desk rs k → ⊥
+fit-judged rs x e f = go (sums-judged desk rs) (sym e ∙ f)
+  where
+    go : {y : MatrixVerdict} → SumsJudged desk rs y → y ≡ Ok tt → (k : ℕ) → Passes desk rs k → ⊥
+    go (sums_fit fit) h = fit
+    go (sums_pass p) h = absurd (cc)
 
 module _ (ring : Ring) (rs : List Demand) (x : MatrixVerdict) (ex : x ≡ judge_sums desk rs) where
   pub sums-refused : (old : List ℕ) (y : Refusal) → x ≡ Err y → Fills (matrix_of_table ring rs) old old (Err y)

@@ -1,16 +1,16 @@
 #![tactic(auto)]
 //! The public calls that read and write a matrix, over those of `ringkit`. No call has a `requires`.
-ghost use Rattle.std.specs.Prelude.{◌≡◌, ◌≤◌, length, take, Result, Ok, IsOk, IfOk};
+ghost use Rattle.std.specs.Prelude.{ℕ, ◌≡◌, ◌≤◌, length, take, Result, Ok, IsOk, IfOk};
 ghost use Rattle.ring.specs.Limits.{desk};
 ghost use Rattle.ring.specs.LineSize.{IsFibres};
 ghost use Rattle.ring.specs.Sheet.{sents, demands};
 ghost use Rattle.table.specs.Table.{InRange, table_room};
 ghost use Rattle.table.specs.Says.{Accepted as AcceptedTable};
 ghost use Rattle.matrix.specs.Matrix.{write_matrix};
-ghost use Rattle.matrix.specs.Demands.{matrix_of_rows};
+ghost use Rattle.matrix.specs.Demands.{matrix_of_rows, Passes};
 ghost use Rattle.matrix.specs.Room.{matrix_room};
 ghost use Rattle.matrix.specs.Says.{Accepted as AcceptedMatrix};
-ghost use Rattle.ringkit.specs.Outcome.{Fills};
+ghost use Rattle.ringkit.specs.Outcome.{ask_room, Fills};
 ghost use Rattle.ringkit.specs.Says.{Only};
 ghost use Rattle.matrix_calls.specs.Matrices.{SumsFit, ReadMatrixPromise, WriteMatrixPromise};
 ghost use Rattle.matrix_calls.specs.MatrixCalls.{matrix_read, matrix_written};
@@ -28,13 +28,28 @@ pub const fn matrix_bytes() -> usize
     5 * LINKS * LINKS
 }
 
+// Asks for room for the matrix of a table's rows. In a buffer that has room for every matrix it is not measured.
+fn ask_matrix_room<R: Rows>(buffer: &[u8], ring: Ring, rows: &R) -> Result<(), Refusal>
+    requires range { InRange desk ring (demands (sents (R.rows rows.now))) }
+    requires fit { (k : ℕ) → Passes desk (demands (sents (R.rows rows.now))) k → ⊥ }
+    ensures { let demands = demands (sents (R.rows rows.now)) in result ≡
+        ask_room (length buffer.now) (length (write_matrix (matrix_of_rows ring.nodes demands))) }
+{
+    if matrix_bytes() <= buffer.len() {
+        Ok(())
+    } else {
+        ask_room(buffer, matrix::matrix_length(ring, rows))
+    }
+}
+
 // Writes the matrix of a table's rows.
 fn put_matrix<R: Rows>(buffer: &mut [u8], ring: Ring, rows: &R) -> Result<usize, Refusal>
-    requires { InRange desk ring (demands (sents (R.rows rows.now))) }
+    requires range { InRange desk ring (demands (sents (R.rows rows.now))) }
+    requires fit { (k : ℕ) → Passes desk (demands (sents (R.rows rows.now))) k → ⊥ }
     ensures { let demands = demands (sents (R.rows rows.now)) in
         Fills (Ok (write_matrix (matrix_of_rows ring.nodes demands))) buffer.old buffer.new result }
 {
-    ask_room(buffer, matrix::matrix_length(ring, rows))?;
+    ask_matrix_room(buffer, ring, rows)?;
     Ok(matrix::write_matrix(buffer, ring, rows))
 }
 

@@ -17,9 +17,9 @@ pub struct Ring {
 }
 
 impl Ring {
-    // What a line must carry for an unsplit peak, in units: on two fibres twice it, since half of the bandwidth is kept for protection there.
+    /// What a line must carry for an unsplit peak, in units: on two fibres twice it, since half of the bandwidth is kept for protection there.
     #[tactic(auto, unfolding(crate::specs::LineSize::needed))]
-    fn must_carry(self, peak: u32) -> u32
+    pub fn must_carry(self, peak: u32) -> u32
         requires { 2 * peak < 2 ^ 32 }
         ensures { result ≡ needed self.fibres peak }
     {

@@ -21,14 +21,14 @@ use Rattle.work.specs.declared.Work.{Work}
 use Rattle.work.proofs.Right.{HasBytes, bytes-of}
 use Rattle.work.proofs.SortedRows.{rows-sorted}
 use Rattle.work.proofs.OneOrder.{one-order}
-use Rattle.work.proofs.ByCalls.{made-keeps, made-writes-out, made-sized, made-bytes}
+use Rattle.work.proofs.ByCalls.{made-keeps, made-sorted-within, made-sized, made-bytes}
 use Rattle.work.proofs.Promised.{made-as-played}
 use Rattle.work.specs.HeldRing.{ring_held}
 use Rattle.ringkit.specs.Outcome.{Fills}
 use Rattle.ringkit.specs.Says.{Answer, CallPromise}
 use Rattle.ringkit.specs.TableCalls.{work_written}
 use Rattle.ringkit.specs.Texts.{TableOf}
-use Rattle.ringkit.specs.WorkCalls.{WorkDue, NoRefusal, RoutedAsNamed}
+use Rattle.ringkit.specs.WorkCalls.{WorkDue, NoRefusal, WritesOut, RoutedAsNamed}
 use Rattle.ringkit.proofs.Calls.{is_due, One, call-promise, written-due, length-within, written, if-ok}
 use Rattle.ringkit.proofs.TableCalls.{accepted-table, same-values}
 use Rattle.ringkit.proofs.PlanCalls.{some-plan, due-short, due-cut}
@@ -62,15 +62,21 @@ work-write-promise w s b f = filled-promise w s (bytes-of w s b) f
 
 module _ {cs : List Call} {w : Work} (m : Made cs w) where
   rows-short : length (write_table (ring_held w.ring) (sorted_rows w)) ≤ table_room desk
-  rows-short = let k = (made-writes-out m).within in table-short desk desk-narrow (ring_held w.ring) (sorted_rows w) k.many k.fibres k.rows.nodes k.count k.amounts
+  rows-short = let k = (made-sorted-within m).within in table-short desk desk-narrow (ring_held w.ring) (sorted_rows w) k.many k.fibres k.rows.nodes k.count k.amounts
+
+  -- what is written out: the rows held, by nodes, then by place, an accepted table with the cut of the rows held
+  pub made-writes-out : WritesOut w (sorted_rows w)
+  made-writes-out =
+      let k = made-sorted-within m in
+      record { sorted = k.sorted; range = record { within = k.within; short = omega (arith, rows-short) }; cut = k.cut; short = rows-short }
 
   module _ (text : List ℕ) (d : WorkDue w text) where
     same-rows : d.rs ≡ sorted_rows w
-    same-rows = one-order w (made-sized m) (made-bytes m) d.sorted (made-writes-out m).sorted
+    same-rows = one-order w (made-sized m) (made-bytes m) d.sorted made-writes-out.sorted
 
     -- it is the table of its rows
     work-table : TableOf text (ring_held w.ring) d.rs
-    work-table = record { text = d.is; range = rw same-rows (record { within = (made-writes-out m).within; short = omega (arith, rows-short) }) }
+    work-table = record { text = d.is; range = rw same-rows made-writes-out.range }
 
     work-accepted : Accepted desk text
     work-accepted = (accepted-table text).1 (record { ring = ring_held w.ring; rs = d.rs; of = work-table })

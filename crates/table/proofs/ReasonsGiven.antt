@@ -152,7 +152,7 @@ right limits t =
 -- ---- the laws
 
 -- a reason on a line has one byte
-same-byte : {limits : Limits} {t : List ℕ} (line b c : ℕ) (r : Reason) → ByteIs limits t r line b → ByteIs limits t r line c → b ≡ c
+pub same-byte : {limits : Limits} {t : List ℕ} (line b c : ℕ) (r : Reason) → ByteIs limits t r line b → ByteIs limits t r line c → b ≡ c
 same-byte line b c r x y = one_byte (λ q p. row-one) one-line-byte x y
 
 -- a text has one first reason, with one byte

@@ -9,7 +9,8 @@ use mir.Syntax.{w32}
 use Rattle.text.specs.declared.field.Field.{Field}
 use Rattle.text.specs.WriteLine.{end_of, write_line}
 use Rattle.text.specs.Field.{spell}
-use Rattle.text.specs.FieldByte.{field_byte}
+use Rattle.ring.specs.declared.types.Demand.{Demand}
+use Rattle.text.specs.FieldByte.{field_byte, row_byte, sheet_row_byte}
 use Rattle.text.proofs.Lengths.{line-short}
 
 -- the code's steps: a line is measured ..
@@ -24,6 +25,15 @@ module _ (shape : List Field) (values : List ℕ) (k r : ℕ) (is : r ≡ length
 
   pub byte_fits : (behind : ℕ) → behind ≤ 2 → length shape ≤ 1000 → Fits w32 (r + behind)
   byte_fits behind l h = omega (arith, line-short (take k shape) values, length-take k shape)
+
+-- the first three fields of a sheet's D line start where those of a table's do
+pub sheet-row-byte : (r : Demand) (front back w k : ℕ) → k ≤ 3 → row_byte r k ≡ sheet_row_byte r front back w k
+unfolding field_byte write_line
+sheet-row-byte r front back w zero h = refl
+sheet-row-byte r front back w (suc zero) h = refl
+sheet-row-byte r front back w (suc (suc zero)) h = refl
+sheet-row-byte r front back w (suc (suc (suc zero))) h = refl
+sheet-row-byte r front back w (suc (suc (suc (suc k)))) h = absurd (omega arith)
 
 -- what stands from the byte on
 

@@ -62,7 +62,7 @@ pub(crate) fn read_number(text: &[u8], at: usize, end: u8) -> Result<(u32, usize
     Err(text.len())
 }
 
-/// Writes the digits of a number from a place on, the highest first. The last digit goes behind those of n / BASE, so the digits need no turning round.
+/// Writes the digits of a number from a place on. One digit is written at once.
 pub(crate) fn write_number<P: Pass>(buffer: &mut [u8], at: usize, n: u32) -> usize
     requires { at + length (digits n) ≤ P.room buffer.old }
     ensures { Passed P.after buffer.old at (digits n) buffer.new result }
@@ -70,6 +70,17 @@ pub(crate) fn write_number<P: Pass>(buffer: &mut [u8], at: usize, n: u32) -> usi
     if n < MORE {
         return P::put(buffer, at, b'0' + n as u8);
     }
-    let next = write_number::<P>(buffer, at, n / BASE);
+    write_digits::<P>(buffer, at, n)
+}
+
+// The same, the highest digit first. The last digit goes behind those of n / BASE, so the digits need no turning round.
+fn write_digits<P: Pass>(buffer: &mut [u8], at: usize, n: u32) -> usize
+    requires { at + length (digits n) ≤ P.room buffer.old }
+    ensures { Passed P.after buffer.old at (digits n) buffer.new result }
+{
+    if n < MORE {
+        return P::put(buffer, at, b'0' + n as u8);
+    }
+    let next = write_digits::<P>(buffer, at, n / BASE);
     P::put(buffer, next, b'0' + (n % BASE) as u8)
 }

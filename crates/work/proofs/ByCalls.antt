@@ -169,14 +169,14 @@ made-sound m =
     }
 
 -- what is written of a table: the rows held, sorted; within the limits of a table; with the cut of the rows held
-pub record WritesOut (w : Work) (rs : List Demand) : Type 0 where
+pub record SortedWithin (w : Work) (rs : List Demand) : Type 0 where
   pub sorted : Sorted (table_held w).places rs
   pub within : WithinLimits desk (ring_held w.ring) rs
   pub cut : rule_a w.ring.nodes rs ≡ rule_a w.ring.nodes (held w)
 
 -- what is written out: the rows held, by nodes, then by place, as many and such as a table may have, with the cut of the rows held
-pub made-writes-out : {cs : List Call} {w : Work} → Made cs w → WritesOut w (sorted_rows w)
-made-writes-out {w} m =
+pub made-sorted-within : {cs : List Call} {w : Work} → Made cs w → SortedWithin w (sorted_rows w)
+made-sorted-within {w} m =
     let s = (made-sound m).right in
     record { sorted = rows-sorted w (sized s) (right-bytes w s); within = rows-within w s; cut = rows_cut w s }
 

@@ -2,7 +2,7 @@
 use Rattle.std.proofs.lemmas.Result.{err_from_is_err_and}
 use Rattle.table.proofs.Told.{read-range}
 use Rattle.ringkit.proofs.TableSteps.{table-refused, table-fills}
-use Rattle.matrix_calls.proofs.MatrixSteps.{sums-refused, written-fills}
+use Rattle.matrix_calls.proofs.MatrixSteps.{sums-refused, fit-judged, written-fills}
 use Rattle.matrix_calls.proofs.write_matrix.Goals as goal
 
 pub returns-in_err-ring : goal.returns-in_err-ring
@@ -21,8 +21,11 @@ returns-in_err-judge_sums c =
     let p = err_from_is_err_and r.result r.ensures.1 in
     rw (p.1, p.2) (table-fills c.args.table.now _ _ c.read_table.ensures.value _ _ c.in_ok-ring.was _ _ _ (sums-refused c.in_ok-ring.ring _ _ c.judge_sums.ensures _ _ c.in_err-judge_sums.was))
 
-pub put_matrix-requires : goal.put_matrix-requires
-put_matrix-requires c = read-range c.args.table.now _ _ c.read_table.ensures.value _ c.in_ok-ring.was
+pub put_matrix-requires-clause-range : goal.put_matrix-requires-clause-range
+put_matrix-requires-clause-range c = read-range c.args.table.now _ _ c.read_table.ensures.value _ c.in_ok-ring.was
+
+pub put_matrix-requires-clause-fit : goal.put_matrix-requires-clause-fit
+put_matrix-requires-clause-fit c = fit-judged _ _ c.judge_sums.ensures c.in_ok-judge_sums.was
 
 pub returns : goal.returns
 returns c =
