@@ -17,7 +17,7 @@ use Rattle.reasons.proofs.Findings.{fine, then-on, then-stop, none-of, fibres-of
 use Rattle.weight.specs.Rows.{Fit}
 use Rattle.weight.specs.Weighed.{weight_in, weighed_link}
 use Rattle.weight.specs.declared.Weight.{Weight}
-use Rattle.weight.proofs.Weighing.{peak-fits, link_is}
+use Rattle.weight.proofs.Weighing.{small-amounts, peak-fits, link_is}
 use Rattle.judge.specs.Findings.{rows_findings, cut_findings, loads_findings, last_findings, findings}
 use Rattle.judge.proofs.Rows.{rows-fine}
 use Rattle.judge.proofs.Links.{loads-same}
@@ -82,7 +82,9 @@ module _ (x : Sheet) where
         at-links f h = then-on _ _ _ a (then-on _ _ _ b (then-on _ _ _ c (then-stop _ _ f (links-of-rows (Err f) h))))
 
         pub carries : 2 * w.unsplit_peak < 2 ^ 32
-        carries = omega (arith, peak-fits x.ring.nodes x.rows (rows-fit x.ring x.rows a b) w weighs)
+        carries =
+            let fit = rows-fit x.ring x.rows a b in
+            omega (arith, peak-fits x.ring.nodes x.rows fit.few (small-amounts fit) w weighs)
 
         pub at-last : First (loads_findings x.ring.nodes (weighed_link w) x.links) fine → (largest : ℕ) → largest ≡ largest_split_of x → (r : Result Unit Finding) →
             First (last_findings (figures_of x) w.split_peak w.unsplit_peak largest) r → First (findings desk x) r

@@ -21,12 +21,12 @@ pub data WrongEntry (m : List (List ℕ)) (i j : ℕ) : Reason → Type 0 where
   not_zero : i ≡ j → (entry m i j ≡ 0 → ⊥) → WrongEntry m i j NotZero
   not_mirror : (i ≡ j → ⊥) → (entry m i j ≡ entry m j i → ⊥) → WrongEntry m i j NotSymmetric
 
-data EntryJudged (m : List (List ℕ)) (i j : ℕ) : Verdict → Type 0 where
+pub data EntryJudged (m : List (List ℕ)) (i j : ℕ) : Verdict → Type 0 where
   entry_wrong : {r : Reason} → WrongEntry m i j r → EntryJudged m i j (Err r)
   entry_right : ((r : Reason) → WrongEntry m i j r → ⊥) → EntryJudged m i j (Ok tt)
 
 module _ (m : List (List ℕ)) where
-  entry-judged : (i j : ℕ) → EntryJudged m i j (check_entry i j (entry m i j) (entry m j i))
+  pub entry-judged : (i j : ℕ) → EntryJudged m i j (check_entry i j (entry m i j) (entry m j i))
   unfolding check_entry
   entry-judged i j =
       elim (ℕ_discrete i j) [
@@ -49,12 +49,12 @@ module _ (m : List (List ℕ)) where
       mirror-right e z (not_mirror f w) = w z
 
   -- the entries j and on of line i, k of them
-  data AcrossJudged (i j k : ℕ) (next : MatrixVerdict) : MatrixVerdict → Type 0 where
+  pub data AcrossJudged (i j k : ℕ) (next : MatrixVerdict) : MatrixVerdict → Type 0 where
     across_wrong : {r : Reason} (at : ℕ) → j ≤ at → at < j + k → WrongEntry m i at r → ((x : ℕ) (s : Reason) → j ≤ x → x < at → WrongEntry m i x s → ⊥)
         → AcrossJudged i j k next (refuse r i (square_byte m i at))
     across_right : ((x : ℕ) (s : Reason) → j ≤ x → x < j + k → WrongEntry m i x s → ⊥) → AcrossJudged i j k next next
 
-  across-judged : (i j k : ℕ) (next : MatrixVerdict) → AcrossJudged i j k next (judge_across m i j k next)
+  pub across-judged : (i j k : ℕ) (next : MatrixVerdict) → AcrossJudged i j k next (judge_across m i j k next)
   unfolding judge_across refused_at
   across-judged i j zero next = across_right (λ x s l h w. omega arith)
   across-judged i j (suc k) next = go (entry-judged i j) (across-judged i (j + 1) k next)

@@ -44,7 +44,7 @@ unfolding FitsShape top
 in-range limits [] none = tt
 in-range limits (v ∷ vs) (more h hs) = (h, in-range limits vs hs)
 
-in-range-long : (most n : ℕ) (vs : List ℕ) → FitsShape most (numbers n) vs → length vs ≡ n
+pub in-range-long : (most n : ℕ) (vs : List ℕ) → FitsShape most (numbers n) vs → length vs ≡ n
 unfolding FitsShape
 in-range-long most zero [] r = refl
 in-range-long most zero (v ∷ vs) r = absurd r
@@ -128,7 +128,7 @@ module _ (limits : Limits) (vs : List ℕ) where
       all : length vs ≤ position_or_len over vs
       all = elim (dec_lt (position_or_len over vs) (length vs)) [ yes l ↦ clash (cc (rw (lt-ltb _ _ l) at e)) | no l ↦ omega arith ]
 
-  fine-amounts : Each (λ v. v ≤ limits.amount) vs → first_over limits vs ≡ None
+  pub fine-amounts : Each (λ v. v ≤ limits.amount) vs → first_over limits vs ≡ None
   fine-amounts each =
       let e = position_or_len_is over vs (length vs) 0 (omega arith) (λ k l. le-ltb limits.amount (get_or vs k 0) (each_at each 0 k l)) (λ l. absurd (omega arith)) in
       rw (e, le-ltb (length vs) (length vs) (omega arith))

@@ -1,4 +1,5 @@
--- The numbers of a line in their array, and the lines of a square in its own: what a read gives, what a write makes of them, and how a line is written.
+-- The numbers of a line in their array, and the lines of a square in its own: what a read gives and
+-- what a write makes of them; and where an entry of a line starts.
 use Prim.Native.Nat.{ℕ, zero, suc, ◌+◌, ◌-◌, ◌≤◌, ◌<◌}
 use mathlib.Core.List.{List, [], ◌∷◌, ◌++◌, map}
 use mathlib.Core.Path.{◌≡◌, refl, ap, ◌∙◌}
@@ -12,7 +13,7 @@ use Rattle.ring.specs.Lists.{Each}
 use Rattle.text.specs.Field.{spell}
 use Rattle.text.specs.FieldByte.{field_byte}
 use Rattle.text.specs.WriteLine.{end_of, write_line}
-use Rattle.text.specs.Shapes.{numbers, numbers_line}
+use Rattle.text.specs.Shapes.{numbers}
 use Rattle.text.specs.declared.field.Field.{Field}
 use Rattle.text.specs.declared.field.Field.TheVariants.{Number}
 use Rattle.matrix.specs.Matrix.{entry_byte}
@@ -20,9 +21,9 @@ use Rattle.matrix.specs.Square.{lines_in, Sized}
 use Rattle.matrix.specs.declared.square.Square.TheInside.{Inside}
 use Rattle.matrix.proofs.LinesText.{each_at}
 
--- ---- a line is written by a part of the longest shape
+-- ---- the byte of an entry is found by a part of the longest shape
 
-take-numbers : (n m : ℕ) → n ≤ m → take n (numbers m) ≡ numbers n
+pub take-numbers : (n m : ℕ) → n ≤ m → take n (numbers m) ≡ numbers n
 take-numbers zero m l = refl
 take-numbers (suc n) zero l = absurd (omega arith)
 take-numbers (suc n) (suc m) l = ap (λ (s : List Field). Number ∷ s) (take-numbers n m (omega arith))
@@ -38,9 +39,6 @@ first-written (suc n) (v ∷ values) l = ap (λ m. spell Number v ++ end_of (len
 module _ (values slice : List ℕ) (n : ℕ) (es : slice ≡ values) (en : n ≡ length values) (few : length slice ≤ desk.nodes) where
   longest : take (length values) (numbers desk.nodes) ≡ numbers (length values)
   longest = take-numbers (length values) desk.nodes (rw es at few)
-
-  pub line-is : write_line (take n (numbers desk.nodes)) slice ≡ numbers_line values
-  line-is = rw (en, es, longest)
 
   pub byte-is : (k : ℕ) → k ≤ length values → field_byte (take n (numbers desk.nodes)) slice k ≡ entry_byte values k
   unfolding field_byte

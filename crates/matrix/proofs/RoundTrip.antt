@@ -35,12 +35,12 @@ listed_at f d k zero x l = absurd (omega arith)
 listed_at f d k (suc m) zero l = let e : k + 0 ≡ k = omega arith in rw e
 listed_at f d k (suc m) (suc x) l = let e : k + suc x ≡ suc k + x = omega arith in rw e (listed_at f d (suc k) m x (omega arith))
 
-listed-members : {A : Type 0} (d : A) (l : List A) → listed (λ k. get_or l k d) 0 (length l) ≡ l
+pub listed-members : {A : Type 0} (d : A) (l : List A) → listed (λ k. get_or l k d) 0 (length l) ≡ l
 unfolding listed
 listed-members d [] = refl
 listed-members d (x ∷ l) = ap (λ m. x ∷ m) (listed-shift (λ k. get_or (x ∷ l) k d) 0 (length l) ∙ listed-members d l)
 
-from_one : {A : Type 0} (d : A) (l : List A) → listed (λ k. get_or l (k - 1) d) 1 (length l) ≡ l
+pub from_one : {A : Type 0} (d : A) (l : List A) → listed (λ k. get_or l (k - 1) d) 1 (length l) ≡ l
 from_one d l =
     listed-shift (λ k. get_or l (k - 1) d) 0 (length l) ∙
     listed_same (λ x. get_or l (suc x - 1) d) (λ x. get_or l x d) 0 (length l) (λ x p q. ap (λ k. get_or l k d) (let e : suc x - 1 ≡ x = omega arith in e)) ∙ listed-members d l

@@ -14,8 +14,9 @@ use Rattle.ring.specs.Lists.{listed, Each, none, more}
 use Rattle.ring.specs.Demand.{demand, OnRing}
 use Rattle.ring.specs.TableRows.{PairBefore}
 use Rattle.ring.specs.declared.types.Demand.{Demand}
-use Rattle.ring.proofs.Listed.{each-listed, listed-length}
+use Rattle.ring.proofs.Listed.{each-listed, listed-length, listed_same}
 use Rattle.matrix.specs.Demands.{pairs_from, above_zero, rows_by, sum_of}
+use Rattle.matrix.specs.Matrix.{Node}
 use Rattle.matrix.proofs.SumLaws.{part_of, part_small, sum-append, part-own, part-other, Rising, no_row, next_row, rising-from}
 
 -- ---- how many
@@ -187,10 +188,30 @@ module _ (a : ℕ → ℕ → ℕ) where
     rows-some = above-some (pairs_from a n 1 n)
 
     -- each pair makes at most one row
-    pub rows-counted : n ≤ desk.nodes → length (rows_by n a) ≤ most_pairs
+    pub rows_few : length (rows_by n a) ≤ pair_count n
     unfolding rows_by
-    rows-counted l = omega (arith, above-short (pairs_from a n 1 n), pairs-count n 1 (omega arith), count_small n l)
+    rows_few = omega (arith, above-short (pairs_from a n 1 n), pairs-count n 1 (omega arith))
+
+    pub rows-counted : n ≤ desk.nodes → length (rows_by n a) ≤ most_pairs
+    rows-counted l = omega (arith, rows_few, count_small n l)
 
     pub rows-sum : (x y : ℕ) → 1 ≤ x → x < y → y ≤ n → sum_of (rows_by n a) x y ≡ a x y
     unfolding rows_by
     rows-sum x y l h q = above-sum (pairs_from a n 1 n) x y ∙ pairs-sum n 1 x y l (omega arith) h q
+
+-- ---- rows of entries that agree
+
+module _ (a b : ℕ → ℕ → ℕ) (n : ℕ) (same : (i j : ℕ) → Node n i → Node n j → a i j ≡ b i j) where
+  pairs-same : (i k : ℕ) → 1 ≤ i → i + k ≤ n + 1 → pairs_from a n i k ≡ pairs_from b n i k
+  unfolding pairs_from
+  pairs-same i zero l h = refl
+  pairs-same i (suc k) l h =
+      rw (
+        listed_same (λ j. demand i j (a i j)) (λ j. demand i j (b i j)) (i + 1) (n - i)
+            (λ j p q. ap (demand i j) (same i j (l, omega arith) (omega arith, omega arith))),
+        pairs-same (i + 1) k (omega arith) (omega arith),
+      )
+
+  pub rows_same : rows_by n a ≡ rows_by n b
+  unfolding rows_by
+  rows_same = rw (pairs-same 1 n (omega arith) (omega arith))

@@ -1,16 +1,24 @@
--- A matrix's text line by line: a line's sums stand one behind the other, and its text is one of the pieces that measuring and writing go through.
+-- A matrix's text line by line: a line is written entry by entry, and its text is one of the pieces
+-- that measuring and writing go through.
 use Prim.Native.Nat.{ℕ, zero, suc, ◌+◌, ◌-◌, ◌≤◌, ◌<◌}
 use mathlib.Core.List.{List, [], ◌∷◌, ◌++◌, append_assoc, append-nil}
 use mathlib.Core.Path.{◌≡◌, refl, ap, ◌∙◌, sym}
 use native.Mathlib.Omega.{arith}
-use lib.ListN.{length, take, length-replicate}
+use lib.ListN.{length, get_or, take, length-replicate}
 use lib.Seq.{take_all}
 use Rattle.ring.specs.Limits.{desk}
 use Rattle.ring.specs.declared.types.Demand.{Demand}
 use Rattle.ring.specs.Lists.{listed}
 use Rattle.ring.specs.Sheet.{sents, demands}
 use Rattle.ring.specs.declared.types.Routed.{Routed}
+use Rattle.ring.proofs.Laid.{get_or-listed}
 use Rattle.ring.proofs.Listed.{listed-snoc, listed-length}
+use Rattle.text.specs.Field.{spell}
+use Rattle.text.specs.Pass.{PassLaws}
+use Rattle.text.specs.WriteLine.{end_of}
+use Rattle.text.specs.Written.{Passed}
+use Rattle.text.proofs.WritingLine.{Writing, field-fits, writing-turn, writing-done}
+use Rattle.text.specs.declared.field.Field.{Field}
 use Rattle.text.specs.declared.field.Field.TheVariants.{Number}
 use Rattle.text.specs.Shapes.{numbers, numbers_line}
 use Rattle.text.proofs.Lengths.{line-short}
@@ -21,22 +29,13 @@ use Rattle.matrix.specs.Judged.{Amounts}
 use Rattle.ring.proofs.Small.{demands-length}
 use Rattle.matrix.proofs.SumLaws.{sum-small}
 
--- ---- a line's sums: those of the nodes before j
+-- ---- a line's sums
 
 -- the sum over all rows, as many as there are
 pub whole-sum : (rows : List Routed) (count : ℕ) → count ≡ length rows → (i j : ℕ) → sum_of (take count (demands (sents rows))) i j ≡ sum_of (demands (sents rows)) i j
 whole-sum rows count e i j =
     let n = demands-length rows in
     ap (λ rs. sum_of rs i j) (take_all count (demands (sents rows)) (omega arith))
-
-pub sums_more : (rows : List Routed) (i j count : ℕ) (old new : List ℕ) → old ≡ listed (sum_of (demands (sents rows)) i) 1 (j - 1) → 1 ≤ j
-    → count ≡ length rows → (v : ℕ) → v ≡ sum_of (take count (demands (sents rows))) i j → new ≡ old ++ v ∷ []
-    → new ≡ listed (sum_of (demands (sents rows)) i) 1 (j + 1 - 1)
-sums_more rows i j count old new e l all v ev en =
-    let f : ℕ → ℕ = sum_of (demands (sents rows)) i in
-    let k : 1 + (j - 1) ≡ j = omega arith in
-    let m : j + 1 - 1 ≡ j - 1 + 1 = omega arith in
-    en ∙ rw (e, ev ∙ whole-sum rows count all i j, m) (sym (rw k at (listed-snoc f 1 (j - 1))))
 
 -- the sums of such rows have room in 32 bits
 pub sum-fits : (rs : List Demand) → Amounts rs → (i j : ℕ) → sum_of rs i j < 4294967296
@@ -51,6 +50,74 @@ sum-first (r ∷ rs) (suc n) i j = omega (arith, sum-first rs n i j)
 
 pub first-fits : (rs : List Demand) → Amounts rs → (n i j : ℕ) → sum_of (take n rs) i j < 4294967296
 first-fits rs amounts n i j = omega (arith, sum-first rs n i j, sum-fits rs amounts i j)
+
+-- ---- a line, entry by entry: the entries before node j are written, and what is left makes the
+-- line whole (`Writing`)
+
+all-numbers : (n t : ℕ) → get_or (numbers n) t Number ≡ Number
+all-numbers zero t = refl
+all-numbers (suc n) zero = refl
+all-numbers (suc n) (suc t) = all-numbers n t
+
+module _ (f : ℕ → ℕ) (n : ℕ) where
+  abbrev pub entries : List ℕ
+  entries = listed f 1 n
+
+  abbrev shape : List Field
+  shape = numbers (length entries)
+
+  -- the entries from node j on are left
+  abbrev pub Entering : (List ℕ → ℕ) → (List ℕ → ℕ → List ℕ → List ℕ) → List ℕ → ℕ → ℕ → ℕ
+      → List ℕ → Type 0
+  Entering room after old start j p buf =
+      Writing room after (numbers (length entries)) entries old start (j - 1) p buf
+
+  module _ {room : List ℕ → ℕ} {after : List ℕ → ℕ → List ℕ → List ℕ} (pass : PassLaws room after)
+      (old : List ℕ) (start j p : ℕ) (buf : List ℕ) (inv : Entering room after old start j p buf) where
+    as_many : length entries ≡ n
+    as_many = listed-length f 1 n
+
+    as_wide : length shape ≡ n
+    as_wide = length-replicate (length entries) Number ∙ as_many
+
+    module _ (low : 1 ≤ j) (there : j < n + 1) (v : ℕ) (is : v ≡ f j)
+        (end : ℕ) (behind : end ≡ end_of (n - j)) where
+      field-there : j - 1 < length shape
+      field-there = omega (arith, low, there, as_wide)
+
+      valued : length shape ≤ length entries
+      valued = omega (arith, as_wide, as_many)
+
+      behind_it : end ≡ end_of (length shape - (j - 1) - 1)
+      behind_it =
+          let left : n - j ≡ length shape - (j - 1) - 1 = omega (arith, low, as_wide) in
+          behind ∙ ap end_of left
+
+      entry-is : get_or entries (j - 1) 0 ≡ v
+      entry-is =
+          let k : 1 + (j - 1) ≡ j = omega (arith, low) in
+          get_or-listed f 1 n (j - 1) (omega (arith, low, there)) ∙ ap f k ∙ sym is
+
+      pub entry-fits : start + length (numbers_line entries) ≤ room old
+          → p + length (spell Number v) + 1 ≤ room buf
+      entry-fits h =
+          let fits = field-fits pass shape entries old start (j - 1) p buf inv Number in
+          rw (all-numbers (length entries) (j - 1), entry-is) at
+          (fits field-there valued end behind_it h)
+
+      pub entry-turn : (q : ℕ) (new : List ℕ) → Passed after buf p (spell Number v ++ end ∷ []) new q
+          → Entering room after old start (j + 1) q new
+      entry-turn q new w =
+          let turn = writing-turn pass shape entries old start (j - 1) p buf inv Number in
+          let next : j - 1 + 1 ≡ j + 1 - 1 = omega (arith, low) in
+          rw next at
+          (turn field-there valued end behind_it q new
+          (rw (all-numbers (length entries) (j - 1), entry-is) w))
+
+    pub entries-done : n + 1 ≤ j → Passed after old start (numbers_line entries) buf p
+    entries-done h =
+        let left : length shape ≤ j - 1 = omega (arith, h, as_wide) in
+        writing-done pass shape entries old start (j - 1) p buf inv left
 
 -- ---- the lines
 

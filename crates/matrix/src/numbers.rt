@@ -1,14 +1,12 @@
 //! The numbers of a line.
-ghost use Rattle.std.specs.Prelude.{◌≡◌, ◌+◌, ◌≤◌, length};
+ghost use Rattle.std.specs.Prelude.{◌≡◌, ◌≤◌, length};
 ghost use Rattle.ring.specs.Limits.{desk};
-ghost use Rattle.text.specs.Shapes.{numbers_line};
-ghost use Rattle.text.specs.Written.{Passed};
 ghost use Rattle.matrix.specs.Matrix.{entry_byte};
 ghost use Rattle.matrix.specs.Read.{first_over};
 
 use arrayvec::ArrayVec;
 use ring::{AMOUNT, LINKS};
-use text::{Field, Pass, field_byte, write_line};
+use text::{Field, field_byte};
 
 /// The numbers of a line, from the first on, as many as the largest ring has nodes.
 pub(crate) type Numbers = ArrayVec<u32, LINKS>;
@@ -26,17 +24,4 @@ pub(crate) fn byte_of(numbers: &Numbers, k: usize) -> u32
     ensures { result ≡ entry_byte numbers.now.items k }
 {
     field_byte(&[Field::Number; LINKS][..numbers.len()], numbers, k)
-}
-
-/// Writes the line of the numbers from a place on, or only measures it, and answers the place behind the line.
-pub(crate) fn write_numbers<P: Pass>(buffer: &mut [u8], at: usize, numbers: &Numbers) -> usize
-    requires { at + length (numbers_line numbers.now.items) ≤ P.room buffer.old }
-    ensures { Passed P.after buffer.old at (numbers_line numbers.now.items) buffer.new result }
-{
-    write_line::<P>(
-        buffer,
-        at,
-        &[Field::Number; LINKS][..numbers.len()],
-        numbers,
-    )
 }

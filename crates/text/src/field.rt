@@ -29,7 +29,7 @@ pub fn read_field(text: &[u8], at: usize, field: Field, end: u8) -> Result<(u32,
     }
 }
 
-/// Writes a value of the field from a place on, and answers the place behind it.
+// Writes a value of the field from a place on, and answers the place behind it.
 #[tactic(auto, unfolding(crate::specs::Field::spell))]
 fn write_value<P: Pass>(buffer: &mut [u8], at: usize, field: Field, value: u32) -> usize
     requires { at + length (spell field value) ≤ P.room buffer.old }
@@ -45,8 +45,9 @@ fn write_value<P: Pass>(buffer: &mut [u8], at: usize, field: Field, value: u32) 
     }
 }
 
-/// The same, with the byte `end` behind it.
-pub(crate) fn write_field<P: Pass>(
+/// Writes a value of the field from a place on, or only measures it, with the byte `end` behind it,
+/// and answers the place behind that byte.
+pub fn write_field<P: Pass>(
     buffer: &mut [u8],
     at: usize,
     field: Field,

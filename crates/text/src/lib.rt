@@ -7,7 +7,7 @@ mod field; // a field, with the byte behind it
 mod line; // a line of any shape
 mod ring_line; // the R line of a ring of either family
 
-pub use field::{Field, read_field};
+pub use field::{Field, read_field, write_field};
 pub use line::{end_of, field_byte, line_length, read_line, write_line};
 pub use pass::{Measure, Pass, Write};
 pub use ring_line::{read_ring, write_ring};

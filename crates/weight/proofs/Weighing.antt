@@ -121,8 +121,17 @@ links_true n rs =
 
 -- ---- no load is more than all rows' amounts or halves
 
-load-small : (n : ℕ) (rs : List Routed) → Fit n rs → (k : ℕ) → unsplit_load rs k ≤ desk.amount * length rs
-load-small n rs fit k = total-most {sum = λ rs. unsplit_load rs k} (unsplit-total k) desk.amount (each (λ r f. omega (arith, whole-small r k, f.amount)) fit.each)
+-- of rows with amounts within the limit
+abbrev pub SmallAmounts : List Routed → Type 0
+SmallAmounts = Each (λ (r : Routed). r.sent.demand.amount ≤ desk.amount)
+
+pub small-amounts : {n : ℕ} {rs : List Routed} → Fit n rs → SmallAmounts rs
+small-amounts fit = each (λ r f. f.amount) fit.each
+
+load-small : (rs : List Routed) → SmallAmounts rs → (k : ℕ) → unsplit_load rs k ≤ desk.amount * length rs
+load-small rs small k =
+    total-most {sum = λ rs. unsplit_load rs k} (unsplit-total k) desk.amount
+    (each (λ r f. omega (arith, whole-small r k, f)) small)
 
 split-sum : (k : ℕ) → Total (λ (r : Routed). sent_over r.sent k) (λ (rs : List Routed). split_load (sents rs) k)
 unfolding split_load
@@ -209,7 +218,7 @@ module _ (n : ℕ) (rs : List Routed) (fit : Fit n rs) where
       split-fits = omega (arith, ap (λ (k : Link). k.split) with_row, split-small n rs fit (x + 1), fit.few)
 
       unsplit-fits : (get_or links x d).unsplit + b ≤ load_bound
-      unsplit-fits = omega (arith, ap (λ (k : Link). k.unsplit) with_row, load-small n rs fit (x + 1), fit.few)
+      unsplit-fits = omega (arith, ap (λ (k : Link). k.unsplit) with_row, load-small rs (small-amounts fit) (x + 1), fit.few)
 
     pub weigh_fits : {ahead_can behind_can : Link → Type 0} → ((x : Link) → x.split + r.sent.front ≤ load_bound → x.unsplit + front ≤ load_bound → ahead_can x) →
         ((x : Link) → x.split + r.sent.back ≤ load_bound → x.unsplit + back ≤ load_bound → behind_can x) → OverFits ahead_can behind_can r.sent.demand (take n links)
@@ -294,9 +303,12 @@ module _ (n : ℕ) (rs : List Routed) (fit : Fit n rs) where
           unsplit_peak = (top_is ∙ ap (peak (unsplit_load rs)) e) i;
         }
 
--- ---- what a line must carry for the peak fits
+-- ---- what a line must carry for the peak fits, whatever the halves are
 
-pub peak-fits : (n : ℕ) (rs : List Routed) → Fit n rs → (weight : Weight) → weight ≡ weight_in n rs → 2 * weight.unsplit_peak < 4294967296
+pub peak-fits : (n : ℕ) (rs : List Routed) → length rs ≤ desk.rows → SmallAmounts rs
+    → (weight : Weight) → weight ≡ weight_in n rs → 2 * weight.unsplit_peak < 4294967296
 unfolding weight_in
-peak-fits n rs fit weight e =
-    omega (arith, ap (λ (w : Weight). w.unsplit_peak) e, peak-least (unsplit_load rs) n (desk.amount * length rs) (λ k a b. load-small n rs fit k), fit.few)
+peak-fits n rs few small weight e =
+    let most = desk.amount * length rs in
+    let least = peak-least (unsplit_load rs) n most (λ k a b. load-small rs small k) in
+    omega (arith, ap (λ (w : Weight). w.unsplit_peak) e, least, few)

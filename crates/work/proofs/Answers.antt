@@ -1,6 +1,6 @@
 -- On every struct, whatever its bytes, a call is refused for the first reason that holds and changes nothing, or makes one struct of it: by the ways out of each call.
 use Prim.Native.Nat.{ℕ, ◌+◌, ◌-◌, ◌≤◌, ◌<◌}
-use mathlib.Core.Logic.{◌⊎◌, inl, inr}
+use mathlib.Core.Logic.{inl, inr}
 use mathlib.Core.Path.{◌≡◌, refl, sym, ◌∙◌, ap}
 use native.Mathlib.Omega.{arith}
 use lib.ListN.{get_or}
@@ -25,7 +25,7 @@ use Rattle.work.specs.Changes.{placed_of, work_after, recut_in, free_in, index_i
 use Rattle.work.specs.declared.Work.{Work}
 use Rattle.work.specs.declared.answer.Changed.{Changed}
 use Rattle.work.proofs.Right.{Good}
-use Rattle.work.proofs.Reasons.{one-given, none-given, one-lowest}
+use Rattle.work.proofs.Reasons.{not-outside, one-given, none-given, one-lowest}
 use Rattle.work.proofs.Views.{Judged, bad, good, judged_demand, Indexed, none_there, row_there, indexed, taken-at, Freed, all_taken, lowest_free, freed}
 
 -- the struct that a call makes where no reason holds, with what is then known of the ring, the place and the row
@@ -44,17 +44,13 @@ pub data Ends (w : Work) (c : Call) : Type 0 where
 -- ---- a start, whatever the table was
 
 module _ (w : Work) (ring : Ring) where
-  not-outside : {A : Type 0} → desk.fewest ≤ ring.nodes → ring.nodes ≤ desk.nodes → (ring.nodes < desk.fewest) ⊎ (desk.nodes < ring.nodes) → A
-  not-outside l h (inl m) = absurd (omega arith)
-  not-outside l h (inr m) = absurd (omega arith)
-
   pub start-ends : Ends w (start ring)
   unfolding started_in findings
   start-ends = go (ring_verdict desk ring) refl (ring-judged desk ring)
     where
       go : (v : Verdict) → ring_verdict desk ring ≡ v → RingJudged desk ring v → Ends w (start ring)
-      go v e (right_ring l h o) = makes 0 (fresh_in ring) (rw e) (inr (not-outside l h, inr ((λ f. f o), refl))) (begins l h o)
-      go v e (wrong_fibres l h o) = refuses Fibres (rw e) (inr (not-outside l h, inl (o, refl)))
+      go v e (right_ring l h o) = makes 0 (fresh_in ring) (rw e) (inr (not-outside ring l h, inr ((λ f. f o), refl))) (begins l h o)
+      go v e (wrong_fibres l h o) = refuses Fibres (rw e) (inr (not-outside ring l h, inl (o, refl)))
       go v e (size_wrong o) = refuses RingSize (rw e) (inl (o, refl))
 
 -- ---- a row added, changed, removed
